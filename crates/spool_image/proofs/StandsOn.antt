@@ -1,5 +1,5 @@
 -- A spool that stands for a world, at its opening and from call to call.
-use Rattle.std.proofs.Common.{◌≡◌, ◌↔◌, inl, inr, Result, Ok, Err, OnOk, IsErrOf, ℕ, ◌+◌, ◌*◌, ◌≤◌, false}
+use Rattle.std.proofs.Common.{◌≡◌, ◌↔◌, inl, inr, Result, Ok, Err, OnOk, IsErrOf, ℕ, ◌+◌, ◌*◌, ◌≤◌, Bool, false, true}
 use Rattle.std.proofs.Common.{List, [], Option, None, Some, length, get_or, replicate, refl, sym, ◌∙◌, ap, subst}
 use Rattle.std.proofs.Common.{arith}
 use Rattle.std.proofs.Math.ListN.{get_or-eq_default, length-replicate}
@@ -9,7 +9,7 @@ use Rattle.enc_model.specs.Indexes.{IndexSet}
 use Rattle.spool_blocks.specs.Blocks.{Row, Held}
 use Rattle.spool_disk.specs.Disk.{Keeps}
 use Rattle.spool_disk.specs.declared.disk.Disk.{Ghosts}
-use Rattle.spool_drafts.specs.Drafts.{tail_of}
+use Rattle.spool_drafts.specs.Drafts.{Carries, tail_of}
 use Rattle.spool_drafts.specs.declared.draft.SpoolDraft.{SpoolDraft}
 use Rattle.spool_drafts.proofs.Stays.{bytes_same}
 use Rattle.spool_journal.specs.Image.{journal_pages, overlaid, text_page}
@@ -28,7 +28,7 @@ use Rattle.upload_rules.specs.declared.errors.UploadError.{UploadError}
 use Rattle.upload_rules.specs.declared.errors.UploadError.TheVariants.{NoMemory, DiskFault, Refused}
 use Rattle.upload_rules.specs.declared.errors.UploadRefusal.{UploadRefusal}
 use Rattle.spool_load.proofs.Opens.{same_function}
-use Rattle.spool_kept.specs.Drafting.{DraftsStand, DraftStands, IsOwnedBy, StandsFor}
+use Rattle.spool_kept.specs.Drafting.{DraftsStand, DraftStands, IsOwnedBy, IsStillOpen, StandsFor}
 use Rattle.spool_kept.specs.Holding.{Holding, IsUsedBy}
 use Rattle.spool_kept.specs.Kept.{KeepsAlone}
 use Rattle.spool_kept.specs.Shows.{Shows}
@@ -43,19 +43,36 @@ begun_any number count declare (Some u) = tt
 -- A READ
 
 module _ {D : Type 0} (disk : Ghosts D) (d d' : D) (h : Holding) (drafts : List (Option SpoolDraft)) (w : World) where
-  pub stands_read : (disk.honest d ↔ disk.honest d') → Keeps (disk.seen d) (disk.seen d') (disk.loose d) (disk.loose d')
-      → StandsFor disk d h drafts w → StandsFor disk d' h drafts w
-  stands_read honest keeps s = record {
+  pub stands_read : {sure : Bool} → (disk.honest d ↔ disk.honest d')
+      → (disk.honest d → Keeps (disk.seen d) (disk.seen d') (disk.loose d) (disk.loose d'))
+      → StandsFor sure disk d h drafts w → StandsFor sure disk d' h drafts w
+  stands_read {sure = sure} honest keeps s = record {
     stored = record {
-      honest = honest.0 s.stored.honest;
+      honest = λ known. honest.0 (s.stored.honest known);
       view = s.stored.view;
-      rests = rests_keeps s.stored.rests keeps;
+      rests = λ known. rests_keeps (s.stored.rests known) (keeps (s.stored.honest known));
       keeps = s.stored.keeps;
       shows = s.stored.shows;
     };
-    stands = subst (λ (seen : ℕ → ℕ). DraftsStand w.store.indexes seen (text_page h.layout) h.slots
-        h.blocks w drafts) (sym (same_function _ _ keeps.same)) s.stands;
+    stands = record {
+      each = λ k. held_on (Stands (disk.seen d)) (Stands (disk.seen d')) (find k w.patches) (draft_at drafts k)
+          (λ p o there is. record {
+            holds = is.holds;
+            below = is.below;
+            carries = λ known. subst (λ (seen : ℕ → ℕ). IsStillOpen w.store p
+                → Carries w.store.indexes seen (text_page h.layout) p o)
+                (sym (same_function _ _ (keeps (s.stored.honest known)).same)) (is.carries known);
+            tail = is.tail;
+          }) (s.stands.each k);
+      apart = s.stands.apart;
+      grown = s.stands.grown;
+      limit = s.stands.limit;
+      all = s.stands.all;
+    };
   }
+    where
+      abbrev Stands : (ℕ → ℕ) → Patch → SpoolDraft → Type 0
+      Stands seen = DraftStands (sure ≡ true) w.store.indexes seen (text_page h.layout) h.slots h.blocks.rows w.store
 
 -- AN OPENED SPOOL
 
@@ -65,8 +82,8 @@ none_reserved n b = elim (cases_lt b n) [
   | inr from ↦ get_or-eq_default (replicate n false) false (omega (arith, length-replicate n false, from))
 ]
 
-none_stands : (x : IndexSet) (seen : ℕ → ℕ) (first : ℕ) (h : Holding) (m : Store) (v : View) → KeepsAlone h v
-    → Shows v m → DraftsStand x seen first h.slots h.blocks (at_rest m (Some v.blocks)) []
+none_stands : {sure : Type 0} (x : IndexSet) (seen : ℕ → ℕ) (first : ℕ) (h : Holding) (m : Store) (v : View) → KeepsAlone h v
+    → Shows v m → DraftsStand sure x seen first h.slots h.blocks (at_rest m (Some v.blocks)) []
 none_stands x seen first h m v keeps shows = record {
   each = λ d. tt;
   apart = tt;
@@ -78,40 +95,40 @@ none_stands x seen first h m v keeps shows = record {
       absurd (cc);
 }
 
-pub stands_opened : {D : Type 0} (disk : Ghosts D) (d' : D) (was : ℕ → ℕ) (h : Holding)
-    (drafts : List (Option SpoolDraft)) (m : Store) (v : View) → drafts ≡ [] → disk.honest d' → IsViewOf was v
-    → KeepsAlone h v → Shows v m
-    → Settled (journal_pages h.layout) (overlaid was) (disk.seen d') (disk.loose d')
-    → StandsFor disk d' h drafts (at_rest m (Some v.blocks))
-stands_opened disk d' was h drafts m v none honest is keeps shows settled = record {
+pub stands_opened : {D : Type 0} {sure : Bool} (disk : Ghosts D) (d' : D) (was : ℕ → ℕ) (h : Holding)
+    (drafts : List (Option SpoolDraft)) (m : Store) (v : View) → drafts ≡ [] → (sure ≡ true → disk.honest d')
+    → (sure ≡ true → IsViewOf was v) → KeepsAlone h v → Shows v m
+    → (sure ≡ true → Settled (journal_pages h.layout) (overlaid was) (disk.seen d') (disk.loose d'))
+    → StandsFor sure disk d' h drafts (at_rest m (Some v.blocks))
+stands_opened {sure = sure} disk d' was h drafts m v none honest is keeps shows settled = record {
   stored = record {
     honest = honest;
     view = v;
-    rests = settled_rests (sym keeps.0.blocks) settled is.says;
+    rests = λ known. settled_rests (sym keeps.0.blocks) (settled known) (is known).says;
     keeps = keeps.0;
     shows = shows;
   };
-  stands = subst (DraftsStand m.indexes (disk.seen d') (text_page h.layout) h.slots h.blocks
+  stands = subst (DraftsStand (sure ≡ true) m.indexes (disk.seen d') (text_page h.layout) h.slots h.blocks
       (at_rest m (Some v.blocks))) (sym none)
       (none_stands m.indexes (disk.seen d') (text_page h.layout) h m v keeps shows);
 }
 
 -- A NEW UPLOAD
 
-module _ (seen seen' : ℕ → ℕ) (first : ℕ) (slots slots' : List (Option SlotRecord)) (w : World) (new : New)
-    (same : (p : ℕ) → 4096 * first ≤ p → seen' p ≡ seen p)
+module _ {sure : Type 0} (seen seen' : ℕ → ℕ) (first : ℕ) (slots slots' : List (Option SlotRecord)) (w : World)
+    (new : New) (same : sure → (p : ℕ) → 4096 * first ≤ p → seen' p ≡ seen p)
     (used : (s n : ℕ) → IsUsedBy slots s n → IsUsedBy slots' s n) where
   draft_still : (rows : List Row) (p : Patch) (o : SpoolDraft)
-      → DraftStands w.store.indexes seen first slots rows w.store p o
-      → DraftStands w.store.indexes seen' first slots' rows (created_store w.store new) p o
+      → DraftStands sure w.store.indexes seen first slots rows w.store p o
+      → DraftStands sure w.store.indexes seen' first slots' rows (created_store w.store new) p o
   draft_still rows p o is =
       let found : upload_of (created_store w.store new) p.number ≡ upload_of w.store p.number =
       find_push_other p.number w.store.next (new_upload new) w.store.uploads (λ e. omega (arith, e, is.below)) in
       record {
         holds = is.holds;
         below = omega (arith, is.below);
-        carries = λ still kept. bytes_same seen seen' first o.growth o.growth.on same
-            ∙ is.carries (still.0, sym found ∙ still.1, still.2) kept;
+        carries = λ known still kept. bytes_same seen seen' first o.growth o.growth.on (same known)
+            ∙ is.carries known (still.0, sym found ∙ still.1, still.2) kept;
         tail = λ still. owned (is.tail (still.0, sym found ∙ still.1, still.2));
       }
     where
@@ -119,43 +136,48 @@ module _ (seen seen' : ℕ → ℕ) (first : ℕ) (slots slots' : List (Option S
       owned by = record { slot = by.slot; used = used by.slot p.number by.used; owned = by.owned }
 
   drafts_still : (h : Held) (drafts : List (Option SpoolDraft))
-      → DraftsStand w.store.indexes seen first slots h w drafts
-      → DraftsStand w.store.indexes seen' first slots' h (created w new) drafts
+      → DraftsStand sure w.store.indexes seen first slots h w drafts
+      → DraftsStand sure w.store.indexes seen' first slots' h (created w new) drafts
   drafts_still h drafts stand = record {
-    each = λ d. held_on (DraftStands w.store.indexes seen first slots h.rows w.store)
-        (DraftStands w.store.indexes seen' first slots' h.rows (created_store w.store new)) (find d w.patches)
+    each = λ d. held_on (DraftStands sure w.store.indexes seen first slots h.rows w.store)
+        (DraftStands sure w.store.indexes seen' first slots' h.rows (created_store w.store new)) (find d w.patches)
         (draft_at drafts d)
         (λ p o there. draft_still h.rows p o) (stand.each d);
     apart = stand.apart;
     grown = grown_created w stand.grown new
-        (λ d p there. (draft_of (DraftStands w.store.indexes seen first slots h.rows w.store) p (find d w.patches)
+        (λ d p there. (draft_of (DraftStands sure w.store.indexes seen first slots h.rows w.store) p (find d w.patches)
         (draft_at drafts d) there (stand.each d)).2.below);
     limit = stand.limit;
     all = stand.all;
   }
 
-pub stands_created : {D : Type 0} (disk : Ghosts D) (d d' : D) (h h' : Holding) (drafts : List (Option SpoolDraft))
+pub stands_created : {D : Type 0} {sure : Bool} (disk : Ghosts D) (d d' : D) (h h' : Holding) (drafts : List (Option SpoolDraft))
     (w : World) (new : New)
-    → StandsFor disk d h drafts w → h'.layout ≡ h.layout → h'.blocks ≡ h.blocks
+    → StandsFor sure disk d h drafts w → h'.layout ≡ h.layout → h'.blocks ≡ h.blocks
     → ((s n : ℕ) → IsUsedBy h.slots s n → IsUsedBy h'.slots s n)
-    → ((p : ℕ) → 4096 * text_page h.layout ≤ p → disk.seen d' p ≡ disk.seen d p)
-    → Stored disk d' h' (created_store w.store new) → StandsFor disk d' h' drafts (created w new)
-stands_created disk d d' h h' drafts w new s layout blocks used texts stored = record {
+    → (sure ≡ true → (p : ℕ) → 4096 * text_page h.layout ≤ p → disk.seen d' p ≡ disk.seen d p)
+    → Stored sure disk d' h' (created_store w.store new) → StandsFor sure disk d' h' drafts (created w new)
+stands_created {sure = sure} disk d d' h h' drafts w new s layout blocks used texts stored = record {
   stored = stored;
   stands =
       let S : ℕ → Held → Type 0 =
-      λ n held. DraftsStand w.store.indexes (disk.seen d') (text_page n) h'.slots held (created w new) drafts in
+      λ n held. DraftsStand (sure ≡ true) w.store.indexes (disk.seen d') (text_page n) h'.slots held (created w new) drafts in
       subst (λ (n : ℕ). S n h'.blocks) (sym layout) (subst (S h.layout) (sym blocks)
       (drafts_still (disk.seen d) (disk.seen d') (text_page h.layout) h.slots h'.slots w new texts used h.blocks drafts
       s.stands));
 }
 
 -- nothing has changed
-pub stands_same : {D : Type 0} (disk : Ghosts D) (d d' : D) (h h' : Holding) (drafts : List (Option SpoolDraft))
-    (w : World) → StandsFor disk d h drafts w → (d' ≡ d) × (h' ≡ h) → StandsFor disk d' h' drafts w
-stands_same {D = D} disk d d' h h' drafts w s same =
-    subst (λ (x : D). StandsFor disk x h' drafts w) (sym same.0)
-    (subst (λ (k : Holding). StandsFor disk d k drafts w) (sym same.1) s)
+pub stands_same : {D : Type 0} {sure : Bool} (disk : Ghosts D) (d d' : D) (h h' : Holding) (drafts : List (Option SpoolDraft))
+    (w : World) → StandsFor sure disk d h drafts w → (d' ≡ d) × (h' ≡ h) → StandsFor sure disk d' h' drafts w
+stands_same {D = D} {sure = sure} disk d d' h h' drafts w s same =
+    subst (λ (x : D). StandsFor sure disk x h' drafts w) (sym same.0)
+    (subst (λ (k : Holding). StandsFor sure disk d k drafts w) (sym same.1) s)
+
+-- what holds of a call that succeeds, where something is known
+pub on_known : {T E K X : Type 0} (r : Result T E) → (K → OnOk r X) → OnOk r (K → X)
+on_known (Ok t) is = is
+on_known (Err e) is = tt
 
 -- what was created, or nothing has changed
 pub created_answers : (refusal : Option UploadRefusal) (r : Result ℕ UploadError) (next : ℕ) (Same : Type 0)

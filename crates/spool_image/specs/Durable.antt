@@ -1,6 +1,6 @@
 -- The store that a spool stands for is on its disk.
-use Rattle.std.specs.Prelude.{◌≡◌, ◌≤◌, ◌*◌, ℕ, List, Option, Some, length}
-use Rattle.std.proofs.Common.{sym, ◌∙◌, ap}
+use Rattle.std.specs.Prelude.{◌≡◌, ◌≤◌, ◌*◌, ℕ, true, List, Option, Some, length}
+use Rattle.std.proofs.Common.{refl, sym, ◌∙◌, ap}
 use Rattle.spool_disk.specs.Disk.{IsImage}
 use Rattle.spool_disk.specs.declared.disk.Disk.{Ghosts}
 use Rattle.spool_drafts.specs.declared.draft.SpoolDraft.{SpoolDraft}
@@ -17,25 +17,25 @@ use Rattle.spool_kept.specs.Stored.{Stored}
 
 -- each image of a spool that stands for a store shows it
 pub stored_shows : {D : Type 0} (disk : Ghosts D) (d : D) (h : Holding) (m : Store) (image : ℕ → ℕ)
-    → Stored disk d h m → IsImage (disk.seen d) (disk.loose d) image → ImageShows h.layout image m
+    → Stored true disk d h m → IsImage (disk.seen d) (disk.loose d) image → ImageShows h.layout image m
 stored_shows disk d h m image stored is = record {
   view = stored.view;
   blocks = sym stored.keeps.blocks;
-  is = rests_image image stored.rests is;
+  is = rests_image image (stored.rests refl) is;
   shows = stored.shows;
 }
 
 pub durable_left : {D : Type 0} {disk : Ghosts D} (d : D) (h : Holding) (drafts : List (Option SpoolDraft)) (w : World)
     (ms : List Store) → 4096 * all_pages h.layout ≤ disk.size d
     → ((image : ℕ → ℕ) → disk.left_since d (disk.moment d) image → IsImage (disk.seen d) (disk.loose d) image)
-    → StandsFor disk d h drafts w → Among w.store ms → SpoolLeft disk d h.layout w.blocks (disk.moment d) ms
+    → StandsFor true disk d h drafts w → Among w.store ms → SpoolLeft disk d h.layout w.blocks (disk.moment d) ms
 durable_left {disk = disk} d h drafts w ms room only stands among =
     let stored = stands.stored in
     let rows : length h.blocks.rows ≡ h.layout =
     ap length stored.keeps.rows ∙ stored.shows.sound.row_count ∙ sym stored.keeps.blocks in (
       stands.stands.limit ∙ ap Some rows,
       record {
-        honest = stored.honest;
+        honest = stored.honest refl;
         room = room;
         each = λ image left.
             record {

@@ -8,7 +8,7 @@ ghost use Rattle.upload_rules.specs.Store.{Store};
 ghost use Rattle.upload_rules.specs.World.{at_rest};
 ghost use Rattle.spool_kept.proofs.Facts.{fits_prop};
 ghost use Rattle.spool_kept.specs.Drafting.{DraftsFit};
-ghost use Rattle.spool_kept.specs.Shows.{IsSound};
+ghost use Rattle.spool_kept.specs.Shows.{IsSound, Shows};
 ghost use Rattle.spool_pages.specs.View.{View, IsViewOf};
 ghost use Rattle.spool_load.specs.Refusals.{IsNoSpool, HasOtherVersion, IsDamaged, RefusedFor};
 ghost use Rattle.spool_image.specs.LeftOnly.{AllShow, IsSpool, LeftOrShows};
@@ -40,7 +40,7 @@ pub struct SpoolAppend {
 }
 
 impl<D: Disk> Spool<D> {
-    ghost use Rattle.spool_image.specs.Spool.{disk_of, size_of, disk_after, Keeps, SpoolStands};
+    ghost use Rattle.spool_image.specs.Spool.{disk_of, size_of, disk_after, Keeps, SpoolRepresents, SpoolStands};
     ghost use Rattle.spool_image.specs.Spool.{IsFault, OpensAs, OpensFrom, RefusesAs};
 
     /// Opens what a crash may have left. It may crash too, and be called again.
@@ -93,6 +93,10 @@ impl<D: Disk> Spool<D> {
         ensures shows { (n : ℕ) (m : Store) → IsSpool D.Disk disk n m
             → IfOk result (λ s. AllShow D.Disk (disk_of s) n m) }
 
+        // Whatever the disk, it represents the uploads that a view shows which it keeps, with no append under way.
+        ensures represents { (v : View) (m : Store) → Shows v m
+            → IfOk result (λ s. Keeps s v → SpoolRepresents s (at_rest m (Some v.blocks))) }
+
         // It stands for them, with no append under way.
         ensures stands { (n : ℕ) (m : Store) → IsSpool D.Disk disk n m
             → IfOk result (λ s. SpoolStands s (at_rest m (Some n))) }
@@ -126,11 +130,14 @@ impl<D: Disk> Spool<D> {
 
 impl<D: Disk> Uploads for Spool<D> {
     ghost use Rattle.spool_image.specs.LeftOnly.{SpoolLeft};
-    ghost use Rattle.spool_image.specs.Spool.{SpoolStands};
+    ghost use Rattle.spool_image.specs.Represents.{represented};
+    ghost use Rattle.spool_image.specs.Spool.{SpoolRepresents, SpoolStands};
     ghost use Rattle.spool_image.specs.Durable.{durable_left};
     ghost use Rattle.spool_image.specs.Numbers.{upload_below};
 
     type Draft = SpoolAppend;
+
+    ghost represents = { SpoolRepresents };
 
     ghost stands = { SpoolStands };
 
@@ -143,6 +150,8 @@ impl<D: Disk> Uploads for Spool<D> {
     ghost left_only = { λ s blocks t ms. SpoolLeft D.Disk s.disk s.kept.layout blocks t ms };
 
     ghost failures = { λ s. D.failures s.disk };
+
+    ghost represented = { λ s w stands. represented s.disk s.kept s.drafts.items w stands };
 
     ghost below = { λ s w number u stands there. upload_below s.disk s.kept s.drafts.items w number u stands there };
 

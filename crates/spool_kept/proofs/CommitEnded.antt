@@ -1,5 +1,5 @@
 -- A draft whose text has ended: why it isn't put after its upload's, and that it may be.
-use Rattle.std.proofs.Common.{Result, Err, IfOk, ◌≡◌, inl, inr, ℕ, ◌<◌, ◌≤◌, ◌+◌, ◌-◌, ◌*◌, ◌/◌, ◌^◌, Bool, true}
+use Rattle.std.proofs.Common.{Result, Err, IfOk, ◌≡◌, inl, inr, ℕ, ◌<◌, ◌≤◌, ◌+◌, ◌-◌, ◌/◌, ◌^◌, Bool, true}
 use Rattle.std.proofs.Common.{false, List, Option, None, Some, length, get_or, set, min, refl, sym, ◌∙◌, ap, subst}
 use Rattle.std.proofs.Common.{arith}
 use Rattle.std.proofs.lemmas.Bool.{cases_lt}
@@ -77,14 +77,14 @@ placed_still n o o' len tail is = record {
   few = omega (arith, len, is.few);
 }
 
-module _ {D : Type 0} (disk : Ghosts D) (d d' : D) (h h' : Holding) (only : OnlyReserves h h')
+module _ {D : Type 0} {sure : Bool} (disk : Ghosts D) (d d' : D) (h h' : Holding) (only : OnlyReserves h h')
     (drafts : List (Option SpoolDraft)) (number : ℕ) (o o' : SpoolDraft) (w : World) (p : Patch)
-    (is : IsCommit disk d h drafts number o w p)
+    (is : IsCommit sure disk d h drafts number o w p)
     (effect : Effect disk (journal_pages h.layout) (list_of o) (list_of o') d d' h.blocks h'.blocks) where
   abbrev first : ℕ
   first = text_page h.layout
 
-  abbrev s : Stored disk d h w.store
+  abbrev s : Stored sure disk d h w.store
   s = is.stands.stored
 
   abbrev x : IndexSet
@@ -96,24 +96,24 @@ module _ {D : Type 0} (disk : Ghosts D) (d d' : D) (h h' : Holding) (only : Only
 
   -- THE DISK
 
-  pub stored_after : (disk.honest d → disk.honest d') → Stored disk d' h' w.store
-  stored_after honest = moved disk d d' h h' w.store h.layout s only (honest s.honest) effect.own unowned refl
-      (effect.writes s.honest).writes
+  pub stored_after : (disk.honest d → disk.honest d') → Stored sure disk d' h' w.store
+  stored_after honest = moved disk d d' h h' w.store h.layout s only honest effect.own unowned refl
+      (λ known. (effect.writes (s.honest known)).writes)
 
-  pub quiet_after : Lasts disk d d' (λ image. ImageShows h.layout image w.store)
-  quiet_after = lasts_more (effect.writes s.honest).lasts (λ image is'. record {
+  pub quiet_after : sure ≡ true → Lasts disk d d' (λ image. ImageShows h.layout image w.store)
+  quiet_after known = lasts_more (effect.writes (s.honest known)).lasts (λ image is'. record {
     view = s.view;
     blocks = sym s.keeps.blocks;
-    is = rests_aside effect.own image (sym s.keeps.blocks) s.rests unowned is';
+    is = rests_aside effect.own image (sym s.keeps.blocks) (s.rests known) unowned is';
     shows = s.shows;
   })
 
   -- THE DRAFT
 
-  pub own_draft : DraftStands w.store.indexes (disk.seen d) (text_page h.layout) h.slots h.blocks.rows
+  pub own_draft : DraftStands (sure ≡ true) w.store.indexes (disk.seen d) (text_page h.layout) h.slots h.blocks.rows
       w.store p o
   own_draft =
-      let R = DraftStands w.store.indexes (disk.seen d) (text_page h.layout) h.slots h.blocks.rows
+      let R = DraftStands (sure ≡ true) w.store.indexes (disk.seen d) (text_page h.layout) h.slots h.blocks.rows
       w.store in
       let at = draft_of R p (find number w.patches) (draft_at drafts number) is.patch (is.stands.stands.each number) in
       subst (R p) (some_draft at.0 o (sym at.1 ∙ is.here)) at.2
@@ -185,16 +185,16 @@ module _ {D : Type 0} (disk : Ghosts D) (d d' : D) (h h' : Holding) (only : Only
             → Carries h.indexes (disk.seen d) (text_page h.layout) q' o
             → IfOk result (λ e. 1 ≤ length (list_of o') → bytes_with (disk.seen d') (text_page h.layout)
             (list_of o') e.last.items ≡ open_text h.indexes q' done))
-            → IfOk result (λ e. 1 ≤ length (list_of o') → bytes_with (disk.seen d') (text_page h.layout)
+            → sure ≡ true → IfOk result (λ e. 1 ≤ length (list_of o') → bytes_with (disk.seen d') (text_page h.layout)
             (list_of o') e.last.items ≡ open_text w.store.indexes p (completes w.store p))
-        ends_on content =
+        ends_on content known =
             let P : IndexSet → Bool → Type 0 =
             λ y b. IfOk result (λ e. 1 ≤ length (list_of o') → bytes_with (disk.seen d')
             (text_page h.layout) (list_of o') e.last.items ≡ open_text y p b) in
             subst (P w.store.indexes) done_then (subst (λ (y : IndexSet). P y done) indexes_are
-            (content p s.honest (subst (λ (y : IndexSet). Holds y p o) (sym indexes_are) held) open_began
+            (content p (s.honest known) (subst (λ (y : IndexSet). Holds y p o) (sym indexes_are) held) open_began
             (subst (λ (y : IndexSet). Carries y (disk.seen d) (text_page h.layout) p o) (sym indexes_are)
-            (own_draft.carries is.still))))
+            (own_draft.carries known is.still))))
 
   -- THE RULES
 
@@ -276,16 +276,16 @@ module _ {D : Type 0} (disk : Ghosts D) (d d' : D) (h h' : Holding) (only : Only
 
       pub pending : (longer : Longer) → longer.slot ≡ found.slot → longer.declared ≡ found.declared
           → longer.accepted ≡ reached p
-          → longer.text_len ≡ end.text_len → longer.state ≡ end.state → Stored disk d' h' w.store
+          → longer.text_len ≡ end.text_len → longer.state ≡ end.state → Stored sure disk d' h' w.store
           → (1 ≤ length (list_of o') → (length end.last.items + 4095) / 4096 ≤ length (list_of o'))
-          → (1 ≤ length (list_of o') → bytes_with (disk.seen d') (text_page h.layout) (list_of o')
+          → (sure ≡ true → 1 ≤ length (list_of o') → bytes_with (disk.seen d') (text_page h.layout) (list_of o')
           end.last.items ≡ open_text w.store.indexes p (completes w.store p))
-          → IsPending disk d' h' w.store p.number p.declare p.body longer (list_of o') end.last.items
+          → IsPending sure disk d' h' w.store p.number p.declare p.body longer (list_of o') end.last.items
       pending longer at declared accepted len is_state stored fits content = record {
         stored = stored;
         text = open_text w.store.indexes p (completes w.store p);
         fits = fits;
-        held = subst (λ (n : ℕ). 1 ≤ length (list_of o') → bytes_with (disk.seen d') (text_page n)
+        held = subst (λ (n : ℕ). sure ≡ true → 1 ≤ length (list_of o') → bytes_with (disk.seen d') (text_page n)
             (list_of o') end.last.items ≡ open_text w.store.indexes p (completes w.store p))
             (sym (ap (λ (k : Holding). k.layout) only.same)) content;
         append = λ e stored' written. record {

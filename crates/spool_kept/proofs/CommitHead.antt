@@ -1,5 +1,5 @@
 -- What a commit finds of its draft's upload.
-use Rattle.std.proofs.Common.{Result, Err, IsErrOf, refl, inl, inr, ◌↔◌, ◌⊎◌, ◌≡◌, ◌≤◌, ◌<◌, ◌&&◌, ℕ, ◌+◌, ◌*◌, Bool}
+use Rattle.std.proofs.Common.{Result, Err, IsErrOf, refl, inl, inr, ◌↔◌, ◌⊎◌, ◌≡◌, ◌≤◌, ◌<◌, ◌&&◌, ℕ, ◌+◌, Bool}
 use Rattle.std.proofs.Common.{true, false, if◌then◌else◌, List, [], ◌∷◌, Option, None, Some, length, get_or, sym, ◌∙◌}
 use Rattle.std.proofs.Common.{ap}
 use Rattle.std.proofs.Common.{subst, arith, eqb-true}
@@ -113,13 +113,13 @@ may_declare slots o found finds stays new =
       incomplete = ap (is_length found.declared) finds.same.count ∙ left.1 new;
     }
 
-module _ {D : Type 0} (disk : Ghosts D) (d : D) (h : Holding) (drafts : List (Option SpoolDraft)) (number : ℕ)
+module _ {D : Type 0} {sure : Bool} (disk : Ghosts D) (d : D) (h : Holding) (drafts : List (Option SpoolDraft)) (number : ℕ)
     (o : SpoolDraft) (w : World) (p : Patch)
-    (s : StandsFor disk d h drafts w) (patch : find number w.patches ≡ Some p)
+    (s : StandsFor sure disk d h drafts w) (patch : find number w.patches ≡ Some p)
     (here : draft_at drafts number ≡ Some o) where
   held : Holds w.store.indexes p o
   held =
-      let R = DraftStands w.store.indexes (disk.seen d)
+      let R = DraftStands (sure ≡ true) w.store.indexes (disk.seen d)
       (text_page h.layout) h.slots h.blocks.rows w.store in
       let at = draft_of R p (find number w.patches) (draft_at drafts number) patch (s.stands.each number) in
       (subst (R p) (some_draft at.0 o (sym at.1 ∙ here)) at.2).holds
@@ -242,7 +242,7 @@ module _ {D : Type 0} (disk : Ghosts D) (d : D) (h : Holding) (drafts : List (Op
                 (is found.slot finds.same).tells.accepted (found_open h.slots o found finds goes))),
           )
 
-      pub commits : DraftsHold h.layout h.blocks drafts → IsCommit disk d h drafts number o w p
+      pub commits : DraftsHold h.layout h.blocks drafts → IsCommit sure disk d h drafts number o w p
       commits fits = record {
         stands = s;
         fits = fits;
@@ -275,8 +275,8 @@ module _ {D : Type 0} (disk : Ghosts D) (d : D) (h : Holding) (drafts : List (Op
 
       -- nothing is brought
       pub idle_stands : found.declares ≡ false → (h' : Holding) (drafts' : List (Option SpoolDraft))
-          → StandsFor disk d h' drafts' (dropped w number) → StandsFor disk d h' drafts' (committed w number p)
-      idle_stands old h' drafts' stands = subst (StandsFor disk d h' drafts')
+          → StandsFor sure disk d h' drafts' (dropped w number) → StandsFor sure disk d h' drafts' (committed w number p)
+      idle_stands old h' drafts' stands = subst (StandsFor sure disk d h' drafts')
           (sym (nothing_committed w number p (idle_patch w.store p (declares_is ∙ old) no_body))) stands
 
       -- a length is

@@ -1,6 +1,6 @@
 -- A commit's draft is spent: what the disk and what is kept stand for then.
 use Rattle.std.proofs.Common.{Result, Ok, Err, IfOk, ◌≡◌, ◌≢◌, ◌⊎◌, inl, inr, Bool, true, false, ◌&&◌, if◌then◌else◌, ℕ}
-use Rattle.std.proofs.Common.{◌+◌, ◌*◌, ◌<◌, ◌≤◌}
+use Rattle.std.proofs.Common.{◌*◌, ◌<◌, ◌≤◌}
 use Rattle.std.proofs.Common.{List, [], ◌∷◌, Option, None, Some, length, get_or, set, refl, sym, ◌∙◌, ap, subst, arith}
 use Rattle.enc_model.specs.Indexes.{IndexSet}
 use Rattle.spool_blocks.specs.Blocks.{Row, Held}
@@ -91,13 +91,13 @@ alone refusal none (Err (Refused e)) a k P P' Q is count same then_so = absurd (
 
 -- WHAT IT STANDS FOR
 
-pub on_disk : {D : Type 0} (disk : Ghosts D) (d d' : D) (h : Holding) (drafts : List (Option SpoolDraft)) (w : World)
-    → d' ≡ d → StandsFor disk d h drafts w → StandsFor disk d' h drafts w
-on_disk disk d d' h drafts w same stands = subst (λ e. StandsFor disk e h drafts w) (sym same) stands
+pub on_disk : {D : Type 0} {sure : Bool} (disk : Ghosts D) (d d' : D) (h : Holding) (drafts : List (Option SpoolDraft)) (w : World)
+    → d' ≡ d → StandsFor sure disk d h drafts w → StandsFor sure disk d' h drafts w
+on_disk {sure = sure} disk d d' h drafts w same stands = subst (λ e. StandsFor sure disk e h drafts w) (sym same) stands
 
-module _ {D : Type 0} (disk : Ghosts D) (d d' : D) (h h' : Holding) (only : OnlyReserves h h')
+module _ {D : Type 0} {sure : Bool} (disk : Ghosts D) (d d' : D) (h h' : Holding) (only : OnlyReserves h h')
     (drafts : List (Option SpoolDraft)) (number : ℕ) (o o' : SpoolDraft) (w : World) (p : Patch)
-    (is : IsCommit disk d h drafts number o w p)
+    (is : IsCommit sure disk d h drafts number o w p)
     (effect : Effect disk (journal_pages h.layout) (list_of o) (list_of o') d d' h.blocks h'.blocks)
     (reserved : IsReserved h'.blocks (list_of o')) (placed : IsPlaced h.layout o') where
   abbrev first : ℕ
@@ -111,19 +111,20 @@ module _ {D : Type 0} (disk : Ghosts D) (d d' : D) (h h' : Holding) (only : Only
 
   -- the other drafts after the call
   others : (e : ℕ) → number ≢ e → (r : Patch) (a : SpoolDraft) → draft_at drafts e ≡ Some a
-      → DraftStands w.store.indexes (disk.seen d) (text_page h.layout) h.slots h.blocks.rows w.store r a
-      → DraftStands w.store.indexes (disk.seen d') (text_page h.layout) h.slots h'.blocks.rows w.store r a
+      → DraftStands (sure ≡ true) w.store.indexes (disk.seen d) (text_page h.layout) h.slots h.blocks.rows w.store r
+      a → DraftStands (sure ≡ true) w.store.indexes (disk.seen d') (text_page h.layout) h.slots h'.blocks.rows
+      w.store r a
   others =
       other_stands w.store.indexes (disk.seen d) (disk.seen d') (text_page h.layout) h.layout h.slots
       h.blocks h'.blocks w drafts (set drafts number (Some o')) is.stands.stands is.fits number o o' is.here
-      effect.own effect.grasp changed_mid only.rows ((effect.writes is.stands.stored.honest).writes.outside)
+      effect.own effect.grasp changed_mid only.rows (λ known. (effect.writes (is.stands.stored.honest known)).writes.outside)
 
   -- its blocks are given back
   pub stands_dropped : (h'' : Holding) → OnlyReserves h' h'' → GivesBack h'.blocks h''.blocks (list_of o')
-      → Stored disk d' h' w.store → StandsFor disk d' h'' (set drafts number None) (dropped w number)
+      → Stored sure disk d' h' w.store → StandsFor sure disk d' h'' (set drafts number None) (dropped w number)
   stands_dropped h'' only' gives stored = record {
     stored = stored_on disk d' h' h'' w.store only' stored;
-    stands = subst (λ (k : ℕ × List (Option SlotRecord)). DraftsStand w.store.indexes (disk.seen d')
+    stands = subst (λ (k : ℕ × List (Option SlotRecord)). DraftsStand (sure ≡ true) w.store.indexes (disk.seen d')
         (text_page k.0) k.1 h''.blocks (dropped w number) (set drafts number None)) (sym fields) here;
   }
     where
@@ -134,13 +135,13 @@ module _ {D : Type 0} (disk : Ghosts D) (d d' : D) (h h' : Holding) (only : Only
       rows : h''.blocks.rows ≡ h'.blocks.rows
       rows = gives.rows
 
-      here : DraftsStand w.store.indexes (disk.seen d') (text_page h.layout) h.slots h''.blocks
+      here : DraftsStand (sure ≡ true) w.store.indexes (disk.seen d') (text_page h.layout) h.slots h''.blocks
           (dropped w number) (set drafts number None)
       here =
           stand_spent w.store.indexes (disk.seen d) (disk.seen d') (text_page h.layout) h.slots h.slots
           h.blocks h''.blocks w w.store drafts number is.stands.stands
           (λ e other r a found there s. subst
-          (λ (z : List Row). DraftStands w.store.indexes (disk.seen d') (text_page h.layout) h.slots z
+          (λ (z : List Row). DraftStands (sure ≡ true) w.store.indexes (disk.seen d') (text_page h.layout) h.slots z
           w.store r a) (sym rows) (others e other r a there s))
           (grown_dropped w is.stands.stands.grown number is.stands.stands.apart)
           (omega (arith, ap length rows, ap length only.rows))
@@ -156,11 +157,11 @@ module _ {D : Type 0} (disk : Ghosts D) (d d' : D) (h h' : Holding) (only : Only
       [ inl some ↦ inl some | inr all ↦ inr (sym completes_is ∙ all) ]
 
   -- its blocks are its upload's
-  module _ (longer : Longer) (append : IsAppend disk d' h' w.store p.number p.declare p.body longer (list_of o'))
+  module _ (longer : Longer) (append : IsAppend sure disk d' h' w.store p.number p.declare p.body longer (list_of o'))
       (used : SlotRecord) (d'' : D) (h'' : Holding) (is_longer : IsLonger h' used longer (list_of o') h'')
       (hands : HandsOn h'.blocks.reserved h''.blocks.reserved (list_of o'))
-      (texts : (q : ℕ) → 4096 * text_page h'.layout ≤ q → disk.seen d'' q ≡ disk.seen d' q)
-      (stored : Stored disk d'' h'' (patched_store w.store p.number p.declare p.body)) where
+      (texts : sure ≡ true → (q : ℕ) → 4096 * text_page h'.layout ≤ q → disk.seen d'' q ≡ disk.seen d' q)
+      (stored : Stored sure disk d'' h'' (patched_store w.store p.number p.declare p.body)) where
     abbrev after : Store
     after = record w.store
         { uploads = replaced p.number (patched (with_length p.began is.still.0) p.declare p.body) w.store.uploads }
@@ -180,22 +181,22 @@ module _ {D : Type 0} (disk : Ghosts D) (d d' : D) (h h' : Holding) (only : Only
 
     put_stands : (e : ℕ) → number ≢ e → (r : Patch) (a : SpoolDraft) → find e w.patches ≡ Some r
         → draft_at drafts e ≡ Some a
-        → DraftStands w.store.indexes (disk.seen d) (text_page h.layout) h.slots h.blocks.rows w.store r a
-        → DraftStands w.store.indexes (disk.seen d'') (text_page h.layout) h''.slots h''.blocks.rows after
+        → DraftStands (sure ≡ true) w.store.indexes (disk.seen d) (text_page h.layout) h.slots h.blocks.rows w.store r a
+        → DraftStands (sure ≡ true) w.store.indexes (disk.seen d'') (text_page h.layout) h''.slots h''.blocks.rows after
         r a
     put_stands e other r a found there s =
         let mid = others e other r a there s in
         let other_number = other_upload w is.stands.stands.grown p.number (with_length p.began is.still.0) is.still.1
         p.declare p.body brings e r found in
-        let same : (q : ℕ) → 4096 * text_page h.layout ≤ q → disk.seen d'' q ≡ disk.seen d' q =
-        λ q from. texts q (subst (λ (n : ℕ). 4096 * text_page n ≤ q)
+        let same : sure ≡ true → (q : ℕ) → 4096 * text_page h.layout ≤ q → disk.seen d'' q ≡ disk.seen d' q =
+        λ known q from. texts known q (subst (λ (n : ℕ). 4096 * text_page n ≤ q)
         (sym (ap (λ (k : Holding). k.layout) only.same)) from) in
         record {
           holds = mid.holds;
           below = mid.below;
-          carries = λ still kept. bytes_same (disk.seen d') (disk.seen d'') (text_page h.layout) a.growth
-              a.growth.on same
-              ∙ mid.carries (other_number still).1 kept;
+          carries = λ known still kept. bytes_same (disk.seen d') (disk.seen d'') (text_page h.layout) a.growth
+              a.growth.on (same known)
+              ∙ mid.carries known (other_number still).1 kept;
           tail = λ still.
               let away = other_number still in
               tail_still h' h'' used longer (list_of o') is_longer reserved.no_owner p.number r.number (tail_of a)
@@ -204,7 +205,7 @@ module _ {D : Type 0} (disk : Ghosts D) (d d' : D) (h h' : Holding) (only : Only
               (sym slots_same) (mid.tail away.1));
         }
 
-    here : DraftsStand w.store.indexes (disk.seen d'') (text_page h.layout) h''.slots h''.blocks
+    here : DraftsStand (sure ≡ true) w.store.indexes (disk.seen d'') (text_page h.layout) h''.slots h''.blocks
         (record w { store = after; patches = without number w.patches }) (set drafts number None)
     here =
         stand_spent w.store.indexes (disk.seen d) (disk.seen d'') (text_page h.layout) h.slots h''.slots
@@ -213,13 +214,13 @@ module _ {D : Type 0} (disk : Ghosts D) (d d' : D) (h h' : Holding) (only : Only
         (all_handed h.layout h.blocks h'.blocks drafts is.fits number o o' is.here effect.own effect.grasp reserved
         placed is.stands.stands.all h''.blocks hands)
 
-    pub stands_committed : StandsFor disk d'' h'' (set drafts number None) (committed w number p)
+    pub stands_committed : StandsFor sure disk d'' h'' (set drafts number None) (committed w number p)
     stands_committed =
-        subst (λ (m : Store). StandsFor disk d'' h'' (set drafts number None)
+        subst (λ (m : Store). StandsFor sure disk d'' h'' (set drafts number None)
         (record w { store = m; patches = without number w.patches })) (sym
         (rules.store_changed w.store p is.changes ∙ after_is)) record {
-          stored = subst (Stored disk d'' h'') after_is stored;
-          stands = subst (λ (n : ℕ). DraftsStand w.store.indexes (disk.seen d'') (text_page n) h''.slots
+          stored = subst (Stored sure disk d'' h'') after_is stored;
+          stands = subst (λ (n : ℕ). DraftsStand (sure ≡ true) w.store.indexes (disk.seen d'') (text_page n) h''.slots
               h''.blocks (record w { store = after; patches = without number w.patches }) (set drafts number None))
               (sym layout) here;
         }
@@ -227,43 +228,43 @@ module _ {D : Type 0} (disk : Ghosts D) (d d' : D) (h h' : Holding) (only : Only
 -- ITS LENGTH ALONE
 
 -- an upload gets its length, while all drafts stay
-module _ {D : Type 0} (disk : Ghosts D) (d d' d'' : D) (h h' : Holding) (drafts : List (Option SpoolDraft)) (w : World)
-    (stands : StandsFor disk d h drafts w) (longer : Longer) (used : SlotRecord) (n : ℕ)
+module _ {D : Type 0} {sure : Bool} (disk : Ghosts D) (d d' d'' : D) (h h' : Holding) (drafts : List (Option SpoolDraft)) (w : World)
+    (stands : StandsFor sure disk d h drafts w) (longer : Longer) (used : SlotRecord) (n : ℕ)
     (there : get_or h.slots longer.slot None ≡ Some used) (declare : Option ℕ)
-    (append : IsAppend disk d' h w.store n declare [] longer []) (unknown : append.upload.declared ≡ None)
+    (append : IsAppend sure disk d' h w.store n declare [] longer []) (unknown : append.upload.declared ≡ None)
     (is_longer : IsLonger h used longer [] h')
-    (only : OnlyWrites disk (journal_pages h.layout) [] d d')
-    (texts : (q : ℕ) → 4096 * text_page h.layout ≤ q → disk.seen d'' q ≡ disk.seen d' q)
-    (stored : Stored disk d'' h' (patched_store w.store n declare [])) where
+    (only : sure ≡ true → OnlyWrites disk (journal_pages h.layout) [] d d')
+    (texts : sure ≡ true → (q : ℕ) → 4096 * text_page h.layout ≤ q → disk.seen d'' q ≡ disk.seen d' q)
+    (stored : Stored sure disk d'' h' (patched_store w.store n declare [])) where
   abbrev named : Store
   named = record w.store { uploads = replaced n (patched append.upload declare []) w.store.uploads }
 
   named_is : patched_store w.store n declare [] ≡ named
   named_is = ap (patched_at w.store n declare []) append.there
 
-  seen_same : (q : ℕ) → 4096 * text_page h.layout ≤ q → disk.seen d'' q ≡ disk.seen d q
-  seen_same q from = texts q from ∙ only.writes.outside q (λ i. absurd (omega arith))
+  seen_same : sure ≡ true → (q : ℕ) → 4096 * text_page h.layout ≤ q → disk.seen d'' q ≡ disk.seen d q
+  seen_same known q from = texts known q from ∙ (only known).writes.outside q (λ i. absurd (omega arith))
 
-  each_named : (e : ℕ) → DraftOf (DraftStands w.store.indexes (disk.seen d'') (text_page h.layout) h'.slots
+  each_named : (e : ℕ) → DraftOf (DraftStands (sure ≡ true) w.store.indexes (disk.seen d'') (text_page h.layout) h'.slots
       h'.blocks.rows named) (find e w.patches) (draft_at drafts e)
   each_named e = held_both
-      (DraftStands w.store.indexes (disk.seen d) (text_page h.layout) h.slots h.blocks.rows w.store)
-      (DraftStands w.store.indexes (disk.seen d'') (text_page h.layout) h'.slots h'.blocks.rows named)
+      (DraftStands (sure ≡ true) w.store.indexes (disk.seen d) (text_page h.layout) h.slots h.blocks.rows w.store)
+      (DraftStands (sure ≡ true) w.store.indexes (disk.seen d'') (text_page h.layout) h'.slots h'.blocks.rows named)
       (find e w.patches) (draft_at drafts e) (λ r a found at s.
       let before = open_before w stands.stands.grown n append.upload append.there declare [] unknown refl e r found in
       record {
         holds = s.holds;
         below = s.below;
-        carries = λ still kept. bytes_same (disk.seen d) (disk.seen d'') (text_page h.layout) a.growth
-            a.growth.on seen_same
-            ∙ s.carries (before still) kept;
+        carries = λ known still kept. bytes_same (disk.seen d) (disk.seen d'') (text_page h.layout) a.growth
+            a.growth.on (seen_same known)
+            ∙ s.carries known (before still) kept;
         tail = λ still. owned_declared h h' used longer r.number (tail_of a) there is_longer (s.tail (before still));
       }) (stands.stands.each e)
 
-  pub stands_declared : StandsFor disk d'' h' drafts (with_length_at w n declare)
-  stands_declared = subst (λ (m : Store). StandsFor disk d'' h' drafts (record w { store = m })) (sym named_is) record {
-    stored = subst (Stored disk d'' h') named_is stored;
-    stands = subst (λ (k : ℕ). DraftsStand w.store.indexes (disk.seen d'') (text_page k) h'.slots h'.blocks
+  pub stands_declared : StandsFor sure disk d'' h' drafts (with_length_at w n declare)
+  stands_declared = subst (λ (m : Store). StandsFor sure disk d'' h' drafts (record w { store = m })) (sym named_is) record {
+    stored = subst (Stored sure disk d'' h') named_is stored;
+    stands = subst (λ (k : ℕ). DraftsStand (sure ≡ true) w.store.indexes (disk.seen d'') (text_page k) h'.slots h'.blocks
         (record w { store = named }) drafts) (sym is_longer.layout) record {
           each = each_named;
           apart = stands.stands.apart;

@@ -102,12 +102,12 @@ module _ (x : IndexSet) (p : Patch) (since : Option ℕ) (o : SpoolDraft) (end :
 
   -- THE BYTES
 
-  pub extension : (longer : Longer) (seen : ℕ → ℕ) (first : ℕ)
+  pub extension : {sure : Type 0} (longer : Longer) (seen : ℕ → ℕ) (first : ℕ)
       → longer.declared ≡ known_or (known_or p.began.declared since) p.declare → longer.accepted ≡ reached p
       → longer.text_len ≡ end.text_len → longer.state ≡ end.state
-      → (1 ≤ length (list_of o) → text_on seen first (list_of o) (length (open_text x p done)) ≡ open_text x p
+      → (sure → 1 ≤ length (list_of o) → text_on seen first (list_of o) (length (open_text x p done)) ≡ open_text x p
       done)
-      → IsExtension x (with_length p.began since) p.declare p.body more longer (list_of o) seen first
+      → IsExtension sure x (with_length p.began since) p.declare p.body more longer (list_of o) seen first
   unfolding state_with
   extension longer seen first declared accepted len is content =
       let t = length (text_of x p.began) in
@@ -128,7 +128,7 @@ module _ (x : IndexSet) (p : Patch) (since : Option ℕ) (o : SpoolDraft) (end :
         text = grown.1;
         text_len = omega (arith, total, same_len, ap length grown.1, length-append (text_of x u) more);
         nothing = λ none. nil_of more (none_added none);
-        content = λ listed.
+        content = λ known listed.
             subst (λ (xs : List ℕ). text_on seen first (list_of o) (longer.text_len - full_bytes (length xs)) ≡ drop
             (full_bytes (length xs)) xs ++ more) (sym same_text) (
             let front : 4096 * (t / 4096) ≡ full_bytes t = omega arith in
@@ -138,5 +138,5 @@ module _ (x : IndexSet) (p : Patch) (since : Option ℕ) (o : SpoolDraft) (end :
             ap (λ (xs : List ℕ). drop (4096 * (t / 4096)) xs) all_is ∙ drop-append-le (4096 * (t / 4096))
             (text_of x p.began) more (omega arith)
             ∙ ap (λ (n : ℕ). drop n (text_of x p.began) ++ more) front in
-            ap (λ (n : ℕ). text_on seen first (list_of o) n) size ∙ content (omega (arith, listed)) ∙ bytes);
+            ap (λ (n : ℕ). text_on seen first (list_of o) n) size ∙ content known (omega (arith, listed)) ∙ bytes);
       }

@@ -46,8 +46,8 @@ pub only_declares : (slots : List (Option SlotRecord)) (slot : ℕ) (declared : 
 only_declares slots slot declared may =
     record { unknown = may.unknown; accepted = refl; text_len = refl; state = refl }
 
-module _ {D : Type 0} (disk : Ghosts D) (d : D) (h : Holding) (m : Store) (n slot : ℕ) (declared : Option ℕ)
-    (stored : Stored disk d h m) (may : MayDeclare h.slots slot declared) (used : IsUsedBy h.slots slot n)
+module _ {D : Type 0} {sure : Bool} (disk : Ghosts D) (d : D) (h : Holding) (m : Store) (n slot : ℕ) (declared : Option ℕ)
+    (stored : Stored sure disk d h m) (may : MayDeclare h.slots slot declared) (used : IsUsedBy h.slots slot n)
     (small : is_too_large declared ≡ false) where
   pub told : IsTold m may.used (stored.view.texts slot)
   told = stored.shows.told slot may.used
@@ -92,8 +92,8 @@ module _ {D : Type 0} (disk : Ghosts D) (d : D) (h : Holding) (m : Store) (n slo
       text_patched m.indexes told.upload declared []
       ∙ ap (λ (b : Bool). (text_with m.indexes told.upload [] b).bytes) alike ∙ sym (text_of_is m.indexes told.upload)
 
-  extension : (seen : ℕ → ℕ) → IsExtension m.indexes told.upload declared [] [] (named may.used slot declared) [] seen
-      (text_page h.layout)
+  extension : {known : Type 0} (seen : ℕ → ℕ) → IsExtension known m.indexes told.upload declared [] []
+      (named may.used slot declared) [] seen (text_page h.layout)
   unfolding state_with
   extension seen = record {
     declared = sym known_is;
@@ -110,16 +110,16 @@ module _ {D : Type 0} (disk : Ghosts D) (d : D) (h : Holding) (m : Store) (n slo
     text = same_text ∙ sym (append-nil (text_of m.indexes told.upload));
     text_len = told.tells.text_len ∙ ap length (sym same_text);
     nothing = λ none. refl;
-    content = λ some. absurd (omega (arith, some));
+    content = λ known some. absurd (omega (arith, some));
   }
 
   -- nothing is still to be written
-  pub pending : IsPending disk d h m n declared [] (named may.used slot declared) [] []
+  pub pending : IsPending sure disk d h m n declared [] (named may.used slot declared) [] []
   pending = record {
     stored = stored;
     text = [];
     fits = λ some. absurd (omega (arith, some));
-    held = λ some. absurd (omega (arith, some));
+    held = λ known some. absurd (omega (arith, some));
     append = λ e stored' written. record {
       stored = stored';
       used = used;

@@ -1,7 +1,8 @@
 -- A draft more, at the least number that is free.
-use Rattle.std.proofs.Common.{◌≡◌, Result, Ok, Err, ℕ, ◌<◌, ◌+◌, ◌*◌, List, [], ◌∷◌, Option, None, Some, false, length}
+use Rattle.std.proofs.Common.{◌≡◌, Result, Ok, Err, ℕ, ◌<◌, List, [], ◌∷◌, Option, None, Some, false, length}
 use Rattle.std.proofs.Common.{refl, sym, ◌∙◌, ap, subst, arith, eq-eqb}
 use Rattle.std.proofs.lemmas.Bool.{ne_eqb}
+use Rattle.std.proofs.Common.{Bool, true}
 use Rattle.spool_blocks.specs.Blocks.{Held}
 use Rattle.spool_disk.specs.declared.disk.Disk.{Ghosts}
 use Rattle.spool_journal.specs.Image.{text_page}
@@ -20,7 +21,7 @@ use Rattle.upload_rules.proofs.Patches.{patch_there, begun_stand}
 use Rattle.spool_kept.specs.Holding.{Holding}
 use Rattle.spool_kept.specs.Shows.{Shows}
 use Rattle.spool_kept.specs.Drafting.{list_in, lists_at, DraftsHold, DraftStands, DraftsStand, IsOwnedBy, StandsFor}
-use Rattle.spool_kept.specs.Drafting.{OpensFor}
+use Rattle.spool_kept.specs.Drafting.{CarriesFor, OpensFor}
 use Rattle.spool_kept.proofs.DraftLists.{in_other, none_in_nothing, nothing_reserved}
 use Rattle.spool_kept.proofs.Drafted.{IsChanged, changed_lists, fit_changed}
 
@@ -50,13 +51,13 @@ below_next v m n u shows there =
     let has = shows.all n u there in
     omega (arith, has.number, (shows.sound.records has.slot has.used has.there).below, shows.next)
 
-module _ {D : Type 0} (disk : Ghosts D) (d : D) (h : Holding) (old : List (Option SpoolDraft)) (w : World)
-    (s : StandsFor disk d h old w) (n offset count : ℕ) (declare : Option ℕ) where
+module _ {D : Type 0} {sure : Bool} (disk : Ghosts D) (d : D) (h : Holding) (old : List (Option SpoolDraft)) (w : World)
+    (s : StandsFor sure disk d h old w) (n offset count : ℕ) (declare : Option ℕ) where
   first : ℕ
   first = text_page h.layout
 
   abbrev Opens : Option Upload → Result SpoolDraft UploadRefusal → Type 0
-  Opens u r = OpensFor w.store n offset count declare (disk.seen d) (text_page h.layout) u r
+  Opens u r = OpensFor w.store n offset count declare u r
 
   pub begin_refused : (u : Option Upload) (e : UploadRefusal) → upload_of w.store n ≡ u → Opens u (Err e)
       → begin_refusal w n offset count declare ≡ Some e
@@ -66,16 +67,17 @@ module _ {D : Type 0} (disk : Ghosts D) (d : D) (h : Holding) (old : List (Optio
   pub begin_allowed : (u : Option Upload) (o : SpoolDraft) → upload_of w.store n ≡ u → Opens u (Ok o)
       → begin_refusal w n offset count declare ≡ None
   begin_allowed None o there opens = absurd opens
-  begin_allowed (Some u) o there opens = ap (begin_refusal_at offset count declare) there ∙ opens.0.0
+  begin_allowed (Some u) o there opens = ap (begin_refusal_at offset count declare) there ∙ opens.0
 
   pub begin_late : (u : Option Upload) (o : SpoolDraft) → upload_of w.store n ≡ u → Opens u (Ok o)
       → IsLate (begin_refusal w n offset count declare)
   begin_late u o there opens = subst IsLate (sym (begin_allowed u o there opens)) tt
 
   module _ (new : List (Option SpoolDraft)) (place : ℕ) (o : SpoolDraft) (placed : IsPlaced old o place new)
-      (none : list_of o ≡ []) (owned : IsOwnedBy h.slots h.blocks.rows n (tail_of o)) where
+      (none : list_of o ≡ []) (owned : IsOwnedBy h.slots h.blocks.rows n (tail_of o))
+      (carries : sure ≡ true → CarriesFor w.store n count declare (disk.seen d) (text_page h.layout) o) where
     abbrev Stands : Patch → SpoolDraft → Type 0
-    Stands = DraftStands w.store.indexes (disk.seen d) (text_page h.layout) h.slots h.blocks.rows w.store
+    Stands = DraftStands (sure ≡ true) w.store.indexes (disk.seen d) (text_page h.layout) h.slots h.blocks.rows w.store
 
     number_free : place ≡ free_number w
     number_free = sym (is_free w place
@@ -96,13 +98,13 @@ module _ {D : Type 0} (disk : Ghosts D) (d : D) (h : Holding) (old : List (Optio
         go (Some p) (Some o) h e = absurd cc
 
     stand_begun : (u : Upload) → upload_of w.store n ≡ Some u → Opens (Some u) (Ok o)
-        → DraftsStand w.store.indexes (disk.seen d) (text_page h.layout) h.slots h.blocks
+        → DraftsStand (sure ≡ true) w.store.indexes (disk.seen d) (text_page h.layout) h.slots h.blocks
         (record w { patches = (place, first_patch n count declare u) ∷ w.patches }) new
     stand_begun u there opens = record {
       each = begun_stand Stands w.patches old new s.stands.each place (first_patch n count declare u) o placed record {
-        holds = opens.0.1;
+        holds = opens.1;
         below = below_next s.stored.view w.store n u s.stored.shows there;
-        carries = λ still. opens.1;
+        carries = λ known still. carries known u there;
         tail = λ still. owned;
       };
       apart = (nothing_there, s.stands.apart);
@@ -115,12 +117,12 @@ module _ {D : Type 0} (disk : Ghosts D) (d : D) (h : Holding) (old : List (Optio
     }
 
     pub begins : (u : Option Upload) → upload_of w.store n ≡ u → Opens u (Ok o)
-        → (place ≡ free_number w) × StandsFor disk d h new (begun w n count declare)
+        → (place ≡ free_number w) × StandsFor sure disk d h new (begun w n count declare)
     begins None there opens = absurd opens
     begins (Some u) there opens = (
       number_free,
-      subst (λ q. StandsFor disk d h new (begun_at w n count declare q)) (sym there)
-          (subst (λ k. StandsFor disk d h new (record w { patches = (k, first_patch n count declare u) ∷ w.patches }))
+      subst (λ q. StandsFor sure disk d h new (begun_at w n count declare q)) (sym there)
+          (subst (λ k. StandsFor sure disk d h new (record w { patches = (k, first_patch n count declare u) ∷ w.patches }))
           number_free
           (record { stored = s.stored; stands = stand_begun u there opens })),
     )

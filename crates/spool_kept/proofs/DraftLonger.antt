@@ -1,5 +1,5 @@
 -- A draft that went on: its blocks and those of the others, the rule of room, and the disk.
-use Rattle.std.proofs.Common.{Result, Ok, Err, OnOk, IsErrOf, ◌≡◌, ◌≢◌, inl, inr, ℕ, ◌<◌, ◌+◌, ◌*◌, ◌==◌, if◌then◌else◌}
+use Rattle.std.proofs.Common.{Result, Ok, Err, OnOk, IsErrOf, ◌≡◌, ◌≢◌, inl, inr, ℕ, ◌<◌, ◌==◌, if◌then◌else◌}
 use Rattle.std.proofs.Common.{Bool, true, false, List, [], Option, None, Some, length, get_or, set, refl, sym, ◌∙◌, ap}
 use Rattle.std.proofs.Common.{subst, arith, eq-eqb, get_or-set_same, get_or-set_other}
 use Rattle.std.proofs.lemmas.Bool.{cases_eq, cases_lt, cases_Bool, both_ways, ne_eqb}
@@ -118,8 +118,9 @@ module _ (n : ℕ) (h : Held) (old : List (Option SpoolDraft)) (fit : DraftsHold
 
 -- THE RULE OF ROOM
 
-module _ (w : World) (x : IndexSet) (seen : ℕ → ℕ) (first : ℕ) (records : List (Option SlotRecord)) (h : Held)
-    (old : List (Option SpoolDraft)) (stand : DraftsStand w.store.indexes seen first records h w old) (v : View)
+module _ {sure : Type 0} (w : World) (x : IndexSet) (seen : ℕ → ℕ) (first : ℕ) (records : List (Option SlotRecord))
+    (h : Held) (old : List (Option SpoolDraft))
+    (stand : DraftsStand sure w.store.indexes seen first records h w old) (v : View)
     (shows : Shows v w.store) where
   abbrev slots : ℕ → ℕ
   slots n = slot_of n v.slots
@@ -139,7 +140,7 @@ module _ (w : World) (x : IndexSet) (seen : ℕ → ℕ) (first : ℕ) (records 
 
   needed : (e : ℕ) (p : Patch) → find e w.patches ≡ Some p → length (lists_at old e) ≡ need w.store.indexes p false
   needed e p found =
-      let a = draft_of (DraftStands w.store.indexes seen first records h.rows w.store) p (find e w.patches)
+      let a = draft_of (DraftStands sure w.store.indexes seen first records h.rows w.store) p (find e w.patches)
       (draft_at old e) found (stand.each e) in
       ap length (ap list_in a.1) ∙ a.2.holds.needs
 
@@ -147,7 +148,7 @@ module _ (w : World) (x : IndexSet) (seen : ℕ → ℕ) (first : ℕ) (records 
   no_list e none = go (find e w.patches) (draft_at old e) none (stand.each e)
     where
       go : (q : Option Patch) (a : Option SpoolDraft) → q ≡ None → DraftOf
-          (DraftStands w.store.indexes seen first records h.rows w.store) q a → list_in a ≡ []
+          (DraftStands sure w.store.indexes seen first records h.rows w.store) q a → list_in a ≡ []
       go None None e is = refl
       go None (Some a) e is = absurd is
       go (Some p) a e is = absurd cc
@@ -176,15 +177,15 @@ owned_apart : (slots : List (Option SlotRecord)) (rows : List Row) (number : ℕ
 owned_apart slots rows number tail own is unowned i k lt lt' e = let owned = (is.owned i lt).1 in let none =
     ap (λ (b : ℕ). get_or rows b None) e ∙ unowned k lt' in cc
 
-pub still_stands : (x : IndexSet) (seen seen' : ℕ → ℕ) (first : ℕ) (records : List (Option SlotRecord))
-    (rows : List Row) (m : Store) (own : List ℕ) (p : Patch) (a : SpoolDraft) → SameOutside first own seen seen'
+pub still_stands : {sure : Type 0} (x : IndexSet) (seen seen' : ℕ → ℕ) (first : ℕ) (records : List (Option SlotRecord))
+    (rows : List Row) (m : Store) (own : List ℕ) (p : Patch) (a : SpoolDraft) → (sure → SameOutside first own seen seen')
     → NoneOf (list_of a) own → Unowned rows own
-    → DraftStands x seen first records rows m p a → DraftStands x seen' first records rows m p a
+    → DraftStands sure x seen first records rows m p a → DraftStands sure x seen' first records rows m p a
 still_stands x seen seen' first records rows m own p a same apart unowned is = record {
   holds = is.holds;
   below = is.below;
-  carries = λ there kept. bytes_kept seen seen' first own a.growth a.growth.on same apart
-      (owned_apart records rows p.number (tail_of a) own (is.tail there) unowned) ∙ is.carries there kept;
+  carries = λ known there kept. bytes_kept seen seen' first own a.growth a.growth.on (same known) apart
+      (owned_apart records rows p.number (tail_of a) own (is.tail there) unowned) ∙ is.carries known there kept;
   tail = is.tail;
 }
 
@@ -244,30 +245,30 @@ changed_back old mid new d o o' there out back = record {
     inside : d < length mid
     inside = omega (arith, within, ap length out, length-set old d None)
 
-module _ (x : IndexSet) (seen seen' : ℕ → ℕ) (first n : ℕ) (records : List (Option SlotRecord)) (h h' : Held)
-    (w : World) (old new : List (Option SpoolDraft)) (stand : DraftsStand x seen first records h w old)
+module _ {sure : Type 0} (x : IndexSet) (seen seen' : ℕ → ℕ) (first n : ℕ) (records : List (Option SlotRecord))
+    (h h' : Held) (w : World) (old new : List (Option SpoolDraft)) (stand : DraftsStand sure x seen first records h w old)
     (fit : DraftsHold n h old)
     (d : ℕ) (o o' : SpoolDraft) (here : draft_at old d ≡ Some o) (own : List ℕ)
     (grasp : Regrasps h h' (list_of o) (list_of o') own) (changed : IsChanged old d (Some o') new)
-    (rows : h'.rows ≡ h.rows) (same : SameOutside first own seen seen') where
+    (rows : h'.rows ≡ h.rows) (same : sure → SameOutside first own seen seen') where
   unowned : Unowned h.rows own
   unowned i lt = ap (λ (r : List Row). get_or r (get_or own i 0) None) (sym grasp.takes.rows)
       ∙ grasp.reserved.no_owner i lt
 
   pub other_stands : (e : ℕ) → d ≢ e → (r : Patch) (a : SpoolDraft) → draft_at old e ≡ Some a
-      → DraftStands x seen first records h.rows w.store r a → DraftStands x seen' first records h'.rows w.store r a
+      → DraftStands sure x seen first records h.rows w.store r a → DraftStands sure x seen' first records h'.rows w.store r a
   other_stands e other r a there is =
-      subst (λ (z : List Row). DraftStands x seen' first records z w.store r a) (sym rows)
+      subst (λ (z : List Row). DraftStands sure x seen' first records z w.store r a) (sym rows)
       (still_stands x seen seen' first records h.rows w.store own r a same
       (subst (λ (xs : List ℕ). NoneOf xs own) (ap list_in there)
       (none_sym own (lists_at old e) (own_apart n h old fit d o here grasp.takes e other))) unowned is)
 
   pub stand_longer : (p q : Patch) → find d w.patches ≡ Some p → IsGrown (record w { patches = replaced d q w.patches })
-      → DraftStands x seen' first records h'.rows w.store q o'
-      → DraftsStand x seen' first records h' (record w { patches = replaced d q w.patches }) new
+      → DraftStands sure x seen' first records h'.rows w.store q o'
+      → DraftsStand sure x seen' first records h' (record w { patches = replaced d q w.patches }) new
   stand_longer p q there grown is = record {
-    each = each_longer (DraftStands x seen first records h.rows w.store)
-        (DraftStands x seen' first records h'.rows w.store) w.patches old new d p q o' there changed stand.each
+    each = each_longer (DraftStands sure x seen first records h.rows w.store)
+        (DraftStands sure x seen' first records h'.rows w.store) w.patches old new d p q o' there changed stand.each
         other_stands is;
     apart = apart_replaced d q w.patches stand.apart;
     grown = grown;
@@ -275,8 +276,8 @@ module _ (x : IndexSet) (seen seen' : ℕ → ℕ) (first n : ℕ) (records : Li
     all = all_longer n h old fit d o here h' new o' own grasp changed stand.all;
   }
 
-module _ (w : World) (seen seen' : ℕ → ℕ) (first n : ℕ) (records : List (Option SlotRecord)) (h h' : Held)
-    (old new : List (Option SpoolDraft)) (stand : DraftsStand w.store.indexes seen first records h w old)
+module _ {sure : Type 0} (w : World) (seen seen' : ℕ → ℕ) (first n : ℕ) (records : List (Option SlotRecord))
+    (h h' : Held) (old new : List (Option SpoolDraft)) (stand : DraftsStand sure w.store.indexes seen first records h w old)
     (fit : DraftsHold n h old)
     (d : ℕ) (o o' : SpoolDraft) (here : draft_at old d ≡ Some o) (own : List ℕ)
     (grasp : Regrasps h h' (list_of o) (list_of o') own) (changed : IsChanged old d (Some o') new)
@@ -351,14 +352,14 @@ module _ (w : World) (seen seen' : ℕ → ℕ) (first n : ℕ) (records : List 
 
 -- THE DISK AND THE ANSWER
 
-pub moved : {D : Type 0} (disk : Ghosts D) (d d' : D) (old new : Holding) (m : Store) (n : ℕ) (s : Stored disk d old m)
-    → OnlyReserves old new → disk.honest d' → (own : List ℕ) → Unowned s.view.rows own
-    → n ≡ old.layout → WritesIn (text_page n) own (disk.seen d) (disk.seen d') (disk.loose d)
-    (disk.loose d') → Stored disk d' new m
+pub moved : {D : Type 0} {sure : Bool} (disk : Ghosts D) (d d' : D) (old new : Holding) (m : Store) (n : ℕ) (s : Stored sure disk d old m)
+    → OnlyReserves old new → (disk.honest d → disk.honest d') → (own : List ℕ) → Unowned s.view.rows own
+    → n ≡ old.layout → (sure ≡ true → WritesIn (text_page n) own (disk.seen d) (disk.seen d') (disk.loose d)
+    (disk.loose d')) → Stored sure disk d' new m
 moved disk d d' old new m n s same honest own unowned size writes = record {
-  honest = honest;
+  honest = λ known. honest (s.honest known);
   view = s.view;
-  rests = rests_writes own (sym s.keeps.blocks ∙ sym size) s.rests unowned writes;
+  rests = λ known. rests_writes own (sym s.keeps.blocks ∙ sym size) (s.rests known) unowned (writes known);
   keeps = keeps_on old new s.view same s.keeps;
   shows = s.shows;
 }
@@ -374,11 +375,11 @@ answered X Y (Err NoMemory) done same refused = (tt, same refl)
 answered X Y (Err DiskFault) done same refused = tt
 answered X Y (Err (Refused e)) done same refused = absurd (refused e refl)
 
-pub longer_world : {D : Type 0} (disk : Ghosts D) (d : D) (h : Holding) (drafts : List (Option SpoolDraft)) (w : World)
-    (number : ℕ) (piece : List ℕ) (p : Patch) (a : Option Patch) → a ≡ Some p → Stored disk d h w.store
-    → DraftsStand w.store.indexes (disk.seen d) (text_page h.layout) h.slots h.blocks
+pub longer_world : {D : Type 0} {sure : Bool} (disk : Ghosts D) (d : D) (h : Holding) (drafts : List (Option SpoolDraft)) (w : World)
+    (number : ℕ) (piece : List ℕ) (p : Patch) (a : Option Patch) → a ≡ Some p → Stored sure disk d h w.store
+    → DraftsStand (sure ≡ true) w.store.indexes (disk.seen d) (text_page h.layout) h.slots h.blocks
     (record w { patches = replaced number (longer w number p piece) w.patches }) drafts
-    → StandsFor disk d h drafts (appended_at w number piece a)
-longer_world disk d h drafts w number piece p a e stored stands =
-    subst (λ q. StandsFor disk d h drafts (appended_at w number piece q)) (sym e)
+    → StandsFor sure disk d h drafts (appended_at w number piece a)
+longer_world {sure = sure} disk d h drafts w number piece p a e stored stands =
+    subst (λ q. StandsFor sure disk d h drafts (appended_at w number piece q)) (sym e)
     (record { stored = stored; stands = stands })

@@ -1,9 +1,11 @@
 -- Open drafts, where one of them changes.
-use Rattle.std.proofs.Common.{◌≡◌, ◌≢◌, Result, Ok, Err, IfOk, ◌≤◌, inl, inr, ℕ, ◌<◌, ◌+◌, ◌*◌, List, [], Option, None}
+use Rattle.std.proofs.Common.{◌≡◌, ◌≢◌, Result, Ok, Err, IfOk, ◌≤◌, inl, inr, ℕ, ◌<◌, List, [], Option, None}
 use Rattle.std.proofs.Common.{Some, length, get_or, set, refl, sym, ◌∙◌, ap, subst, arith, get_or-set_same}
 use Rattle.std.proofs.Common.{get_or-set_other}
 use Rattle.std.proofs.lemmas.Bool.{cases_eq, cases_lt}
 use Rattle.std.proofs.lemmas.List.{get_or_past, length-set}
+use Rattle.std.proofs.lemmas.Option.{same_Some}
+use Rattle.std.proofs.Common.{Bool, true}
 use Rattle.spool_blocks.specs.Blocks.{Row, Held}
 use Rattle.spool_blocks.specs.Chains.{Owns}
 use Rattle.spool_disk.specs.declared.disk.Disk.{Ghosts}
@@ -11,13 +13,13 @@ use Rattle.spool_journal.specs.Image.{text_page}
 use Rattle.spool_texts.specs.Drafts.{IsReserved, GivesBack}
 use Rattle.spool_texts.proofs.Reserves.{few_distinct}
 use Rattle.spool_texts.specs.Written.{NoneOf}
-use Rattle.spool_drafts.specs.Drafts.{IsPlaced, list_of, tail_of, Carries, IsBegun}
+use Rattle.spool_drafts.specs.Drafts.{IsPlaced, list_of, tail_of, Carries}
 use Rattle.spool_drafts.specs.declared.draft.SpoolDraft.{SpoolDraft}
 use Rattle.spool_pages.specs.View.{SlotRecord, View}
 use Rattle.enc_model.specs.Indexes.{IndexSet}
-use Rattle.upload_rules.specs.Calls.{dropped, first_patch, begun}
+use Rattle.upload_rules.specs.Calls.{dropped, first_patch}
 use Rattle.upload_rules.specs.Drafts.{DraftOf, draft_at}
-use Rattle.upload_rules.specs.Store.{Upload, Store, find}
+use Rattle.upload_rules.specs.Store.{Upload, Store, find, upload_of}
 use Rattle.upload_rules.specs.declared.errors.UploadRefusal.{UploadRefusal}
 use Rattle.upload_rules.specs.World.{World}
 use Rattle.upload_rules.proofs.Patches.{apart_without, dropped_stand}
@@ -29,7 +31,7 @@ use Rattle.spool_kept.specs.Holding.{Holding, Orders, FitsTogether, IsListOf, Is
 use Rattle.spool_kept.specs.Kept.{KeepsView}
 use Rattle.spool_kept.specs.Stored.{Stored}
 use Rattle.spool_kept.specs.Drafting.{list_in, lists_at, DraftsHold, OnlyReserves, DraftStands, DraftsStand, IsOwnedBy}
-use Rattle.spool_kept.specs.Drafting.{StandsFor, OpensFor}
+use Rattle.spool_kept.specs.Drafting.{CarriesFor, StandsFor}
 use Rattle.spool_kept.proofs.DraftLists.{IsSwapped, all_reserved, all_apart, in_other, none_in_nothing, given_keeps}
 use Rattle.spool_kept.proofs.DraftLists.{kept_out, nothing_reserved}
 
@@ -102,8 +104,8 @@ keeps_on old new v same keeps = record {
       (sym (ap (λ (h : Holding). h.lists) same.same)) (keeps.sizes s r e);
 }
 
-pub stored_on : {D : Type 0} (disk : Ghosts D) (d : D) (old new : Holding) (m : Store) → OnlyReserves old new
-    → Stored disk d old m → Stored disk d new m
+pub stored_on : {D : Type 0} {sure : Bool} (disk : Ghosts D) (d : D) (old new : Holding) (m : Store) → OnlyReserves old new
+    → Stored sure disk d old m → Stored sure disk d new m
 stored_on disk d old new m same stored = record {
   honest = stored.honest;
   view = stored.view;
@@ -123,12 +125,12 @@ module _ (n : ℕ) (h h' : Held) (old new : List (Option SpoolDraft)) (d : ℕ) 
       (λ e other. given_keeps (lists_at old e) gives (fit.reserved e) (fit.distinct d e other)) (λ a e. absurd cc)
       (λ e other. none_in_nothing [] (lists_at old e) refl)
 
-  pub stand_dropped : (x : IndexSet) (seen : ℕ → ℕ) (first : ℕ) (records : List (Option SlotRecord)) (w : World)
-      → GivesBack h h' (lists_at old d) → DraftsStand x seen first records h w old
-      → DraftsStand x seen first records h' (dropped w d) new
-  stand_dropped x seen first records w gives stand = record {
-    each = dropped_stand (DraftStands x seen first records h'.rows w.store) w.patches old new
-        (subst (λ (rows : List Row). (e : ℕ) → DraftOf (DraftStands x seen first records rows w.store)
+  pub stand_dropped : {sure : Type 0} (x : IndexSet) (seen : ℕ → ℕ) (first : ℕ) (records : List (Option SlotRecord)) (w : World)
+      → GivesBack h h' (lists_at old d) → DraftsStand sure x seen first records h w old
+      → DraftsStand sure x seen first records h' (dropped w d) new
+  stand_dropped {sure = sure} x seen first records w gives stand = record {
+    each = dropped_stand (DraftStands sure x seen first records h'.rows w.store) w.patches old new
+        (subst (λ (rows : List Row). (e : ℕ) → DraftOf (DraftStands sure x seen first records rows w.store)
         (find e w.patches) (draft_at old e)) (sym gives.rows) stand.each) d stand.apart is;
     apart = apart_without d w.patches stand.apart;
     grown = grown_dropped w stand.grown d stand.apart;
@@ -155,13 +157,13 @@ reserves_only old inside new is same rows = record {
   rows = rows ∙ ap (λ (h : Holding). h.blocks.rows) is;
 }
 
-pub drops : {D : Type 0} (disk : Ghosts D) (d : D) (old new : Holding) (drafts drafts' : List (Option SpoolDraft))
+pub drops : {D : Type 0} {sure : Bool} (disk : Ghosts D) (d : D) (old new : Holding) (drafts drafts' : List (Option SpoolDraft))
     (number : ℕ) (w : World) → OnlyReserves old new
     → drafts' ≡ set drafts number None → GivesBack old.blocks new.blocks (lists_at drafts number)
-    → StandsFor disk d old drafts w → StandsFor disk d new drafts' (dropped w number)
-drops disk d old new drafts drafts' number w same is gives s = record {
+    → StandsFor sure disk d old drafts w → StandsFor sure disk d new drafts' (dropped w number)
+drops {sure = sure} disk d old new drafts drafts' number w same is gives s = record {
   stored = stored_on disk d old new w.store same s.stored;
-  stands = subst (λ (h : Holding). DraftsStand w.store.indexes (disk.seen d) (text_page h.layout) h.slots
+  stands = subst (λ (h : Holding). DraftsStand (sure ≡ true) w.store.indexes (disk.seen d) (text_page h.layout) h.slots
       new.blocks (dropped w number) drafts') (sym same.same)
       (stand_dropped old.layout old.blocks new.blocks drafts drafts' number is w.store.indexes (disk.seen d)
       (text_page old.layout) old.slots w gives s.stands);
@@ -229,9 +231,11 @@ list_owned h fits s lt number used list is =
       );
     }
 
-pub opens_for : (m : Store) (number offset count : ℕ) (declare : Option ℕ) (seen : ℕ → ℕ) (first : ℕ) (u : Upload)
-    (r : Result SpoolDraft UploadRefusal) → IsBegun m.indexes number offset count declare u r
+pub carries_for : (m : Store) (number count : ℕ) (declare : Option ℕ) (seen : ℕ → ℕ) (first : ℕ) (u : Upload)
+    (r : Result SpoolDraft UploadRefusal) → upload_of m number ≡ Some u
     → IfOk r (λ d. Carries m.indexes seen first (first_patch number count declare u) d)
-    → OpensFor m number offset count declare seen first (Some u) r
-opens_for m number offset count declare seen first u (Ok o) begun carries = (begun, carries)
-opens_for m number offset count declare seen first u (Err e) begun carries = begun
+    → IfOk r (CarriesFor m number count declare seen first)
+carries_for m number count declare seen first u (Ok o) there carries = λ w found.
+    subst (λ (k : Upload). Carries m.indexes seen first (first_patch number count declare k) o)
+    (same_Some u w (sym there ∙ found)) carries
+carries_for m number count declare seen first u (Err e) there carries = tt

@@ -5,6 +5,7 @@ use Rattle.std.proofs.Common.{subst}
 use Rattle.std.proofs.Common.{arith}
 use Rattle.std.proofs.lemmas.Bool.{cases_lt, both_ways, lt-ltb}
 use Rattle.std.proofs.lemmas.List.{append-nil}
+use Rattle.std.proofs.Common.{Bool, true}
 use Rattle.enc_model.specs.Transcode.{Transcoder}
 use Rattle.enc_stream.specs.StateBytes.{state_bytes, padded, phase_bytes, shift_number}
 use Rattle.upload_rules.specs.Lengths.{is_too_large, known_or, longest}
@@ -109,9 +110,9 @@ module _ (h new : Holding) (v : View) (m : Store) (keeps : KeepsView h v) (shows
       (shows.sound.lists longer.slot may.used there) (keeps.listed longer.slot may.used there)
       (keeps.sizes longer.slot may.used there)
 
-  module _ (n : ℕ) (number : may.used.number ≡ n) (u : Upload) (found : upload_of m n ≡ Some u)
+  module _ {sure : Type 0} (n : ℕ) (number : may.used.number ≡ n) (u : Upload) (found : upload_of m n ≡ Some u)
       (declare : Option ℕ) (bytes added : List ℕ) (seen : ℕ → ℕ)
-      (ext : IsExtension m.indexes u declare bytes added longer more seen (text_page h.layout)) where
+      (ext : IsExtension sure m.indexes u declare bytes added longer more seen (text_page h.layout)) where
     found' : find may.used.number m.uploads ≡ Some u
     found' = ap (λ (k : ℕ). find k m.uploads) number ∙ found
 
@@ -183,9 +184,9 @@ module _ (h new : Holding) (v : View) (m : Store) (keeps : KeepsView h v) (shows
           % 4096 + (longer.text_len - (may.used.text_len - may.used.text_len % 4096))
       total = omega (arith, grown)
 
-      content : text_on seen (text_page v.blocks) more (longer.text_len - full_bytes may.used.text_len) ≡ drop
+      content : sure → text_on seen (text_page v.blocks) more (longer.text_len - full_bytes may.used.text_len) ≡ drop
           (full_bytes may.used.text_len) (v.texts longer.slot) ++ added
-      content =
+      content known =
           let P : ℕ → Type 0 = λ k. text_on seen (text_page v.blocks) more (longer.text_len - full_bytes k) ≡ drop
           (full_bytes k) (v.texts longer.slot) ++ added in
           let Q : List ℕ → Type 0 =
@@ -195,7 +196,7 @@ module _ (h new : Holding) (v : View) (m : Store) (keeps : KeepsView h v) (shows
           subst P (sym told.text_len) (subst Q (sym told.text)
           (subst (λ (k : ℕ). text_on seen (text_page k) more
           (longer.text_len - full_bytes (length (text_of m.indexes u))) ≡ drop
-          (full_bytes (length (text_of m.indexes u))) (text_of m.indexes u) ++ added) keeps.blocks (ext.content some)))
+          (full_bytes (length (text_of m.indexes u))) (text_of m.indexes u) ++ added) keeps.blocks (ext.content known some)))
 
       shows_some : Shows (appended_view v longer.slot (longer_record may.used longer) new.blocks.rows
           (v.texts longer.slot ++ added)) (patched_store m may.used.number declare bytes)
@@ -206,14 +207,14 @@ module _ (h new : Holding) (v : View) (m : Store) (keeps : KeepsView h v) (shows
           (keeps.listed longer.slot may.used there) (keeps.sizes longer.slot may.used there) (hands some) no_owner
           more_size total u declare bytes refl found' tells record_sound room
 
-      texts_some : HasTexts seen v → HasTexts seen
+      texts_some : sure → HasTexts seen v → HasTexts seen
           (appended_view v longer.slot (longer_record may.used longer) new.blocks.rows (v.texts longer.slot ++ added))
-      texts_some texts =
+      texts_some known texts =
           handed_texts v m shows longer.slot may.used (longer_record may.used longer) there new.blocks.rows
           (v.texts longer.slot ++ added) (get_or h.lists longer.slot []) more
           (longer.text_len - (may.used.text_len - may.used.text_len % 4096))
           (keeps.listed longer.slot may.used there) (keeps.sizes longer.slot may.used there) (hands some) no_owner
-          more_size total seen added texts content refl
+          more_size total seen added texts (content known) refl
 
     module _ (none : length more ≡ 0) where
       text_same : v.texts longer.slot ++ added ≡ v.texts longer.slot
@@ -241,10 +242,10 @@ module _ (h new : Holding) (v : View) (m : Store) (keeps : KeepsView h v) (shows
           | inr none ↦ shows_none (omega (arith, none))
         ])
 
-    pub extended_texts : HasTexts seen v → HasTexts seen
+    pub extended_texts : sure → HasTexts seen v → HasTexts seen
         (appended_view v longer.slot (longer_record may.used longer) new.blocks.rows (v.texts longer.slot ++ added))
-    extended_texts texts = elim (cases_lt 0 (length more)) [
-      | inl some ↦ texts_some some texts
+    extended_texts known texts = elim (cases_lt 0 (length more)) [
+      | inl some ↦ texts_some some known texts
       | inr none ↦ texts_none (omega (arith, none)) texts
     ]
 
@@ -272,12 +273,12 @@ module _ (h new : Holding) (v : View) (m : Store) (keeps : KeepsView h v) (shows
 
 -- AS THE DISK HOLDS IT
 
-module _ {D : Type 0} (disk : Ghosts D) (old : D) (h new : Holding) (fits' : FitsTogether new) (longer : Longer)
+module _ {D : Type 0} {sure : Bool} (disk : Ghosts D) (old : D) (h new : Holding) (fits' : FitsTogether new) (longer : Longer)
     (more : List ℕ) (may : MayExtend h longer more) (reserved : IsReserved h.blocks more)
     (is : (r : SlotRecord) → get_or h.slots longer.slot None ≡ Some r → IsLonger h r longer more new)
     (state_size : length longer.state ≡ 32)
     (m : Store) (n : ℕ) (declare : Option ℕ) (bytes : List ℕ)
-    (append : IsAppend disk old h m n declare bytes longer more) where
+    (append : IsAppend sure disk old h m n declare bytes longer more) where
   abbrev pub before : View
   before = append.stored.view
 
@@ -293,16 +294,17 @@ module _ {D : Type 0} (disk : Ghosts D) (old : D) (h new : Holding) (fits' : Fit
       reserved is state_size n number append.upload append.there declare bytes append.added (disk.seen old)
       append.extension
 
-  pub after_texts : HasTexts (disk.seen old) after
-  after_texts =
+  pub after_texts : sure ≡ true → HasTexts (disk.seen old) after
+  after_texts known =
       extended_texts h new append.stored.view m append.stored.keeps append.stored.shows longer more may reserved is
       state_size n number append.upload append.there declare bytes append.added (disk.seen old) append.extension
-      (rests_says append.stored.rests).texts
+      known (rests_says (append.stored.rests known)).texts
 
-  pub after_stored : (d : D) → disk.honest d → Rests after (disk.seen d) (disk.loose d)
-      → Stored disk d new (patched_store m n declare bytes)
+  pub after_stored : (d : D) → (disk.honest old → disk.honest d)
+      → (sure ≡ true → Rests after (disk.seen d) (disk.loose d))
+      → Stored sure disk d new (patched_store m n declare bytes)
   after_stored d honest rests = record {
-    honest = honest;
+    honest = λ known. honest (append.stored.honest known);
     view = after;
     rests = rests;
     keeps = extended_keeps h new append.stored.view m append.stored.keeps append.stored.shows longer more may reserved

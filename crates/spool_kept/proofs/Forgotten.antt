@@ -1,7 +1,8 @@
 -- The drafts, where an upload was taken away and its drafts forgot its last block.
-use Rattle.std.proofs.Common.{◌≡◌, ℕ, ◌+◌, ◌*◌, List, Option, None, Some, refl, sym, ◌∙◌, ap, subst, arith, inl, inr}
+use Rattle.std.proofs.Common.{◌≡◌, ℕ, List, Option, None, Some, refl, sym, ◌∙◌, ap, subst, arith, inl, inr, true}
 use Rattle.std.proofs.Common.{length, get_or}
 use Rattle.std.proofs.lemmas.Bool.{cases_eq}
+use Rattle.std.proofs.Common.{Bool}
 use Rattle.enc_model.specs.Indexes.{IndexSet}
 use Rattle.spool_blocks.specs.Blocks.{Held}
 use Rattle.spool_disk.specs.declared.disk.Disk.{Ghosts}
@@ -51,10 +52,10 @@ module _ (number : ℕ) (old new : List (Option SpoolDraft)) (forgets : EachForg
         (subst (NoneOf (lists_at old d)) (sym (lists_same e)) (hold.distinct d e apart));
   }
 
-  module _ (x : IndexSet) (seen : ℕ → ℕ) (first : ℕ) (slots : List (Option SlotRecord)) (h : Held) (w : World)
+  module _ (sure : Type 0) (x : IndexSet) (seen : ℕ → ℕ) (first : ℕ) (slots : List (Option SlotRecord)) (h : Held) (w : World)
       (gone : upload_of w.store number ≡ None) where
     stands_of : (p : Patch) (o o' : SpoolDraft) → ForgetsTail number o o'
-        → DraftStands x seen first slots h.rows w.store p o → DraftStands x seen first slots h.rows w.store p o'
+        → DraftStands sure x seen first slots h.rows w.store p o → DraftStands sure x seen first slots h.rows w.store p o'
     stands_of p o o' forgot s = elim (cases_eq (number_of o) number) [
       | inl same ↦
           let none : upload_of w.store p.number ≡ None =
@@ -62,16 +63,16 @@ module _ (number : ℕ) (old new : List (Option SpoolDraft)) (forgets : EachForg
           record {
             holds = forgot.holds x p s.holds;
             below = s.below;
-            carries = λ still. clash none still.1;
+            carries = λ known still. clash none still.1;
             tail = λ still. clash none still.1;
           }
       | inr other ↦
-          subst (DraftStands x seen first slots h.rows w.store p) (sym (forgot.others other)) s
+          subst (DraftStands sure x seen first slots h.rows w.store p) (sym (forgot.others other)) s
     ]
 
     each_of : (q : Option Patch) (o o' : Option SpoolDraft) → ForgetsOf number o o'
-        → DraftOf (DraftStands x seen first slots h.rows w.store) q o
-        → DraftOf (DraftStands x seen first slots h.rows w.store) q o'
+        → DraftOf (DraftStands sure x seen first slots h.rows w.store) q o
+        → DraftOf (DraftStands sure x seen first slots h.rows w.store) q o'
     each_of None None None forgot s = tt
     each_of None None (Some o') forgot s = absurd forgot
     each_of None (Some o) o' forgot s = absurd s
@@ -79,7 +80,7 @@ module _ (number : ℕ) (old new : List (Option SpoolDraft)) (forgets : EachForg
     each_of (Some p) (Some o) None forgot s = absurd forgot
     each_of (Some p) (Some o) (Some o') forgot s = stands_of p o o' forgot s
 
-    stand_forgotten : DraftsStand x seen first slots h w old → DraftsStand x seen first slots h w new
+    stand_forgotten : DraftsStand sure x seen first slots h w old → DraftsStand sure x seen first slots h w new
     stand_forgotten stand = record {
       each = λ d. each_of (find d w.patches) (draft_at old d) (draft_at new d) (forgets d) (stand.each d);
       apart = stand.apart;
@@ -95,11 +96,11 @@ module _ (number : ℕ) (old new : List (Option SpoolDraft)) (forgets : EachForg
           };
     }
 
-  pub stands_forgotten : {D : Type 0} (disk : Ghosts D) (d : D) (h : Holding) (w : World)
-      → upload_of w.store number ≡ None → StandsFor disk d h old w → StandsFor disk d h new w
-  stands_forgotten disk d h w gone stands = record {
+  pub stands_forgotten : {D : Type 0} {sure : Bool} (disk : Ghosts D) (d : D) (h : Holding) (w : World)
+      → upload_of w.store number ≡ None → StandsFor sure disk d h old w → StandsFor sure disk d h new w
+  stands_forgotten {sure = sure} disk d h w gone stands = record {
     stored = stands.stored;
-    stands = stand_forgotten w.store.indexes (disk.seen d) (text_page h.layout) h.slots h.blocks w gone
+    stands = stand_forgotten (sure ≡ true) w.store.indexes (disk.seen d) (text_page h.layout) h.slots h.blocks w gone
         stands.stands;
   }
 

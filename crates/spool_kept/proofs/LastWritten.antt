@@ -1,5 +1,6 @@
 -- The last bytes of a longer upload's text come onto its blocks.
-use Rattle.std.proofs.Common.{◌≡◌, ℕ, ◌+◌, ◌*◌, ◌/◌, ◌≤◌, List, Option, length, refl, sym, subst}
+use Rattle.std.proofs.Common.{◌≡◌, ℕ, ◌+◌, ◌/◌, ◌≤◌, List, Option, length, refl, sym, subst}
+use Rattle.std.proofs.Common.{Bool, true}
 use Rattle.spool_blocks.specs.Blocks.{Row}
 use Rattle.spool_disk.specs.declared.disk.Disk.{Ghosts}
 use Rattle.spool_disk.specs.Views.{Lasts}
@@ -18,35 +19,35 @@ use Rattle.spool_kept.specs.Stored.{Stored}
 use Rattle.spool_kept.specs.declared.extending.Longer.{Longer}
 use Rattle.spool_kept.proofs.DraftLonger.{moved}
 
-module _ {D : Type 0} (disk : Ghosts D) (d mid : D) (h : Holding) (m : Store) (n : ℕ) (declare : Option ℕ)
+module _ {D : Type 0} {sure : Bool} (disk : Ghosts D) (d mid : D) (h : Holding) (m : Store) (n : ℕ) (declare : Option ℕ)
     (bytes : List ℕ) (longer : Longer) (more last : List ℕ)
-    (pending : IsPending disk d h m n declare bytes longer more last) (reserved : IsReserved h.blocks more)
-    (only : OnlyWrites disk (journal_pages h.layout) more d mid) where
-  abbrev s : Stored disk d h m
+    (pending : IsPending sure disk d h m n declare bytes longer more last) (reserved : IsReserved h.blocks more)
+    (only : sure ≡ true → OnlyWrites disk (journal_pages h.layout) more d mid) where
+  abbrev s : Stored sure disk d h m
   s = pending.stored
 
   unowned : Unowned s.view.rows more
   unowned = subst (λ (rows : List Row). Unowned rows more) s.keeps.rows reserved.no_owner
 
-  pub shown : Lasts disk d mid (λ image. ImageShows h.layout image m)
-  shown = lasts_more only.lasts (λ image is. record {
+  pub shown : sure ≡ true → Lasts disk d mid (λ image. ImageShows h.layout image m)
+  shown known = lasts_more (only known).lasts (λ image is. record {
     view = s.view;
     blocks = sym s.keeps.blocks;
-    is = rests_aside more image (sym s.keeps.blocks) s.rests unowned is;
+    is = rests_aside more image (sym s.keeps.blocks) (s.rests known) unowned is;
     shows = s.shows;
   })
 
   pub appended : (disk.honest d → disk.honest mid)
-      → ((length last + 4095) / 4096 ≤ length more
+      → (sure ≡ true → (length last + 4095) / 4096 ≤ length more
       → text_on (disk.seen mid) (text_page h.layout) more
       (length (bytes_with (disk.seen d) (text_page h.layout) more last)) ≡ bytes_with (disk.seen d)
       (text_page h.layout) more last)
-      → IsAppend disk mid h m n declare bytes longer more
+      → IsAppend sure disk mid h m n declare bytes longer more
   appended honest written =
       pending.append mid
       (moved disk d mid h h m h.layout s record {
         same = refl;
         rows = refl;
-      } (honest s.honest) more unowned refl only.writes)
-      (λ some. subst (λ (text : List ℕ). text_on (disk.seen mid) (text_page h.layout) more
-      (length text) ≡ text) (pending.held some) (written (pending.fits some)))
+      } honest more unowned refl (λ known. (only known).writes))
+      (λ known some. subst (λ (text : List ℕ). text_on (disk.seen mid) (text_page h.layout) more
+      (length text) ≡ text) (pending.held known some) (written known (pending.fits some)))

@@ -3,6 +3,7 @@ use Rattle.std.proofs.Common.{◌≡◌, inl, inr, ◌⊎◌, ℕ, ◌+◌, ◌^
 use Rattle.std.proofs.Common.{get_or}
 use Rattle.std.proofs.Common.{slice_set, refl, sym, ◌∙◌, ap, subst, arith}
 use Rattle.std.proofs.lemmas.Bool.{lt-leb}
+use Rattle.std.proofs.Common.{Bool, true}
 use Rattle.spool_disk.specs.Views.{Lasts}
 use Rattle.spool_disk.proofs.Firm.{lasts_more}
 use Rattle.spool_disk.specs.declared.disk.Disk.{Ghosts}
@@ -92,28 +93,28 @@ module _ (h : Holding) (v : View) (m : Store) (new : New) (slot : ℕ) (r : Slot
     shows = shows_new;
   })
 
-  module _ {D : Type 0} (disk : Ghosts D) (before after : D) {pages : List (ℕ × List ℕ)}
-      (rests : Rests v (disk.seen before) (disk.loose before))
+  module _ {D : Type 0} {sure : Bool} (disk : Ghosts D) (before after : D) {pages : List (ℕ × List ℕ)}
+      (rests : sure ≡ true → Rests v (disk.seen before) (disk.loose before))
       (changes : Changes pages v (record (with_record v slot r) { next = h.next + 1 })) where
     -- a crash leaves the old store or the new one
-    pub crash_new : ((v' : View) → Changes pages v v' → HasTexts (disk.seen before) v'
+    pub crash_new : sure ≡ true → ((v' : View) → Changes pages v v' → HasTexts (disk.seen before) v'
         → Lasts disk before after (λ image. IsViewOf image v ⊎ IsViewOf image v'))
         → Lasts disk before after
         (ShowsEither h.layout m (outcome (create_refusal (at_rest m None) new) m (created_store m new)))
-    crash_new lasts =
+    crash_new known lasts =
         subst (λ (f : Option UploadRefusal). Lasts disk before after
         (ShowsEither h.layout m (outcome f m (created_store m new)))) (sym allowed)
-        (lasts_more (lasts (created_view v slot r) (changes_new changes) (texts_new rests)) shows_either)
+        (lasts_more (lasts (created_view v slot r) (changes_new changes) (texts_new (rests known))) shows_either)
 
     -- and the new one stands after the change
-    pub stored_new : (h' : Holding) → IsTakenIn h slot r h' → disk.honest after
-        → ((v' : View) → Changes pages v v' → HasTexts (disk.seen before) v'
+    pub stored_new : (h' : Holding) → IsTakenIn h slot r h' → (sure ≡ true → disk.honest after)
+        → (sure ≡ true → (v' : View) → Changes pages v v' → HasTexts (disk.seen before) v'
         → Rests v' (disk.seen after) (disk.loose after))
-        → Stored disk after h' (created_store m new)
+        → Stored sure disk after h' (created_store m new)
     stored_new h' taken honest done = record {
       honest = honest;
       view = created_view v slot r;
-      rests = done (created_view v slot r) (changes_new changes) (texts_new rests);
+      rests = λ known. done known (created_view v slot r) (changes_new changes) (texts_new (rests known));
       keeps = keeps_new h' taken;
       shows = shows_new;
     }

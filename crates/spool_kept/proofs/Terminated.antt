@@ -1,6 +1,7 @@
 -- An upload taken away, in what is kept and on the disk.
 use Rattle.std.proofs.Common.{◌≡◌, ◌⊎◌, inl, inr, ℕ, List, [], Option, None, Some, get_or, slice_set, refl, sym, ◌∙◌}
 use Rattle.std.proofs.Common.{ap, subst}
+use Rattle.std.proofs.Common.{Bool, true}
 use Rattle.spool_blocks.specs.Blocks.{Row}
 use Rattle.spool_disk.specs.Views.{Lasts}
 use Rattle.spool_disk.proofs.Firm.{lasts_more}
@@ -77,8 +78,8 @@ module _ (h : Holding) (v : View) (m : Store) (number slot : ℕ) (keeps : Keeps
 
 -- AS THE DISK HOLDS IT
 
-module _ {D : Type 0} (disk : Ghosts D) (d : D) (h h' : Holding) (m : Store) (number slot : ℕ)
-    (stored : Stored disk d h m) (used : IsUsedBy h.slots slot number) (out : IsTakenOut h slot h')
+module _ {D : Type 0} {sure : Bool} (disk : Ghosts D) (d : D) (h h' : Holding) (m : Store) (number slot : ℕ)
+    (stored : Stored sure disk d h m) (used : IsUsedBy h.slots slot number) (out : IsTakenOut h slot h')
     (blank filled : List (ℕ × List ℕ))
     (but : (v : View) → v.blocks ≡ h.layout → v.version ≡ h.version → v.slots ≡ h.slots → (rows : List Row)
     → SameRowsBut (get_or h.lists slot []) v.rows rows
@@ -100,10 +101,10 @@ module _ {D : Type 0} (disk : Ghosts D) (d : D) (h h' : Holding) (m : Store) (nu
       fill old new blocks (but old (sym stored.keeps.blocks) (sym stored.keeps.version) (sym stored.keeps.slots)
       h'.blocks.rows rows) refl
 
-  texts : HasTexts (disk.seen d) new
-  texts =
+  texts : sure ≡ true → HasTexts (disk.seen d) new
+  texts known =
       texts_after h old m number slot stored.keeps stored.shows used h' out (disk.seen d)
-      (rests_says stored.rests).texts
+      (rests_says (stored.rests known)).texts
 
   -- what the commit of the pages makes of a view
   abbrev Makes : (View → View → Type 0) → Type 0
@@ -112,23 +113,23 @@ module _ {D : Type 0} (disk : Ghosts D) (d : D) (h h' : Holding) (m : Store) (nu
       → Changes filled v v' → HasTexts (disk.seen d) v' → Made v v'
 
   -- a crash leaves the upload or its deletion
-  pub crash_after : (d' : D)
+  pub crash_after : sure ≡ true → (d' : D)
       → Makes (λ v v'. Lasts disk d d' (λ image. IsViewOf image v ⊎ IsViewOf image v'))
       → Lasts disk d d' (ShowsEither h.layout m (outcome (no_such (upload_of m number)) m (deleted_store m number)))
-  crash_after d' lasts =
+  crash_after known d' lasts =
       subst (λ (f : Option UploadRefusal).
       Lasts disk d d' (ShowsEither h.layout m (outcome f m (deleted_store m number))))
       (sym (allowed h old m number slot stored.keeps stored.shows used))
-      (lasts_more (lasts old new blocks stored.rests changes texts)
+      (lasts_more (lasts old new blocks (stored.rests known) changes (texts known))
       (shows_either h old m number slot stored.keeps stored.shows used h' out))
 
-  pub stored_after : (d' : D) → FitsTogether h' → disk.honest d'
-      → Makes (λ v v'. Rests v' (disk.seen d') (disk.loose d'))
-      → Stored disk d' h' (deleted_store m number)
+  pub stored_after : (d' : D) → FitsTogether h' → (disk.honest d → disk.honest d')
+      → (sure ≡ true → Makes (λ v v'. Rests v' (disk.seen d') (disk.loose d')))
+      → Stored sure disk d' h' (deleted_store m number)
   stored_after d' fits honest done = record {
-    honest = honest;
+    honest = λ known. honest (stored.honest known);
     view = new;
-    rests = done old new blocks stored.rests changes texts;
+    rests = λ known. done known old new blocks (stored.rests known) changes (texts known);
     keeps = keeps_after h old m number slot stored.keeps stored.shows used h' out fits;
     shows = shows_after h old m number slot stored.keeps stored.shows used h' out;
   }

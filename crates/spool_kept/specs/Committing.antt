@@ -1,6 +1,7 @@
 -- What a commit finds, and when it stands for one.
 use Rattle.std.specs.Prelude.{◌≡◌, ◌⊎◌, ◌≤◌, ◌<◌, ◌+◌, ◌^◌, ℕ, true, false, List, Option, None, Some, Result, Ok, Err}
 use Rattle.std.specs.Prelude.{[], get_or}
+use Rattle.std.specs.Prelude.{Bool}
 use Rattle.spool_disk.specs.Disk.{IsImage, Keeps}
 use Rattle.spool_disk.specs.Views.{Lasts}
 use Rattle.spool_disk.specs.declared.disk.Disk.{Ghosts}
@@ -79,9 +80,9 @@ abbrev pub with_length_at : World → ℕ → Option ℕ → World
 with_length_at w n declared = record w { store = patched_store w.store n declared [] }
 
 -- The draft of a number stands for a patch that goes with its upload, and changes the text.
-pub record IsCommit {D : Type 0} (disk : Ghosts D) (d : D) (h : Holding) (drafts : List (Option SpoolDraft))
+pub record IsCommit {D : Type 0} (sure : Bool) (disk : Ghosts D) (d : D) (h : Holding) (drafts : List (Option SpoolDraft))
     (number : ℕ) (o : SpoolDraft) (w : World) (p : Patch) : Type 0 where
-  pub stands : StandsFor disk d h drafts w
+  pub stands : StandsFor sure disk d h drafts w
   pub fits : DraftsHold h.layout h.blocks drafts
   pub here : draft_at drafts number ≡ Some o
   pub patch : find number w.patches ≡ Some p

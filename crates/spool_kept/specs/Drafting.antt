@@ -1,6 +1,7 @@
 -- The open drafts on a disk by their numbers, and the patches that they stand for.
-use Rattle.std.specs.Prelude.{◌≡◌, ◌≢◌, ◌<◌, ◌≤◌, ◌+◌, ◌*◌, ℕ, List, [], Option, None, Some, true, false, Result, Ok}
+use Rattle.std.specs.Prelude.{◌≡◌, ◌≢◌, ◌<◌, ◌≤◌, ℕ, List, [], Option, None, Some, true, false, Result, Ok}
 use Rattle.std.specs.Prelude.{Err, length, get_or}
+use Rattle.std.specs.Prelude.{Bool}
 use Rattle.enc_model.specs.Indexes.{IndexSet}
 use Rattle.spool_blocks.specs.Blocks.{Row, Held}
 use Rattle.spool_blocks.specs.Chains.{Owns}
@@ -88,43 +89,45 @@ IsStillOpen m p =
     (since : Option ℕ) × (upload_of m p.number ≡ Some (with_length p.began since))
     × (is_complete (with_length p.began since) ≡ false)
 
--- The draft is the patch's. Once another draft made the upload longer or complete, only its need matters: it can't put
--- anything after the upload's text.
-pub record DraftStands (x : IndexSet) (seen : ℕ → ℕ) (first : ℕ) (slots : List (Option SlotRecord)) (rows : List Row)
-    (m : Store) (p : Patch) (o : SpoolDraft) : Type 0 where
+-- The draft is the patch's, and its bytes are where the disk is sure to hold what was written. Once another draft made
+-- the upload longer or complete, only its need matters: it can't put anything after the upload's text.
+pub record DraftStands (sure : Type 0) (x : IndexSet) (seen : ℕ → ℕ) (first : ℕ) (slots : List (Option SlotRecord))
+    (rows : List Row) (m : Store) (p : Patch) (o : SpoolDraft) : Type 0 where
   pub holds : Holds x p o
   pub below : p.number < m.next
-  pub carries : IsStillOpen m p → Carries x seen first p o
+  pub carries : sure → IsStillOpen m p → Carries x seen first p o
   pub tail : IsStillOpen m p → IsOwnedBy slots rows p.number (tail_of o)
 
 -- each patch has its draft, and the drafts reserve all blocks that are reserved
-pub record DraftsStand (x : IndexSet) (seen : ℕ → ℕ) (first : ℕ) (slots : List (Option SlotRecord)) (h : Held)
-    (w : World) (drafts : List (Option SpoolDraft)) : Type 0 where
-  pub each : (d : ℕ) → DraftOf (DraftStands x seen first slots h.rows w.store) (find d w.patches) (draft_at drafts d)
+pub record DraftsStand (sure : Type 0) (x : IndexSet) (seen : ℕ → ℕ) (first : ℕ) (slots : List (Option SlotRecord))
+    (h : Held) (w : World) (drafts : List (Option SpoolDraft)) : Type 0 where
+  pub each : (d : ℕ) → DraftOf (DraftStands sure x seen first slots h.rows w.store) (find d w.patches)
+      (draft_at drafts d)
   pub apart : IsApart w.patches
   pub grown : IsGrown w
   pub limit : w.blocks ≡ Some (length h.rows)
   pub all : (b : ℕ) → get_or h.reserved b false ≡ true → IsInSome (lists_at drafts) b
 
--- the disk, what is kept of it and the drafts stand for the world
-pub record StandsFor {D : Type 0} (disk : Ghosts D) (d : D) (h : Holding) (drafts : List (Option SpoolDraft))
+-- What is kept and the drafts stand for the world. Where that is sure, the disk does too: it is honest, and holds the
+-- texts; where it isn't, nothing is said of the disk.
+pub record StandsFor {D : Type 0} (sure : Bool) (disk : Ghosts D) (d : D) (h : Holding) (drafts : List (Option SpoolDraft))
     (w : World) : Type 0 where
-  pub stored : Stored disk d h w.store
-  pub stands : DraftsStand w.store.indexes (disk.seen d) (text_page h.layout) h.slots h.blocks w drafts
+  pub stored : Stored sure disk d h w.store
+  pub stands : DraftsStand (sure ≡ true) w.store.indexes (disk.seen d) (text_page h.layout) h.slots h.blocks w
+      drafts
 
 -- WHAT A DRAFT BEGINS AFTER
 
 -- a draft of the upload as it is, or the rules' refusal
-abbrev pub OpensFor : Store → ℕ → ℕ → ℕ → Option ℕ → (ℕ → ℕ) → ℕ → Option Upload → Result SpoolDraft UploadRefusal
-    → Type 0
-OpensFor m number offset count declare seen first None (Ok o) = ⊥
-OpensFor m number offset count declare seen first None (Err e) = e ≡ NoSuch
-OpensFor m number offset count declare seen first (Some u) (Ok o) =
-    IsBegun m.indexes number offset count declare u (Ok o)
-    × Carries m.indexes seen first (first_patch number count declare u) o
-OpensFor m number offset count declare seen first (Some u) (Err e) =
-    IsBegun m.indexes number offset count declare u (Err e)
+abbrev pub OpensFor : Store → ℕ → ℕ → ℕ → Option ℕ → Option Upload → Result SpoolDraft UploadRefusal → Type 0
+OpensFor m number offset count declare None (Ok o) = ⊥
+OpensFor m number offset count declare None (Err e) = e ≡ NoSuch
+OpensFor m number offset count declare (Some u) result = IsBegun m.indexes number offset count declare u result
 
-abbrev pub OpensAs : Store → ℕ → ℕ → ℕ → Option ℕ → (ℕ → ℕ) → ℕ → Result SpoolDraft UploadRefusal → Type 0
-OpensAs m number offset count declare seen first result =
-    OpensFor m number offset count declare seen first (upload_of m number) result
+abbrev pub OpensAs : Store → ℕ → ℕ → ℕ → Option ℕ → Result SpoolDraft UploadRefusal → Type 0
+OpensAs m number offset count declare result = OpensFor m number offset count declare (upload_of m number) result
+
+-- and it carries the upload's last bytes
+abbrev pub CarriesFor : Store → ℕ → ℕ → Option ℕ → (ℕ → ℕ) → ℕ → SpoolDraft → Type 0
+CarriesFor m number count declare seen first o =
+    (u : Upload) → upload_of m number ≡ Some u → Carries m.indexes seen first (first_patch number count declare u) o

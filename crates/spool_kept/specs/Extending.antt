@@ -67,10 +67,10 @@ pub record IsLonger (h : Holding) (used : SlotRecord) (longer : Longer) (more : 
   pub same : length more ≡ 0 → new.blocks ≡ h.blocks
   pub rows : 0 < length more → HandsOver h.blocks.rows longer.slot (used.text_len / 4096) more new.blocks.rows
 
--- with this length, where none was known, and these bytes the upload's text has these after it, and the blocks hold
--- what is not on the old full ones
-pub record IsExtension (x : IndexSet) (u : Upload) (declare : Option ℕ) (bytes added : List ℕ) (longer : Longer)
-    (more : List ℕ) (seen : ℕ → ℕ) (first : ℕ) : Type 0 where
+-- with this length, where none was known, and these bytes the upload's text has these after it, and where the disk is
+-- sure to hold what was written, the blocks hold what is not on the old full ones
+pub record IsExtension (sure : Type 0) (x : IndexSet) (u : Upload) (declare : Option ℕ) (bytes added : List ℕ)
+    (longer : Longer) (more : List ℕ) (seen : ℕ → ℕ) (first : ℕ) : Type 0 where
   pub declared : longer.declared ≡ known_or u.declared declare
   pub accepted : longer.accepted ≡ length (u.accepted ++ bytes)
   pub few : length (u.accepted ++ bytes) ≤ longest (known_or u.declared declare)
@@ -81,35 +81,36 @@ pub record IsExtension (x : IndexSet) (u : Upload) (declare : Option ℕ) (bytes
   pub text : text_of x (patched u declare bytes) ≡ text_of x u ++ added
   pub text_len : longer.text_len ≡ length (text_of x (patched u declare bytes))
   pub nothing : length more ≡ 0 → added ≡ []
-  pub content : 0 < length more
+  pub content : sure → 0 < length more
       → text_on seen first more (longer.text_len - full_bytes (length (text_of x u))) ≡ drop
       (full_bytes (length (text_of x u))) (text_of x u) ++ added
 
 -- the disk and what is kept stand for the store, and this is what a patch makes of the slot's upload
-pub record IsAppend {D : Type 0} (disk : Ghosts D) (d : D) (h : Holding) (m : Store) (n : ℕ) (declare : Option ℕ)
+pub record IsAppend {D : Type 0} (sure : Bool) (disk : Ghosts D) (d : D) (h : Holding) (m : Store) (n : ℕ) (declare : Option ℕ)
     (bytes : List ℕ) (longer : Longer) (more : List ℕ) : Type 0 where
-  pub stored : Stored disk d h m
+  pub stored : Stored sure disk d h m
   pub used : IsUsedBy h.slots longer.slot n
   pub upload : Upload
   pub there : upload_of m n ≡ Some upload
   pub added : List ℕ
-  pub extension : IsExtension m.indexes upload declare bytes added longer more (disk.seen d) (text_page h.layout)
+  pub extension : IsExtension (sure ≡ true) m.indexes upload declare bytes added longer more (disk.seen d)
+      (text_page h.layout)
 
 -- one whose last bytes are still to be written: with its text on its blocks it is one
-pub record IsPending {D : Type 0} (disk : Ghosts D) (d : D) (h : Holding) (m : Store) (n : ℕ) (declare : Option ℕ)
+pub record IsPending {D : Type 0} (sure : Bool) (disk : Ghosts D) (d : D) (h : Holding) (m : Store) (n : ℕ) (declare : Option ℕ)
     (bytes : List ℕ) (longer : Longer) (more last : List ℕ) : Type 0 where
-  pub stored : Stored disk d h m
+  pub stored : Stored sure disk d h m
   pub text : List ℕ
   pub fits : 1 ≤ length more → (length last + 4095) / 4096 ≤ length more
-  pub held : 1 ≤ length more → bytes_with (disk.seen d) (text_page h.layout) more last ≡ text
-  pub append : (e : D) → Stored disk e h m
-      → (1 ≤ length more → text_on (disk.seen e) (text_page h.layout) more (length text) ≡ text)
-      → IsAppend disk e h m n declare bytes longer more
+  pub held : sure ≡ true → 1 ≤ length more → bytes_with (disk.seen d) (text_page h.layout) more last ≡ text
+  pub append : (e : D) → Stored sure disk e h m
+      → (sure ≡ true → 1 ≤ length more → text_on (disk.seen e) (text_page h.layout) more (length text) ≡ text)
+      → IsAppend sure disk e h m n declare bytes longer more
 
 -- the text's last bytes were written to its blocks alone, and then no byte of a text block
-pub record IsWritten {D : Type 0} (disk : Ghosts D) (old new : D) (h : Holding) (m : Store) (n : ℕ)
+pub record IsWritten {D : Type 0} (sure : Bool) (disk : Ghosts D) (old new : D) (h : Holding) (m : Store) (n : ℕ)
     (declare : Option ℕ) (bytes : List ℕ) (longer : Longer) (more : List ℕ) : Type 0 where
   pub mid : D
-  pub only : OnlyWrites disk (journal_pages h.layout) more old mid
-  pub append : IsAppend disk mid h m n declare bytes longer more
-  pub texts : (p : ℕ) → 4096 * text_page h.layout ≤ p → disk.seen new p ≡ disk.seen mid p
+  pub only : disk.honest old → OnlyWrites disk (journal_pages h.layout) more old mid
+  pub append : IsAppend sure disk mid h m n declare bytes longer more
+  pub texts : sure ≡ true → (p : ℕ) → 4096 * text_page h.layout ≤ p → disk.seen new p ≡ disk.seen mid p

@@ -1,5 +1,5 @@
 -- The record of an upload in memory.
-use Rattle.std.specs.Prelude.{◌≡◌, ◌≤◌, ℕ, All, List, Option, Some, None, length}
+use Rattle.std.specs.Prelude.{◌≡◌, ◌≤◌, ℕ, All, List, Option, Some, None}
 use Rattle.enc_model.specs.Indexes.{IndexSet}
 use Rattle.enc_model.specs.Transcode.{Transcoder}
 use Rattle.enc_stream.specs.StateBytes.{IsSound, state_bytes}
@@ -54,9 +54,13 @@ KeepsOf x n None None = Unit {0}
 KeepsOf x n (Some u) (Some r) = Keeps x n r u
 KeepsOf x n _ _ = ⊥
 
--- the record is the upload's, and its text is on the listed blocks
-pub record IsUploadOn (m : Store) (number : ℕ) (seen : ℕ → ℕ) (first : ℕ) (r : Record) (list : List ℕ) : Type 0 where
+-- the record is the upload's
+pub record IsUploadOf (m : Store) (number : ℕ) (r : Record) : Type 0 where
   pub upload : Upload
   pub there : upload_of m number ≡ Some upload
   pub keeps : Keeps m.indexes number r upload
-  pub text : text_on seen first list r.text_len ≡ text_of m.indexes upload
+
+-- the upload's text is on the listed blocks
+abbrev pub HasTextOn : Store → ℕ → (ℕ → ℕ) → ℕ → Record → List ℕ → Type 0
+HasTextOn m number seen first r list =
+    (u : Upload) → upload_of m number ≡ Some u → text_on seen first list r.text_len ≡ text_of m.indexes u

@@ -1,5 +1,6 @@
 -- What a disk and what is kept of it stand for: a store of uploads.
 use Rattle.std.specs.Prelude.{◌⊎◌, ℕ}
+use Rattle.std.specs.Prelude.{◌≡◌, Bool, true}
 use Rattle.spool_disk.specs.declared.disk.Disk.{Ghosts}
 use Rattle.spool_pages.specs.Rests.{Rests}
 use Rattle.spool_pages.specs.View.{View}
@@ -8,11 +9,12 @@ use Rattle.spool_kept.specs.Holding.{Holding}
 use Rattle.spool_kept.specs.Kept.{KeepsView}
 use Rattle.spool_kept.specs.Shows.{Shows, ImageShows}
 
--- the disk is at rest with a view that shows the uploads, and this is kept of it
-pub record Stored {D : Type 0} (disk : Ghosts D) (d : D) (h : Holding) (m : Store) : Type 0 where
-  pub honest : disk.honest d
+-- This is kept of a view that shows the uploads. Where that is sure, the disk is honest, and at rest with the view; where
+-- it isn't, nothing is said of the disk.
+pub record Stored {D : Type 0} (sure : Bool) (disk : Ghosts D) (d : D) (h : Holding) (m : Store) : Type 0 where
+  pub honest : sure ≡ true → disk.honest d
   pub view : View
-  pub rests : Rests view (disk.seen d) (disk.loose d)
+  pub rests : sure ≡ true → Rests view (disk.seen d) (disk.loose d)
   pub keeps : KeepsView h view
   pub shows : Shows view m
 

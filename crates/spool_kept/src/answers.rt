@@ -1,5 +1,5 @@
 //! What is told of the uploads.
-ghost use Rattle.std.specs.Prelude.{◌≡◌, ◌<◌, ◌≤◌, ◌↔◌, ◌+◌, ◌*◌, ℕ, None, length};
+ghost use Rattle.std.specs.Prelude.{◌≡◌, ◌<◌, ◌≤◌, ◌↔◌, ◌+◌, ◌-◌, ◌*◌, ℕ, None, length, min};
 ghost use Rattle.std.specs.Prelude.{IsErrOf, MatchOption, IfSome, option_copied};
 ghost use Rattle.spool_disk.specs.Disk.{Counts, IsImage, Keeps};
 ghost use Rattle.spool_disk.specs.Views.{Lasts};
@@ -12,7 +12,7 @@ ghost use Rattle.upload_rules.specs.Store.{Store, upload_of};
 ghost use Rattle.spool_kept.specs.Drafting.{IsKept, IsOwnedBy};
 ghost use Rattle.spool_kept.specs.Holding.{IsUsedBy};
 ghost use Rattle.spool_kept.specs.Kept.{KeepsView};
-ghost use Rattle.spool_kept.specs.Records.{KeepsOf, IsUploadOn};
+ghost use Rattle.spool_kept.specs.Records.{HasTextOn, IsUploadOf, KeepsOf};
 ghost use Rattle.spool_kept.specs.Shows.{Shows};
 ghost use Rattle.spool_pages.specs.View.{View, Says};
 
@@ -66,9 +66,10 @@ impl Kept {
         ensures owned { IfSome result (λ u. IsOwnedBy self.now.slots self.now.blocks.rows number u.list.now) }
         ensures numbered { IfSome result (λ u. u.upload.now.number < self.now.next) }
         ensures kept { IfSome result (λ u. IsKept self.now.slots u.upload.now) }
-        ensures told { (v : View) (m : Store) (bytes : ℕ → ℕ) → KeepsView self.now v → Shows v m → Says bytes v
-            → MatchOption result (upload_of m number ≡ None)
-            (λ u. IsUploadOn m number bytes (text_page self.now.layout) u.upload.now u.list.now) }
+        ensures told { (v : View) (m : Store) → KeepsView self.now v → Shows v m
+            → MatchOption result (upload_of m number ≡ None) (λ u. IsUploadOf m number u.upload.now) }
+        ensures text { (v : View) (m : Store) (bytes : ℕ → ℕ) → KeepsView self.now v → Shows v m → Says bytes v
+            → IfSome result (λ u. HasTextOn m number bytes (text_page self.now.layout) u.upload.now u.list.now) }
     {
         let slot = self.slot_of(number)?;
         let used = record_at(&self.slots, slot as usize)?;
@@ -94,6 +95,9 @@ impl Kept {
         ensures counts { Counts (IsErrOf result UploadError.DiskFault) (D.failures disk.old) (D.failures disk.new) }
         ensures later { D.moment disk.old ≤ D.moment disk.new }
         ensures no_memory { IsErrOf result UploadError.NoMemory → ⊥ }
+        ensures count { (m : Store) (v : View) → KeepsView self.now v → Shows v m
+            → Answers (no_such (upload_of m number)) result
+            (λ n. n ≡ min (length (text_at m (upload_of m number)) - at) (length buf.old)) (Unit {0}) }
         ensures answer { D.honest disk.old → (m : Store) (v : View) → KeepsView self.now v → Shows v m
             → Says (D.seen disk.old) v
             → Answers (no_such (upload_of m number)) result

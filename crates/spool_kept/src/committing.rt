@@ -1,6 +1,7 @@
 //! The text of a draft is put after its upload's.
 ghost use Rattle.std.specs.Prelude.{◌≡◌, ◌≤◌, ◌<◌, ◌*◌, ◌↔◌, ◌⊎◌, ℕ, false, List, [], Option, Some, None};
 ghost use Rattle.std.specs.Prelude.{get_or, slice_set, IsErrOf, IfOk};
+ghost use Rattle.std.specs.Prelude.{Bool, true};
 ghost use Rattle.spool_disk.specs.Disk.{Counts};
 ghost use Rattle.spool_disk.specs.Views.{Lasts};
 ghost use Rattle.spool_journal.specs.Image.{journal_pages, all_pages};
@@ -106,17 +107,17 @@ fn ended<D: Disk>(
     ensures more { IfOk result (λ e. (r : Said) → get_or kept.new.slots e.0.slot None ≡ Some r → Advances r e.0) }
     ensures refusal { (e : Refusal) → IsErrOf result (UploadError.Refused e)
         → (e ≡ UploadRefusal.Unencodable) ⊎ (e ≡ UploadRefusal.Full) }
-    ensures answer { (drafts : List (Option Draft)) (number : ℕ) (w : World) (p : Patch)
-        → IsCommit D.Disk disk.old kept.old drafts number draft.old w p
+    ensures answer { (sure : Bool) (drafts : List (Option Draft)) (number : ℕ) (w : World) (p : Patch)
+        → IsCommit sure D.Disk disk.old kept.old drafts number draft.old w p
         → Answers (commit_refusal w number p) result
         (λ e. (e.0.accepted ≡ reached p)
-        × IsPending D.Disk disk.new kept.new w.store p.number p.declare p.body e.0 (list_of draft.new) e.1.items)
+        × IsPending sure D.Disk disk.new kept.new w.store p.number p.declare p.body e.0 (list_of draft.new) e.1.items)
         (Unit {0}) }
-    ensures stored { (drafts : List (Option Draft)) (number : ℕ) (w : World) (p : Patch)
-        → IsCommit D.Disk disk.old kept.old drafts number draft.old w p
-        → Stored D.Disk disk.new kept.new w.store }
+    ensures stored { (sure : Bool) (drafts : List (Option Draft)) (number : ℕ) (w : World) (p : Patch)
+        → IsCommit sure D.Disk disk.old kept.old drafts number draft.old w p
+        → Stored sure D.Disk disk.new kept.new w.store }
     ensures quiet { (drafts : List (Option Draft)) (number : ℕ) (w : World) (p : Patch)
-        → IsCommit D.Disk disk.old kept.old drafts number draft.old w p
+        → IsCommit true D.Disk disk.old kept.old drafts number draft.old w p
         → Lasts D.Disk disk.old disk.new (λ image. ImageShows kept.old.layout image w.store) }
 {
     let Found { slot, declared, .. } = found;
@@ -169,17 +170,17 @@ fn append_to<D: Disk>(
         → draft_at drafts number ≡ Some draft → DraftsFit kept.new (slice_set drafts number None) }
     ensures refusal { (e : Refusal) → IsErrOf result (UploadError.Refused e)
         → (e ≡ UploadRefusal.Unencodable) ⊎ (e ≡ UploadRefusal.Full) }
-    ensures answer { (drafts : List (Option Draft)) (number : ℕ) (w : World) (p : Patch)
-        → IsCommit D.Disk disk.old kept.old drafts number draft w p
+    ensures answer { (sure : Bool) (drafts : List (Option Draft)) (number : ℕ) (w : World) (p : Patch)
+        → IsCommit sure D.Disk disk.old kept.old drafts number draft w p
         → Answers (commit_refusal w number p) result
         (λ n. (n ≡ reached p)
-        × StandsFor D.Disk disk.new kept.new (slice_set drafts number None) (committed w number p))
-        (StandsFor D.Disk disk.new kept.new (slice_set drafts number None) (dropped w number)) }
+        × StandsFor sure D.Disk disk.new kept.new (slice_set drafts number None) (committed w number p))
+        (StandsFor sure D.Disk disk.new kept.new (slice_set drafts number None) (dropped w number)) }
     ensures crash { (drafts : List (Option Draft)) (number : ℕ) (w : World) (p : Patch)
-        → IsCommit D.Disk disk.old kept.old drafts number draft w p
+        → IsCommit true D.Disk disk.old kept.old drafts number draft w p
         → Lasts D.Disk disk.old disk.new (ShowsEither kept.old.layout w.store (commit_outcome w number p)) }
     ensures unmade { (drafts : List (Option Draft)) (number : ℕ) (w : World) (p : Patch)
-        → IsCommit D.Disk disk.old kept.old drafts number draft w p
+        → IsCommit true D.Disk disk.old kept.old drafts number draft w p
         → IsErrOf result UploadError.NoMemory
         → Lasts D.Disk disk.old disk.new (λ image. ImageShows kept.old.layout image w.store) }
 
@@ -223,13 +224,13 @@ fn set_length<D: Disk>(
     ensures count { (r : Said) → get_or kept.old.slots slot None ≡ Some r → IfOk result (λ n. n ≡ r.accepted) }
     ensures no_refusal { (e : Refusal) → IsErrOf result (UploadError.Refused e) → ⊥ }
     ensures fits { (drafts : List (Option Draft)) → DraftsFit kept.old drafts → DraftsFit kept.new drafts }
-    ensures answer { (drafts : List (Option Draft)) (w : World) (n : ℕ)
-        → StandsFor D.Disk disk.old kept.old drafts w → IsUsedBy kept.old.slots slot n → is_too_large declared ≡ false
+    ensures answer { (sure : Bool) (drafts : List (Option Draft)) (w : World) (n : ℕ)
+        → StandsFor sure D.Disk disk.old kept.old drafts w → IsUsedBy kept.old.slots slot n → is_too_large declared ≡ false
         → Answers None result
-        (λ count. StandsFor D.Disk disk.new kept.new drafts (with_length_at w n declared))
-        (StandsFor D.Disk disk.new kept.new drafts w) }
+        (λ count. StandsFor sure D.Disk disk.new kept.new drafts (with_length_at w n declared))
+        (StandsFor sure D.Disk disk.new kept.new drafts w) }
     ensures crash { (m : Store) (n : ℕ)
-        → Stored D.Disk disk.old kept.old m → IsUsedBy kept.old.slots slot n → is_too_large declared ≡ false
+        → Stored true D.Disk disk.old kept.old m → IsUsedBy kept.old.slots slot n → is_too_large declared ≡ false
         → Lasts D.Disk disk.old disk.new (ShowsEither kept.old.layout m (patched_store m n declared [])) }
     ensures unmade { IsErrOf result UploadError.NoMemory → (disk.new ≡ disk.old) × (kept.new ≡ kept.old) }
 {
@@ -275,15 +276,16 @@ pub fn commit<D: Disk>(
         ↔ ((s : ℕ) → IsUsedBy kept.old.slots s (number_of o) → ⊥)) }
     ensures offset { (o : Draft) → draft_at drafts.old.items number ≡ Some o
         → (IsErrOf result (UploadError.Refused UploadRefusal.Offset) ↔ HasOtherCount kept.old.slots o) }
-    ensures answer { (w : World) (p : Patch) → StandsFor D.Disk disk.old kept.old drafts.old.items w
+    ensures answer { (sure : Bool) (w : World) (p : Patch)
+        → StandsFor sure D.Disk disk.old kept.old drafts.old.items w
         → find number w.patches ≡ Some p
         → Answers (commit_refusal w number p) result
-        (λ n. (n ≡ reached p) × StandsFor D.Disk disk.new kept.new drafts.new.items (committed w number p))
-        (StandsFor D.Disk disk.new kept.new drafts.new.items (dropped w number)) }
-    ensures crash { (w : World) (p : Patch) → StandsFor D.Disk disk.old kept.old drafts.old.items w
+        (λ n. (n ≡ reached p) × StandsFor sure D.Disk disk.new kept.new drafts.new.items (committed w number p))
+        (StandsFor sure D.Disk disk.new kept.new drafts.new.items (dropped w number)) }
+    ensures crash { (w : World) (p : Patch) → StandsFor true D.Disk disk.old kept.old drafts.old.items w
         → find number w.patches ≡ Some p
         → Lasts D.Disk disk.old disk.new (ShowsEither kept.old.layout w.store (commit_outcome w number p)) }
-    ensures unmade { (w : World) (p : Patch) → StandsFor D.Disk disk.old kept.old drafts.old.items w
+    ensures unmade { (w : World) (p : Patch) → StandsFor true D.Disk disk.old kept.old drafts.old.items w
         → find number w.patches ≡ Some p
         → IsErrOf result UploadError.NoMemory
         → Lasts D.Disk disk.old disk.new (λ image. ImageShows kept.old.layout image w.store) }

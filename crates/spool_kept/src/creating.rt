@@ -1,6 +1,7 @@
 //! A new upload is made.
 ghost use Rattle.std.specs.Prelude.{◌≡◌, ◌↔◌, ◌⊎◌, ◌≤◌, ◌<◌, ◌+◌, ◌*◌, ◌^◌, ℕ, List, Option, Some, None, length};
 ghost use Rattle.std.specs.Prelude.{get_or, IsErr, IsErrOf, IsSome, IfOk, OnOk, IfSome, MatchOption};
+ghost use Rattle.std.specs.Prelude.{Bool, true};
 ghost use Rattle.spool_disk.specs.Disk.{Counts};
 ghost use Rattle.spool_disk.specs.Views.{Lasts};
 ghost use Rattle.spool_journal.specs.Image.{journal_pages, all_pages, InArea, text_page};
@@ -143,17 +144,17 @@ pub fn create<D: Disk>(
     ensures slots { (slot : ℕ) (r : Said) → get_or kept.old.slots slot None ≡ Some r
         → get_or kept.new.slots slot None ≡ Some r }
     ensures fits { (drafts : List (Option Draft)) → DraftsFit kept.old drafts → DraftsFit kept.new drafts }
-    ensures answer { (m : Store) → Stored D.Disk disk.old kept.old m
+    ensures answer { (sure : Bool) (m : Store) → Stored sure D.Disk disk.old kept.old m
         → Answers (create_refusal (at_rest m None) new) result
-        (λ n. (n ≡ m.next) × Stored D.Disk disk.new kept.new (created_store m new))
-        (Stored D.Disk disk.new kept.new m) }
-    ensures crash { (m : Store) → Stored D.Disk disk.old kept.old m
+        (λ n. (n ≡ m.next) × Stored sure D.Disk disk.new kept.new (created_store m new))
+        (Stored sure D.Disk disk.new kept.new m) }
+    ensures crash { (m : Store) → Stored true D.Disk disk.old kept.old m
         → Lasts D.Disk disk.old disk.new (ShowsEither kept.old.layout m
         (outcome (create_refusal (at_rest m None) new) m (created_store m new))) }
     ensures unmade { IsErrOf result UploadError.NoMemory → (disk.new ≡ disk.old) × (kept.new ≡ kept.old) }
     ensures refused { (e : UploadRefusal) → IsErrOf result (UploadError.Refused e)
         → (disk.new ≡ disk.old) × (kept.new ≡ kept.old) }
-    ensures texts { (m : Store) → Stored D.Disk disk.old kept.old m
+    ensures texts { (m : Store) → Stored true D.Disk disk.old kept.old m
         → OnOk result ((p : ℕ) → 4096 * text_page kept.old.layout ≤ p → D.seen disk.new p ≡ D.seen disk.old p) }
 {
     if is_too_large(new.declared) {

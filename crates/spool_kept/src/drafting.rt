@@ -1,5 +1,6 @@
 //! The open drafts of a spool by their numbers: begun, made longer and dropped.
 ghost use Rattle.std.specs.Prelude.{◌≡◌, ◌≤◌, ◌<◌, ◌*◌, ◌+◌, ◌↔◌, ℕ, [], Some, None, length, IsErrOf, IfOk};
+ghost use Rattle.std.specs.Prelude.{Bool, true};
 ghost use Rattle.spool_disk.specs.Disk.{Counts};
 ghost use Rattle.spool_disk.specs.Views.{Lasts};
 ghost use Rattle.spool_journal.specs.Image.{all_pages, text_page};
@@ -10,7 +11,8 @@ ghost use Rattle.upload_rules.specs.World.{Patch, World, free_number};
 ghost use Rattle.spool_drafts.specs.Drafts.{IsPlaced, list_of, number_of, tail_of};
 ghost use Rattle.spool_pages.specs.View.{View, Says};
 ghost use Rattle.spool_kept.specs.Kept.{KeepsView};
-ghost use Rattle.spool_kept.specs.Drafting.{DraftsFit, IsOfUpload, IsOwnedBy, OnlyReserves, OpensAs, StandsFor};
+ghost use Rattle.spool_kept.specs.Drafting.{CarriesFor, DraftsFit, IsOfUpload, IsOwnedBy, OnlyReserves, OpensAs};
+ghost use Rattle.spool_kept.specs.Drafting.{StandsFor};
 ghost use Rattle.spool_kept.specs.Shows.{ImageShows, Shows};
 
 use crate::kept::Kept;
@@ -33,8 +35,10 @@ fn opened(
     ensures owned { IfOk result (λ o. IsOwnedBy kept.now.slots kept.now.blocks.rows number (tail_of o)) }
     ensures below { IfOk result (λ o. number_of o < kept.now.next) }
     ensures of_upload { IfOk result (IsOfUpload kept.now.slots) }
-    ensures opened { (v : View) (m : Store) (bytes : ℕ → ℕ) → KeepsView kept.now v → Shows v m → Says bytes v
-        → OpensAs m number offset count declare bytes (text_page kept.now.layout) result }
+    ensures opened { (v : View) (m : Store) → KeepsView kept.now v → Shows v m
+        → OpensAs m number offset count declare result }
+    ensures carries { (v : View) (m : Store) (bytes : ℕ → ℕ) → KeepsView kept.now v → Shows v m → Says bytes v
+        → IfOk result (CarriesFor m number count declare bytes (text_page kept.now.layout)) }
 {
     let Some(found) = kept.upload(number) else {
         return Err(UploadRefusal::NoSuch);
@@ -56,10 +60,10 @@ pub fn begin<D: Disk>(
     requires fits { DraftsFit kept.now drafts.old.items }
     ensures fits { DraftsFit kept.now drafts.new.items }
     ensures no_device { IsErrOf result UploadError.DiskFault → ⊥ }
-    ensures answer { (disk : D) (w : World) → StandsFor D.Disk disk kept.now drafts.old.items w
+    ensures answer { (sure : Bool) (disk : D) (w : World) → StandsFor sure D.Disk disk kept.now drafts.old.items w
         → Answers (begin_refusal w number offset count declare) result
-        (λ d. (d ≡ free_number w) × StandsFor D.Disk disk kept.now drafts.new.items (begun w number count declare))
-        (StandsFor D.Disk disk kept.now drafts.new.items w) }
+        (λ d. (d ≡ free_number w) × StandsFor sure D.Disk disk kept.now drafts.new.items (begun w number count declare))
+        (StandsFor sure D.Disk disk kept.now drafts.new.items w) }
 {
     let draft = match opened(alloc, kept, number, offset, count, declare) {
         Ok(draft) => draft,
@@ -88,13 +92,14 @@ pub fn append<D: Disk>(
     ensures size { D.size disk.new ≡ D.size disk.old }
     ensures honest { D.honest disk.old ↔ D.honest disk.new }
     ensures counts { Counts (IsErrOf result UploadError.DiskFault) (D.failures disk.old) (D.failures disk.new) }
-    ensures answer { (w : World) (p : Patch) → StandsFor D.Disk disk.old kept.old drafts.old.items w
+    ensures answer { (sure : Bool) (w : World) (p : Patch)
+        → StandsFor sure D.Disk disk.old kept.old drafts.old.items w
         → find number w.patches ≡ Some p → length p.body + length piece.now ≤ p.count
         → Answers None result
-        (λ done. StandsFor D.Disk disk.new kept.new drafts.new.items (appended w number piece.now))
-        (StandsFor D.Disk disk.new kept.new drafts.new.items w) }
+        (λ done. StandsFor sure D.Disk disk.new kept.new drafts.new.items (appended w number piece.now))
+        (StandsFor sure D.Disk disk.new kept.new drafts.new.items w) }
     // A crash during it leaves what shows the same.
-    ensures quiet { (w : World) (p : Patch) → StandsFor D.Disk disk.old kept.old drafts.old.items w
+    ensures quiet { (w : World) (p : Patch) → StandsFor true D.Disk disk.old kept.old drafts.old.items w
         → find number w.patches ≡ Some p
         → Lasts D.Disk disk.old disk.new
         (λ image. (n : ℕ) (m : Store) → ImageShows n (D.seen disk.old) m → ImageShows n image m) }
@@ -120,8 +125,8 @@ pub fn drop_open<D: Disk>(kept: &mut Kept, drafts: &mut Vec<Option<SpoolDraft>>,
     requires fits { DraftsFit kept.old drafts.old.items }
     ensures fits { DraftsFit kept.new drafts.new.items }
     ensures same { OnlyReserves kept.old kept.new }
-    ensures stands { (disk : D) (w : World) → StandsFor D.Disk disk kept.old drafts.old.items w
-        → StandsFor D.Disk disk kept.new drafts.new.items (dropped w number) }
+    ensures stands { (sure : Bool) (disk : D) (w : World) → StandsFor sure D.Disk disk kept.old drafts.old.items w
+        → StandsFor sure D.Disk disk kept.new drafts.new.items (dropped w number) }
 {
     if let Some(draft) = taken(drafts, number) {
         draft.give_back(&mut kept.blocks);

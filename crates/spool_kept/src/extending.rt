@@ -1,6 +1,7 @@
 //! An upload gets longer, or its length: its record and its blocks, in memory and on the disk.
 ghost use Rattle.std.specs.Prelude.{◌≡◌, ◌↔◌, ◌≤◌, ◌<◌, ◌*◌, ◌/◌, ◌++◌, ℕ, List, [], Some, None, Ok, Err, length};
 ghost use Rattle.std.specs.Prelude.{Option, get_or, drop, slice_set, IfOk, OnOk, OnErr, IsSome};
+ghost use Rattle.std.specs.Prelude.{Bool, true};
 ghost use Rattle.spool_disk.specs.Disk.{Counts};
 ghost use Rattle.spool_disk.specs.Views.{Lasts};
 ghost use Rattle.spool_journal.specs.Image.{all_pages, journal_pages, InArea};
@@ -201,19 +202,19 @@ pub(crate) fn extend<D: Disk>(
         → get_or kept.old.slots longer.now.slot None ≡ Some r → IsLonger kept.old r longer.now more.now kept.new }
 
     // The disk and what is kept stand for the store with the longer upload.
-    ensures answer { (m : Store) (n : ℕ) (declare : Option ℕ) (bytes : List ℕ)
-        → IsPending D.Disk disk.old kept.old m n declare bytes longer.now more.now last.now
-        → OnOk result (Stored D.Disk disk.new kept.new (patched_store m n declare bytes)) }
+    ensures answer { (sure : Bool) (m : Store) (n : ℕ) (declare : Option ℕ) (bytes : List ℕ)
+        → IsPending sure D.Disk disk.old kept.old m n declare bytes longer.now more.now last.now
+        → OnOk result (Stored sure D.Disk disk.new kept.new (patched_store m n declare bytes)) }
 
     // A crash during it leaves the store before or after it.
     ensures crash { (m : Store) (n : ℕ) (declare : Option ℕ) (bytes : List ℕ)
-        → IsPending D.Disk disk.old kept.old m n declare bytes longer.now more.now last.now
+        → IsPending true D.Disk disk.old kept.old m n declare bytes longer.now more.now last.now
         → Lasts D.Disk disk.old disk.new (ShowsEither kept.old.layout m (patched_store m n declare bytes)) }
 
     // Of the text blocks only those of its text are written.
-    ensures written { (m : Store) (n : ℕ) (declare : Option ℕ) (bytes : List ℕ)
-        → IsPending D.Disk disk.old kept.old m n declare bytes longer.now more.now last.now
-        → OnOk result (IsWritten D.Disk disk.old disk.new kept.old m n declare bytes longer.now more.now) }
+    ensures written { (sure : Bool) (m : Store) (n : ℕ) (declare : Option ℕ) (bytes : List ℕ)
+        → IsPending sure D.Disk disk.old kept.old m n declare bytes longer.now more.now last.now
+        → OnOk result (IsWritten sure D.Disk disk.old disk.new kept.old m n declare bytes longer.now more.now) }
 {
     let mut pages = kept.change_pages(alloc, longer, more)?;
     kept.take_over(longer, more)?;

@@ -1,6 +1,7 @@
 //! An upload is taken away: its record and its blocks, in memory and on the disk.
 ghost use Rattle.std.specs.Prelude.{◌≡◌, ◌↔◌, ◌≤◌, ◌<◌, ◌*◌, ℕ, List, [], Option, None, length, get_or, IfOk, OnOk};
 ghost use Rattle.std.specs.Prelude.{IsErrOf};
+ghost use Rattle.std.specs.Prelude.{Bool, true};
 ghost use Rattle.spool_blocks.specs.Blocks.{Row as HeldRow};
 ghost use Rattle.spool_disk.specs.Disk.{Counts};
 ghost use Rattle.spool_disk.specs.Views.{Lasts};
@@ -120,17 +121,17 @@ pub fn terminate<D: Disk>(
         → (disk.new ≡ disk.old) × (kept.new ≡ kept.old) × (drafts.new.items ≡ drafts.old.items) }
     ensures refused { (e : Refusal) → IsErrOf result (UploadError.Refused e)
         → (disk.new ≡ disk.old) × (kept.new ≡ kept.old) × (drafts.new.items ≡ drafts.old.items) }
-    ensures answer { (w : World) → StandsFor D.Disk disk.old kept.old drafts.old.items w
+    ensures answer { (sure : Bool) (w : World) → StandsFor sure D.Disk disk.old kept.old drafts.old.items w
         → Answers (terminate_refusal w number) result
-        (λ done. StandsFor D.Disk disk.new kept.new drafts.new.items (terminated w number))
-        (StandsFor D.Disk disk.new kept.new drafts.new.items w) }
+        (λ done. StandsFor sure D.Disk disk.new kept.new drafts.new.items (terminated w number))
+        (StandsFor sure D.Disk disk.new kept.new drafts.new.items w) }
 
     // A crash during it leaves the upload or its deletion.
-    ensures crash { (w : World) → StandsFor D.Disk disk.old kept.old drafts.old.items w
+    ensures crash { (w : World) → StandsFor true D.Disk disk.old kept.old drafts.old.items w
         → Lasts D.Disk disk.old disk.new (ShowsEither kept.old.layout w.store (terminate_outcome w number)) }
 
     // No block is written by it.
-    ensures texts { (w : World) → StandsFor D.Disk disk.old kept.old drafts.old.items w
+    ensures texts { (w : World) → StandsFor true D.Disk disk.old kept.old drafts.old.items w
         → OnOk result ((p : ℕ) → 4096 * text_page kept.old.layout ≤ p → D.seen disk.new p ≡ D.seen disk.old p) }
 {
     let Some(slot) = kept.slot_of(number) else {

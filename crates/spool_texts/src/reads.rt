@@ -1,5 +1,5 @@
 //! A piece of a text is read.
-ghost use Rattle.std.specs.Prelude.{◌≡◌, ◌≢◌, ◌<◌, ◌≤◌, ◌*◌, ◌+◌, ◌↔◌, length, get_or, IsErr, IfOk};
+ghost use Rattle.std.specs.Prelude.{◌≡◌, ◌≢◌, ◌<◌, ◌≤◌, ◌*◌, ◌+◌, ◌-◌, ◌↔◌, length, get_or, min, IsErr, IfOk};
 ghost use Rattle.spool_disk.specs.Disk.{Counts, IsImage, Keeps};
 ghost use Rattle.spool_disk.specs.Views.{Lasts};
 ghost use Rattle.spool_journal.specs.Image.{all_pages, text_page};
@@ -27,6 +27,7 @@ pub fn read_text<D: Disk>(
     ensures honest { D.honest disk.old ↔ D.honest disk.new }
     ensures counts { Counts (IsErr result) (D.failures disk.old) (D.failures disk.new) }
     ensures later { D.moment disk.old ≤ D.moment disk.new }
+    ensures count { IfOk result (λ n. n ≡ min (len - at) (length buf.old)) }
     ensures read { D.honest disk.old → IfOk result
         (λ n. IsRead (text_on (D.seen disk.old) (text_page layout.now) list.now len) at n buf.old
         buf.new) }

@@ -95,6 +95,8 @@ impl Uploads for Table {
 
     type Draft = TableDraft;
 
+    ghost represents = { TableStands };
+
     ghost stands = { TableStands };
 
     ghost number_of = { λ d. d.number };
@@ -106,6 +108,8 @@ impl Uploads for Table {
     ghost left_only = { λ t blocks since ms. Unit {0} };
 
     ghost failures = { λ t. 0 };
+
+    ghost represented = { λ t w stands. stands };
 
     ghost below = { λ t w number u stands there. upload_below t w stands number u there };
 

@@ -1,5 +1,6 @@
 use Rattle.std.proofs.Common.{◌≡◌, ◌∙◌, inl, inr, ap, arith, refl, subst, sym, ℕ, List, Err, None, set}
 use Rattle.std.proofs.lemmas.Bool.{cases_lt}
+use Rattle.std.proofs.Common.{Bool, true}
 use Rattle.spool_drafts.proofs.Effects.{only_then}
 use Rattle.spool_drafts.specs.Drafts.{list_of}
 use Rattle.spool_drafts.specs.Effect.{Effect, OnlyWrites}
@@ -100,13 +101,13 @@ returns-in-Err-DiskFault-clause-counts g c =
 
 -- WHAT A CRASH MAY LEAVE
 
-pending_on : {D : Type 0} (disk : Ghosts D) (d : D) (h : Holding) (m : Store) (p : Patch) (longer : Longer)
+pending_on : {D : Type 0} {sure : Bool} (disk : Ghosts D) (d : D) (h : Holding) (m : Store) (p : Patch) (longer : Longer)
     {more more' last last' : List ℕ} → more' ≡ more → last' ≡ last
-    → IsPending disk d h m p.number p.declare p.body longer more last
-    → IsPending disk d h m p.number p.declare p.body longer more' last'
-pending_on disk d h m p longer {more' = more'} {last = last} list bytes_last is =
-    subst (IsPending disk d h m p.number p.declare p.body longer more') (sym bytes_last)
-    (subst (λ (xs : List ℕ). IsPending disk d h m p.number p.declare p.body longer xs last) (sym list) is)
+    → IsPending sure disk d h m p.number p.declare p.body longer more last
+    → IsPending sure disk d h m p.number p.declare p.body longer more' last'
+pending_on {sure = sure} disk d h m p longer {more' = more'} {last = last} list bytes_last is =
+    subst (IsPending sure disk d h m p.number p.declare p.body longer more') (sym bytes_last)
+    (subst (λ (xs : List ℕ). IsPending sure disk d h m p.number p.declare p.body longer xs last) (sym list) is)
 
 pub returns-in-Err-clause-crash : goal.returns-in-Err-clause-crash
 returns-in-Err-clause-crash g c drafts number w p is =
@@ -135,7 +136,7 @@ returns-in-Err-NoMemory-clause-crash g c drafts number w p is =
 
 pub returns-in-Ok-extend-clause-crash : goal.returns-in-Ok-extend-clause-crash
 returns-in-Ok-extend-clause-crash g c drafts number w p is =
-    let answer = c.in-Ok.ensures.answer drafts number w p is in
+    let answer = c.in-Ok.ensures.answer true drafts number w p is in
     let pending = pending_on g.D.Disk c.ended.new.disk c.ended.new.kept w.store p c.in-Ok.end.0
     c.list.ensures.blocks c.deref.ensures.value answer.1.1 in
     spent.either_then g.D.Disk c.args.disk.now c.ended.new.disk c.args.kept.now.layout w.store c.extend.new.disk
@@ -147,7 +148,7 @@ returns-in-Ok-extend-clause-crash g c drafts number w p is =
 
 pub returns-in-Err-DiskFault-clause-crash : goal.returns-in-Err-DiskFault-clause-crash
 returns-in-Err-DiskFault-clause-crash g c drafts number w p is =
-    let answer = c.in-Ok.ensures.answer drafts number w p is in
+    let answer = c.in-Ok.ensures.answer true drafts number w p is in
     let pending = pending_on g.D.Disk c.ended.new.disk c.ended.new.kept w.store p c.in-Ok.end.0
     c.list.ensures.blocks c.deref.ensures.value answer.1.1 in
     spent.either_then g.D.Disk c.args.disk.now c.ended.new.disk c.args.kept.now.layout w.store c.extend.new.disk
@@ -160,18 +161,18 @@ returns-in-Err-DiskFault-clause-crash g c drafts number w p is =
 -- THE ANSWER
 
 pub returns-in-Err-clause-answer : goal.returns-in-Err-clause-answer
-returns-in-Err-clause-answer g c drafts number w p is =
+returns-in-Err-clause-answer g c sure drafts number w p is =
     let gives = subst (λ (h : Holding). GivesBack h.blocks c.give_back.new.blocks (list_of c.ended.new.draft))
     c.kept.view_is c.give_back.ensures in
     let stands = spent.stands_dropped g.D.Disk c.args.disk.now c.ended.new.disk c.args.kept.now c.ended.new.kept
     c.ended.ensures.same drafts number c.args.draft c.ended.new.draft w p is c.ended.ensures.effect
     c.ended.ensures.reserved c.ended.ensures.placed _ (reserves_only c.ended.new.kept _ _ c.kept.view_is refl
-    c.give_back.ensures.rows) gives (c.ended.ensures.stored drafts number w p is) in
+    c.give_back.ensures.rows) gives (c.ended.ensures.stored sure drafts number w p is) in
     spent.also_refused (commit_refusal w number p) c.in-Err.error _ _ _ _
-    (c.in-Err.ensures.answer drafts number w p is) stands
+    (c.in-Err.ensures.answer sure drafts number w p is) stands
 
 pub returns-in-Err-NoMemory-clause-answer : goal.returns-in-Err-NoMemory-clause-answer
-returns-in-Err-NoMemory-clause-answer g c drafts number w p is =
+returns-in-Err-NoMemory-clause-answer g c sure drafts number w p is =
     let unmade = c.extend.ensures.unmade (c.in-Err-NoMemory.is
     ∙ ap (λ (e : ExtendError). Err e) c.in-Err-NoMemory.field-0-is) in
     let same = c.kept-2.view_is ∙ unmade.0 in
@@ -180,23 +181,23 @@ returns-in-Err-NoMemory-clause-answer g c drafts number w p is =
     let stands = spent.stands_dropped g.D.Disk c.args.disk.now c.ended.new.disk c.args.kept.now c.ended.new.kept
     c.ended.ensures.same drafts number c.args.draft c.ended.new.draft w p is c.ended.ensures.effect
     c.ended.ensures.reserved c.ended.ensures.placed _ (reserves_only c.ended.new.kept _ _ same refl
-    c.give_back-in-Err-NoMemory.ensures.rows) gives (c.ended.ensures.stored drafts number w p is) in (
+    c.give_back-in-Err-NoMemory.ensures.rows) gives (c.ended.ensures.stored sure drafts number w p is) in (
       late w number p is.allowed,
       spent.on_disk g.D.Disk c.ended.new.disk c.extend.new.disk _ (set drafts number None)
           (dropped w number) unmade.1 stands,
     )
 
 pub returns-in-Ok-extend-clause-answer : goal.returns-in-Ok-extend-clause-answer
-returns-in-Ok-extend-clause-answer g c drafts number w p is =
-    let answer = c.in-Ok.ensures.answer drafts number w p is in
+returns-in-Ok-extend-clause-answer g c sure drafts number w p is =
+    let answer = c.in-Ok.ensures.answer sure drafts number w p is in
     let may = c.in-Ok.ensures.may in
     let pending = pending_on g.D.Disk c.ended.new.disk c.ended.new.kept w.store p c.in-Ok.end.0
     c.list.ensures.blocks c.deref.ensures.value answer.1.1 in
-    let wrote = subst (λ (more : List ℕ). IsWritten g.D.Disk c.ended.new.disk c.extend.new.disk c.ended.new.kept w.store
+    let wrote = subst (λ (more : List ℕ). IsWritten sure g.D.Disk c.ended.new.disk c.extend.new.disk c.ended.new.kept w.store
     p.number p.declare p.body c.in-Ok.end.0 more) c.list.ensures.blocks
-    (c.in-Ok-extend.ensures.written w.store p.number p.declare p.body pending) in
+    (c.in-Ok-extend.ensures.written sure w.store p.number p.declare p.body pending) in
     let effect = c.ended.ensures.effect in
-    let only = subst (λ (n : ℕ). OnlyWrites g.D.Disk (journal_pages n)
+    let only = subst (λ (n : ℕ). g.D.Disk.honest c.ended.new.disk → OnlyWrites g.D.Disk (journal_pages n)
     (list_of c.ended.new.draft) c.ended.new.disk wrote.mid)
     (ap (λ (h : Holding). h.layout) c.ended.ensures.same.same) wrote.only in
     let effect' : Effect g.D.Disk (journal_pages c.args.kept.now.layout) (list_of c.args.draft)
@@ -205,7 +206,7 @@ returns-in-Ok-extend-clause-answer g c drafts number w p is =
       own = effect.own;
       grasp = effect.grasp;
       writes =
-          λ honest. only_then effect.grasp (effect.writes honest) only;
+          λ honest. only_then effect.grasp (effect.writes honest) (only (c.ended.ensures.honest.0 honest));
     } in
     let hands = subst (HandsOn c.ended.new.kept.blocks.reserved c.extend.new.kept.blocks.reserved) c.list.ensures.blocks
     (c.in-Ok-extend.ensures.blocks (λ e. cc)) in
@@ -218,9 +219,12 @@ returns-in-Ok-extend-clause-answer g c drafts number w p is =
             drafts number c.args.draft c.ended.new.draft w p is effect'
             c.ended.ensures.reserved c.ended.ensures.placed c.in-Ok.end.0 wrote.append may.used c.extend.new.disk
             c.extend.new.kept longer hands
-            wrote.texts (c.in-Ok-extend.ensures.answer w.store p.number p.declare p.body pending),
+            wrote.texts (c.in-Ok-extend.ensures.answer sure w.store p.number p.declare p.body pending),
       ),
     )
+
+pub returns-in-Err-DiskFault-clause-answer : goal.returns-in-Err-DiskFault-clause-answer
+returns-in-Err-DiskFault-clause-answer g c sure drafts number w p is = late w number p is.allowed
 
 -- NOTHING IS WRITTEN
 

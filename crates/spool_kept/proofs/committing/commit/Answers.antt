@@ -124,7 +124,7 @@ returns-clause-fits g c =
     (ap list_in c.in-Some.ensures.taken) c.give_back-2.ensures)
 
 pub returns-in-Err-clause-answer : goal.returns-in-Err-clause-answer
-returns-in-Err-clause-answer g c w p s there =
+returns-in-Err-clause-answer g c sure w p s there =
     let before = c.args.drafts.now.items in
     let gives = subst (λ (h : Holding). GivesBack h.blocks c.give_back.new.blocks (lists_at before c.args.number))
     c.kept.view_is
@@ -138,7 +138,7 @@ returns-in-Err-clause-answer g c w p s there =
     )
 
 pub returns-clause-answer : goal.returns-clause-answer
-returns-clause-answer g c w p s there =
+returns-clause-answer g c sure w p s there =
     let before = c.args.drafts.now.items in
     let here = sym c.in-Some.ensures.taken in
     let gives = subst (λ (h : Holding). GivesBack h.blocks c.give_back-2.new.blocks (lists_at before c.args.number))
@@ -171,7 +171,7 @@ returns-then-found-clause-fits g c =
     (ap list_in c.in-Some.ensures.taken) c.give_back-2.ensures))
 
 pub returns-then-found-clause-answer : goal.returns-then-found-clause-answer
-returns-then-found-clause-answer g c w p s there =
+returns-then-found-clause-answer g c sure w p s there =
     let before = c.args.drafts.now.items in
     let here = sym c.in-Some.ensures.taken in
     let found = c.in-Ok.found in
@@ -194,11 +194,11 @@ returns-then-found-clause-answer g c w p s there =
     (head.left_allowed g.D.Disk c.args.disk.now c.args.kept.now before c.args.number c.in-Some.draft w p s there here
     found finds stays)
     c.set_length.result finds.same.used.accepted (reached p) _ _ _
-    (c.set_length.ensures.answer c.taken.new.drafts.items (dropped w c.args.number) p.number left used small)
+    (c.set_length.ensures.answer sure c.taken.new.drafts.items (dropped w c.args.number) p.number left used small)
     (c.set_length.ensures.count finds.same.used is_there)
     (head.left_reached g.D.Disk c.args.disk.now c.args.kept.now before c.args.number c.in-Some.draft w p s there here
     found finds stays finds.same.used.accepted finds.same.count)
-    (λ stands. subst (StandsFor g.D.Disk c.set_length.new.disk c.set_length.new.kept c.taken.new.drafts.items)
+    (λ stands. subst (StandsFor sure g.D.Disk c.set_length.new.disk c.set_length.new.kept c.taken.new.drafts.items)
     (sym (head.length_stands g.D.Disk c.args.disk.now c.args.kept.now before c.args.number c.in-Some.draft w p s there
     here found finds stays new)) stands)
 
@@ -234,23 +234,23 @@ returns-then-found-clause-crash g c w p s there =
 
 -- AFTER THE UPLOAD'S TEXT
 
-is_commit : (g : Over) (c : After-append_to g) (w : World) (p : Patch)
-    → StandsFor g.D.Disk c.args.disk.now c.args.kept.now c.args.drafts.now.items w
+is_commit : (g : Over) (c : After-append_to g) {sure : Bool} (w : World) (p : Patch)
+    → StandsFor sure g.D.Disk c.args.disk.now c.args.kept.now c.args.drafts.now.items w
     → find c.args.number w.patches ≡ Some p
-    → IsCommit g.D.Disk c.args.disk.now c.args.kept.now c.args.drafts.now.items c.args.number c.in-Some.draft w p
+    → IsCommit sure g.D.Disk c.args.disk.now c.args.kept.now c.args.drafts.now.items c.args.number c.in-Some.draft w p
 is_commit g c w p s there =
     head.commits g.D.Disk c.args.disk.now c.args.kept.now c.args.drafts.now.items c.args.number c.in-Some.draft w p s
     there (sym c.in-Some.ensures.taken) c.in-Ok.found c.in-Ok.ensures
     (not_true c.in-Ok.found.stays c.if-not-found.true) c.requires.fits.blocks
 
 pub returns-then-not-found-clause-answer : goal.returns-then-not-found-clause-answer
-returns-then-not-found-clause-answer g c w p s there =
+returns-then-not-found-clause-answer g c sure w p s there =
     subst (λ (left : List (Option SpoolDraft)). Answers (commit_refusal w c.args.number p) c.append_to.result
-    (λ n. (n ≡ reached p) × StandsFor g.D.Disk c.append_to.new.disk c.append_to.new.kept left
+    (λ n. (n ≡ reached p) × StandsFor sure g.D.Disk c.append_to.new.disk c.append_to.new.kept left
     (committed w c.args.number p))
-    (StandsFor g.D.Disk c.append_to.new.disk c.append_to.new.kept left (dropped w c.args.number)))
+    (StandsFor sure g.D.Disk c.append_to.new.disk c.append_to.new.kept left (dropped w c.args.number)))
     (sym c.taken.ensures.after)
-    (c.append_to.ensures.answer c.args.drafts.now.items c.args.number w p (is_commit g c w p s there))
+    (c.append_to.ensures.answer sure c.args.drafts.now.items c.args.number w p (is_commit g c w p s there))
 
 pub returns-then-not-found-clause-crash : goal.returns-then-not-found-clause-crash
 returns-then-not-found-clause-crash g c w p s there =

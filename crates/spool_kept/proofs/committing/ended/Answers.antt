@@ -1,6 +1,7 @@
-use Rattle.std.proofs.Common.{◌≡◌, ◌∙◌, ◌≤◌, ◌+◌, ◌-◌, ◌*◌, ◌^◌, Result, None, Err, IfOk, get_or, length, ap}
+use Rattle.std.proofs.Common.{◌≡◌, ◌∙◌, ◌≤◌, ◌+◌, ◌-◌, ◌^◌, Result, None, Err, IfOk, get_or, length, ap}
 use Rattle.std.proofs.Common.{refl, min, subst, sym, ℕ}
 use Rattle.std.proofs.lemmas.Result.{err_from_is_err_and}
+use Rattle.std.proofs.Common.{true}
 use Rattle.spool_drafts.specs.declared.draft.DraftEnd.{DraftEnd}
 use Rattle.spool_texts.specs.Drafts.{bytes_with}
 use Rattle.spool_drafts.specs.Drafts.{EndsAs, IsPlaced, IsWhole, came_of, list_of, offset_of, open_text}
@@ -15,8 +16,8 @@ use Rattle.spool_kept.proofs.CommitEnded as lemmas
 use Rattle.spool_kept.proofs.committing.ended.Goals as goal
 
 pub returns-in_err-state-clause-stored : goal.returns-in_err-state-clause-stored
-returns-in_err-state-clause-stored g c drafts number w p is =
-    let is' = subst (λ (h : Holding). IsCommit g.D.Disk c.args.disk.now h drafts number c.args.draft.now w p)
+returns-in_err-state-clause-stored g c sure drafts number w p is =
+    let is' = subst (λ (h : Holding). IsCommit sure g.D.Disk c.args.disk.now h drafts number c.args.draft.now w p)
     (sym c.kept.view_is) is in
     lemmas.stored_after g.D.Disk c.args.disk.now c.end.new.disk _ _
     (lemmas.only_blocks _ c.end.new.blocks c.end.ensures.rows) drafts number c.args.draft.now c.end.new.self w p is'
@@ -25,19 +26,19 @@ returns-in_err-state-clause-stored g c drafts number w p is =
 
 pub returns-in_err-state-clause-quiet : goal.returns-in_err-state-clause-quiet
 returns-in_err-state-clause-quiet g c drafts number w p is =
-    let is' = subst (λ (h : Holding). IsCommit g.D.Disk c.args.disk.now h drafts number c.args.draft.now w p)
+    let is' = subst (λ (h : Holding). IsCommit true g.D.Disk c.args.disk.now h drafts number c.args.draft.now w p)
     (sym c.kept.view_is) is in
     subst (λ (h : Holding). Lasts g.D.Disk c.args.disk.now c.end.new.disk (λ image. ImageShows h.layout image w.store))
     c.kept.view_is
     (lemmas.quiet_after g.D.Disk c.args.disk.now c.end.new.disk _ _
     (lemmas.only_blocks _ c.end.new.blocks c.end.ensures.rows)
-    drafts number c.args.draft.now c.end.new.self w p is' c.end.ensures.effect)
+    drafts number c.args.draft.now c.end.new.self w p is' c.end.ensures.effect refl)
 
 pub returns-in_err-state-clause-answer : goal.returns-in_err-state-clause-answer
-returns-in_err-state-clause-answer g c drafts number w p is =
+returns-in_err-state-clause-answer g c sure drafts number w p is =
     let o = c.args.draft.now in
     let o' = c.end.new.self in
-    let is' = subst (λ (h : Holding). IsCommit g.D.Disk c.args.disk.now h drafts number o w p) (sym c.kept.view_is)
+    let is' = subst (λ (h : Holding). IsCommit sure g.D.Disk c.args.disk.now h drafts number o w p) (sym c.kept.view_is)
     is in
     let finds = subst (λ (h : Holding). IsFound h.slots o c.args.found) (sym c.kept.view_is) c.requires.found in
     let only = lemmas.only_blocks _ c.end.new.blocks c.end.ensures.rows in
@@ -57,8 +58,8 @@ returns-in_err-state-clause-answer g c drafts number w p is =
     c.in_err-state.was ends
 
 pub returns-clause-stored : goal.returns-clause-stored
-returns-clause-stored g c drafts number w p is =
-    let is' = subst (λ (h : Holding). IsCommit g.D.Disk c.args.disk.now h drafts number c.args.draft.now w p)
+returns-clause-stored g c sure drafts number w p is =
+    let is' = subst (λ (h : Holding). IsCommit sure g.D.Disk c.args.disk.now h drafts number c.args.draft.now w p)
     (sym c.kept.view_is) is in
     lemmas.stored_after g.D.Disk c.args.disk.now c.end.new.disk _ _
     (lemmas.only_blocks _ c.end.new.blocks c.end.ensures.rows) drafts number c.args.draft.now c.end.new.self w p is'
@@ -67,20 +68,20 @@ returns-clause-stored g c drafts number w p is =
 
 pub returns-clause-quiet : goal.returns-clause-quiet
 returns-clause-quiet g c drafts number w p is =
-    let is' = subst (λ (h : Holding). IsCommit g.D.Disk c.args.disk.now h drafts number c.args.draft.now w p)
+    let is' = subst (λ (h : Holding). IsCommit true g.D.Disk c.args.disk.now h drafts number c.args.draft.now w p)
     (sym c.kept.view_is) is in
     subst (λ (h : Holding). Lasts g.D.Disk c.args.disk.now c.end.new.disk (λ image. ImageShows h.layout image w.store))
     c.kept.view_is
     (lemmas.quiet_after g.D.Disk c.args.disk.now c.end.new.disk _ _
     (lemmas.only_blocks _ c.end.new.blocks c.end.ensures.rows)
-    drafts number c.args.draft.now c.end.new.self w p is' c.end.ensures.effect)
+    drafts number c.args.draft.now c.end.new.self w p is' c.end.ensures.effect refl)
 
 pub returns-clause-answer : goal.returns-clause-answer
-returns-clause-answer g c drafts number w p is =
+returns-clause-answer g c sure drafts number w p is =
     let end = c.in_ok-state.field-0 in
     let o = c.args.draft.now in
     let o' = c.end.new.self in
-    let is' = subst (λ (h : Holding). IsCommit g.D.Disk c.args.disk.now h drafts number o w p) (sym c.kept.view_is)
+    let is' = subst (λ (h : Holding). IsCommit sure g.D.Disk c.args.disk.now h drafts number o w p) (sym c.kept.view_is)
     is in
     let finds = subst (λ (h : Holding). IsFound h.slots o c.args.found) (sym c.kept.view_is) c.requires.found in
     let only = lemmas.only_blocks _ c.end.new.blocks c.end.ensures.rows in
@@ -101,9 +102,11 @@ returns-clause-answer g c drafts number w p is =
     c.end.result c.end.ensures.content in
     let page = text_page c.kept.inside.layout in
     let text = open_text w.store.indexes p (completes w.store p) in
-    let content = subst (λ (r : Result DraftEnd UploadError). IfOk r
+    let content : sure ≡ true → 1 ≤ length (list_of o')
+    → bytes_with (g.D.Disk.seen c.end.new.disk) page (list_of o') end.last.items ≡ text =
+    λ known. subst (λ (r : Result DraftEnd UploadError). IfOk r
     (λ e. 1 ≤ length (list_of o') → bytes_with (g.D.Disk.seen c.end.new.disk) page (list_of o')
-    e.last.items ≡ text)) c.in_ok-state.was ends_on in
+    e.last.items ≡ text)) c.in_ok-state.was (ends_on known) in
     let fits = c.in_ok-state.ensures.fits in
     let came = lemmas.all_came g.D.Disk c.args.disk.now c.end.new.disk _ _ only drafts number o o' w p is' effect
     c.args.found finds c.saturating_add-accepted.result sum in

@@ -50,16 +50,16 @@ returns-in-Err-DiskFault-clause-crash g c m n stored used small =
     small)
 
 pub returns-in-Ok-clause-answer : goal.returns-in-Ok-clause-answer
-returns-in-Ok-clause-answer g c drafts w n stands used small =
+returns-in-Ok-clause-answer g c sure drafts w n stands used small =
     let k = done_may g c in
     let pending = declared.pending g.D.Disk c.args.disk.now c.args.kept.now w.store n c.args.slot c.args.declared
     stands.stored k used small in
-    let wrote = c.in-Ok.ensures.written w.store n c.args.declared [] pending in (
+    let wrote = c.in-Ok.ensures.written sure w.store n c.args.declared [] pending in (
       refl,
       stands_declared g.D.Disk c.args.disk.now wrote.mid c.extend.new.disk c.args.kept.now c.extend.new.kept drafts w
           stands (declared.named k.used c.args.slot c.args.declared) k.used n k.there c.args.declared wrote.append
           (declared.unknown_of g.D.Disk c.args.disk.now c.args.kept.now w.store n c.args.slot c.args.declared
           stands.stored k used small wrote.append.upload wrote.append.there)
-          (c.in-Ok.ensures.longer (λ e. cc) k.used k.there) wrote.only wrote.texts
-          (c.in-Ok.ensures.answer w.store n c.args.declared [] pending),
+          (c.in-Ok.ensures.longer (λ e. cc) k.used k.there) (λ known. wrote.only (stands.stored.honest known)) wrote.texts
+          (c.in-Ok.ensures.answer sure w.store n c.args.declared [] pending),
     )

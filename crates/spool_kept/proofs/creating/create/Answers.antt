@@ -1,4 +1,4 @@
-use Rattle.std.proofs.Common.{◌≡◌, ◌∙◌, false, ap, subst, sym}
+use Rattle.std.proofs.Common.{◌≡◌, ◌∙◌, false, ap, subst, sym, refl}
 use Rattle.upload_rules.specs.Answers.{IsLate}
 use Rattle.upload_rules.specs.Lengths.{is_too_large}
 use Rattle.upload_rules.specs.Store.{New}
@@ -8,7 +8,7 @@ use Rattle.spool_kept.proofs.OfUploads.{fits_created}
 use Rattle.spool_kept.proofs.creating.create.Goals as goal
 
 pub returns-in-Ok-change-clause-answer : goal.returns-in-Ok-change-clause-answer
-returns-in-Ok-change-clause-answer g c m stored =
+returns-in-Ok-change-clause-answer g c sure m stored =
     let h = c.args.kept.now in
     let v = stored.view in
     let slot = c.in-Some.slot in
@@ -30,8 +30,9 @@ returns-in-Ok-change-clause-answer g c m stored =
             small few is,
         stored_new h v m c.args.new slot r stored.keeps stored.shows room small few is g.D.Disk c.args.disk.now
             c.change.new.disk stored.rests changes c.prepare_new.new.self taken
-            (c.in-Ok-change.ensures.honest.0 stored.honest)
-            (λ v' made texts. c.in-Ok-change.ensures.done stored.honest v v' layout stored.rests made texts),
+            (λ known. c.in-Ok-change.ensures.honest.0 (stored.honest known))
+            (λ known v' made texts.
+            c.in-Ok-change.ensures.done (stored.honest known) v v' layout (stored.rests known) made texts),
       ),
     )
 
@@ -48,11 +49,11 @@ returns-in-Ok-change-clause-crash g c m stored =
     (sym stored.keeps.slots) in
     crash_new c.args.kept.now v m c.args.new c.in-Some.slot c.new_record-record.result stored.keeps stored.shows
     c.in-Some.ensures.room small few c.new_record-record.ensures g.D.Disk c.args.disk.now c.change.new.disk
-    stored.rests changes
-    (λ v' made texts. c.in-Ok-change.ensures.lasts stored.honest v v' layout stored.rests made texts)
+    stored.rests changes refl
+    (λ v' made texts. c.in-Ok-change.ensures.lasts (stored.honest refl) v v' layout (stored.rests refl) made texts)
 
 pub returns-clause-answer : goal.returns-clause-answer
-returns-clause-answer g c m stored =
+returns-clause-answer g c sure m stored =
     let small : is_too_large c.args.new.declared ≡ false =
     ap is_too_large (sym (ap (λ (n : New). n.declared) c.new.view_is)) ∙ sym c.is_too_large.ensures
     ∙ c.if-is_too_large.false in
@@ -74,8 +75,8 @@ returns-clause-crash g c m stored =
     (sym stored.keeps.slots) in
     crash_new c.args.kept.now v m c.args.new c.in-Some.slot c.new_record-record.result stored.keeps stored.shows
     c.in-Some.ensures.room small few c.new_record-record.ensures g.D.Disk c.args.disk.now c.change.new.disk
-    stored.rests changes
-    (λ v' made texts. c.in-Err.ensures.lasts stored.honest v v' layout stored.rests made texts)
+    stored.rests changes refl
+    (λ v' made texts. c.in-Err.ensures.lasts (stored.honest refl) v v' layout (stored.rests refl) made texts)
 
 -- THE DRAFTS
 

@@ -1,5 +1,6 @@
-use Rattle.std.proofs.Common.{◌<◌, arith, ◌≡◌, ◌∙◌, ◌+◌, ◌*◌, ◌++◌, ap, get_or, refl, subst, sym, List, None, Some}
+use Rattle.std.proofs.Common.{◌<◌, arith, ◌≡◌, ◌∙◌, ◌++◌, ap, get_or, refl, subst, sym, List, None, Some}
 use Rattle.std.proofs.lemmas.Option.{same_Some}
+use Rattle.std.proofs.Common.{true}
 use Rattle.enc_model.specs.Indexes.{IndexSet}
 use Rattle.spool_journal.specs.Image.{text_page}
 use Rattle.upload_rules.specs.Calls.{longer}
@@ -61,14 +62,14 @@ returns-clause-quiet g c w p s there =
     let effect = c.append-answer.ensures.effect in
     let v = s.stored.view in
     let rows = effect.grasp.takes.rows ∙ ap (λ (h : Holding). h.blocks.rows) c.kept.view_is ∙ s.stored.keeps.rows in
-    shows_still g.D.Disk c.args.disk.now c.append-answer.new.disk v effect.own _ (effect.writes s.stored.honest)
+    shows_still g.D.Disk c.args.disk.now c.append-answer.new.disk v effect.own _ (effect.writes (s.stored.honest refl))
     s.stored.shows.sound (sym s.stored.keeps.blocks ∙ sym (ap (λ (h : Holding). h.layout) c.kept.view_is))
-    s.stored.rests
+    (s.stored.rests refl)
     (λ i lt. ap (λ (r : List Row). get_or r (get_or effect.own i 0) None) (sym rows)
     ∙ effect.grasp.reserved.no_owner i lt)
 
 pub returns-clause-answer : goal.returns-clause-answer
-returns-clause-answer g c w p s there fits =
+returns-clause-answer g c sure w p s there fits =
     let before = c.args.drafts.now.items in
     let number = c.args.number in
     let o = c.in-Some.draft in
@@ -78,13 +79,14 @@ returns-clause-answer g c w p s there fits =
     let here = sym c.in-Some.ensures.taken in
     let disk = c.args.disk.now in
     let disk' = c.append-answer.new.disk in
-    let s' = subst (λ (h : Holding). StandsFor g.D.Disk disk h before w) (sym c.kept.view_is) s in
+    let s' = subst (λ (h : Holding). StandsFor sure g.D.Disk disk h before w) (sym c.kept.view_is) s in
     let v = s'.stored.view in
     let shows = s'.stored.shows in
     let records = c.kept.inside.slots.items in
     let h = c.kept.inside.blocks in
     let h' = c.append-answer.new.blocks in
     let first = text_page c.kept.inside.layout in
+    let honest = s.stored.honest in
     let seen = g.D.Disk.seen disk in
     let seen' = g.D.Disk.seen disk' in
     let ix : c.kept.inside.indexes ≡ w.store.indexes = s'.stored.keeps.indexes ∙ shows.indexes in
@@ -93,31 +95,31 @@ returns-clause-answer g c w p s there fits =
     let fit' = (returns-clause-fits g c).blocks in
     let changed = changed_back before c.taken.new.drafts.items after number o new here c.taken.ensures.after
     c.put_back.ensures in
-    let at = draft_of (DraftStands w.store.indexes seen first records h.rows w.store) p (find number w.patches)
+    let at = draft_of (DraftStands (sure ≡ true) w.store.indexes seen first records h.rows w.store) p (find number w.patches)
     (draft_at before number) there (s'.stands.each number) in
-    let is = subst (DraftStands w.store.indexes seen first records h.rows w.store p)
+    let is = subst (DraftStands (sure ≡ true) w.store.indexes seen first records h.rows w.store p)
     (some_draft at.0 o (sym at.1 ∙ here)) at.2 in
     let held = subst (λ (x : IndexSet). Holds x p o) (sym ix) is.holds in
-    let only = effect.writes s.stored.honest in
     let same = reserves_only c.args.kept.now _ _ c.kept.view_is refl c.append-answer.ensures.rows in
     let stored = moved g.D.Disk disk disk' c.args.kept.now _ w.store c.kept.inside.layout s.stored same
-    (c.append-answer.ensures.honest.0 s.stored.honest) effect.own
+    c.append-answer.ensures.honest.0 effect.own
     (λ i lt. ap (λ (r : List Row). get_or r (get_or effect.own i 0) None)
     (sym (effect.grasp.takes.rows ∙ ap (λ (k : Holding). k.blocks.rows) c.kept.view_is ∙ s.stored.keeps.rows))
     ∙ effect.grasp.reserved.no_owner i lt)
-    (ap (λ (k : Holding). k.layout) c.kept.view_is) only.writes in
+    (ap (λ (k : Holding). k.layout) c.kept.view_is) (λ known. (effect.writes (honest known)).writes) in
     let rows = c.append-answer.ensures.rows in
     let piece = c.args.piece.now in
     let longer_stands = stand_longer w.store.indexes seen seen' first c.kept.inside.layout records h h' w before after
-    s'.stands fit number o new here effect.own effect.grasp changed rows only.writes.outside in
+    s'.stands fit number o new here effect.own effect.grasp changed rows
+    (λ known. (effect.writes (honest known)).writes.outside) in
     let tail : IsStillOpen w.store p → IsOwnedBy records h'.rows p.number (tail_of new) =
     λ still. subst (IsOwnedBy records h'.rows p.number) (sym c.append-answer.ensures.same.4)
     (subst (λ (r : List Row). IsOwnedBy records r p.number (tail_of o)) (sym rows) (is.tail still)) in
-    let back = replaced_same number p w.patches there in
+    let same_patches = replaced_same number p w.patches there in
     answered _ _ c.append-answer.result
     (ok_more c.append-answer.result (c.append-answer.ensures.answer p held fits)
-    (λ still. c.append-answer.ensures.content p s.stored.honest held fits
-    (subst (λ (x : IndexSet). Carries x seen first p o) (sym ix) (is.carries still)))
+    (λ (known : (sure ≡ true) × IsStillOpen w.store p). c.append-answer.ensures.content p (honest known.0) held fits
+    (subst (λ (x : IndexSet). Carries x seen first p o) (sym ix) (is.carries known.0 known.1)))
     (λ l carries.
     let q = longer w number p piece in
     let is_longer = subst (λ (x : IndexSet). IsLonger x (with_piece p piece) o new h h') ix l in
@@ -127,22 +129,23 @@ returns-clause-answer g c w p s there fits =
           here effect.own effect.grasp changed rows v shows s'.stored.keeps.rows c.rows-rows.ensures.reserved fit' p
           piece is_longer;
       below = is.below;
-      carries = λ still. longer_carries w seen seen' first c.kept.inside.layout records h h' before after s'.stands fit
+      carries = λ known still. longer_carries w seen seen' first c.kept.inside.layout records h h' before after s'.stands fit
           number o new here effect.own effect.grasp changed rows v shows s'.stored.keeps.rows
           c.rows-rows.ensures.reserved fit' p piece is_longer
-          (subst (λ (x : IndexSet). Carries x seen' first (with_piece p piece) new) ix (carries still));
+          (subst (λ (x : IndexSet). Carries x seen' first (with_piece p piece) new) ix (carries (known, still)));
       tail = tail;
     })))
     (λ e. record {
       stored = stored;
-      stands = subst (λ ps. DraftsStand w.store.indexes seen' first records h' (record w { patches = ps }) after) back
-          (longer_stands p p there (subst (λ ps. IsGrown (record w { patches = ps })) (sym back) s'.stands.grown)
+      stands = subst (λ ps. DraftsStand (sure ≡ true) w.store.indexes seen' first records h'
+          (record w { patches = ps }) after) same_patches
+          (longer_stands p p there (subst (λ ps. IsGrown (record w { patches = ps })) (sym same_patches) s'.stands.grown)
           record {
             holds = subst (λ (x : IndexSet). Holds x p new) ix (c.append-answer.ensures.holds_on p held e);
             below = is.below;
-            carries = λ still. subst (λ (x : IndexSet). Carries x seen' first p new) ix
-                (c.append-answer.ensures.content_on p s.stored.honest e
-                (subst (λ (x : IndexSet). Carries x seen first p o) (sym ix) (is.carries still)));
+            carries = λ known still. subst (λ (x : IndexSet). Carries x seen' first p new) ix
+                (c.append-answer.ensures.content_on p (honest known) e
+                (subst (λ (x : IndexSet). Carries x seen first p o) (sym ix) (is.carries known still)));
             tail = tail;
           });
     })

@@ -15,7 +15,7 @@ returns-in-Some-clause-fits g c =
     (subst (GivesBack c.kept.inside.blocks c.give_back.new.blocks) list c.give_back.ensures)
 
 pub returns-in-Some-clause-stands : goal.returns-in-Some-clause-stands
-returns-in-Some-clause-stands g c disk w stands =
+returns-in-Some-clause-stands g c sure disk w stands =
     let before = c.args.drafts.now.items in
     let list = ap list_in c.in-Some.ensures.taken in
     let gives = subst (λ (h : Holding). GivesBack h.blocks c.give_back.new.blocks (lists_at before c.args.number))
@@ -24,7 +24,7 @@ returns-in-Some-clause-stands g c disk w stands =
     (reserves_only c.args.kept.now _ _ c.kept.view_is refl c.give_back.ensures.rows) c.taken.ensures.after gives stands
 
 pub returns-in_default-clause-stands : goal.returns-in_default-clause-stands
-returns-in_default-clause-stands g c disk w stands =
+returns-in_default-clause-stands g c sure disk w stands =
     let h = c.args.kept.now in
     let before = c.args.drafts.now.items in
     drops g.D.Disk disk h h before c.taken.new.drafts.items c.args.number w

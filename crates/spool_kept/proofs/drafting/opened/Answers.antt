@@ -1,8 +1,8 @@
-use Rattle.std.proofs.Common.{subst, sym, ◌+◌, ◌*◌, Option}
+use Rattle.std.proofs.Common.{subst, sym, Option}
 use Rattle.spool_journal.specs.Image.{text_page}
 use Rattle.upload_rules.specs.Store.{Upload}
 use Rattle.spool_kept.specs.Drafting.{OpensFor}
-use Rattle.spool_kept.proofs.Drafted.{opens_for, tail_owned}
+use Rattle.spool_kept.proofs.Drafted.{carries_for, tail_owned}
 use Rattle.spool_kept.proofs.OfUploads.{begins_below, begins_kept}
 use Rattle.spool_kept.proofs.drafting.opened.Goals as goal
 
@@ -21,12 +21,17 @@ returns-clause-of_upload c = begins_kept c.args.kept.now.slots c.in-Some.found.u
     c.in-Some.ensures.kept c.begin.ensures.named c.begin.ensures.after
 
 pub returns-clause-opened : goal.returns-clause-opened
-returns-clause-opened c v m bytes kept shows says =
-    let told = c.in-Some.ensures.told v m bytes kept shows says in
+returns-clause-opened c v m kept shows =
+    let told = c.in-Some.ensures.told v m kept shows in
+    let n = c.args.number in
+    subst (λ (o : Option Upload). OpensFor m n c.args.offset c.args.count c.args.declare o c.begin.result)
+    (sym told.there) (c.begin.ensures.begun m.indexes n told.upload told.keeps)
+
+pub returns-clause-carries : goal.returns-clause-carries
+returns-clause-carries c v m bytes kept shows says =
+    let told = c.in-Some.ensures.told v m kept shows in
     let n = c.args.number in
     let first = text_page c.args.kept.now.layout in
-    subst (λ (o : Option Upload). OpensFor m n c.args.offset c.args.count c.args.declare bytes first o
-    c.begin.result) (sym told.there)
-    (opens_for m n c.args.offset c.args.count c.args.declare bytes first told.upload c.begin.result
-    (c.begin.ensures.begun m.indexes n told.upload told.keeps)
-    (c.begin.ensures.content m.indexes n told.upload bytes first told.keeps told.text))
+    let text = c.in-Some.ensures.text v m bytes kept shows says told.upload told.there in
+    carries_for m n c.args.count c.args.declare bytes first told.upload c.begin.result told.there
+    (c.begin.ensures.content m.indexes n told.upload bytes first told.keeps text)

@@ -1,4 +1,5 @@
-use Rattle.std.proofs.Common.{◌≡◌, ◌∙◌, ◌≤◌, ◌+◌, ◌*◌, ◌/◌, ℕ, List, arith, inl, length, sym, ap, subst}
+use Rattle.std.proofs.Common.{◌≡◌, ◌∙◌, ◌≤◌, ◌+◌, ◌*◌, ◌/◌, ℕ, List, arith, inl, length, sym, ap, subst, refl}
+use Rattle.std.proofs.Common.{true}
 use Rattle.spool_disk.proofs.Firm.{lasts_on, lasts_more}
 use Rattle.spool_drafts.proofs.Effects.{only}
 use Rattle.spool_drafts.specs.Effect.{OnlyWrites}
@@ -70,36 +71,37 @@ write_last-requires-clause-blocks g c i lt =
     )
 
 pub returns-clause-written : goal.returns-clause-written
-returns-clause-written g c m n declare bytes pending =
+returns-clause-written g c sure m n declare bytes pending =
     let may = c.requires.may in
     let stored = pending.stored in
     let layout : c.kept.inside.layout ≡ c.args.kept.now.layout =
     ap (λ (k : Holding). k.layout) c.kept.view_is ∙ (c.in_ok-take_over.ensures.longer may.used may.there).layout in
-    let wrote : OnlyWrites g.D.Disk (journal_pages c.args.kept.now.layout) c.args.more.now c.args.disk.now
-    c.write_last.new.disk =
-    subst (λ (n : ℕ). OnlyWrites g.D.Disk (journal_pages n) c.args.more.now c.args.disk.now c.write_last.new.disk)
-    layout (only (c.write_last.ensures.writes stored.honest) (c.write_last.ensures.lasts stored.honest)) in
-    let written = subst (λ (n : ℕ). (length c.args.last.now + 4095) / 4096 ≤ length c.args.more.now
+    let wrote : g.D.Disk.honest c.args.disk.now → OnlyWrites g.D.Disk (journal_pages c.args.kept.now.layout)
+    c.args.more.now c.args.disk.now c.write_last.new.disk =
+    λ honest. subst (λ (n : ℕ). OnlyWrites g.D.Disk (journal_pages n) c.args.more.now c.args.disk.now
+    c.write_last.new.disk)
+    layout (only (c.write_last.ensures.writes honest) (c.write_last.ensures.lasts honest)) in
+    let written = subst (λ (n : ℕ). sure ≡ true → (length c.args.last.now + 4095) / 4096 ≤ length c.args.more.now
     → text_on (g.D.Disk.seen c.write_last.new.disk) (text_page n) c.args.more.now
     (length (bytes_with (g.D.Disk.seen c.args.disk.now) (text_page n) c.args.more.now c.args.last.now)) ≡
     bytes_with (g.D.Disk.seen c.args.disk.now) (text_page n) c.args.more.now c.args.last.now) layout
-    (c.in_ok-write_last.ensures.written stored.honest) in
+    (λ known. c.in_ok-write_last.ensures.written (stored.honest known)) in
     let append = appended g.D.Disk c.args.disk.now c.write_last.new.disk c.args.kept.now m n declare bytes
     c.args.longer.now
-    c.args.more.now c.args.last.now pending c.requires.reserved wrote c.write_last.ensures.honest.0 written in
-    let honest = c.write_last.ensures.honest.0 stored.honest in
+    c.args.more.now c.args.last.now pending c.requires.reserved (λ known. wrote (stored.honest known))
+    c.write_last.ensures.honest.0 written in
     record {
       mid = c.write_last.new.disk;
       only = wrote;
       append = append;
-      texts = subst (λ (n : ℕ). (p : ℕ) → 4096 * text_page n ≤ p → g.D.Disk.seen c.change.new.disk p ≡ g.D.Disk.seen
-          c.write_last.new.disk p) layout
-          (c.in_ok-change.ensures.texts honest append.stored.view (sym append.stored.keeps.blocks ∙ sym layout)
-          append.stored.rests);
+      texts = λ known. subst (λ (n : ℕ). (p : ℕ) → 4096 * text_page n ≤ p
+          → g.D.Disk.seen c.change.new.disk p ≡ g.D.Disk.seen c.write_last.new.disk p) layout
+          (c.in_ok-change.ensures.texts (append.stored.honest known) append.stored.view
+          (sym append.stored.keeps.blocks ∙ sym layout) (append.stored.rests known));
     }
 
 pub returns-clause-answer : goal.returns-clause-answer
-returns-clause-answer g c m n declare bytes pending =
+returns-clause-answer g c sure m n declare bytes pending =
     let may = c.requires.may in
     let stored = pending.stored in
     let is = c.in_ok-take_over.ensures.longer in
@@ -110,19 +112,20 @@ returns-clause-answer g c m n declare bytes pending =
     ap (λ (xs : List ℕ). length xs) may.state.is ∙ state_length may.state.after in
     let rows : c.take_over.new.self.blocks.rows ≡ c.rows.result.now =
     ap (λ (k : Holding). k.blocks.rows) (sym c.kept.view_is) ∙ sym c.rows.ensures.same in
-    let wrote : OnlyWrites g.D.Disk (journal_pages c.args.kept.now.layout) c.args.more.now c.args.disk.now
-    c.write_last.new.disk =
-    subst (λ (n : ℕ). OnlyWrites g.D.Disk (journal_pages n) c.args.more.now c.args.disk.now c.write_last.new.disk)
-    layout (only (c.write_last.ensures.writes stored.honest) (c.write_last.ensures.lasts stored.honest)) in
-    let written = subst (λ (n : ℕ). (length c.args.last.now + 4095) / 4096 ≤ length c.args.more.now
+    let wrote : g.D.Disk.honest c.args.disk.now → OnlyWrites g.D.Disk (journal_pages c.args.kept.now.layout)
+    c.args.more.now c.args.disk.now c.write_last.new.disk =
+    λ honest. subst (λ (n : ℕ). OnlyWrites g.D.Disk (journal_pages n) c.args.more.now c.args.disk.now
+    c.write_last.new.disk)
+    layout (only (c.write_last.ensures.writes honest) (c.write_last.ensures.lasts honest)) in
+    let written = subst (λ (n : ℕ). sure ≡ true → (length c.args.last.now + 4095) / 4096 ≤ length c.args.more.now
     → text_on (g.D.Disk.seen c.write_last.new.disk) (text_page n) c.args.more.now
     (length (bytes_with (g.D.Disk.seen c.args.disk.now) (text_page n) c.args.more.now c.args.last.now)) ≡
     bytes_with (g.D.Disk.seen c.args.disk.now) (text_page n) c.args.more.now c.args.last.now) layout
-    (c.in_ok-write_last.ensures.written stored.honest) in
+    (λ known. c.in_ok-write_last.ensures.written (stored.honest known)) in
     let append = appended g.D.Disk c.args.disk.now c.write_last.new.disk c.args.kept.now m n declare bytes
     c.args.longer.now
-    c.args.more.now c.args.last.now pending c.requires.reserved wrote c.write_last.ensures.honest.0 written in
-    let honest = c.write_last.ensures.honest.0 stored.honest in
+    c.args.more.now c.args.last.now pending c.requires.reserved (λ known. wrote (stored.honest known))
+    c.write_last.ensures.honest.0 written in
     let before' = before g.D.Disk c.write_last.new.disk c.args.kept.now c.take_over.new.self fits c.args.longer.now
     c.args.more.now may c.requires.reserved is size m n declare bytes append in
     let after' = after g.D.Disk c.write_last.new.disk c.args.kept.now c.take_over.new.self fits c.args.longer.now
@@ -137,9 +140,9 @@ returns-clause-answer g c m n declare bytes pending =
     let rest = append.stored in
     after_stored g.D.Disk c.write_last.new.disk c.args.kept.now c.take_over.new.self fits c.args.longer.now
     c.args.more.now may c.requires.reserved is size m n declare bytes append c.change.new.disk
-    (c.in_ok-change.ensures.honest.0 honest)
-    (c.in_ok-change.ensures.done honest before' after' (sym rest.keeps.blocks ∙ sym layout) rest.rests changes
-    texts)
+    c.in_ok-change.ensures.honest.0
+    (λ known. c.in_ok-change.ensures.done (rest.honest known) before' after' (sym rest.keeps.blocks ∙ sym layout)
+    (rest.rests known) changes (texts known))
 
 pub returns-clause-crash : goal.returns-clause-crash
 returns-clause-crash g c m n declare bytes pending =
@@ -153,19 +156,20 @@ returns-clause-crash g c m n declare bytes pending =
     ap (λ (xs : List ℕ). length xs) may.state.is ∙ state_length may.state.after in
     let rows : c.take_over.new.self.blocks.rows ≡ c.rows.result.now =
     ap (λ (k : Holding). k.blocks.rows) (sym c.kept.view_is) ∙ sym c.rows.ensures.same in
-    let wrote : OnlyWrites g.D.Disk (journal_pages c.args.kept.now.layout) c.args.more.now c.args.disk.now
-    c.write_last.new.disk =
-    subst (λ (n : ℕ). OnlyWrites g.D.Disk (journal_pages n) c.args.more.now c.args.disk.now c.write_last.new.disk)
-    layout (only (c.write_last.ensures.writes stored.honest) (c.write_last.ensures.lasts stored.honest)) in
-    let written = subst (λ (n : ℕ). (length c.args.last.now + 4095) / 4096 ≤ length c.args.more.now
+    let wrote : g.D.Disk.honest c.args.disk.now → OnlyWrites g.D.Disk (journal_pages c.args.kept.now.layout)
+    c.args.more.now c.args.disk.now c.write_last.new.disk =
+    λ honest. subst (λ (n : ℕ). OnlyWrites g.D.Disk (journal_pages n) c.args.more.now c.args.disk.now
+    c.write_last.new.disk)
+    layout (only (c.write_last.ensures.writes honest) (c.write_last.ensures.lasts honest)) in
+    let written = subst (λ (n : ℕ). true ≡ true → (length c.args.last.now + 4095) / 4096 ≤ length c.args.more.now
     → text_on (g.D.Disk.seen c.write_last.new.disk) (text_page n) c.args.more.now
     (length (bytes_with (g.D.Disk.seen c.args.disk.now) (text_page n) c.args.more.now c.args.last.now)) ≡
     bytes_with (g.D.Disk.seen c.args.disk.now) (text_page n) c.args.more.now c.args.last.now) layout
-    (c.in_ok-write_last.ensures.written stored.honest) in
+    (λ known. c.in_ok-write_last.ensures.written (stored.honest known)) in
     let append = appended g.D.Disk c.args.disk.now c.write_last.new.disk c.args.kept.now m n declare bytes
     c.args.longer.now
-    c.args.more.now c.args.last.now pending c.requires.reserved wrote c.write_last.ensures.honest.0 written in
-    let honest = c.write_last.ensures.honest.0 stored.honest in
+    c.args.more.now c.args.last.now pending c.requires.reserved (λ known. wrote (stored.honest known))
+    c.write_last.ensures.honest.0 written in
     let before' = before g.D.Disk c.write_last.new.disk c.args.kept.now c.take_over.new.self fits c.args.longer.now
     c.args.more.now may c.requires.reserved is size m n declare bytes append in
     let after' = after g.D.Disk c.write_last.new.disk c.args.kept.now c.take_over.new.self fits c.args.longer.now
@@ -180,12 +184,12 @@ returns-clause-crash g c m n declare bytes pending =
     let rest = append.stored in
     let before_it = shown g.D.Disk c.args.disk.now c.write_last.new.disk c.args.kept.now m n declare bytes
     c.args.longer.now
-    c.args.more.now c.args.last.now pending c.requires.reserved wrote in
+    c.args.more.now c.args.last.now pending c.requires.reserved (λ known. wrote (stored.honest known)) refl in
     lasts_on (lasts_more before_it (λ image is'. inl is'))
     (after_lasts g.D.Disk c.write_last.new.disk c.args.kept.now c.take_over.new.self fits c.args.longer.now
     c.args.more.now may c.requires.reserved is size m n declare bytes append c.change.new.disk
-    (c.in_ok-change.ensures.lasts honest before' after' (sym rest.keeps.blocks ∙ sym layout) rest.rests changes
-    texts))
+    (c.in_ok-change.ensures.lasts (rest.honest refl) before' after' (sym rest.keeps.blocks ∙ sym layout)
+    (rest.rests refl) changes (texts refl)))
 
 pub returns-in_err-change-clause-crash : goal.returns-in_err-change-clause-crash
 returns-in_err-change-clause-crash g c m n declare bytes pending =
@@ -199,19 +203,20 @@ returns-in_err-change-clause-crash g c m n declare bytes pending =
     ap (λ (xs : List ℕ). length xs) may.state.is ∙ state_length may.state.after in
     let rows : c.take_over.new.self.blocks.rows ≡ c.rows.result.now =
     ap (λ (k : Holding). k.blocks.rows) (sym c.kept.view_is) ∙ sym c.rows.ensures.same in
-    let wrote : OnlyWrites g.D.Disk (journal_pages c.args.kept.now.layout) c.args.more.now c.args.disk.now
-    c.write_last.new.disk =
-    subst (λ (n : ℕ). OnlyWrites g.D.Disk (journal_pages n) c.args.more.now c.args.disk.now c.write_last.new.disk)
-    layout (only (c.write_last.ensures.writes stored.honest) (c.write_last.ensures.lasts stored.honest)) in
-    let written = subst (λ (n : ℕ). (length c.args.last.now + 4095) / 4096 ≤ length c.args.more.now
+    let wrote : g.D.Disk.honest c.args.disk.now → OnlyWrites g.D.Disk (journal_pages c.args.kept.now.layout)
+    c.args.more.now c.args.disk.now c.write_last.new.disk =
+    λ honest. subst (λ (n : ℕ). OnlyWrites g.D.Disk (journal_pages n) c.args.more.now c.args.disk.now
+    c.write_last.new.disk)
+    layout (only (c.write_last.ensures.writes honest) (c.write_last.ensures.lasts honest)) in
+    let written = subst (λ (n : ℕ). true ≡ true → (length c.args.last.now + 4095) / 4096 ≤ length c.args.more.now
     → text_on (g.D.Disk.seen c.write_last.new.disk) (text_page n) c.args.more.now
     (length (bytes_with (g.D.Disk.seen c.args.disk.now) (text_page n) c.args.more.now c.args.last.now)) ≡
     bytes_with (g.D.Disk.seen c.args.disk.now) (text_page n) c.args.more.now c.args.last.now) layout
-    (c.in_ok-write_last.ensures.written stored.honest) in
+    (λ known. c.in_ok-write_last.ensures.written (stored.honest known)) in
     let append = appended g.D.Disk c.args.disk.now c.write_last.new.disk c.args.kept.now m n declare bytes
     c.args.longer.now
-    c.args.more.now c.args.last.now pending c.requires.reserved wrote c.write_last.ensures.honest.0 written in
-    let honest = c.write_last.ensures.honest.0 stored.honest in
+    c.args.more.now c.args.last.now pending c.requires.reserved (λ known. wrote (stored.honest known))
+    c.write_last.ensures.honest.0 written in
     let before' = before g.D.Disk c.write_last.new.disk c.args.kept.now c.take_over.new.self fits c.args.longer.now
     c.args.more.now may c.requires.reserved is size m n declare bytes append in
     let after' = after g.D.Disk c.write_last.new.disk c.args.kept.now c.take_over.new.self fits c.args.longer.now
@@ -226,12 +231,12 @@ returns-in_err-change-clause-crash g c m n declare bytes pending =
     let rest = append.stored in
     let before_it = shown g.D.Disk c.args.disk.now c.write_last.new.disk c.args.kept.now m n declare bytes
     c.args.longer.now
-    c.args.more.now c.args.last.now pending c.requires.reserved wrote in
+    c.args.more.now c.args.last.now pending c.requires.reserved (λ known. wrote (stored.honest known)) refl in
     lasts_on (lasts_more before_it (λ image is'. inl is'))
     (after_lasts g.D.Disk c.write_last.new.disk c.args.kept.now c.take_over.new.self fits c.args.longer.now
     c.args.more.now may c.requires.reserved is size m n declare bytes append c.change.new.disk
-    (c.in_err-change.ensures.lasts honest before' after' (sym rest.keeps.blocks ∙ sym layout) rest.rests changes
-    texts))
+    (c.in_err-change.ensures.lasts (rest.honest refl) before' after' (sym rest.keeps.blocks ∙ sym layout)
+    (rest.rests refl) changes (texts refl)))
 
 pub returns-in_err-write_last-clause-crash : goal.returns-in_err-write_last-clause-crash
 returns-in_err-write_last-clause-crash g c m n declare bytes pending =
@@ -239,11 +244,12 @@ returns-in_err-write_last-clause-crash g c m n declare bytes pending =
     let stored = pending.stored in
     let layout : c.kept.inside.layout ≡ c.args.kept.now.layout =
     ap (λ (k : Holding). k.layout) c.kept.view_is ∙ (c.in_ok-take_over.ensures.longer may.used may.there).layout in
-    let wrote : OnlyWrites g.D.Disk (journal_pages c.args.kept.now.layout) c.args.more.now c.args.disk.now
-    c.write_last.new.disk =
-    subst (λ (n : ℕ). OnlyWrites g.D.Disk (journal_pages n) c.args.more.now c.args.disk.now c.write_last.new.disk)
-    layout (only (c.write_last.ensures.writes stored.honest) (c.write_last.ensures.lasts stored.honest)) in
+    let wrote : g.D.Disk.honest c.args.disk.now → OnlyWrites g.D.Disk (journal_pages c.args.kept.now.layout)
+    c.args.more.now c.args.disk.now c.write_last.new.disk =
+    λ honest. subst (λ (n : ℕ). OnlyWrites g.D.Disk (journal_pages n) c.args.more.now c.args.disk.now
+    c.write_last.new.disk)
+    layout (only (c.write_last.ensures.writes honest) (c.write_last.ensures.lasts honest)) in
     let before_it = shown g.D.Disk c.args.disk.now c.write_last.new.disk c.args.kept.now m n declare bytes
     c.args.longer.now
-    c.args.more.now c.args.last.now pending c.requires.reserved wrote in
+    c.args.more.now c.args.last.now pending c.requires.reserved (λ known. wrote (stored.honest known)) refl in
     lasts_more before_it (λ image is'. inl is')

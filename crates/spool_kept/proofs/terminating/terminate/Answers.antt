@@ -1,4 +1,5 @@
-use Rattle.std.proofs.Common.{◌≡◌, ◌∙◌, ◌≤◌, ◌*◌, ℕ, None, ap, subst, sym}
+use Rattle.std.proofs.Common.{◌≡◌, ◌∙◌, ◌≤◌, ◌*◌, ℕ, None, ap, subst, sym, refl}
+use Rattle.std.proofs.Common.{Bool, true}
 use Rattle.spool_disk.specs.Views.{Lasts}
 use Rattle.spool_journal.specs.Image.{text_page}
 use Rattle.upload_rules.specs.Answers.{IsLate}
@@ -25,7 +26,7 @@ pub returns-in_default-clause-forgets : goal.returns-in_default-clause-forgets
 returns-in_default-clause-forgets g c _ slot used = absurd (c.in_default.ensures.used slot used)
 
 pub returns-in_default-clause-answer : goal.returns-in_default-clause-answer
-returns-in_default-clause-answer g c w stands =
+returns-in_default-clause-answer g c sure w stands =
     let stored = stands.stored in (
       refused c.args.kept.now stored.view w.store c.args.number stored.keeps stored.shows c.in_default.ensures.used,
       stands,
@@ -33,8 +34,8 @@ returns-in_default-clause-answer g c w stands =
 
 -- A SLOT HAS IT, SO THE RULES ALLOW IT
 
-may : (g : Over) (c : In-Some g) (w : World)
-    → StandsFor g.D.Disk c.args.disk.now c.args.kept.now c.args.drafts.now.items w
+may : (g : Over) (c : In-Some g) {sure : Bool} (w : World)
+    → StandsFor sure g.D.Disk c.args.disk.now c.args.kept.now c.args.drafts.now.items w
     → terminate_refusal w c.args.number ≡ None
 may g c w stands =
     let stored = stands.stored in
@@ -42,12 +43,12 @@ may g c w stands =
     c.in-Some.ensures.used
 
 pub returns-in_default-pages_without-clause-answer : goal.returns-in_default-pages_without-clause-answer
-returns-in_default-pages_without-clause-answer g c w stands =
+returns-in_default-pages_without-clause-answer g c sure w stands =
     let allowed = may g (goal.at.returns-in_default-pages_without-clause-answer g c).In-Some w stands in
     (subst IsLate (sym allowed) tt, stands)
 
 pub returns-clause-answer : goal.returns-clause-answer
-returns-clause-answer g c w stands =
+returns-clause-answer g c sure w stands =
     subst IsLate (sym (may g (goal.at.returns-clause-answer g c).In-Some w stands)) tt
 
 -- WHAT IS KEPT OF IT, AND THE DRAFTS
@@ -79,7 +80,7 @@ returns-clause-fits g c = fit g (goal.at.returns-clause-fits g c).After-forget_t
 -- A CRASH
 
 crash : (g : Over) (c : After-change g) (w : World)
-    → StandsFor g.D.Disk c.args.disk.now c.args.kept.now c.args.drafts.now.items w
+    → StandsFor true g.D.Disk c.args.disk.now c.args.kept.now c.args.drafts.now.items w
     → Lasts g.D.Disk c.args.disk.now c.change.new.disk
     (ShowsEither c.args.kept.now.layout w.store (terminate_outcome w c.args.number))
 crash g c w stands =
@@ -89,7 +90,7 @@ crash g c w stands =
     crash_after g.D.Disk c.args.disk.now c.args.kept.now c.take_out.new.self w.store c.args.number c.in-Some.slot stored
     c.in-Some.ensures.used c.take_out.ensures c.in-Ok.pages c.fill_rows.new.pages c.in-Ok.ensures.changes
     (λ v v' blocks but same. c.fill_rows.ensures.changes v v' (blocks ∙ layout) but (same ∙ rows))
-    c.change.new.disk (λ v v' blocks. c.change.ensures.lasts stored.honest v v' (blocks ∙ layout))
+    refl c.change.new.disk (λ v v' blocks. c.change.ensures.lasts (stored.honest refl) v v' (blocks ∙ layout))
 
 pub returns-in-Ok-change-clause-crash : goal.returns-in-Ok-change-clause-crash
 returns-in-Ok-change-clause-crash g c = crash g (goal.at.returns-in-Ok-change-clause-crash g c).After-change
@@ -100,7 +101,7 @@ returns-clause-crash g c = crash g (goal.at.returns-clause-crash g c).After-chan
 -- DONE
 
 pub returns-in-Ok-change-clause-answer : goal.returns-in-Ok-change-clause-answer
-returns-in-Ok-change-clause-answer g c w stands =
+returns-in-Ok-change-clause-answer g c sure w stands =
     let h = c.args.kept.now in
     let h' = c.take_out.new.self in
     let number = c.args.number in
@@ -116,10 +117,12 @@ returns-in-Ok-change-clause-answer g c w stands =
     let now = stored_after g.D.Disk d h h' w.store number slot stored used out c.in-Ok.pages c.fill_rows.new.pages
     c.in-Ok.ensures.changes
     (λ v v' blocks but same. c.fill_rows.ensures.changes v v' (blocks ∙ layout) but (same ∙ rows)) d'
-    (subst FitsTogether c.kept.view_is c.kept.invariant) (c.in-Ok-change.ensures.honest.0 stored.honest)
-    (λ v v' blocks. c.in-Ok-change.ensures.done stored.honest v v' (blocks ∙ layout)) in
-    let texts = subst (λ (n : ℕ). (p : ℕ) → 4096 * text_page n ≤ p → g.D.Disk.seen d' p ≡ g.D.Disk.seen d p) same
-    (c.in-Ok-change.ensures.texts stored.honest stored.view (sym stored.keeps.blocks ∙ sym same) stored.rests) in (
+    (subst FitsTogether c.kept.view_is c.kept.invariant) c.in-Ok-change.ensures.honest.0
+    (λ known v v' blocks. c.in-Ok-change.ensures.done (stored.honest known) v v' (blocks ∙ layout)) in
+    let texts : sure ≡ true → (p : ℕ) → 4096 * text_page h.layout ≤ p → g.D.Disk.seen d' p ≡ g.D.Disk.seen d p =
+    λ known. subst (λ (n : ℕ). (p : ℕ) → 4096 * text_page n ≤ p → g.D.Disk.seen d' p ≡ g.D.Disk.seen d p) same
+    (c.in-Ok-change.ensures.texts (stored.honest known) stored.view (sym stored.keeps.blocks ∙ sym same)
+    (stored.rests known)) in (
       may g (goal.at.returns-in-Ok-change-clause-answer g c).In-Some w stands,
       stands_forgotten number c.args.drafts.now.items c.forget_tails.new.drafts.items c.forget_tails.ensures
           g.D.Disk d' h' (terminated w number) (none_in_others number w.store.uploads)

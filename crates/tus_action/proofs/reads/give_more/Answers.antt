@@ -4,7 +4,7 @@ use Rattle.tus_action.proofs.reads.give_more.Goals as goal
 pub returns-in-Ok-Some-clause-answer : goal.returns-in-Ok-Some-clause-answer
 returns-in-Ok-Some-clause-answer g c = λ w h stands is.
     let up = told_there w.store c.args.giving.number h.number c.in-Some._there.now is.number
-    (c.in-Some.ensures.told w stands) in
+    (c.in-Some.ensures.told w (g.met.U.Uploads.represented c.args.store.now w stands)) in
     piece_given g.U.Uploads c.next_piece.new.store w h up.0 c.in-Ok-Some.field-0 c.in-Ok-Some.left c.args.out.now.items
     c.next_piece.new.out.items up.1 c.in-Ok-Some.field-0-is
     (c.in-Ok-Some.ensures.answer w h up.0 stands is up.1)
@@ -12,7 +12,7 @@ returns-in-Ok-Some-clause-answer g c = λ w h stands is.
 pub returns-in-Ok-None-clause-answer : goal.returns-in-Ok-None-clause-answer
 returns-in-Ok-None-clause-answer g c = λ w h stands is.
     let up = told_there w.store c.args.giving.number h.number c.in-Some._there.now is.number
-    (c.in-Some.ensures.told w stands) in
+    (c.in-Some.ensures.told w (g.met.U.Uploads.represented c.args.store.now w stands)) in
     last_given g.U.Uploads c.next_piece.new.store w h up.0 c.in-Ok-None.field-0 c.args.out.now.items
     c.next_piece.new.out.items up.1 c.in-Ok-None.field-0-is
     (c.in-Ok-None.ensures.answer w h up.0 stands is up.1)

@@ -12,7 +12,7 @@ returns-in-Ok-next_piece-clause-answer g c = λ w r stands bare closes.
     let rec = c.in-Some.record.now in
     let old = c.args.out.now.items in
     let tells : TellsOf w.store.indexes (with_number n (upload_of w.store n)) (Some rec) =
-    c.in-Some.ensures.told w stands in
+    c.in-Some.ensures.told w (g.met.U.Uploads.represented c.args.store.now w stands) in
     subst (λ a. ActedAs g.U.Uploads c.next_piece.new.store a old c.next_piece.new.out.items
     (get w r n (upload_of w.store n))) (sym c.giving.ensures)
     (get_acts_as g.U.Uploads c.next_piece.new.store w r n rec c.in-Ok-next_piece.left old c.reply_text.new.out.items
@@ -27,7 +27,7 @@ returns-in-Err-clause-answer g c = λ w r stands bare closes.
     let rec = c.in-Some.record.now in
     let old = c.args.out.now.items in
     let tells : TellsOf w.store.indexes (with_number n (upload_of w.store n)) (Some rec) =
-    c.in-Some.ensures.told w stands in
+    c.in-Some.ensures.told w (g.met.U.Uploads.represented c.args.store.now w stands) in
     get_stops g.U.Uploads c.next_piece.new.store w c.args.closes n rec c.in-Err.stop old _ c.reply_text.new.out.items
     c.next_piece.new.out.items c.truncate.new.self.items
     (length c.as_slice-before.result.now) _ (upload_of w.store n)

@@ -1,4 +1,4 @@
-use Rattle.std.proofs.Common.{◌≤◌, ◌*◌, ℕ, Some, sym, subst}
+use Rattle.std.proofs.Common.{◌≤◌, ◌*◌, ◌≡◌, ℕ, false, true, Some, sym, subst}
 use Rattle.spool_journal.specs.Image.{journal_pages, all_pages, overlaid}
 use Rattle.spool_journal.specs.Phases.{ReadsAs}
 use Rattle.spool_journal.proofs.Gate.{settled_idle}
@@ -41,11 +41,17 @@ returns-in-Ok-clause-stands g c n m is =
     let v = is.shows.view in
     let said =
     c.in-Ok.ensures.said is.honest v is.shows.shows.sound is.shows.is (view_room g.D.Disk c.args.disk n m is) in
-    subst (λ (k : ℕ). StandsFor g.D.Disk c.load.new.disk c.in-Ok.kept c.new.result.items (at_rest m (Some k)))
+    subst (λ (k : ℕ). StandsFor true g.D.Disk c.load.new.disk c.in-Ok.kept c.new.result.items (at_rest m (Some k)))
     is.shows.blocks
     (stands_opened g.D.Disk c.load.new.disk (g.D.Disk.seen c.args.disk) c.in-Ok.kept c.new.result.items m v
     c.new.ensures.items
-    (c.in-Ok.ensures.honest.0 is.honest) is.shows.is said is.shows.shows (c.in-Ok.ensures.settled is.honest))
+    (λ _. c.in-Ok.ensures.honest.0 is.honest) (λ _. is.shows.is) said is.shows.shows
+    (λ _. c.in-Ok.ensures.settled is.honest))
+
+pub returns-in-Ok-clause-represents : goal.returns-in-Ok-clause-represents
+returns-in-Ok-clause-represents g c v m shows keeps =
+    stands_opened g.D.Disk c.load.new.disk (g.D.Disk.seen c.args.disk) c.in-Ok.kept c.new.result.items m v
+    c.new.ensures.items (λ (known : false ≡ true). absurd cc) (λ known. absurd cc) keeps shows (λ known. absurd cc)
 
 pub returns-in-Ok-clause-not_a_spool : goal.returns-in-Ok-clause-not_a_spool
 returns-in-Ok-clause-not_a_spool g c honest is =

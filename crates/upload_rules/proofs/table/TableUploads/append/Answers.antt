@@ -39,3 +39,9 @@ returns-in-Err-clause-answer c = λ w p stands there holds held.
           c.in-Some.ensures.after c.put_back.ensures
           (subst (λ y. AppendStands y w.store.next p new) stands.indexes after),
     )
+
+pub returns-in-Ok-clause-represents : goal.returns-in-Ok-clause-represents
+returns-in-Ok-clause-represents c = returns-in-Ok-clause-answer c
+
+pub returns-in-Err-clause-represents : goal.returns-in-Err-clause-represents
+returns-in-Err-clause-represents c = returns-in-Err-clause-answer c

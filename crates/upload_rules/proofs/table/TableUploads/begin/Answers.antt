@@ -9,3 +9,6 @@ returns-in-Ok-placed-clause-answer c = λ w stands.
     c.args.declare
     (upload_of w.store c.args.number) c.in-Ok.append c.in-Ok-placed.number c.placed.new.drafts refl
     (c.in-Ok.ensures w stands) c.in-Ok-placed.ensures.ok
+
+pub returns-in-Ok-placed-clause-represents : goal.returns-in-Ok-placed-clause-represents
+returns-in-Ok-placed-clause-represents c = returns-in-Ok-placed-clause-answer c

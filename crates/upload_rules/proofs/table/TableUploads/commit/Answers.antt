@@ -91,3 +91,18 @@ returns-clause-answer c = λ w p stands there holds.
     (with_item t.slots place new)
     (completes_is w.store p up.0 up.1 ∙ ap (λ k. is_length k (reached p)) (sym known)) unfinished refl
     (subst (λ y. IsPut y p up.0 done new r) stands.indexes put)
+
+pub returns-in_default-place_of-clause-represents : goal.returns-in_default-place_of-clause-represents
+returns-in_default-place_of-clause-represents c = returns-in_default-place_of-clause-answer c
+
+pub returns-then-record-append-clause-represents : goal.returns-then-record-append-clause-represents
+returns-then-record-append-clause-represents c = returns-then-record-append-clause-answer c
+
+pub returns-in-Err-clause-represents : goal.returns-in-Err-clause-represents
+returns-in-Err-clause-represents c = returns-in-Err-clause-answer c
+
+pub returns-then-is_idle-clause-represents : goal.returns-then-is_idle-clause-represents
+returns-then-is_idle-clause-represents c = returns-then-is_idle-clause-answer c
+
+pub returns-clause-represents : goal.returns-clause-represents
+returns-clause-represents c = returns-clause-answer c

@@ -56,3 +56,12 @@ returns-clause-answer c = λ w stands.
             (c.is_err.ensures.negation ∙ ap not c.if-is_err.false)) refl (c.new-2.ensures w.store.indexes),
       ),
     )
+
+pub returns-then-len-ge-SLOT_COUNT-clause-represents : goal.returns-then-len-ge-SLOT_COUNT-clause-represents
+returns-then-len-ge-SLOT_COUNT-clause-represents c = returns-then-len-ge-SLOT_COUNT-clause-answer c
+
+pub returns-then-is_err-clause-represents : goal.returns-then-is_err-clause-represents
+returns-then-is_err-clause-represents c = returns-then-is_err-clause-answer c
+
+pub returns-clause-represents : goal.returns-clause-represents
+returns-clause-represents c = returns-clause-answer c

@@ -20,3 +20,9 @@ returns-clause-answer c = λ w stands.
       there c.args.self.now w stands c.args.number place c.remove-gone.result first c.remove-gone.ensures.value,
       deletes c.args.self.now w stands c.args.number place c.remove-gone.new.self first c.remove-gone.ensures.items,
     )
+
+pub returns-in_default-clause-represents : goal.returns-in_default-clause-represents
+returns-in_default-clause-represents c = returns-in_default-clause-answer c
+
+pub returns-clause-represents : goal.returns-clause-represents
+returns-clause-represents c = returns-clause-answer c
