@@ -71,7 +71,7 @@ module _ {D : Type 0} (disk : Ghosts D) (d d' : D) (h : Holding) (drafts : List 
     };
   }
     where
-      abbrev Stands : (ℕ → ℕ) → Patch → SpoolDraft → Type 0
+      Stands : (ℕ → ℕ) → Patch → SpoolDraft → Type 0
       Stands seen = DraftStands (sure ≡ true) w.store.indexes seen (text_page h.layout) h.slots h.blocks.rows w.store
 
 -- AN OPENED SPOOL

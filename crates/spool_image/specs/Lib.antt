@@ -1,7 +1,6 @@
 pub mod Fresh
 pub mod Format
 pub mod Spool
-pub mod Represents
 pub mod Opening
 pub mod LeftOnly
 pub mod Texts

@@ -1,5 +1,5 @@
 -- What an opened spool stands for.
-use Rattle.std.specs.Prelude.{◌≡◌, ◌⊎◌, ℕ, false, true, Result, Ok, Err}
+use Rattle.std.specs.Prelude.{◌≡◌, ◌⊎◌, ℕ, Bool, Result, Ok, Err}
 use Rattle.spool_disk.specs.declared.disk.Disk.{Ghosts}
 use Rattle.spool_kept.specs.declared.error.OpenFault.{OpenFault}
 use Rattle.spool_kept.specs.declared.error.OpenFault.TheVariants.{DiskFault, NoMemory}
@@ -26,13 +26,9 @@ Keeps s v = KeepsAlone s.kept v
 abbrev pub OpensFrom : {D : Type 0} {disk : Ghosts D} → ℕ → (ℕ → ℕ) → Spool D disk → Type 0
 OpensFrom size seen s = OpenedFrom size seen s.kept
 
--- what it keeps in memory stands for the world, whatever the disk
-abbrev pub SpoolRepresents : {D : Type 0} {disk : Ghosts D} → Spool D disk → World → Type 0
-SpoolRepresents {disk = disk} s w = StandsFor false disk s.disk s.kept s.drafts.items w
-
--- the disk, what is kept of it and the drafts stand for the world
-abbrev pub SpoolStands : {D : Type 0} {disk : Ghosts D} → Spool D disk → World → Type 0
-SpoolStands {disk = disk} s w = StandsFor true disk s.disk s.kept s.drafts.items w
+-- what it keeps of the disk and the drafts stand for the world, and where that is sure, the disk does too
+abbrev pub SpoolStands : {D : Type 0} {disk : Ghosts D} → Spool D disk → Bool → World → Type 0
+SpoolStands {disk = disk} s sure w = StandsFor sure disk s.disk s.kept s.drafts.items w
 
 -- the disk, opened or handed back
 abbrev pub disk_after : {D : Type 0} {disk : Ghosts D} → Result (Spool D disk) (D × OpenFault) → D

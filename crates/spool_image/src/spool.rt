@@ -40,7 +40,7 @@ pub struct SpoolAppend {
 }
 
 impl<D: Disk> Spool<D> {
-    ghost use Rattle.spool_image.specs.Spool.{disk_of, size_of, disk_after, Keeps, SpoolRepresents, SpoolStands};
+    ghost use Rattle.spool_image.specs.Spool.{disk_of, size_of, disk_after, Keeps, SpoolStands};
     ghost use Rattle.spool_image.specs.Spool.{IsFault, OpensAs, OpensFrom, RefusesAs};
 
     /// Opens what a crash may have left. It may crash too, and be called again.
@@ -93,13 +93,13 @@ impl<D: Disk> Spool<D> {
         ensures shows { (n : ℕ) (m : Store) → IsSpool D.Disk disk n m
             → IfOk result (λ s. AllShow D.Disk (disk_of s) n m) }
 
-        // Whatever the disk, it represents the uploads that a view shows which it keeps, with no append under way.
-        ensures represents { (v : View) (m : Store) → Shows v m
-            → IfOk result (λ s. Keeps s v → SpoolRepresents s (at_rest m (Some v.blocks))) }
-
         // It stands for them, with no append under way.
         ensures stands { (n : ℕ) (m : Store) → IsSpool D.Disk disk n m
-            → IfOk result (λ s. SpoolStands s (at_rest m (Some n))) }
+            → IfOk result (λ s. SpoolStands s true (at_rest m (Some n))) }
+
+        // And whatever the disk, for the uploads that are shown by what it keeps.
+        ensures kept { (v : View) (m : Store) → Shows v m
+            → IfOk result (λ s. Keeps s v → SpoolStands s false (at_rest m (Some v.blocks))) }
     {
         let mut disk = disk;
         match load(alloc, &mut disk) {
@@ -130,14 +130,11 @@ impl<D: Disk> Spool<D> {
 
 impl<D: Disk> Uploads for Spool<D> {
     ghost use Rattle.spool_image.specs.LeftOnly.{SpoolLeft};
-    ghost use Rattle.spool_image.specs.Represents.{represented};
-    ghost use Rattle.spool_image.specs.Spool.{SpoolRepresents, SpoolStands};
+    ghost use Rattle.spool_image.specs.Spool.{SpoolStands};
     ghost use Rattle.spool_image.specs.Durable.{durable_left};
     ghost use Rattle.spool_image.specs.Numbers.{upload_below};
 
     type Draft = SpoolAppend;
-
-    ghost represents = { SpoolRepresents };
 
     ghost stands = { SpoolStands };
 
@@ -151,9 +148,7 @@ impl<D: Disk> Uploads for Spool<D> {
 
     ghost failures = { λ s. D.failures s.disk };
 
-    ghost represented = { λ s w stands. represented s.disk s.kept s.drafts.items w stands };
-
-    ghost below = { λ s w number u stands there. upload_below s.disk s.kept s.drafts.items w number u stands there };
+    ghost below = { λ s sure w number u stands there. upload_below s.disk s.kept s.drafts.items w number u stands there };
 
     ghost durable = { λ s w ms stands among.
         durable_left s.disk s.kept s.drafts.items w ms s.room (D.only_now s.disk) stands among };

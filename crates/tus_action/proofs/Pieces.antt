@@ -1,20 +1,23 @@
 -- The pieces of a text that is given.
 use Rattle.std.proofs.Common.{◌≡◌, ◌≤◌, ◌<◌, ◌+◌, ◌-◌, min, arith, ℕ, Bool, true, false, List, [], ◌∷◌, ◌++◌, length}
-use Rattle.std.proofs.Common.{take, drop, nat_le, Option, Some, None, Ok, refl, sym, subst, ap, ◌∙◌, if◌then◌else◌}
+use Rattle.std.proofs.Common.{take, drop, nat_le, Option, Some, None, Ok, Err, refl, sym, subst, ap, ◌∙◌, if◌then◌else◌}
 use Rattle.std.proofs.Common.{append-nil}
 use Rattle.std.proofs.lemmas.List.{length-take, length-drop, take_all, take-take, drop-drop, drop_all, drop-take}
-use Rattle.std.proofs.lemmas.List.{length-take-le}
+use Rattle.std.proofs.lemmas.List.{length-take-le, nil_from_length}
 use Rattle.std.proofs.lemmas.Bool.{leb-true, leb-false}
 use Rattle.upload_rules.specs.Store.{Store, Upload, upload_of, text_of}
 use Rattle.upload_rules.specs.Reading.{text_at, IsRead}
-use Rattle.upload_rules.specs.World.{World}
+use Rattle.upload_rules.specs.World.{World, is_there}
 use Rattle.upload_rules.specs.Records.{TellsOf, with_number}
 use Rattle.upload_rules.specs.declared.records.Record.{Record}
 use Rattle.upload_rules.specs.declared.uploads.Uploads.{Ghosts}
 use Rattle.tus_action.specs.Acts.{Giving, piece_of, pending_of, pending_after}
-use Rattle.tus_action.specs.Serves.{GivesAs, IsGiving, GivingIs, GivesPiece, IsGiven, Gives, giving_after}
+use Rattle.tus_action.specs.Serves.{Appends, AppendsText, GivesAs, IsGiving, GivingIs, GivesPiece, IsGiven, Gives}
+use Rattle.tus_action.specs.Serves.{giving_after}
 use Rattle.tus_action.specs.declared.acts.Giving as given
 use Rattle.tus_action.specs.declared.acts.Given.TheVariants.{Piece, Last}
+use Rattle.tus_action.specs.declared.acts.Stop.{Stop}
+use Rattle.tus_action.specs.declared.acts.Stop.TheVariants as Stops
 
 -- what is left of the first bytes of a text
 pub left_is : (text : List ℕ) (l g : ℕ) → g ≤ l → drop g (take l text) ≡ take (l - g) (drop g text)
@@ -61,6 +64,34 @@ given_piece m g h up gives c n zeros piece count size read =
     piece_is text g.length g.given c n zeros piece gives.some gives.within count size
     (subst (λ t. IsRead t g.given n zeros piece) here read)
     ∙ ap (take 65536) (sym gives.left)
+
+-- and has so many bytes
+pub piece_size_is : (m : Store) (g : given.Giving) (h : Giving) (up : Upload) → GivesAs m g h up → (c : ℕ)
+    → c ≡ min (g.length - g.given) 65536 → length (piece_of h) ≡ c
+piece_size_is m g h up gives c count =
+    let text : List ℕ = text_of m.indexes up in
+    let some : g.given ≤ g.length = gives.some in
+    let within : g.length ≤ length text = gives.within in
+    let lt : length (take g.length text) ≡ g.length = length-take-le g.length text within in
+    let ld : length (drop g.given (take g.length text)) ≡ length (take g.length text) - g.given =
+    length-drop g.given (take g.length text) in
+    let ll : length h.left ≡ g.length - g.given = ap length gives.left ∙ (omega arith) in
+    let size : length (take 65536 h.left) ≡ min 65536 (length h.left) = length-take 65536 h.left in
+    omega (arith, size, ll, count)
+
+-- bytes that end in those of a text, or in none
+pub appends : {sure : Bool} (old new bytes text : List ℕ) → AppendsText sure old new bytes text
+    → Appends sure old new bytes text
+appends old new bytes [] is =
+    let none : is.piece ≡ [] = nil_from_length is.piece is.are.size in
+    is.appended ∙ ap (λ x. old ++ (is.reply ++ x)) none ∙ ap (λ x. old ++ x) (sym is.parts)
+appends old new bytes (b ∷ text) is = is
+
+-- where that is sure these are the bytes
+pub all_appended : (old new bytes text : List ℕ) → Appends true old new bytes text → new ≡ old ++ bytes
+all_appended old new bytes [] is = is
+all_appended old new bytes (b ∷ text) is =
+    is.appended ∙ ap (λ x. old ++ (is.reply ++ x)) (is.are.same refl) ∙ ap (λ x. old ++ x) (sym is.parts)
 
 -- a list that isn't empty is pending
 pending_some : (number : ℕ) (left : List ℕ) (closes : Bool) (b : ℕ) → 0 < b → length left ≡ b
@@ -135,22 +166,29 @@ told_there m n k r same told = subst (λ i. (up : Upload) × (upload_of m i ≡ 
     of (Some up) told = (up, refl)
 
 -- the piece that was given
-pub piece_given : {U B : Type 0} (u : Ghosts U B) (store : U) (w : World) (h : Giving) (up : Upload)
+pub piece_given : {U B : Type 0} {sure : Bool} (u : Ghosts U B) (store : U) (w : World) (h : Giving) (up : Upload)
     (left : Option given.Giving) (g : given.Giving) (old new : List ℕ)
-    → upload_of w.store h.number ≡ Some up → left ≡ Some g → GivesPiece u store (Ok left) old new w h
-    → Gives u store (Ok (Piece g)) old new w h
-piece_given u store w h up left g old new there is gave =
+    → upload_of w.store h.number ≡ Some up → left ≡ Some g → GivesPiece u sure store (Ok left) old new w h
+    → Gives u sure store (Ok (Piece g)) old new w h
+piece_given {sure = sure} u store w h up left g old new there is gave =
     let rest = subst (λ l. GivingIs w.store l (pending_after h)) is gave.1 in
-    (gave.0, subst (IsGiven w.store (Piece g) old new h) (sym there) (rest, gave.2))
+    (gave.0, subst (IsGiven sure w.store (Piece g) old new h) (sym there) (rest, gave.2))
 
-pub last_given : {U B : Type 0} (u : Ghosts U B) (store : U) (w : World) (h : Giving) (up : Upload)
+pub last_given : {U B : Type 0} {sure : Bool} (u : Ghosts U B) (store : U) (w : World) (h : Giving) (up : Upload)
     (left : Option given.Giving) (old new : List ℕ)
-    → upload_of w.store h.number ≡ Some up → left ≡ None → GivesPiece u store (Ok left) old new w h
-    → Gives u store (Ok Last) old new w h
-last_given u store w h up left old new there is gave =
+    → upload_of w.store h.number ≡ Some up → left ≡ None → GivesPiece u sure store (Ok left) old new w h
+    → Gives u sure store (Ok Last) old new w h
+last_given {sure = sure} u store w h up left old new there is gave =
     let none = none_is w.store (pending_after h) (subst (λ l. GivingIs w.store l (pending_after h)) is gave.1) in
-    (gave.0, subst (IsGiven w.store Last old new h) (sym there) (none, gave.2))
+    (gave.0, subst (IsGiven sure w.store Last old new h) (sym there) (none, gave.2))
   where
     none_is : (m : Store) (p : Option Giving) → GivingIs m None p → p ≡ None
     none_is m None is = refl
     none_is m (Some q) is = absurd is
+
+-- nothing was given, out of memory or for a disk fault
+pub stops_gives : {U B : Type 0} (u : Ghosts U B) (sure : Bool) (store : U) (w : World) (h : Giving) (up : Upload)
+    (stop : Stop) (old new : List ℕ) → upload_of w.store h.number ≡ Some up
+    → GivesPiece u sure store (Err stop) old new w h → Gives u sure store (Err stop) old new w h
+stops_gives u sure store w h up Stops.NoMemory old new there is = (ap is_there there, is.0, is.1)
+stops_gives u sure store w h up Stops.DiskFault old new there is = (ap is_there there, is)

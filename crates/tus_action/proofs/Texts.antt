@@ -1,6 +1,6 @@
 -- The first piece of a text after the reply's head.
 use Rattle.std.proofs.Common.{◌≡◌, ◌<◌, arith, ℕ, Bool, false, List, [], ◌++◌, length, take, drop, Option, Some, None}
-use Rattle.std.proofs.Common.{Ok, Err, refl, sym, subst, ap, ◌∙◌, if◌then◌else◌, append_assoc}
+use Rattle.std.proofs.Common.{Ok, Err, refl, sym, subst, ap, ◌∙◌, if◌then◌else◌, append_assoc, append-nil, true}
 use Rattle.std.proofs.lemmas.List.{take_all}
 use Rattle.std.proofs.lemmas.Option.{same_Some}
 use Rattle.upload_rules.specs.Store.{Store, Upload, upload_of, text_of}
@@ -11,8 +11,11 @@ use Rattle.upload_rules.specs.declared.uploads.Uploads.{Ghosts}
 use Rattle.tus_request.specs.Requests.{Request}
 use Rattle.tus_request.specs.Replies.{reply_text}
 use Rattle.tus_action.specs.Acts.{Acted, Giving, piece_size, pending_of, pending_after, is_pending, get}
-use Rattle.tus_action.specs.Serves.{GivesAs, IsGiving, GivingIs, DraftIs, ActedAs, Serves, GivesPiece, replied_giving}
+use Rattle.tus_action.specs.Serves.{Appends, AppendsText, GivesAs, IsGiving, GivingIs, DraftIs, ActedAs, Serves}
+use Rattle.tus_action.specs.Serves.{GivesPiece, replied_giving}
+use Rattle.tus_action.proofs.Pieces.{appends}
 use Rattle.tus_action.specs.Serves.{draft_in, giving_in, closes_in}
+use Rattle.tus_action.specs.declared.acts.Done.TheVariants as done
 use Rattle.tus_action.specs.declared.acts.Giving as given
 use Rattle.tus_action.specs.declared.acts.Stop.{Stop}
 use Rattle.tus_action.specs.declared.acts.Stop.TheVariants as Stops
@@ -67,16 +70,16 @@ no_draft u w None closes = tt {0}
 no_draft u w (Some g) closes = tt {0}
 
 -- the reply's head and the first piece
-pub get_acts : {U B : Type 0} (u : Ghosts U B) (store : U) (w : World) (r : Request) (n : ℕ) (rec : Record)
+pub get_acts : {U B : Type 0} {sure : Bool} (u : Ghosts U B) (store : U) (w : World) (r : Request) (n : ℕ) (rec : Record)
     (left : Option given.Giving) (old mid new : List ℕ)
     (o : Option Upload) → ((v : Upload) → upload_of w.store n ≡ Some v → n < w.store.next) → upload_of w.store n ≡ o
     → TellsOf w.store.indexes (with_number n o) (Some rec) → r.bare ≡ false
     → mid ≡ old ++ reply_text rec.to rec.text_len false r.closes
     → ((h : Giving) (up : Upload) → IsGiving w.store (at_start n rec.text_len r.closes) h
-    → upload_of w.store h.number ≡ Some up → GivesPiece u store (Ok left) mid new w h)
-    → ActedAs u store (replied_giving left r.closes) old new (get w r n o)
+    → upload_of w.store h.number ≡ Some up → GivesPiece u sure store (Ok left) mid new w h)
+    → ActedAs u sure store (replied_giving left r.closes) old new (get w r n o)
 get_acts u store w r n rec left old mid new None below e tells bare head gives = absurd tells
-get_acts {B = B} u store w r n rec left old mid new (Some up) below e tells bare head gives =
+get_acts {B = B} {sure = sure} u store w r n rec left old mid new (Some up) below e tells bare head gives =
     let text : List ℕ = text_of w.store.indexes up in
     let h : Giving = whole_text n text r.closes in
     let g = gives h up (starts w.store n rec up r.closes (below up e) e tells) e in
@@ -87,51 +90,91 @@ get_acts {B = B} u store w r n rec left old mid new (Some up) below e tells bare
     let reply : reply_text rec.to rec.text_len false r.closes ≡ reply_text up.to (length text) false r.closes =
     ap (λ t. reply_text t rec.text_len false r.closes) tells.to ∙ ap (λ l. reply_text up.to l false r.closes)
     tells.text_len in
-    let bytes : new ≡ old ++ (reply_text up.to (length text) false r.closes ++ take piece_size text) =
-    g.2 ∙ (ap (λ x. x ++ take piece_size text) (head ∙ ap (λ x. old ++ x) reply)
-    ∙ append_assoc old (reply_text up.to (length text) false r.closes) (take piece_size text)) in
+    let piece : List ℕ = g.2.0 in
+    let bytes : new ≡ old ++ (reply_text up.to (length text) false r.closes ++ piece) =
+    g.2.1 ∙ (ap (λ x. x ++ piece) (head ∙ ap (λ x. old ++ x) reply)
+    ∙ append_assoc old (reply_text up.to (length text) false r.closes) piece) in
+    let given : Appends sure old new (reply_text up.to (length text) false r.closes ++ take piece_size text)
+    (take piece_size text) =
+    appends old new (reply_text up.to (length text) false r.closes ++ take piece_size text) (take piece_size text)
+    (record {
+      reply = reply_text up.to (length text) false r.closes;
+      piece = piece;
+      parts = refl;
+      appended = bytes;
+      are = g.2.2;
+    }) in
     record {
       stands = g.0;
       draft = no_draft u w left r.closes;
       giving = given_is B w.store left _ r.closes is;
       closes = given_closes B w.store left _ r.closes is;
-      bytes = bytes ∙ ap (λ b. old ++ (reply_text up.to (length text) b
-          r.closes ++ (if b then [] else take piece_size text))) (sym bare);
+      bytes = subst (λ (b : Bool). Appends sure old new
+          (reply_text up.to (length text) b r.closes ++ (if b then [] else take piece_size text))
+          (if b then [] else take piece_size text)) (sym bare) given;
     }
 
 -- the first piece wasn't given: the head is taken back
-pub get_stops : {U B : Type 0} (u : Ghosts U B) (store : U) (w : World) (closes : Bool) (n : ℕ) (rec : Record)
+pub get_stops : {U B : Type 0} (u : Ghosts U B) (sure : Bool) (store : U) (w : World) (closes : Bool) (n : ℕ) (rec : Record)
     (stop : Stop) (old more mid out new : List ℕ) (k : ℕ) (m : Acted)
     (o : Option Upload) → ((v : Upload) → upload_of w.store n ≡ Some v → n < w.store.next) → upload_of w.store n ≡ o
     → TellsOf w.store.indexes (with_number n o) (Some rec)
     → mid ≡ old ++ more → k ≡ length old → new ≡ take k out
     → ((h : Giving) (up : Upload) → IsGiving w.store (at_start n rec.text_len closes) h
-    → upload_of w.store h.number ≡ Some up → GivesPiece u store (Err stop) mid out w h)
-    → Serves {B = B} u store (Err stop) old new w m
-get_stops u store w closes n rec stop old more mid out new k m None below e tells head size cut gives = absurd tells
-get_stops u store w closes n rec Stops.NoMemory old more mid out new k m (Some up) below e tells head size cut gives =
+    → upload_of w.store h.number ≡ Some up → GivesPiece u sure store (Err stop) mid out w h)
+    → Serves {B = B} u sure store (Err stop) old new w m
+get_stops u sure store w closes n rec stop old more mid out new k m None below e tells head size cut gives = absurd tells
+get_stops u sure store w closes n rec Stops.NoMemory old more mid out new k m (Some up) below e tells head size cut gives =
     let g = gives (whole_text n (text_of w.store.indexes up) closes) up
     (starts w.store n rec up closes (below up e) e tells) e in
     (g.0, taken_back old more new k size (cut ∙ ap (take k) (g.1 ∙ head)))
-get_stops u store w closes n rec Stops.DiskFault old more mid out new k m (Some up) below e tells head size cut gives =
+get_stops u sure store w closes n rec Stops.DiskFault old more mid out new k m (Some up) below e tells head size cut gives =
     let g = gives (whole_text n (text_of w.store.indexes up) closes) up
     (starts w.store n rec up closes (below up e) e tells) e in
     taken_back old more new k size (cut ∙ ap (take k) (g ∙ head))
 
 -- the same with the flags that the code was given
-pub get_acts_as : {U B : Type 0} (u : Ghosts U B) (store : U) (w : World) (r : Request) (n : ℕ) (rec : Record)
+pub get_acts_as : {U B : Type 0} {sure : Bool} (u : Ghosts U B) (store : U) (w : World) (r : Request) (n : ℕ) (rec : Record)
     (left : Option given.Giving) (old mid new : List ℕ)
     (bare closes : Bool) (o : Option Upload) → ((v : Upload) → upload_of w.store n ≡ Some v → n < w.store.next)
     → upload_of w.store n ≡ o → TellsOf w.store.indexes (with_number n o) (Some rec) → bare ≡ r.bare → bare ≡ false
     → closes ≡ r.closes
     → mid ≡ old ++ reply_text rec.to rec.text_len bare closes
     → ((h : Giving) (up : Upload) → IsGiving w.store (at_start n rec.text_len closes) h
-    → upload_of w.store h.number ≡ Some up → GivesPiece u store (Ok left) mid new w h)
-    → ActedAs u store (replied_giving left closes) old new (get w r n o)
-get_acts_as u store w r n rec left old mid new bare closes o below e tells bare_is not_bare closes_is head gives =
-    subst (λ c. ActedAs u store (replied_giving left c) old new (get w r n o)) (sym closes_is)
+    → upload_of w.store h.number ≡ Some up → GivesPiece u sure store (Ok left) mid new w h)
+    → ActedAs u sure store (replied_giving left closes) old new (get w r n o)
+get_acts_as {sure = sure} u store w r n rec left old mid new bare closes o below e tells bare_is not_bare closes_is head gives =
+    subst (λ c. ActedAs u sure store (replied_giving left c) old new (get w r n o)) (sym closes_is)
     (get_acts u store w r n rec left old mid new o below e tells (sym bare_is ∙ not_bare)
     (head ∙ (ap (λ b. old ++ reply_text rec.to rec.text_len b closes) not_bare
     ∙ ap (λ c. old ++ reply_text rec.to rec.text_len false c) closes_is))
     (λ h up is there. gives h up (subst (λ c. IsGiving w.store (at_start n rec.text_len c) h) (sym closes_is) is)
     there))
+
+abbrev q_of : Request → Bool → Bool → Request
+q_of r bare closes = record r { bare = bare; closes = closes }
+
+-- the reply's head alone
+pub get_bare : {U B : Type 0} (u : Ghosts U B) (sure : Bool) (store : U) (w : World) (r : Request) (n : ℕ) (rec : Record)
+    (old new : List ℕ) (bare closes : Bool) (o : Option Upload) → TellsOf w.store.indexes (with_number n o) (Some rec)
+    → bare ≡ r.bare → bare ≡ true → closes ≡ r.closes → new ≡ old ++ reply_text rec.to rec.text_len bare closes
+    → u.stands store sure w → ActedAs u sure store (done.Replied closes) old new (get w r n o)
+get_bare u sure store w r n rec old new bare closes None tells bare_is is_bare closes_is head stands = absurd tells
+get_bare {B = B} u sure store w r n rec old new bare closes (Some up) tells bare_is is_bare closes_is head stands =
+    let text : List ℕ = text_of w.store.indexes up in
+    let bytes : new ≡ old ++ (reply_text up.to (length text) bare closes ++ []) =
+    head ∙ ap (λ t. old ++ reply_text t rec.text_len bare closes) tells.to
+    ∙ ap (λ l. old ++ reply_text up.to l bare closes) tells.text_len
+    ∙ ap (λ x. old ++ x) (sym (append-nil (reply_text up.to (length text) bare closes))) in
+    subst (λ (q : Request). ActedAs u sure store (done.Replied closes) old new (get w q n (Some up)))
+    (same r bare closes bare_is closes_is)
+    (by_bare bare is_bare bytes)
+  where
+    same : (r : Request) (bare closes : Bool) → bare ≡ r.bare → closes ≡ r.closes → q_of r bare closes ≡ r
+    same r bare closes e f = ap (λ b. record r { bare = b; closes = closes }) e ∙ ap (λ b. record r { closes = b }) f
+
+    by_bare : (b : Bool) → b ≡ true
+        → new ≡ old ++ (reply_text up.to (length (text_of w.store.indexes up)) b closes ++ [])
+        → ActedAs u sure store (done.Replied closes) old new (get w (q_of r b closes) n (Some up))
+    by_bare true is bytes = record { stands = stands; draft = tt {0}; giving = tt {0}; closes = refl; bytes = bytes }
+    by_bare false is bytes = absurd cc

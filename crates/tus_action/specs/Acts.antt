@@ -20,16 +20,25 @@ pub record Giving : Type 0 where
   pub left : List ℕ
   pub closes : Bool
 
--- AT THE HEAD MOMENT: the world, a patch that is now open, a reply, a text still to be given, and whether it closes
+-- AT THE HEAD MOMENT: the world, a patch that is now open, a reply, the bytes of a text that it ends in, a text still to
+-- be given, and whether it closes
 pub record Acted : Type 0 where
   pub world : World
   pub draft : Option ℕ
   pub bytes : List ℕ
+  pub text : List ℕ
   pub pending : Option Giving
   pub closes : Bool
 
 abbrev pub replied : World → List ℕ → Bool → Acted
-replied w bytes closes = record { world = w; draft = None; bytes = bytes; pending = None; closes = closes }
+replied w bytes closes = record {
+  world = w;
+  draft = None;
+  bytes = bytes;
+  text = [];
+  pending = None;
+  closes = closes;
+}
 
 -- a request is refused at its head
 abbrev pub refused_at : World → Fault → Request → Bool → Acted
@@ -70,6 +79,7 @@ giving w r number u text left = record {
   world = w;
   draft = None;
   bytes = reply_text u.to (length text) r.bare r.closes ++ (if r.bare then [] else take piece_size text);
+  text = if r.bare then [] else take piece_size text;
   pending = pending_of number left r.closes;
   closes = if is_pending (pending_of number left r.closes) then false else r.closes;
 }
@@ -86,6 +96,7 @@ patch w r number declare None = record {
   world = begun w number r.length declare;
   draft = Some (free_number w);
   bytes = if r.expects then reply_continue else [];
+  text = [];
   pending = None;
   closes = false;
 }

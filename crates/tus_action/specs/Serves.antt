@@ -1,6 +1,6 @@
 -- How a call that acts on the uploads stands to the rules.
 use Rattle.std.specs.Prelude.{◌≡◌, ◌≤◌, ◌<◌, ◌+◌, nat_le, if◌then◌else◌, ℕ, Bool, true, false, List, ◌++◌, length, take}
-use Rattle.std.specs.Prelude.{drop, Option, Some, None, Result, Ok, Err, IfOk}
+use Rattle.std.specs.Prelude.{drop, Option, Some, None, Result, Ok, Err, IfOk, [], ◌∷◌}
 use Rattle.upload_rules.specs.Store.{Store, Upload, upload_of, text_of, find}
 use Rattle.upload_rules.specs.World.{Patch, World, is_there}
 use Rattle.upload_rules.specs.declared.uploads.Uploads.{Ghosts}
@@ -63,84 +63,109 @@ closes_in (done.Replied closes) = closes
 closes_in (done.Opened b) = false
 closes_in (done.Giving g) = false
 
+-- as many bytes as the text's, and these where that is sure
+pub record AreOf (sure : Bool) (piece text : List ℕ) : Type 0 where
+  pub size : length piece ≡ length text
+  pub same : sure ≡ true → piece ≡ text
+
+-- bytes were appended that end in those of a text
+pub record AppendsText (sure : Bool) (old new bytes text : List ℕ) : Type 0 where
+  pub reply : List ℕ
+  pub piece : List ℕ
+  pub parts : bytes ≡ reply ++ text
+  pub appended : new ≡ old ++ (reply ++ piece)
+  pub are : AreOf sure piece text
+
+-- bytes were appended, with those of a text at their end or none
+abbrev pub Appends : Bool → List ℕ → List ℕ → List ℕ → List ℕ → Type 0
+Appends sure old new bytes [] = new ≡ old ++ bytes
+Appends sure old new bytes (b ∷ text) = AppendsText sure old new bytes (b ∷ text)
+
 -- what was done is what the rules say
-pub record ActedAs {U B : Type 0} (u : Ghosts U B) (store : U) (a : code.Done B) (old new : List ℕ) (m : Acted) : Type 0
+pub record ActedAs {U B : Type 0} (u : Ghosts U B) (sure : Bool) (store : U) (a : code.Done B) (old new : List ℕ) (m : Acted) : Type 0
   where
-    pub stands : u.stands store m.world
+    pub stands : u.stands store sure m.world
     pub draft : DraftIs u m.world (draft_in a) m.draft
     pub giving : GivingIs m.world.store (giving_in a) m.pending
     pub closes : closes_in a ≡ m.closes
-    pub bytes : new ≡ old ++ m.bytes
+    pub bytes : Appends sure old new m.bytes m.text
 
 -- It is done as the rules say. Or it was out of memory, and the store stands for the world without what was begun, and
 -- nothing was written.
 -- Or the disk failed, and nothing was written.
-abbrev pub Serves : {U B : Type 0} → Ghosts U B → U → Result (code.Done B) Stop → List ℕ → List ℕ → World → Acted
+abbrev pub Serves : {U B : Type 0} → Ghosts U B → Bool → U → Result (code.Done B) Stop → List ℕ → List ℕ → World → Acted
     → Type 0
-Serves u store (Ok a) old new gone m = ActedAs u store a old new m
-Serves u store (Err NoMemory) old new gone m = u.stands store gone × (new ≡ old)
-Serves u store (Err DiskFault) old new gone m = new ≡ old
+Serves u sure store (Ok a) old new gone m = ActedAs u sure store a old new m
+Serves u sure store (Err NoMemory) old new gone m = u.stands store sure gone × (new ≡ old)
+Serves u sure store (Err DiskFault) old new gone m = new ≡ old
 
 -- a body's bytes are taken: the draft goes on, or it was out of memory and it is gone, or the disk failed
-abbrev pub FeedsDraft : {U B : Type 0} → Ghosts U B → U → Result B Stop → World → World → ℕ → Patch → Type 0
-FeedsDraft u store (Ok b) gone w d p =
-    (u.number_of b ≡ d) × u.holds b p × (find d w.patches ≡ Some p) × u.stands store w
-FeedsDraft u store (Err NoMemory) gone w d p = u.stands store gone
-FeedsDraft u store (Err DiskFault) gone w d p = Unit {0}
+abbrev pub FeedsDraft : {U B : Type 0} → Ghosts U B → Bool → U → Result B Stop → World → World → ℕ → Patch → Type 0
+FeedsDraft u sure store (Ok b) gone w d p =
+    (u.number_of b ≡ d) × u.holds b p × (find d w.patches ≡ Some p) × u.stands store sure w
+FeedsDraft u sure store (Err NoMemory) gone w d p = u.stands store sure gone
+FeedsDraft u sure store (Err DiskFault) gone w d p = Unit {0}
 
 -- the patch goes on: the same but for its draft, which has the number that it had
-pub record Fed {U B : Type 0} (u : Ghosts U B) (store : U) (b b' : OpenPatch B) (w : World) (p : Patch) : Type 0
+pub record Fed {U B : Type 0} (u : Ghosts U B) (sure : Bool) (store : U) (b b' : OpenPatch B) (w : World) (p : Patch) : Type 0
   where
     pub number : u.number_of b'.draft ≡ u.number_of b.draft
     pub holds : u.holds b'.draft p
     pub found : find (u.number_of b.draft) w.patches ≡ Some p
-    pub shown : u.stands store w
+    pub shown : u.stands store sure w
     pub reached : b'.reached ≡ b.reached
     pub bare : b'.bare ≡ b.bare
     pub closes : b'.closes ≡ b.closes
 
 -- or it was out of memory and the draft is gone, or the disk failed
-abbrev pub Feeds : {U B : Type 0} → Ghosts U B → U → Result (OpenPatch B) Stop → World → World → OpenPatch B → Patch
+abbrev pub Feeds : {U B : Type 0} → Ghosts U B → Bool → U → Result (OpenPatch B) Stop → World → World → OpenPatch B → Patch
     → Type 0
-Feeds u store (Ok b') gone w b p = Fed u store b b' w p
-Feeds u store (Err NoMemory) gone w b p = u.stands store gone
-Feeds u store (Err DiskFault) gone w b p = Unit {0}
+Feeds u sure store (Ok b') gone w b p = Fed u sure store b b' w p
+Feeds u sure store (Err NoMemory) gone w b p = u.stands store sure gone
+Feeds u sure store (Err DiskFault) gone w b p = Unit {0}
 
 -- a body's end is answered: committed or refused; or it was out of memory, and the patch is gone; or the disk failed
-abbrev pub Finishes : {U : Type 0} {B : Type 0} → Ghosts U B → U → Result (Unit {0}) Stop → List ℕ → List ℕ → World
+abbrev pub Finishes : {U : Type 0} {B : Type 0} → Ghosts U B → Bool → U → Result (Unit {0}) Stop → List ℕ → List ℕ → World
     → Acted → Type 0
-Finishes u store (Ok x) old new gone m = u.stands store m.world × (new ≡ old ++ m.bytes)
-Finishes u store (Err NoMemory) old new gone m = u.stands store gone × (new ≡ old)
-Finishes u store (Err DiskFault) old new gone m = new ≡ old
+Finishes u sure store (Ok x) old new gone m = u.stands store sure m.world × (new ≡ old ++ m.bytes)
+Finishes u sure store (Err NoMemory) old new gone m = u.stands store sure gone × (new ≡ old)
+Finishes u sure store (Err DiskFault) old new gone m = new ≡ old
 
 -- a cut body is committed as far as it came
-abbrev pub Ends : {U B : Type 0} → Ghosts U B → U → Result (Unit {0}) Stop → World → World → Type 0
-Ends u store (Ok x) gone w = u.stands store w
-Ends u store (Err NoMemory) gone w = u.stands store gone
-Ends u store (Err DiskFault) gone w = Unit {0}
+abbrev pub Ends : {U B : Type 0} → Ghosts U B → Bool → U → Result (Unit {0}) Stop → World → World → Type 0
+Ends u sure store (Ok x) gone w = u.stands store sure w
+Ends u sure store (Err NoMemory) gone w = u.stands store sure gone
+Ends u sure store (Err DiskFault) gone w = Unit {0}
+
+-- the piece was appended
+abbrev pub AppendsPiece : Bool → List ℕ → List ℕ → List ℕ → Type 0
+AppendsPiece sure old new text = (piece : List ℕ) × (new ≡ old ++ piece) × AreOf sure piece text
 
 -- the next piece is written; or the disk failed, or it was out of memory, and nothing was written
-abbrev pub GivesPiece : {U B : Type 0} → Ghosts U B → U → Result (Option given.Giving) Stop → List ℕ → List ℕ → World
+abbrev pub GivesPiece : {U B : Type 0} → Ghosts U B → Bool → U → Result (Option given.Giving) Stop → List ℕ → List ℕ → World
     → Giving → Type 0
-GivesPiece u store (Ok g) old new w h =
-    u.stands store w × GivingIs w.store g (pending_after h) × (new ≡ old ++ piece_of h)
-GivesPiece u store (Err NoMemory) old new w h = u.stands store w × (new ≡ old)
-GivesPiece u store (Err DiskFault) old new w h = new ≡ old
+GivesPiece u sure store (Ok g) old new w h =
+    u.stands store sure w × GivingIs w.store g (pending_after h) × AppendsPiece sure old new (piece_of h)
+GivesPiece u sure store (Err NoMemory) old new w h = u.stands store sure w × (new ≡ old)
+GivesPiece u sure store (Err DiskFault) old new w h = new ≡ old
 
 -- the next piece of the text of an upload, or nothing where the upload is gone
-abbrev pub IsGiven : Store → Given → List ℕ → List ℕ → Giving → Option Upload → Type 0
-IsGiven m (Piece g) old new h (Some up) = GivingIs m (Some g) (pending_after h) × (new ≡ old ++ piece_of h)
-IsGiven m Last old new h (Some up) = (pending_after h ≡ None) × (new ≡ old ++ piece_of h)
-IsGiven m Gone old new h None = new ≡ old
-IsGiven m _ old new h _ = ⊥
+abbrev pub IsGiven : Bool → Store → Given → List ℕ → List ℕ → Giving → Option Upload → Type 0
+IsGiven sure m (Piece g) old new h (Some up) =
+    GivingIs m (Some g) (pending_after h) × AppendsPiece sure old new (piece_of h)
+IsGiven sure m Last old new h (Some up) =
+    (pending_after h ≡ None) × AppendsPiece sure old new (piece_of h)
+IsGiven sure m Gone old new h None = new ≡ old
+IsGiven sure m _ old new h _ = ⊥
 
 -- as the uploads say. The disk may fail, or memory run out, only where the upload is there, and then nothing was
 -- written
-abbrev pub Gives : {U B : Type 0} → Ghosts U B → U → Result Given Stop → List ℕ → List ℕ → World → Giving → Type 0
-Gives u store (Ok given) old new w h = u.stands store w × IsGiven w.store given old new h (upload_of w.store h.number)
-Gives u store (Err NoMemory) old new w h =
-    (is_there (upload_of w.store h.number) ≡ true) × u.stands store w × (new ≡ old)
-Gives u store (Err DiskFault) old new w h = (is_there (upload_of w.store h.number) ≡ true) × (new ≡ old)
+abbrev pub Gives : {U B : Type 0} → Ghosts U B → Bool → U → Result Given Stop → List ℕ → List ℕ → World → Giving → Type 0
+Gives u sure store (Ok given) old new w h =
+    u.stands store sure w × IsGiven sure w.store given old new h (upload_of w.store h.number)
+Gives u sure store (Err NoMemory) old new w h =
+    (is_there (upload_of w.store h.number) ≡ true) × u.stands store sure w × (new ≡ old)
+Gives u sure store (Err DiskFault) old new w h = (is_there (upload_of w.store h.number) ≡ true) × (new ≡ old)
 
 -- what a POST makes fits a record, and its text has an output encoding
 abbrev pub CanBeMade : Action → Type 0

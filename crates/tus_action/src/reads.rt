@@ -1,5 +1,5 @@
 //! Requests that read the uploads: HEAD and GET, and the further pieces of a text.
-ghost use Rattle.std.specs.Prelude.{◌≡◌, ◌+◌, Some, None, IsErrOf};
+ghost use Rattle.std.specs.Prelude.{◌≡◌, ◌+◌, Some, None, IsErrOf, Bool};
 ghost use Rattle.upload_rules.specs.Store.{Upload, upload_of};
 ghost use Rattle.upload_rules.specs.World.{World};
 ghost use Rattle.upload_rules.specs.Answers.{Quiet, Counts};
@@ -30,8 +30,8 @@ pub(crate) fn show<U: Uploads>(
     closes: bool,
     out: &mut Vec<u8>,
 ) -> Result<Done<U::Draft>, Stop>
-    ensures answer { (w : World) (r : Request) → U.stands store.old w → bare ≡ r.bare → closes ≡ r.closes
-        → Serves U.Uploads store.new result out.old.items out.new.items w (head w r (upload_of w.store number)) }
+    ensures answer { (sure : Bool) (w : World) (r : Request) → U.stands store.old sure w → bare ≡ r.bare → closes ≡ r.closes
+        → Serves U.Uploads sure store.new result out.old.items out.new.items w (head w r (upload_of w.store number)) }
     ensures same { store.new ≡ store.old }
     ensures no_device { IsErrOf result Stop.DiskFault → ⊥ }
     ensures few { GrowsBy longest_reply out.old.items out.new.items }
@@ -68,9 +68,9 @@ fn next_piece<U: Uploads>(
     buffer: &mut PieceBuffer,
     out: &mut Vec<u8>,
 ) -> Result<Option<Giving>, Stop>
-    ensures answer { (w : World) (h : Pending) (up : Upload) → U.stands store.old w → IsGiving w.store giving h
+    ensures answer { (sure : Bool) (w : World) (h : Pending) (up : Upload) → U.stands store.old sure w → IsGiving w.store giving h
         → upload_of w.store h.number ≡ Some up
-        → GivesPiece U.Uploads store.new result out.old.items out.new.items w h }
+        → GivesPiece U.Uploads sure store.new result out.old.items out.new.items w h }
     ensures crash { Quiet (U.moment store.old) (U.moment store.new) (U.left_only store.old) (U.left_only store.new) }
     ensures counts { Counts (IsErrOf result Stop.DiskFault) (U.failures store.old) (U.failures store.new) }
     ensures few { GrowsBy piece_size out.old.items out.new.items }
@@ -96,8 +96,8 @@ pub fn give_more<U: Uploads>(
     buffer: &mut PieceBuffer,
     out: &mut Vec<u8>,
 ) -> Result<Given, Stop>
-    ensures answer { (w : World) (h : Pending) → U.stands store.old w → IsGiving w.store giving h
-        → Gives U.Uploads store.new result out.old.items out.new.items w h }
+    ensures answer { (sure : Bool) (w : World) (h : Pending) → U.stands store.old sure w → IsGiving w.store giving h
+        → Gives U.Uploads sure store.new result out.old.items out.new.items w h }
     ensures crash { Quiet (U.moment store.old) (U.moment store.new) (U.left_only store.old) (U.left_only store.new) }
     ensures counts { Counts (IsErrOf result Stop.DiskFault) (U.failures store.old) (U.failures store.new) }
     ensures few { GrowsBy piece_size out.old.items out.new.items }
@@ -122,8 +122,8 @@ pub(crate) fn give_text<U: Uploads>(
     buffer: &mut PieceBuffer,
     out: &mut Vec<u8>,
 ) -> Result<Done<U::Draft>, Stop>
-    ensures answer { (w : World) (r : Request) → U.stands store.old w → bare ≡ r.bare → closes ≡ r.closes
-        → Serves U.Uploads store.new result out.old.items out.new.items w (get w r number (upload_of w.store number)) }
+    ensures answer { (sure : Bool) (w : World) (r : Request) → U.stands store.old sure w → bare ≡ r.bare → closes ≡ r.closes
+        → Serves U.Uploads sure store.new result out.old.items out.new.items w (get w r number (upload_of w.store number)) }
     ensures crash { Quiet (U.moment store.old) (U.moment store.new) (U.left_only store.old) (U.left_only store.new) }
     ensures counts { Counts (IsErrOf result Stop.DiskFault) (U.failures store.old) (U.failures store.new) }
     ensures few { GrowsBy (longest_reply + piece_size) out.old.items out.new.items }

@@ -1,5 +1,5 @@
 //! Requests that change the uploads: a POST, a DELETE, and a PATCH at its head.
-ghost use Rattle.std.specs.Prelude.{◌≡◌, ◌++◌, [], Some, IsErrOf, OnOk, OnErr, if◌then◌else◌};
+ghost use Rattle.std.specs.Prelude.{◌≡◌, ◌++◌, [], Some, IsErrOf, OnOk, OnErr, if◌then◌else◌, Bool, true};
 ghost use Rattle.upload_rules.specs.World.{World};
 ghost use Rattle.upload_rules.specs.Calls.{create_refusal, create_outcome, terminate_refusal, terminate_outcome};
 ghost use Rattle.upload_rules.specs.Calls.{begin_refusal};
@@ -27,13 +27,13 @@ pub(crate) fn create<U: Uploads>(
     out: &mut Vec<u8>,
 ) -> Result<Done<U::Draft>, Stop>
     requires well_formed { IsWellFormed new }
-    requires offered { (w : World) → U.stands store.old w → IsOffered w.store.indexes new }
-    ensures answer { (w : World) (r : Request) → U.stands store.old w → bare ≡ r.bare → closes ≡ r.closes
-        → Serves U.Uploads store.new result out.old.items out.new.items w (post w r new (create_refusal w new)) }
-    ensures crash { (w : World) → U.stands store.old w
+    requires offered { (sure : Bool) (w : World) → U.stands store.old sure w → IsOffered w.store.indexes new }
+    ensures answer { (sure : Bool) (w : World) (r : Request) → U.stands store.old sure w → bare ≡ r.bare → closes ≡ r.closes
+        → Serves U.Uploads sure store.new result out.old.items out.new.items w (post w r new (create_refusal w new)) }
+    ensures crash { (w : World) → U.stands store.old true w
         → Limits (U.moment store.old) (U.moment store.new) (U.left_only store.old) (U.left_only store.new) w.store
         (create_outcome w new) }
-    ensures unmade { (w : World) → U.stands store.old w → IsErrOf result Stop.NoMemory
+    ensures unmade { (w : World) → U.stands store.old true w → IsErrOf result Stop.NoMemory
         → Limits (U.moment store.old) (U.moment store.new) (U.left_only store.old)
         (U.left_only store.new) w.store w.store }
     ensures counts { Counts (IsErrOf result Stop.DiskFault) (U.failures store.old) (U.failures store.new) }
@@ -62,13 +62,13 @@ pub(crate) fn delete<U: Uploads>(
     closes: bool,
     out: &mut Vec<u8>,
 ) -> Result<Done<U::Draft>, Stop>
-    ensures answer { (w : World) (r : Request) → U.stands store.old w → bare ≡ r.bare → closes ≡ r.closes
-        → Serves U.Uploads store.new result out.old.items out.new.items w
+    ensures answer { (sure : Bool) (w : World) (r : Request) → U.stands store.old sure w → bare ≡ r.bare → closes ≡ r.closes
+        → Serves U.Uploads sure store.new result out.old.items out.new.items w
         (deleted w r number (terminate_refusal w number)) }
-    ensures crash { (w : World) → U.stands store.old w
+    ensures crash { (w : World) → U.stands store.old true w
         → Limits (U.moment store.old) (U.moment store.new) (U.left_only store.old) (U.left_only store.new) w.store
         (terminate_outcome w number) }
-    ensures unmade { (w : World) → U.stands store.old w → IsErrOf result Stop.NoMemory
+    ensures unmade { (w : World) → U.stands store.old true w → IsErrOf result Stop.NoMemory
         → Limits (U.moment store.old) (U.moment store.new) (U.left_only store.old)
         (U.left_only store.new) w.store w.store }
     ensures counts { Counts (IsErrOf result Stop.DiskFault) (U.failures store.old) (U.failures store.new) }
@@ -112,9 +112,9 @@ pub(crate) fn begin<U: Uploads>(
     closes: bool,
     out: &mut Vec<u8>,
 ) -> Result<Done<U::Draft>, Stop>
-    ensures answer { (w : World) (r : Request) → U.stands store.old w → length ≡ r.length → bare ≡ r.bare
+    ensures answer { (sure : Bool) (w : World) (r : Request) → U.stands store.old sure w → length ≡ r.length → bare ≡ r.bare
         → expects ≡ r.expects → closes ≡ r.closes
-        → Serves U.Uploads store.new result out.old.items out.new.items w
+        → Serves U.Uploads sure store.new result out.old.items out.new.items w
         (patch w r number declare (begin_refusal w number offset length declare)) }
     ensures crash { Quiet (U.moment store.old) (U.moment store.new) (U.left_only store.old) (U.left_only store.new) }
     ensures counts { Counts (IsErrOf result Stop.DiskFault) (U.failures store.old) (U.failures store.new) }

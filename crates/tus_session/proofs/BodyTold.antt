@@ -47,7 +47,7 @@ pub conn_is : (conn : Conn) (d : Option ℕ) → conn.draft ≡ d → conn.pendi
 conn_is conn d e f = ap (plain conn.stream) (sym e)
     ∙ ap (λ x. record { stream = conn.stream; draft = conn.draft; pending = x }) (sym f)
 
-module _ {U B : Type 0} (u : Ghosts U B) where
+module _ {U B : Type 0} {sure : Bool} (u : Ghosts U B) where
   -- a body of which so many bytes are to come is dropped
   dropping_is : (w : World) (conn : Conn) (head : List ℕ) (left : ℕ) (rest : Rest)
       → (cut (reader w) conn.stream).rest ≡ rest → RestIs head left rest → conn.draft ≡ None → conn.pending ≡ None
@@ -70,10 +70,10 @@ module _ {U B : Type 0} (u : Ghosts U B) where
   -- a reply was given, and nothing is open
   pub answered_here : (store : U) (link : Option (Link B)) (a : Answer) (old new bytes : List ℕ) (w w' : World)
       (own : Option ℕ) (head : HeadBuffer) (left taken : ℕ) (closes : Bool) (s' : List ℕ) (rest : Rest)
-      → u.stands store w' → Moves w w' own None → link ≡ link_after head left closes
+      → u.stands store sure w' → Moves w w' own None → link ≡ link_after head left closes
       → RestIs (bytes_of head) left rest → (cut (reader w) s').rest ≡ rest → a ≡ took taken closes
       → new ≡ old ++ bytes
-      → TurnedAs u store link a old new w own (record {
+      → TurnedAs u sure store link a old new w own (record {
         world = w';
         conn = if closes then None else Some (plain s' None);
         bytes = bytes;
@@ -162,7 +162,7 @@ module _ {U B : Type 0} (u : Ghosts U B) where
     -- the body goes on
     pub part_here : (store : U) (link : Option (Link B)) (a : Answer) (head : HeadBuffer) (b' : OpenPatch B)
         (left taken : ℕ) (q s' : List ℕ)
-        → GoesOn u store link a head b b' left taken (fed w d q) (fed_patch w d p q)
+        → GoesOn u sure store link a head b b' left taken (fed w d q) (fed_patch w d p q)
         → (bytes_of head) ≡ [] → 0 < left → left ≡ body_length asked.verdict - length (asked.body ++ q)
         → (cut (reader w) s').rest ≡ InBody (longer asked q) → PlaceIs u (fed w d q) link (Some (plain s' (Some d)))
     part_here store link a head b' left taken q s' goes cleared some wanted here =
@@ -241,7 +241,7 @@ module _ (w : World) (s : List ℕ) (d : ℕ) (asked : Asked) (inside : (cut (re
       ∙ (ap (λ v. with_acted q n (commit_with (fed w d q) d v (find d (fed w d q).patches))) asks
       ∙ ap (λ o. with_acted q n (commit_with (fed w d q) d (Asks r) o)) f))
 
-module _ {U B : Type 0} (u : Ghosts U B) (store' : U) (old new : List ℕ) (w : World) (s : List ℕ)
+module _ {U B : Type 0} {sure : Bool} (u : Ghosts U B) (store' : U) (old new : List ℕ) (w : World) (s : List ℕ)
     (b : OpenPatch B) (asked : Asked) (r : Request) (p : Patch)
     (is : PatchesAs u w b (u.number_of b.draft) asked r p) (inside : (cut (reader w) s).rest ≡ InBody asked)
     (head : HeadBuffer) (left : ℕ)
@@ -250,9 +250,9 @@ module _ {U B : Type 0} (u : Ghosts U B) (store' : U) (old new : List ℕ) (w : 
   own = u.number_of b.draft
 
   part_told : (bytes : List ℕ) (a : Result (Option (Link B) × Answer) Stop) → length bytes < left
-      → Parts u store' a head b (left - length bytes) (0 + length bytes)
+      → Parts u sure store' a head b (left - length bytes) (0 + length bytes)
       (fed w own bytes) (fed_patch w own p bytes) (dropped w own)
-      → new ≡ old → Turned u store' a old new w (Some own) (part_turned w s own asked inside bytes)
+      → new ≡ old → Turned u sure store' a old new w (Some own) (part_turned w s own asked inside bytes)
   part_told bytes (Ok (link, a)) few (b', goes) same =
       let l : length (asked.body ++ bytes) ≡ length asked.body + length bytes = length-append asked.body bytes in
       let wants = body_wants w s asked inside in
@@ -272,8 +272,8 @@ module _ {U B : Type 0} (u : Ghosts U B) (store' : U) (old new : List ℕ) (w : 
 
   rest_told : (q : List ℕ) (a : Result (Option (Link B) × Answer) Stop)
       → (cut (reader w) (s ++ q)).rest ≡ InHead []
-      → Replies u store' a old new head (0 + left) (ended_by w own p q r) (dropped w own)
-      → Turned u store' a old new w (Some own) (rest_turned w s own asked inside p q r left)
+      → Replies u sure store' a old new head (0 + left) (ended_by w own p q r) (dropped w own)
+      → Turned u sure store' a old new w (Some own) (rest_turned w s own asked inside p q r left)
   rest_told q (Ok (link, a)) ends x =
       let m = ended_by w own p q r in
       let t : 0 + left ≡ left = omega arith in
@@ -284,28 +284,28 @@ module _ {U B : Type 0} (u : Ghosts U B) (store' : U) (old new : List ℕ) (w : 
   rest_told q (Err stops.DiskFault) ends x = x
 
   pub body_told : (bytes : List ℕ) (a : Result (Option (Link B) × Answer) Stop)
-      → (length bytes < left → Parts u store' a head b (left - length bytes)
+      → (length bytes < left → Parts u sure store' a head b (left - length bytes)
       (0 + length bytes) (fed w own bytes) (fed_patch w own p bytes) (dropped w own))
       → (length bytes < left → new ≡ old)
-      → (left ≤ length bytes → Replies u store' a old new head (0 + left)
+      → (left ≤ length bytes → Replies u sure store' a old new head (0 + left)
       (ended_by w own p (take left bytes) r) (dropped w own))
-      → Turned u store' a old new w (Some own) (came_turn w (plain s (Some own)) bytes)
+      → Turned u sure store' a old new w (Some own) (came_turn w (plain s (Some own)) bytes)
   body_told bytes a part same rest =
       let wants = body_wants w s asked inside in
       elim (cases_lt (length bytes) left) [
         | inl few ↦
-            subst (Turned u store' a old new w (Some own))
+            subst (Turned u sure store' a old new w (Some own))
             (sym (part_is w s own asked inside bytes (omega arith))) (part_told bytes a few (part few) (same few))
         | inr enough ↦
             let l : length (take left bytes) ≡ left = length-take-le left bytes enough in
             let ends = body_whole_rest (reader w) (steady (offers w.store.indexes)) s (take left bytes) asked inside
             (omega arith) in
-            subst (Turned u store' a old new w (Some own))
+            subst (Turned u sure store' a old new w (Some own))
             (sym (rest_is w s own asked inside bytes p r left (sym left_is) (omega arith) is.found is.asks))
             (rest_told (take left bytes) a ends (rest enough))
       ]
 
-module _ {U B : Type 0} (u : Ghosts U B) (w : World) (conn : Conn) (head : HeadBuffer) (b : OpenPatch B) (left : ℕ)
+module _ {U B : Type 0} {sure : Bool} (u : Ghosts U B) (w : World) (conn : Conn) (head : HeadBuffer) (b : OpenPatch B) (left : ℕ)
     (is : IsPatching u w conn (bytes_of head) b left) where
   abbrev pub own_of : ℕ
   own_of = u.number_of b.draft
@@ -328,14 +328,14 @@ module _ {U B : Type 0} (u : Ghosts U B) (w : World) (conn : Conn) (head : HeadB
       omega arith
 
   pub patch_told : (store' : U) (old new bytes : List ℕ) (a : Result (Option (Link B) × Answer) Stop)
-      → (length bytes < left → Parts u store' a head b (left - length bytes)
+      → (length bytes < left → Parts u sure store' a head b (left - length bytes)
       (0 + length bytes) (fed w own_of bytes) (fed_patch w own_of is.p bytes) (dropped w own_of))
       → (length bytes < left → new ≡ old)
-      → (left ≤ length bytes → Replies u store' a old new head (0 + left)
+      → (left ≤ length bytes → Replies u sure store' a old new head (0 + left)
       (ended_by w own_of is.p (take left bytes) is.r) (dropped w own_of))
-      → Turned u store' a old new w conn.draft (came_turn w conn bytes)
+      → Turned u sure store' a old new w conn.draft (came_turn w conn bytes)
   patch_told store' old new bytes a part same rest =
-      subst (λ x. Turned u store' a old new w x.draft (came_turn w x bytes))
+      subst (λ x. Turned u sure store' a old new w x.draft (came_turn w x bytes))
       (conn_is conn (Some own_of) draft_is_own is.pending)
       (body_told u store' old new w conn.stream b is.asked is.r is.p own_patches is.inside.rest head left
       is.inside.cleared is.inside.wanted bytes a part same rest)
@@ -353,12 +353,12 @@ abbrev dropped_turn : World → List ℕ → ℕ → Turn
 dropped_turn w s n = record { world = w; conn = Some (plain s None); bytes = []; taken = n }
 
 -- a body that is dropped
-module _ {U B : Type 0} (u : Ghosts U B) (store : U) (w : World) (conn : Conn) (head : HeadBuffer) (left : ℕ)
-    (stands : u.stands store w) (is : IsSkipping w conn (bytes_of head) left) where
+module _ {U B : Type 0} {sure : Bool} (u : Ghosts U B) (store : U) (w : World) (conn : Conn) (head : HeadBuffer) (left : ℕ)
+    (stands : u.stands store sure w) (is : IsSkipping w conn (bytes_of head) left) where
   dropped_told : (link : Option (Link B)) (a : Answer) (out bytes : List ℕ)
       → link ≡ link_after head (left - min left (length bytes)) false
       → a ≡ took (0 + min left (length bytes)) false
-      → TurnedAs u store link a out out w None (came_turn w (plain conn.stream None) bytes)
+      → TurnedAs u sure store link a out out w None (came_turn w (plain conn.stream None) bytes)
   dropped_told link a out bytes link_is answer_is =
       let s = conn.stream in
       let asked = is.asked in
@@ -367,12 +367,12 @@ module _ {U B : Type 0} (u : Ghosts U B) (store : U) (w : World) (conn : Conn) (
       let wants = body_wants w s asked inside in
       let still_left = left - min left (length bytes) in
       elim (cases_lt (length bytes) left)
-      as (λ _. TurnedAs u store link a out out w None (came_turn w (plain s None) bytes)) [
+      as (λ _. TurnedAs u sure store link a out out w None (came_turn w (plain s None) bytes)) [
         | inl few ↦
             let t : take (length bytes) bytes ≡ bytes = take_all (length bytes) bytes (omega arith) in
             let l : length (asked.body ++ bytes) ≡ length asked.body + length bytes = length-append asked.body bytes in
             let count : 0 + min left (length bytes) ≡ length bytes = omega arith in
-            subst (TurnedAs u store link a out out w None)
+            subst (TurnedAs u sure store link a out out w None)
             (sym (part_turn w (plain s None) asked inside bytes refl (omega arith)
             ∙ ap (λ q. dropped_turn w (s ++ q) (length bytes)) t))
             (answered_here u store link a out out [] w w None head still_left (length bytes) false (s ++ bytes)
@@ -383,7 +383,7 @@ module _ {U B : Type 0} (u : Ghosts U B) (store : U) (w : World) (conn : Conn) (
             let q = take left bytes in
             let l : length q ≡ left = length-take-le left bytes enough in
             let count : 0 + min left (length bytes) ≡ left = omega arith in
-            subst (TurnedAs u store link a out out w None)
+            subst (TurnedAs u sure store link a out out w None)
             (sym (rest_turn w (plain s None) asked inside bytes refl (omega arith) wants
             ∙ ap (λ m. dropped_turn w (s ++ take m bytes) m) (sym wanted)))
             (answered_here u store link a out out [] w w None head still_left left false (s ++ q)
@@ -395,9 +395,9 @@ module _ {U B : Type 0} (u : Ghosts U B) (store : U) (w : World) (conn : Conn) (
   pub skip_told : (link : Option (Link B)) (a : Answer) (out bytes : List ℕ)
       → link ≡ link_after head (left - min left (length bytes)) false
       → a ≡ took (0 + min left (length bytes)) false
-      → TurnedAs u store link a out out w conn.draft (came_turn w conn bytes)
+      → TurnedAs u sure store link a out out w conn.draft (came_turn w conn bytes)
   skip_told link a out bytes e f =
-      subst (λ x. TurnedAs u store link a out out w x.draft (came_turn w x bytes)) (conn_is conn None is.draft
+      subst (λ x. TurnedAs u sure store link a out out w x.draft (came_turn w x bytes)) (conn_is conn None is.draft
       is.pending)
       (dropped_told link a out bytes e f)
 

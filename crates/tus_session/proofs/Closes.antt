@@ -22,22 +22,22 @@ use Rattle.tus_session.proofs.InPlace.{beyond}
 use Rattle.tus_session.proofs.Moved.{apart_without}
 
 -- a world with the uploads of the history, in which only the drafts of the first places are open
-pub record IsClosing {U B : Type 0} (u : Ghosts U B) (st : State) (left : ℕ) (store : U) (v : World) : Type 0 where
-  pub shown : u.stands store v
+pub record IsClosing {U B : Type 0} {sure : Bool} (u : Ghosts U B) (st : State) (left : ℕ) (store : U) (v : World) : Type 0 where
+  pub shown : u.stands store sure v
   pub uploads : v.store ≡ st.world.store
   pub blocks : v.blocks ≡ st.world.blocks
   pub unique : IsApart v.patches
   pub owned : (d : ℕ) (p : Patch) → find d v.patches ≡ Some p → (c : ℕ) × (c < left) × (draft_at (st.conns c) ≡ Some d)
 
-module _ {U B : Type 0} (u : Ghosts U B) where
-  conn_below : (places : List (Option (Link B))) (store : U) (st : State) (c d : ℕ) → SessionStands u places store st
+module _ {U B : Type 0} {sure : Bool} (u : Ghosts U B) where
+  conn_below : (places : List (Option (Link B))) (store : U) (st : State) (c d : ℕ) → SessionStands u sure places store st
       → draft_at (st.conns c) ≡ Some d → c < length places
   conn_below places store st c d stands e = elim (cases_lt c (length places)) [
     | inl lt ↦ lt
     | inr le ↦ let x : Some d ≡ None = sym e ∙ ap draft_at (beyond u places store st c stands le) in absurd (cc)
   ]
 
-  pub begins_closing : (places : List (Option (Link B))) (store : U) (st : State) → SessionStands u places store st
+  pub begins_closing : (places : List (Option (Link B))) (store : U) (st : State) → SessionStands u sure places store st
       → IsClosing u st (length places) store st.world
   begins_closing places store st stands = record {
     shown = stands.shown;
@@ -65,7 +65,7 @@ module _ {U B : Type 0} (u : Ghosts U B) where
   -- a place whose draft is dropped
   pub draft_closing : (st : State) (left : ℕ) (store store' : U) (v : World) (d : ℕ) → IsClosing u st (suc left) store v
       → draft_at (st.conns left) ≡ Some d
-      → u.stands store' (dropped v d) → IsClosing u st left store' (dropped v d)
+      → u.stands store sure' (dropped v d) → IsClosing u st left store' (dropped v d)
   draft_closing st left store store' v d is own shown = record {
     shown = shown;
     uploads = is.uploads;
@@ -87,7 +87,7 @@ module _ {U B : Type 0} (u : Ghosts U B) where
 
   -- a connection without a patch
   idle_closing : (st : State) (left : ℕ) (store store' : U) (v : World) (conn : Conn)
-      → IsClosing u st (suc left) store v → st.conns left ≡ Some conn → conn.draft ≡ None → u.stands store' v
+      → IsClosing u st (suc left) store v → st.conns left ≡ Some conn → conn.draft ≡ None → u.stands store sure' v
       → (v' : World) × IsClosing u st left store' v'
   idle_closing st left store store' v conn is e none shown =
       let now : IsClosing u st (suc left) store' v = record {
@@ -101,7 +101,7 @@ module _ {U B : Type 0} (u : Ghosts U B) where
 
   awaiting_closing : (st : State) (left : ℕ) (store store' : U) (v : World) (head : List ℕ) (awaiting : Awaiting B)
       (conn : Conn) → IsClosing u st (suc left) store v → st.conns left ≡ Some conn
-      → LinkIs u st.world head awaiting conn → u.stands store' (dropped_by u v awaiting)
+      → LinkIs u st.world head awaiting conn → u.stands store sure' (dropped_by u v awaiting)
       → (v' : World) × IsClosing u st left store' v'
   awaiting_closing st left store store' v head awaits.Head conn is e link shown =
       idle_closing st left store store' v conn is e link.draft shown
@@ -110,13 +110,13 @@ module _ {U B : Type 0} (u : Ghosts U B) where
   awaiting_closing st left store store' v head (awaits.Text g wanted) conn is e link shown =
       idle_closing st left store store' v conn is e link.draft shown
   awaiting_closing st left store store' v head (awaits.Patch b wanted) conn is e link shown =
-      let stands : u.stands store' (dropped v link.d) =
-      subst (λ n. u.stands store' (dropped v n)) link.patches.number shown in
+      let stands : u.stands store sure' (dropped v link.d) =
+      subst (λ n. u.stands store sure' (dropped v n)) link.patches.number shown in
       (dropped v link.d, draft_closing st left store store' v link.d is (ap draft_at e ∙ link.draft) stands)
 
   pub link_closing : (st : State) (left : ℕ) (store store' : U) (v : World) (k : Link B) (o : Option Conn)
       → IsClosing u st (suc left) store v → st.conns left ≡ o
-      → PlaceIs u st.world (Some k) o → u.stands store' (dropped_by u v k.awaiting)
+      → PlaceIs u st.world (Some k) o → u.stands store sure' (dropped_by u v k.awaiting)
       → (v' : World) × IsClosing u st left store' v'
   link_closing st left store store' v k None is e place shown = absurd place
   link_closing st left store store' v k (Some conn) is e place shown =
@@ -134,22 +134,22 @@ module _ {U B : Type 0} (u : Ghosts U B) where
 
   -- no place is left
   pub all_closed : (st : State) (store : U) (v : World) → IsClosing u st 0 store v
-      → u.stands store (at_rest st.world.store st.world.blocks)
+      → u.stands store sure (at_rest st.world.store st.world.blocks)
   all_closed st store v is =
       let none : v.patches ≡ [] =
       no_patches v.patches (λ d p found. let c = is.owned d p found in let l : c.0 < 0 = c.1 in absurd
       (omega arith)) in
-      let a : u.stands store (record {
+      let a : u.stands store sure (record {
         store = v.store;
         patches = [];
         blocks = v.blocks;
-      }) = subst (λ ps. u.stands store (record { store = v.store; patches = ps; blocks = v.blocks })) none is.shown in
-      let b : u.stands store (record {
+      }) = subst (λ ps. u.stands store sure (record { store = v.store; patches = ps; blocks = v.blocks })) none is.shown in
+      let b : u.stands store sure (record {
         store = st.world.store;
         patches = [];
         blocks = v.blocks;
-      }) = subst (λ m. u.stands store (record { store = m; patches = []; blocks = v.blocks })) is.uploads a in
-      subst (λ n. u.stands store (record { store = st.world.store; patches = []; blocks = n })) is.blocks b
+      }) = subst (λ m. u.stands store sure (record { store = m; patches = []; blocks = v.blocks })) is.uploads a in
+      subst (λ n. u.stands store sure (record { store = st.world.store; patches = []; blocks = n })) is.blocks b
 
 get_seam : {A : Type 0} (front after : List A) (x other : A) → get_or (front ++ x ∷ after) (length front) other ≡ x
 get_seam [] after x other = refl
@@ -176,8 +176,8 @@ popped all old new x front items =
       count = omega arith;
     }
 
-module _ {U B : Type 0} (u : Ghosts U B) (all old new : List (Option (Link B))) (first : U) (st : State)
-    (stands : SessionStands u all first st) where
+module _ {U B : Type 0} {sure : Bool} (u : Ghosts U B) (all old new : List (Option (Link B))) (first : U) (st : State)
+    (stands : SessionStands u sure all first st) where
   place_there : (x : Option (Link B)) → Popped all old new x → PlaceIs u st.world x (st.conns (length new))
   place_there x is = subst (λ p. PlaceIs u st.world p (st.conns (length new))) is.here (stands.each (length new))
 
@@ -194,7 +194,7 @@ module _ {U B : Type 0} (u : Ghosts U B) (all old new : List (Option (Link B))) 
 
   pub after_open : (store store' : U) (v : World) (x : Option (Link B)) (k : Link B) → x ≡ Some k → Popped all old new x
       → IsClosing u st (length old) store v
-      → u.stands store' (dropped_by u v k.awaiting) → (v' : World) × IsClosing u st (length new) store' v'
+      → u.stands store sure' (dropped_by u v k.awaiting) → (v' : World) × IsClosing u st (length new) store' v'
   after_open store store' v x k e is closing shown =
       link_closing u st (length new) store store' v k (st.conns (length new)) (one_less store v x is closing) refl
       (subst (λ p. PlaceIs u st.world p (st.conns (length new))) e (place_there x is)) shown

@@ -86,12 +86,12 @@ ended_store w d p piece r =
     sym (spent_store (fed w d piece) d (fed_patch w d p piece)
     (commit_refusal (fed w d piece) d (fed_patch w d p piece)))
 
-module _ {U B : Type 0} (u : Ghosts U B) where
+module _ {U B : Type 0} {sure : Bool} (u : Ghosts U B) where
   -- a reply was given, and nothing is open
   pub answered_as : (store : U) (link : Option (Link B)) (old new : List ℕ) (head : HeadBuffer) (taken : ℕ) (m : Acted)
-      (closes : Bool) → u.stands store m.world → closes ≡ m.closes
+      (closes : Bool) → u.stands store sure m.world → closes ≡ m.closes
       → link ≡ link_after head 0 closes → new ≡ old ++ m.bytes
-      → Answered u store link (took taken closes) old new head taken m
+      → Answered u sure store link (took taken closes) old new head taken m
   answered_as store link old new head taken m closes stands same at bytes = record {
     shown = stands;
     link_is = at ∙ ap (link_after head 0) same;
@@ -107,14 +107,14 @@ module _ {U B : Type 0} (u : Ghosts U B) where
 
   -- a call that stopped closes the connection
   pub stopped_as : (store : U) (e : Stop) (old new : List ℕ) (head : HeadBuffer) (taken : ℕ) (gone gone' : World)
-      (m m' : Acted) → gone ≡ gone' → Finishes u store (Err e) old new gone m
-      → Replies u store (Err e) old new head taken m' gone'
+      (m m' : Acted) → gone ≡ gone' → Finishes u sure store (Err e) old new gone m
+      → Replies u sure store (Err e) old new head taken m' gone'
   stopped_as store stops.NoMemory old new head taken gone gone' m m' is (shown, same) =
-      (subst (u.stands store) is shown, same)
+      (subst (u.stands store sure) is shown, same)
   stopped_as store stops.DiskFault old new head taken gone gone' m m' is same = same
 
   pub head_stopped : (store : U) (e : Stop) (old new : List ℕ) (w : World) (conn : Conn) (m : Acted) (t : Turn)
-      → conn.draft ≡ None → Serves u store (Err e) old new w m → Turned u store (Err e) old new w conn.draft t
+      → conn.draft ≡ None → Serves u sure store (Err e) old new w m → Turned u sure store (Err e) old new w conn.draft t
   head_stopped store stops.NoMemory old new w conn m t none (shown, same) =
-      (subst (λ o. u.stands store (left_world w o)) (sym none) shown, same)
+      (subst (λ o. u.stands store sure (left_world w o)) (sym none) shown, same)
   head_stopped store stops.DiskFault old new w conn m t none same = same

@@ -75,7 +75,7 @@ pub rest_same : (w w' : World) (s : List ℕ) → w'.store.indexes ≡ w.store.i
     → (cut (reader w') s).rest ≡ (cut (reader w) s).rest
 rest_same w w' s e = ap (λ x. (cut (answer_of (offers x)) s).rest) e
 
-module _ {U B : Type 0} (u : Ghosts U B) where
+module _ {U B : Type 0} {sure : Bool} (u : Ghosts U B) where
   patch_moved : (w w' : World) (own : Option ℕ) (b : OpenPatch B) (d : ℕ) (asked : Asked) (r : Request) (p : Patch)
       (own' : Option ℕ) → Moves w w' own own' → (own ≡ Some d → ⊥) → PatchesAs u w b d asked r p
       → PatchesAs u w' b d asked r p

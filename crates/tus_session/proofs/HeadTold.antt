@@ -63,12 +63,12 @@ turn_plain k piece n a idle none =
     } in
     ap (λ d. T d a.pending) none ∙ ap (T None) idle
 
-module _ {U B : Type 0} (u : Ghosts U B) where
+module _ {U B : Type 0} {sure : Bool} (u : Ghosts U B) where
   -- the head isn't whole yet
   pub more_told : (store : U) (x : code.Answer) (out : List ℕ) (w : World) (conn : Conn)
-      (h bytes : List ℕ) (head : HeadBuffer) → u.stands store w → InsideHead w conn h
+      (h bytes : List ℕ) (head : HeadBuffer) → u.stands store sure w → InsideHead w conn h
       → reader w (h ++ bytes) ≡ More → (bytes_of head) ≡ h ++ bytes → x ≡ took (length bytes) false
-      → TurnedAs u store (link_after head 0 false) x out out w conn.draft (came_turn w conn bytes)
+      → TurnedAs u sure store (link_after head 0 false) x out out w conn.draft (came_turn w conn bytes)
   more_told store x out w conn h bytes head stands inside more head_is answer_is =
       let a : Acted = record { world = w; draft = None; bytes = []; pending = None; closes = false } in
       let t : take (length bytes) bytes ≡ bytes = take_all (length bytes) bytes (omega arith) in
@@ -78,8 +78,8 @@ module _ {U B : Type 0} (u : Ghosts U B) where
       let now = answered_here u store (link_after head 0 false) x out out [] w w None head 0 (length bytes) false
       (conn.stream ++ bytes) (InHead (h ++ bytes)) stands (still w None) refl (head_is, refl) here answer_is
       (sym (append-nil out)) in
-      subst (λ d. TurnedAs u store (link_after head 0 false) x out out w d (came_turn w conn bytes)) (sym inside.draft)
-      (subst (TurnedAs u store (link_after head 0 false) x out out w None) (sym turn) now)
+      subst (λ d. TurnedAs u sure store (link_after head 0 false) x out out w d (came_turn w conn bytes)) (sym inside.draft)
+      (subst (TurnedAs u sure store (link_after head 0 false) x out out w None) (sym turn) now)
 
   module _ (store' : U) (w : World) (conn : Conn) (h bytes : List ℕ) (n before : ℕ) (v : Verdict)
       (is : IsWhole w conn h bytes n before v) where
@@ -88,20 +88,20 @@ module _ {U B : Type 0} (u : Ghosts U B) where
 
     -- what the head did is all: the rest of the body is dropped
     pub no_patch_told : (link : Option (Link B)) (x : code.Answer) (old new : List ℕ) (head : HeadBuffer)
-        → u.stands store' (acted w v).world → Moves w (acted w v).world None None
+        → u.stands store sure' (acted w v).world → Moves w (acted w v).world None None
         → (acted w v).draft ≡ None → (acted w v).pending ≡ None
         → link ≡ link_after head (body_length v - min (body_length v) (length after)) (acted w v).closes
         → (bytes_of head) ≡ []
         → x ≡ took (before + min (body_length v) (length after)) (acted w v).closes → new ≡ old ++ (acted w v).bytes
-        → TurnedAs u store' link x old new w conn.draft (came_turn w conn bytes)
+        → TurnedAs u sure store' link x old new w conn.draft (came_turn w conn bytes)
     no_patch_told link x old new head shown moves none idle link_is head_is answer_is bytes_are =
         let a = acted w v in
         let m = body_length v in
         let left = m - min m (length after) in
         let within = head_within w conn h is.inside bytes n before v is.judged is.before_is in
         let l : length after ≡ length bytes - before = length-drop before bytes in
-        subst (λ d. TurnedAs u store' link x old new w d (came_turn w conn bytes)) (sym is.inside.draft)
-        (elim (cases_lt (length after) m) as (λ _. TurnedAs u store' link x old new w None (came_turn w conn bytes)) [
+        subst (λ d. TurnedAs u sure store' link x old new w d (came_turn w conn bytes)) (sym is.inside.draft)
+        (elim (cases_lt (length after) m) as (λ _. TurnedAs u sure store' link x old new w None (came_turn w conn bytes)) [
           | inl few ↦
               let t : take (length bytes) bytes ≡ bytes = take_all (length bytes) bytes (omega arith) in
               let turn : came_turn w conn bytes ≡ answered_turn a (conn.stream ++ bytes) (length bytes) =
@@ -119,7 +119,7 @@ module _ {U B : Type 0} (u : Ghosts U B) where
               let now = answered_here u store' link x old new a.bytes w a.world None head left (length bytes) a.closes
               (conn.stream ++ bytes) (InBody (judged_as (h ++ bytes) n v)) shown moves link_is (head_is, left_is) here
               (answer_is ∙ ap (λ i. took i a.closes) count) bytes_are in
-              subst (TurnedAs u store' link x old new w None) (sym turn) now
+              subst (TurnedAs u sure store' link x old new w None) (sym turn) now
           | inr enough ↦
               let q = take (before + m) bytes in
               let turn : came_turn w conn bytes ≡ answered_turn a (conn.stream ++ q) (before + m) =
@@ -140,7 +140,7 @@ module _ {U B : Type 0} (u : Ghosts U B) where
               let now = answered_here u store' link x old new a.bytes w a.world None head left (before + m) a.closes
               (conn.stream ++ q) (InHead []) shown moves link_is (head_is, left_is) here
               (answer_is ∙ ap (λ i. took i a.closes) count) bytes_are in
-              subst (TurnedAs u store' link x old new w None) (sym turn) now
+              subst (TurnedAs u sure store' link x old new w None) (sym turn) now
         ])
 
 -- WHAT READING TELLS
@@ -166,16 +166,16 @@ slice_rest before bytes =
     let l : length (drop before bytes) ≡ length bytes - before = length-drop before bytes in
     ap length (take_all (length bytes - before) (drop before bytes) (omega arith))
 
-module _ {U B : Type 0} (u : Ghosts U B) (store' : U) (w : World) (conn : Conn) (h bytes : List ℕ) (n before : ℕ)
+module _ {U B : Type 0} {sure : Bool} (u : Ghosts U B) (store' : U) (w : World) (conn : Conn) (h bytes : List ℕ) (n before : ℕ)
     (v : Verdict) (is : IsWhole w conn h bytes n before v) where
   pub no_patch_len : (link : Option (Link B)) (x : code.Answer) (old new : List ℕ) (head : HeadBuffer) (len : ℕ)
       → len ≡ length (drop before bytes)
-      → u.stands store' (acted w v).world → Moves w (acted w v).world None None → (acted w v).draft ≡ None
+      → u.stands store sure' (acted w v).world → Moves w (acted w v).world None None → (acted w v).draft ≡ None
       → (acted w v).pending ≡ None
       → link ≡ link_after head (body_length v - min (body_length v) len) (acted w v).closes
       → (bytes_of head) ≡ []
       → x ≡ took (before + min (body_length v) len) (acted w v).closes → new ≡ old ++ (acted w v).bytes
-      → TurnedAs u store' link x old new w conn.draft (came_turn w conn bytes)
+      → TurnedAs u sure store' link x old new w conn.draft (came_turn w conn bytes)
   no_patch_len link x old new head len len_is shown moves none idle link_is head_is answer_is bytes_are =
       no_patch_told u store' w conn h bytes n before v is link x old new head shown moves none idle
       (link_is ∙ ap (λ i. link_after head (body_length v - min (body_length v) i) (acted w v).closes) len_is)

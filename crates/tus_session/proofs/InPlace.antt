@@ -22,12 +22,12 @@ conns_here conns k conn = grind (arith, nat_tests)
 pub conns_else : (conns : ℕ → Option Conn) (k j : ℕ) (conn : Option Conn) → j ≢ k → with_conn conns k conn j ≡ conns j
 conns_else conns k j conn ne = grind (arith, nat_tests)
 
-module _ {U B : Type 0} (u : Ghosts U B) where
+module _ {U B : Type 0} {sure : Bool} (u : Ghosts U B) where
   module _ (places all : List (Option (Link B))) (store store' : U) (st : State) (w' : World) (k : ℕ) (next : Option
       (Link B))
       (conn' : Option Conn)
-      (stands : SessionStands u places store st) (is_put : IsPut places all k next)
-      (moves : Moves st.world w' (draft_at (st.conns k)) (draft_at conn')) (shown : u.stands store' w')
+      (stands : SessionStands u sure places store st) (is_put : IsPut places all k next)
+      (moves : Moves st.world w' (draft_at (st.conns k)) (draft_at conn')) (shown : u.stands store sure' w')
       (here : PlaceIs u w' next conn') where
     each_there : (c : ℕ) → PlaceIs u w' (get_or all c None) (with_conn st.conns k conn' c)
     each_there c = elim (cases_eq c k) [
@@ -86,7 +86,7 @@ module _ {U B : Type 0} (u : Ghosts U B) where
           (c.0, ap draft_at (conns_else st.conns k c.0 conn' ne) ∙ c.1)
     ]
 
-    pub in_place : SessionStands u all store' (put st w' k conn')
+    pub in_place : SessionStands u sure all store' (put st w' k conn')
     in_place = record {
       count = is_put.count ∙ stands.count;
       shown = shown;
@@ -115,7 +115,7 @@ module _ {U B : Type 0} (u : Ghosts U B) where
 
   -- what a connection's place tells
   pub place_at : (places : List (Option (Link B))) (store : U) (st : State) (k : ℕ) (x : Option (Link B))
-      → SessionStands u places store st → k < length places
+      → SessionStands u sure places store st → k < length places
       → x ≡ get_or places k x → PlaceIs u st.world x (st.conns k)
   place_at places store st k x stands lt e =
       subst (λ y. PlaceIs u st.world y (st.conns k)) (sym (e ∙ get_or-any places k x None lt)) (stands.each k)
@@ -132,14 +132,14 @@ module _ {U B : Type 0} (u : Ghosts U B) where
   past places k le = grind (arith, common_steps)
 
   -- no connection is open beyond the places
-  pub beyond : (places : List (Option (Link B))) (store : U) (st : State) (k : ℕ) → SessionStands u places store st
+  pub beyond : (places : List (Option (Link B))) (store : U) (st : State) (k : ℕ) → SessionStands u sure places store st
       → length places ≤ k → st.conns k ≡ None
   beyond places store st k stands le =
       closed_none st.world (st.conns k)
       (subst (λ y. PlaceIs u st.world y (st.conns k)) (past places k le) (stands.each k))
 
   pub closed_at : (places : List (Option (Link B))) (store : U) (st : State) (k : ℕ) (x : Option (Link B))
-      → SessionStands u places store st → k < length places
+      → SessionStands u sure places store st → k < length places
       → x ≡ get_or places k x → x ≡ None → st.conns k ≡ None
   closed_at places store st k x stands lt e is =
       closed_none st.world (st.conns k)
@@ -150,7 +150,7 @@ module _ {U B : Type 0} (u : Ghosts U B) where
   some_conn w k (Some c) is = (c, refl)
 
   pub open_at : (places : List (Option (Link B))) (store : U) (st : State) (c : ℕ) (x : Option (Link B)) (k : Link B)
-      → SessionStands u places store st → c < length places
+      → SessionStands u sure places store st → c < length places
       → x ≡ get_or places c x → x ≡ Some k → IsOpen u st c k
   open_at places store st c x k stands lt e is =
       let at : PlaceIs u st.world (Some k) (st.conns c) =

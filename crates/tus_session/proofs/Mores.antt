@@ -53,11 +53,11 @@ more_gone_is : (w : World) (conn : Conn) (h : Giving) → conn.pending ≡ Some 
 unfolding more_turn
 more_gone_is w conn h e none = sym (ap (more_on w conn) e ∙ ap (give_on w conn h) none)
 
-module _ {U B : Type 0} (u : Ghosts U B) where
+module _ {U B : Type 0} {sure : Bool} (u : Ghosts U B) where
   -- a connection stays as it is, and nothing is given
-  pub stays : (store : U) (w : World) (k : Link B) (conn : Conn) (more : Bool) (out : List ℕ) → u.stands store w
+  pub stays : (store : U) (w : World) (k : Link B) (conn : Conn) (more : Bool) (out : List ℕ) → u.stands store sure w
       → LinkIs u w (bytes_of k.head) k.awaiting conn
-      → more ≡ is_pending conn.pending → TurnedAs u store (Some k) (record {
+      → more ≡ is_pending conn.pending → TurnedAs u sure store (Some k) (record {
         taken = 0;
         closes = false;
         more = more;
@@ -80,22 +80,22 @@ module _ {U B : Type 0} (u : Ghosts U B) where
   no_text w head (awaits.Text g left) conn is not = absurd (not g left refl)
 
   -- no text is to be given
-  pub more_nothing : (store : U) (w : World) (k : Link B) (conn : Conn) (out : List ℕ) → u.stands store w
+  pub more_nothing : (store : U) (w : World) (k : Link B) (conn : Conn) (out : List ℕ) → u.stands store sure w
       → LinkIs u w (bytes_of k.head) k.awaiting conn
       → ((g : given.Giving) (left : ℕ) → k.awaiting ≡ awaits.Text g left → ⊥)
-      → TurnedAs u store (Some k) (record {
+      → TurnedAs u sure store (Some k) (record {
         taken = 0;
         closes = false;
         more = false;
       }) out out w conn.draft (more_turn w conn)
   more_nothing store w k conn out stands link not =
       let none = no_text w (bytes_of k.head) k.awaiting conn link not in
-      subst (TurnedAs u store (Some k) (record { taken = 0; closes = false; more = false }) out out w conn.draft)
+      subst (TurnedAs u sure store (Some k) (record { taken = 0; closes = false; more = false }) out out w conn.draft)
       (more_none_is w conn none)
       (stays store w k conn false out stands link (sym (ap is_pending none)))
 
   module _ (store : U) (w : World) (head : HeadBuffer) (conn : Conn) (g : given.Giving) (left : ℕ)
-      (stands : u.stands store w) (is : IsGivingText w conn (bytes_of head) g left) where
+      (stands : u.stands store sure w) (is : IsGivingText w conn (bytes_of head) g left) where
     abbrev gave : Bool → Bool → Answer
     gave closes more = record { taken = 0; closes = closes; more = more }
 
@@ -104,7 +104,7 @@ module _ {U B : Type 0} (u : Ghosts U B) where
 
     some_turned : (old new : List ℕ) (rest : given.Giving) (pending : Option Giving)
         → GivingIs w.store (Some rest) pending → new ≡ old ++ piece_of is.h
-        → TurnedAs u store (text_link rest) (gave false true) old new w conn.draft
+        → TurnedAs u sure store (text_link rest) (gave false true) old new w conn.draft
         (record { world = w; conn = given_up conn is.h.closes pending; bytes = piece_of is.h; taken = 0 })
     some_turned old new rest None given e = absurd given
     some_turned old new rest (Some h) given e = record {
@@ -120,18 +120,18 @@ module _ {U B : Type 0} (u : Ghosts U B) where
     -- more of the text is left
     pub more_some : (old new : List ℕ) (rest : given.Giving) (up : Upload) → upload_of w.store is.h.number ≡ Some up
         → GivingIs w.store (Some rest) (pending_after is.h) → new ≡ old ++ piece_of is.h
-        → TurnedAs u store (text_link rest) (gave false true) old new w conn.draft (more_turn w conn)
+        → TurnedAs u sure store (text_link rest) (gave false true) old new w conn.draft (more_turn w conn)
     more_some old new rest up there given e =
-        subst (TurnedAs u store (text_link rest) (gave false true) old new w conn.draft)
+        subst (TurnedAs u sure store (text_link rest) (gave false true) old new w conn.draft)
         (more_some_is w conn is.h up is.pending there) (some_turned old new rest (pending_after is.h) given e)
 
     none_turned : (old new : List ℕ) (closes : Bool) (pending : Option Giving) → GivingIs w.store None pending
         → new ≡ old ++ piece_of is.h
-        → TurnedAs u store (link_after head left closes) (gave closes false) old new w conn.draft
+        → TurnedAs u sure store (link_after head left closes) (gave closes false) old new w conn.draft
         (record { world = w; conn = given_up conn closes pending; bytes = piece_of is.h; taken = 0 })
     none_turned old new closes (Some h) given e = absurd given
     none_turned old new closes None given e =
-        subst (λ d. TurnedAs u store (link_after head left closes) (gave closes false) old new w d
+        subst (λ d. TurnedAs u sure store (link_after head left closes) (gave closes false) old new w d
         (record {
           world = w;
           conn = given_up (record conn { draft = d }) closes None;
@@ -145,18 +145,18 @@ module _ {U B : Type 0} (u : Ghosts U B) where
     -- the text is given
     pub more_done : (old new : List ℕ) (up : Upload) → upload_of w.store is.h.number ≡ Some up
         → pending_after is.h ≡ None → new ≡ old ++ piece_of is.h
-        → TurnedAs u store (link_after head left g.closes) (gave g.closes false) old new w conn.draft (more_turn w conn)
+        → TurnedAs u sure store (link_after head left g.closes) (gave g.closes false) old new w conn.draft (more_turn w conn)
     more_done old new up there last e =
-        subst (TurnedAs u store (link_after head left g.closes) (gave g.closes false) old new w conn.draft)
+        subst (TurnedAs u sure store (link_after head left g.closes) (gave g.closes false) old new w conn.draft)
         (ap (λ c. record { world = w; conn = given_up conn c (pending_after is.h); bytes = piece_of is.h; taken = 0 })
         is.gives.closes ∙ more_some_is w conn is.h up is.pending there)
         (none_turned old new g.closes (pending_after is.h) (subst (GivingIs w.store None) (sym last) tt) e)
 
     -- the upload was deleted
     pub more_gone : (old new : List ℕ) → upload_of w.store is.h.number ≡ None → new ≡ old
-        → TurnedAs u store None (gave true false) old new w conn.draft (more_turn w conn)
+        → TurnedAs u sure store None (gave true false) old new w conn.draft (more_turn w conn)
     more_gone old new none e =
-        subst (TurnedAs u store None (gave true false) old new w conn.draft)
+        subst (TurnedAs u sure store None (gave true false) old new w conn.draft)
         (more_gone_is w conn is.h is.pending none) (record {
           shown = stands;
           here = tt;
@@ -167,13 +167,13 @@ module _ {U B : Type 0} (u : Ghosts U B) where
           bytes = e ∙ sym (append-nil old);
         })
 
-module _ {U B : Type 0} (u : Ghosts U B) where
+module _ {U B : Type 0} {sure : Bool} (u : Ghosts U B) where
   -- nothing was given, and the connection closes
   pub more_stopped : (store : U) (w : World) (conn : Conn) (head : List ℕ) (g : given.Giving) (left : ℕ)
       (is : IsGivingText w conn head g left) (e : Stop) (old new : List ℕ) (t : Turn)
-      → Gives u store (Err e) old new w is.h → Turned u store (Err e) old new w conn.draft t
+      → Gives u sure store (Err e) old new w is.h → Turned u sure store (Err e) old new w conn.draft t
   more_stopped store w conn head g left is stops.NoMemory old new t (there, shown, same) =
-      (subst (λ o. u.stands store (left_world w o)) (sym is.draft) shown, same)
+      (subst (λ o. u.stands store sure (left_world w o)) (sym is.draft) shown, same)
   more_stopped store w conn head g left is stops.DiskFault old new t (there, same) = same
 
 -- WHAT WAS GIVEN TELLS OF THE UPLOAD

@@ -56,7 +56,7 @@ still w own = record {
   unique = λ h. h;
 }
 
-module _ {U B : Type 0} (u : Ghosts U B) where
+module _ {U B : Type 0} {sure : Bool} (u : Ghosts U B) where
   new_place : (w : World) (head : HeadBuffer) → (bytes_of head) ≡ []
       → PlaceIs u w (Some (record { head = head; awaiting = awaits.Head })) (Some fresh)
   new_place w head e = record {
@@ -66,9 +66,9 @@ module _ {U B : Type 0} (u : Ghosts U B) where
   }
 
   opened_step : (places : List (Option (Link B))) (store : U) (st : State) (c : ℕ) (head : HeadBuffer)
-      → SessionStands u places store st → c < length places → (o : Option Conn)
+      → SessionStands u sure places store st → c < length places → (o : Option Conn)
       → st.conns c ≡ o → o ≡ None → (bytes_of head) ≡ []
-      → Follows u (slice_set places c (Some (record { head = head; awaiting = awaits.Head }))) store
+      → Follows u sure (slice_set places c (Some (record { head = head; awaiting = awaits.Head }))) store
       (opened_at st c o).state (opened_at st c o).outcome Done
   opened_step places store st c head stands lt (Some conn) is none e = absurd (cc)
   opened_step places store st c head stands lt None is none e =
@@ -77,58 +77,58 @@ module _ {U B : Type 0} (u : Ghosts U B) where
       let d : None ≡ draft_at (st.conns c) = ap draft_at (sym is) in
       let moves : Moves st.world st.world (draft_at (st.conns c)) None =
       subst (λ o. Moves st.world st.world o None) d (still st.world None) in
-      let s : SessionStands u (slice_set places c (Some k)) store (put st st.world c (Some fresh)) =
+      let s : SessionStands u sure (slice_set places c (Some k)) store (put st st.world c (Some fresh)) =
       in_place u places (slice_set places c (Some k)) store store st st.world c (Some k) (Some fresh) stands
       (is_set u places c (Some k) lt) moves stands.shown (new_place st.world head e) in
       let P : Bool → Type 0 = λ b. let x : Step = opened_if st c b in
-      Follows u (slice_set places c (Some k)) store x.state x.outcome Done in
+      Follows u sure (slice_set places c (Some k)) store x.state x.outcome Done in
       let now : P true = record { stands = s; outcome = refl } in
       subst P (sym n) now
 
   pub opened : (places : List (Option (Link B))) (store : U) (st : State) (c : ℕ) (head : HeadBuffer)
-      → SessionStands u places store st → c < length places → st.conns c ≡ None → (bytes_of head) ≡ []
-      → Follows u (slice_set places c (Some (record { head = head; awaiting = awaits.Head }))) store
+      → SessionStands u sure places store st → c < length places → st.conns c ≡ None → (bytes_of head) ≡ []
+      → Follows u sure (slice_set places c (Some (record { head = head; awaiting = awaits.Head }))) store
       (step st (Opened c) Served).state (step st (Opened c) Served).outcome Done
   unfolding step
   opened places store st c head stands lt none e =
       opened_step places store st c head stands lt (st.conns c) refl none e
 
-  pub not_below : (places : List (Option (Link B))) (store : U) (st : State) (c : ℕ) → SessionStands u places store st
+  pub not_below : (places : List (Option (Link B))) (store : U) (st : State) (c : ℕ) → SessionStands u sure places store st
       → length places ≤ c
-      → Follows u places store st (step st (Opened c) Served).outcome (Refused TooMany)
+      → Follows u sure places store st (step st (Opened c) Served).outcome (Refused TooMany)
   unfolding step
   not_below places store st c stands le =
       let n : nat_lt c most_open ≡ false = le-ltb c most_open (omega (arith, stands.count)) in
       let none = beyond u places store st c stands le in
       let P : Bool → Type 0 = λ b. let x : Step = opened_if st c b in
-      Follows u places store st x.outcome (Refused TooMany) in
-      let Q : Option Conn → Type 0 = λ o. Follows u places store st (opened_at st c o).outcome (Refused TooMany) in
+      Follows u sure places store st x.outcome (Refused TooMany) in
+      let Q : Option Conn → Type 0 = λ o. Follows u sure places store st (opened_at st c o).outcome (Refused TooMany) in
       let now : P false = record { stands = stands; outcome = refl } in
       let later : Q None = subst P (sym n) now in
       subst Q (sym none) later
 
   pub is_open : (places : List (Option (Link B))) (store : U) (st : State) (c : ℕ) (x : Option (Link B))
-      → SessionStands u places store st → c < length places
-      → x ≡ get_or places c x → is_some x ≡ true → Follows u places store st (step st (Opened c) Served).outcome
+      → SessionStands u sure places store st → c < length places
+      → x ≡ get_or places c x → is_some x ≡ true → Follows u sure places store st (step st (Opened c) Served).outcome
       (Refused TooMany)
   unfolding step
   is_open places store st c None stands lt e is = absurd (cc)
   is_open places store st c (Some k) stands lt e is =
       let o = open_at u places store st c (Some k) k stands lt e refl in
-      let Q : Option Conn → Type 0 = λ o. Follows u places store st (opened_at st c o).outcome (Refused TooMany) in
+      let Q : Option Conn → Type 0 = λ o. Follows u sure places store st (opened_at st c o).outcome (Refused TooMany) in
       let now : Q (Some o.0) = record { stands = stands; outcome = refl } in
       subst Q (sym o.1) now
 
   pub not_open : (places : List (Option (Link B))) (store : U) (st : State) (c : ℕ) (x : Option (Link B))
-      → SessionStands u places store st → c < length places
+      → SessionStands u sure places store st → c < length places
       → x ≡ get_or places c x → is_some x ≡ false → st.conns c ≡ None
   not_open places store st c None stands lt e is = closed_at u places store st c None stands lt e refl
   not_open places store st c (Some k) stands lt e is = absurd (cc)
 
   -- no connection in any place
   pub begun : (places : List (Option (Link B))) (store : U) (m : Store) (blocks : Option ℕ)
-      → u.stands store (at_rest m blocks) → length places ≡ most_open
-      → ((c : ℕ) → get_or places c None ≡ None) → SessionStands u places store (beginning m blocks)
+      → u.stands store sure (at_rest m blocks) → length places ≡ most_open
+      → ((c : ℕ) → get_or places c None ≡ None) → SessionStands u sure places store (beginning m blocks)
   begun places store m blocks shown count all = record {
     count = count;
     shown = shown;

@@ -42,7 +42,7 @@ use Rattle.tus_session.proofs.RequestLeaves.{Opened, Leaves, Nothing, Text, Patc
 use Rattle.tus_session.proofs.Unfinished.{judged_as}
 
 -- a patch that a head opened: the history's, and the code's
-pub record Begun {U B : Type 0} (u : Ghosts U B) (w : World) (r : Request) (b : OpenPatch B) : Type 0 where
+pub record Begun {U B : Type 0} {sure : Bool} (u : Ghosts U B) (w : World) (r : Request) (b : OpenPatch B) : Type 0 where
   pub x : Opened w r (acted w (Asks r))
   pub number : u.number_of b.draft ≡ x.d
   pub holds : u.holds b.draft (first_patch x.number r.length x.declare x.up)
@@ -138,7 +138,7 @@ module _ (w : World) (conn : Conn) (h bytes : List ℕ) (n before : ℕ) (r : Re
   pub first_there : find x.d w1.patches ≡ Some first
   first_there = first_found
 
-  draft_first : {U B : Type 0} (u : Ghosts U B) (b : B)
+  draft_first : {U B : Type 0} {sure : Bool} (u : Ghosts U B) (b : B)
       → DraftIs u (acted w (Asks r)).world (Some b) (acted w (Asks r)).draft → (u.number_of b ≡ x.d) × u.holds b first
   draft_first u b draft =
       let at : DraftIs u w1 (Some b) (Some x.d) = subst (λ a. DraftIs u a.world (Some b) a.draft) opened_is draft in
@@ -147,7 +147,7 @@ module _ (w : World) (conn : Conn) (h bytes : List ℕ) (n before : ℕ) (r : Re
       (at.0, subst (u.holds b) e at.1.2)
 
 -- a draft that is open is a patch's
-opens_case : {U B : Type 0} (u : Ghosts U B) (w : World) (r : Request) (b : B) → Leaves w r (acted w (Asks r))
+opens_case : {U B : Type 0} {sure : Bool} (u : Ghosts U B) (w : World) (r : Request) (b : B) → Leaves w r (acted w (Asks r))
     → DraftIs u (acted w (Asks r)).world (Some b) (acted w (Asks r)).draft
     → Opened w r (acted w (Asks r))
 opens_case u w r b (Nothing moves none idle) is = absurd (subst (DraftIs u (acted w (Asks r)).world (Some b)) none is)
@@ -155,13 +155,13 @@ opens_case u w r b (Text g same none some stays) is =
     absurd (subst (DraftIs u (acted w (Asks r)).world (Some b)) none is)
 opens_case u w r b (AsPatch x) is = x
 
-opens : {U B : Type 0} (u : Ghosts U B) (w : World) (r : Request) (b : B)
+opens : {U B : Type 0} {sure : Bool} (u : Ghosts U B) (w : World) (r : Request) (b : B)
     → DraftIs u (acted w (Asks r)).world (Some b) (acted w (Asks r)).draft → Opened w r (acted w (Asks r))
 opens u w r b is = opens_case u w r b (leaves w r) is
 
-pub begun : {U B : Type 0} (u : Ghosts U B) (w : World) (conn : Conn) (h bytes : List ℕ) (n before : ℕ) (r : Request)
+pub begun : {U B : Type 0} {sure : Bool} (u : Ghosts U B) (w : World) (conn : Conn) (h bytes : List ℕ) (n before : ℕ) (r : Request)
     → IsWhole w conn h bytes n before (Asks r) → (store : U) (old new : List ℕ) (b : OpenPatch B)
-    → ActedAs u store (Done.Opened b.draft) old new (acted w (Asks r)) → ReachedIs r.action r.length b.reached
+    → ActedAs u sure store (Done.Opened b.draft) old new (acted w (Asks r)) → ReachedIs r.action r.length b.reached
     → b.bare ≡ r.bare → b.closes ≡ r.closes
     → ((number : ℕ) (up : Upload) → upload_of w.store number ≡ Some up → number < w.store.next) → Begun u w r b
 begun u w conn h bytes n before r is store old new b done reached bare closes below =
@@ -197,7 +197,7 @@ own_opened w r a x own e = record {
   stays = x.stays;
 }
 
-module _ {U B : Type 0} (u : Ghosts U B) (w : World) (conn : Conn) (h bytes : List ℕ) (n before : ℕ) (r : Request)
+module _ {U B : Type 0} {sure : Bool} (u : Ghosts U B) (w : World) (conn : Conn) (h bytes : List ℕ) (n before : ℕ) (r : Request)
     (is : IsWhole w conn h bytes n before (Asks r))
     (b : OpenPatch B) (begins : Begun u w r b) where
   abbrev pub own : ℕ
@@ -244,8 +244,8 @@ module _ {U B : Type 0} (u : Ghosts U B) (w : World) (conn : Conn) (h bytes : Li
         closes = begins.closes;
       }
 
-  pub begun_shown : (store : U) → u.stands store (acted w (Asks r)).world → u.stands store v
-  begun_shown store shown = subst (u.stands store) x.world_is shown
+  pub begun_shown : (store : U) → u.stands store sure (acted w (Asks r)).world → u.stands store sure v
+  begun_shown store shown = subst (u.stands store sure) x.world_is shown
 
   pub reached_whole : b.reached ≡ length x.up.accepted + r.length
   reached_whole = let l = x.length_is in let g = reached_is in omega arith
@@ -264,9 +264,9 @@ module _ {U B : Type 0} (u : Ghosts U B) (w : World) (conn : Conn) (h bytes : Li
         ∙ take-append_seam old (acted w (Asks r)).bytes))
 
     part_case : (a : Result (Option (Link B) × code.Answer) Stop) → length q < r.length
-        → Parts u store' a head b (r.length - length q) (before + length q)
+        → Parts u sure store' a head b (r.length - length q) (before + length q)
         (fed v own q) (fed_patch v own p0 q) (dropped v own)
-        → mid2 ≡ mid → BackTo a start mid2 new → Turned u store' a old new w None (came_turn w conn bytes)
+        → mid2 ≡ mid → BackTo a start mid2 new → Turned u sure store' a old new w None (came_turn w conn bytes)
     part_case (Ok (link, a)) few (b', goes) same out =
         let within = head_within w conn h is.inside bytes n before (Asks r) is.judged is.before_is in
         let l : length q ≡ length bytes - before = length-drop before bytes in
@@ -276,7 +276,7 @@ module _ {U B : Type 0} (u : Ghosts U B) (w : World) (conn : Conn) (h bytes : Li
         (Asks r) is.judged (omega arith)
         ∙ ap (λ z. InBody (record { head = take n (h ++ bytes); verdict = Asks r; body = z })) body in
         let count : before + length q ≡ length bytes = omega arith in
-        let now : TurnedAs u store' link a old new w None (part_opened w conn h bytes n before r is x) = record {
+        let now : TurnedAs u sure store' link a old new w None (part_opened w conn h bytes n before r is x) = record {
           shown = goes.shown;
           here = part_here u v b asked r p0 patches store' link a head b' (r.length - length q) (before + length q) q
               (conn.stream ++ bytes) goes cleared (omega arith) refl here;
@@ -287,15 +287,15 @@ module _ {U B : Type 0} (u : Ghosts U B) (w : World) (conn : Conn) (h bytes : Li
           more = ap (λ z. z.more) goes.answer_is;
           bytes = out ∙ (same ∙ (written ∙ ap (λ z. old ++ z) (sym (append-nil (acted w (Asks r)).bytes))));
         } in
-        subst (TurnedAs u store' link a old new w None) (sym (part_is w conn h bytes n before r is x few)) now
+        subst (TurnedAs u sure store' link a old new w None) (sym (part_is w conn h bytes n before r is x few)) now
     part_case (Err stops.NoMemory) few shown same out =
-        (subst (u.stands store') dropped_first shown, taken_back same out)
+        (subst (u.stands store sure') dropped_first shown, taken_back same out)
     part_case (Err stops.DiskFault) few z same out = taken_back same out
 
     rest_case : (a : Result (Option (Link B) × code.Answer) Stop) → r.length ≤ length q
-        → Replies u store' a mid mid2 head (before + r.length)
+        → Replies u sure store' a mid mid2 head (before + r.length)
         (ended_by v own p0 (take r.length q) r) (dropped v own)
-        → BackTo a start mid2 new → Turned u store' a old new w None (came_turn w conn bytes)
+        → BackTo a start mid2 new → Turned u sure store' a old new w None (came_turn w conn bytes)
     rest_case (Ok (link, a)) enough answered out =
         let m = ended_by v own p0 (take r.length q) r in
         let t : length (take r.length q) ≡ r.length = length-take-le r.length q enough in
@@ -306,32 +306,32 @@ module _ {U B : Type 0} (u : Ghosts U B) (w : World) (conn : Conn) (h bytes : Li
         (front_judged w conn h is.inside bytes n before (Asks r) is.judged is.before_is r.length) all in
         let moves = both_moves w v m.world None (Some own) None (open_moves w own p0 x.free)
         (rest_moves u v b asked r p0 patches (take r.length q)) in
-        subst (TurnedAs u store' link a old new w None) (sym (rest_is w conn h bytes n before r is x enough))
+        subst (TurnedAs u sure store' link a old new w None) (sym (rest_is w conn h bytes n before r is x enough))
         (answered_here u store' link a old new ((acted w (Asks r)).bytes ++ m.bytes) w m.world None head 0
         (before + r.length) m.closes (conn.stream ++ take (before + r.length) bytes) (InHead []) answered.shown moves
         answered.link_is (cleared, refl) ends answered.answer_is
         (out ∙ (answered.bytes ∙ (ap (λ z. z ++ m.bytes) written ∙ append_assoc old (acted w (Asks r)).bytes m.bytes))))
     rest_case (Err stops.NoMemory) enough (shown, same) out =
-        (subst (u.stands store') dropped_first shown, taken_back same out)
+        (subst (u.stands store sure') dropped_first shown, taken_back same out)
     rest_case (Err stops.DiskFault) enough same out = taken_back same out
 
     pub patch_opened : (a : Result (Option (Link B) × code.Answer) Stop) (z : List ℕ) → z ≡ q
-        → (length z < r.length → Parts u store' a head b (r.length - length z)
+        → (length z < r.length → Parts u sure store' a head b (r.length - length z)
         (before + length z) (fed v own z) (fed_patch v own p0 z) (dropped v own))
         → (length z < r.length → mid2 ≡ mid)
-        → (r.length ≤ length z → Replies u store' a mid mid2 head
+        → (r.length ≤ length z → Replies u sure store' a mid mid2 head
         (before + r.length) (ended_by v own p0 (take r.length z) r) (dropped v own))
-        → BackTo a start mid2 new → Turned u store' a old new w conn.draft (came_turn w conn bytes)
+        → BackTo a start mid2 new → Turned u sure store' a old new w conn.draft (came_turn w conn bytes)
     patch_opened a z e part same rest out =
-        subst (λ d. Turned u store' a old new w d (came_turn w conn bytes)) (sym is.inside.draft)
+        subst (λ d. Turned u sure store' a old new w d (came_turn w conn bytes)) (sym is.inside.draft)
         (elim (cases_lt (length z) r.length) [
           | inl few ↦
               part_case a (subst (λ y. length y < r.length) e few)
-              (subst (λ y. Parts u store' a head b (r.length - length y)
+              (subst (λ y. Parts u sure store' a head b (r.length - length y)
               (before + length y) (fed v own y) (fed_patch v own p0 y) (dropped v own)) e (part few)) (same few) out
           | inr enough ↦
               rest_case a (subst (λ y. r.length ≤ length y) e enough)
-              (subst (λ y. Replies u store' a mid mid2 head
+              (subst (λ y. Replies u sure store' a mid mid2 head
               (before + r.length) (ended_by v own p0 (take r.length y) r) (dropped v own)) e (rest enough)) out
         ])
 

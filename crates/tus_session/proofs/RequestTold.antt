@@ -86,7 +86,7 @@ module _ (w : World) (conn : Conn) (h bytes : List ℕ) (n before : ℕ) (r : Re
       → Limits m0 m1 l0 l1 w.store (came_turn w conn bytes).world.store
   head_limits l = limits_case (leaves w r) l
 
-  module _ {U B : Type 0} (u : Ghosts U B) where
+  module _ {U B : Type 0} {sure : Bool} (u : Ghosts U B) where
     absurd_draft : (v : World) (d : ℕ) (o : Option ℕ) → o ≡ Some d → DraftIs u v None o → ⊥
     absurd_draft v d None e is = absurd (cc)
     absurd_draft v d (Some x) e is = is
@@ -97,11 +97,11 @@ module _ (w : World) (conn : Conn) (h bytes : List ℕ) (n before : ℕ) (r : Re
 
     nothing_case : (store' : U) (link : Option (Link B)) (x : code.Answer) (c : Done B) (old new : List ℕ)
         (head : HeadBuffer) (len : ℕ) → Leaves w r (acted w (Asks r))
-        → ActedAs u store' c old new (acted w (Asks r)) → draft_in c ≡ None → giving_in c ≡ None
+        → ActedAs u sure store' c old new (acted w (Asks r)) → draft_in c ≡ None → giving_in c ≡ None
         → len ≡ length (drop before bytes)
         → link ≡ link_after head (r.length - min r.length len) (closes_in c) → (bytes_of head) ≡ []
         → x ≡ took (before + min r.length len) (closes_in c)
-        → TurnedAs u store' link x old new w conn.draft (came_turn w conn bytes)
+        → TurnedAs u sure store' link x old new w conn.draft (came_turn w conn bytes)
     nothing_case store' link x c old new head len (Nothing moves none idle) as_is no_draft no_text len_is link_is
         head_is answer_is =
         no_patch_len u store' w conn h bytes n before (Asks r) is link x old new head len len_is as_is.stands moves none
@@ -117,11 +117,11 @@ module _ (w : World) (conn : Conn) (h bytes : List ℕ) (n before : ℕ) (r : Re
 
     pub nothing_told : (store' : U) (link : Option (Link B)) (x : code.Answer) (c : Done B) (old new : List ℕ)
         (head : HeadBuffer) (len : ℕ)
-        → ActedAs u store' c old new (acted w (Asks r)) → draft_in c ≡ None → giving_in c ≡ None
+        → ActedAs u sure store' c old new (acted w (Asks r)) → draft_in c ≡ None → giving_in c ≡ None
         → len ≡ length (drop before bytes)
         → link ≡ link_after head (r.length - min r.length len) (closes_in c) → (bytes_of head) ≡ []
         → x ≡ took (before + min r.length len) (closes_in c)
-        → TurnedAs u store' link x old new w conn.draft (came_turn w conn bytes)
+        → TurnedAs u sure store' link x old new w conn.draft (came_turn w conn bytes)
     nothing_told store' link x c old new head len as_is no_draft no_text len_is link_is head_is answer_is =
         nothing_case store' link x c old new head len (leaves w r) as_is no_draft no_text len_is link_is head_is
         answer_is
@@ -217,7 +217,7 @@ module _ (w : World) (conn : Conn) (h bytes : List ℕ) (n before : ℕ) (r : Re
         )
       ]
 
-  module _ {U B : Type 0} (u : Ghosts U B) where
+  module _ {U B : Type 0} {sure : Bool} (u : Ghosts U B) where
     abbrev text_link : HeadBuffer → given.Giving → Option (Link B)
     text_link head g = Some (record { head = head; awaiting = awaits.Text g r.length })
 
@@ -226,9 +226,9 @@ module _ (w : World) (conn : Conn) (h bytes : List ℕ) (n before : ℕ) (r : Re
 
     text_case : (store' : U) (c : Done B) (g : given.Giving) (old new : List ℕ) (head : HeadBuffer)
         → Leaves w r (acted w (Asks r))
-        → ActedAs u store' c old new (acted w (Asks r)) → draft_in c ≡ None → giving_in c ≡ Some g
+        → ActedAs u sure store' c old new (acted w (Asks r)) → draft_in c ≡ None → giving_in c ≡ Some g
         → (bytes_of head) ≡ []
-        → TurnedAs u store' (text_link head g) text_answer old new w conn.draft (came_turn w conn bytes)
+        → TurnedAs u sure store' (text_link head g) text_answer old new w conn.draft (came_turn w conn bytes)
     text_case store' c g old new head (Nothing moves none idle) as_is no_draft text cleared =
         absurd (subst (λ o. GivingIs (acted w (Asks r)).world.store o None) text
         (subst (GivingIs (acted w (Asks r)).world.store (giving_in c)) idle as_is.giving))
@@ -251,7 +251,7 @@ module _ (w : World) (conn : Conn) (h bytes : List ℕ) (n before : ℕ) (r : Re
           pending = refl;
           gives = gives;
         } in
-        let now : TurnedAs u store' (text_link head g) text_answer old new w None
+        let now : TurnedAs u sure store' (text_link head g) text_answer old new w None
         (text_turn a.world s' a.bytes h' before) = record {
           shown = as_is.stands;
           here = link;
@@ -261,13 +261,13 @@ module _ (w : World) (conn : Conn) (h bytes : List ℕ) (n before : ℕ) (r : Re
           more = refl;
           bytes = as_is.bytes;
         } in
-        subst (λ d. TurnedAs u store' (text_link head g) text_answer old new w d (came_turn w conn bytes))
+        subst (λ d. TurnedAs u sure store' (text_link head g) text_answer old new w d (came_turn w conn bytes))
         (sym is.inside.draft)
-        (subst (TurnedAs u store' (text_link head g) text_answer old new w None) (sym (text_is h' some none stays)) now)
+        (subst (TurnedAs u sure store' (text_link head g) text_answer old new w None) (sym (text_is h' some none stays)) now)
 
     pub text_told : (store' : U) (c : Done B) (g : given.Giving) (old new : List ℕ) (head : HeadBuffer)
-        → ActedAs u store' c old new (acted w (Asks r)) → draft_in c ≡ None → giving_in c ≡ Some g
+        → ActedAs u sure store' c old new (acted w (Asks r)) → draft_in c ≡ None → giving_in c ≡ Some g
         → (bytes_of head) ≡ []
-        → TurnedAs u store' (text_link head g) text_answer old new w conn.draft (came_turn w conn bytes)
+        → TurnedAs u sure store' (text_link head g) text_answer old new w conn.draft (came_turn w conn bytes)
     text_told store' c g old new head as_is no_draft text cleared =
         text_case store' c g old new head (leaves w r) as_is no_draft text cleared

@@ -61,15 +61,15 @@ pub spent_store : (w : World) (d : ℕ) (p : Patch) (o : Option UploadRefusal)
 spent_store w d p None = refl
 spent_store w d p (Some f) = refl
 
-module _ {U B : Type 0} (u : Ghosts U B) where
+module _ {U B : Type 0} {sure : Bool} (u : Ghosts U B) where
   -- nothing was open
-  pub ends_idle : (store : U) (w : World) (conn : Conn) → u.stands store w → conn.draft ≡ None
-      → EndedAs u store w conn.draft (ended_world w conn)
+  pub ends_idle : (store : U) (w : World) (conn : Conn) → u.stands store sure w → conn.draft ≡ None
+      → EndedAs u sure store w conn.draft (ended_world w conn)
   ends_idle store w conn stands none =
-      let now : EndedAs u store w None w = record { shown = stands; moves = still w None } in
-      let then : EndedAs u store w None (ended_world w conn) =
-      subst (EndedAs u store w None) (sym (ended_none w conn none)) now in
-      subst (λ o. EndedAs u store w o (ended_world w conn)) (sym none) then
+      let now : EndedAs u sure store w None w = record { shown = stands; moves = still w None } in
+      let then : EndedAs u sure store w None (ended_world w conn) =
+      subst (EndedAs u sure store w None) (sym (ended_none w conn none)) now in
+      subst (λ o. EndedAs u sure store w o (ended_world w conn)) (sym none) then
 
   module _ (w : World) (conn : Conn) (head : List ℕ) (b : OpenPatch B) (left : ℕ)
       (is : IsPatching u w conn head b left) where
@@ -81,31 +81,31 @@ module _ {U B : Type 0} (u : Ghosts U B) where
     ended_as = ended_is w conn is.d is.p is.draft is.patches.found
 
     -- the patch is spent
-    ends_patch : (store : U) → u.stands store (spent w (u.number_of b.draft) is.p (commit_refusal w (u.number_of
+    ends_patch : (store : U) → u.stands store sure (spent w (u.number_of b.draft) is.p (commit_refusal w (u.number_of
         b.draft) is.p))
-        → EndedAs u store w conn.draft (ended_world w conn)
+        → EndedAs u sure store w conn.draft (ended_world w conn)
     ends_patch store stands =
         let done = spent w is.d is.p (commit_refusal w is.d is.p) in
-        let shown : u.stands store done =
-        subst (λ n. u.stands store (spent w n is.p (commit_refusal w n is.p))) is.patches.number stands in
-        let now : EndedAs u store w (Some is.d) done = record {
+        let shown : u.stands store sure done =
+        subst (λ n. u.stands store sure (spent w n is.p (commit_refusal w n is.p))) is.patches.number stands in
+        let now : EndedAs u sure store w (Some is.d) done = record {
           shown = shown;
           moves = spend_moves w is.d is.p is.patches.grown;
         } in
-        subst (λ o. EndedAs u store w o (ended_world w conn)) (sym is.draft)
-        (subst (EndedAs u store w (Some is.d)) (sym ended_as) now)
+        subst (λ o. EndedAs u sure store w o (ended_world w conn)) (sym is.draft)
+        (subst (EndedAs u sure store w (Some is.d)) (sym ended_as) now)
 
-    ends_left : (store : U) → u.stands store (dropped w (u.number_of b.draft)) → u.stands store (left_world w
+    ends_left : (store : U) → u.stands store sure (dropped w (u.number_of b.draft)) → u.stands store sure (left_world w
         conn.draft)
     ends_left store stands =
-        subst (λ o. u.stands store (left_world w o)) (sym is.draft)
-        (subst (λ n. u.stands store (dropped w n)) is.patches.number stands)
+        subst (λ o. u.stands store sure (left_world w o)) (sym is.draft)
+        (subst (λ n. u.stands store sure (dropped w n)) is.patches.number stands)
 
     -- a cut body
     pub ends_cut : (store : U) (r : Result (Unit {0}) Stop)
-        → Ends u store r (dropped w (u.number_of b.draft))
+        → Ends u sure store r (dropped w (u.number_of b.draft))
         (spent w (u.number_of b.draft) is.p (commit_refusal w (u.number_of b.draft) is.p))
-        → Ended u store r w conn.draft (ended_world w conn)
+        → Ended u sure store r w conn.draft (ended_world w conn)
     ends_cut store (Ok x) stands = ends_patch store stands
     ends_cut store (Err stops.NoMemory) stands = ends_left store stands
     ends_cut store (Err stops.DiskFault) x = tt

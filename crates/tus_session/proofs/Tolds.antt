@@ -62,7 +62,7 @@ failed_is st (Came c piece) conn on is = ap (λ o. (failed_at st c o).outcome) i
 failed_is st (More c) conn on is = ap (λ o. (failed_at st c o).outcome) is
 failed_is st (Ended c) conn on is = ap (λ o. (failed_at st c o).outcome) is
 
-module _ {U B : Type 0} (u : Ghosts U B) where
+module _ {U B : Type 0} {sure : Bool} (u : Ghosts U B) where
   pub gave : (out new : List ℕ) (a : Answer) (t : Turn) → a.taken ≡ t.taken → a.closes ≡ is_closed t.conn
       → a.more ≡ has_text t.conn
       → Gave t.bytes t.taken (is_closed t.conn) (has_text t.conn) ≡ Gave t.bytes a.taken a.closes a.more
@@ -70,84 +70,84 @@ module _ {U B : Type 0} (u : Ghosts U B) where
       ∙ ap (λ b. Gave t.bytes t.taken (is_closed t.conn) b) g))
 
   module _ (places all : List (Option (Link B))) (store store' : U) (st : State) (e : Event) (conn : Conn)
-      (stands : SessionStands u places store st) (on : IsOnOpen e) (is : st.conns (conn_in e) ≡ Some conn) where
+      (stands : SessionStands u sure places store st) (on : IsOnOpen e) (is : st.conns (conn_in e) ≡ Some conn) where
     moves_at : (w' : World) (own' : Option ℕ) → Moves st.world w' conn.draft own'
         → Moves st.world w' (draft_at (st.conns (conn_in e))) own'
     moves_at w' own' moves = subst (λ o. Moves st.world w' (draft_at o) own') (sym is) moves
 
     -- the connection is gone, with its draft
-    lost : IsPut places all (conn_in e) None → u.stands store' (left_world st.world conn.draft)
-        → Follows u all store' (step st e OutOfMemory).state (step st e OutOfMemory).outcome (Refused errors.NoMemory)
+    lost : IsPut places all (conn_in e) None → u.stands store sure' (left_world st.world conn.draft)
+        → Follows u sure all store' (step st e OutOfMemory).state (step st e OutOfMemory).outcome (Refused errors.NoMemory)
     lost is_put shown =
         let w' = left_world st.world conn.draft in
-        let s : SessionStands u all store' (put st w' (conn_in e) None) =
+        let s : SessionStands u sure all store' (put st w' (conn_in e) None) =
         in_place u places all store store' st w' (conn_in e) None None stands is_put
         (moves_at w' None (left_moves st.world conn.draft)) shown tt in
         let x : Step = record { state = put st w' (conn_in e) None; outcome = Refused errors.NoMemory } in
-        let f : Follows u all store' x.state x.outcome (Refused errors.NoMemory) =
+        let f : Follows u sure all store' x.state x.outcome (Refused errors.NoMemory) =
         record { stands = s; outcome = refl } in
-        subst (λ y. Follows u all store' y.state y.outcome (Refused errors.NoMemory))
+        subst (λ y. Follows u sure all store' y.state y.outcome (Refused errors.NoMemory))
         (sym (memory_is st e conn on is)) f
 
     pub told : (next : Option (Link B)) (t : Turn) (a : Answer) (old new : List ℕ) → IsPut places all (conn_in e) next
-        → IsTurn st e conn t → TurnedAs u store' next a old new st.world conn.draft t
-        → Told u all store' (Ok a) old new st e
+        → IsTurn st e conn t → TurnedAs u sure store' next a old new st.world conn.draft t
+        → Told u sure all store' (Ok a) old new st e
     told next t a old new is_put is_turn turn =
-        let s : SessionStands u all store' (put st t.world (conn_in e) t.conn) =
+        let s : SessionStands u sure all store' (put st t.world (conn_in e) t.conn) =
         in_place u places all store store' st t.world (conn_in e) next t.conn stands is_put
         (moves_at t.world (draft_at t.conn) turn.moves) turn.shown turn.here in
         let x = turned st (conn_in e) t in
-        let f : Follows u all store' x.state x.outcome (Gave t.bytes a.taken a.closes a.more) =
+        let f : Follows u sure all store' x.state x.outcome (Gave t.bytes a.taken a.closes a.more) =
         record { stands = s; outcome = gave old new a t turn.taken turn.closes turn.more } in (
           t.bytes,
-          subst (λ y. Follows u all store' y.state y.outcome (Gave t.bytes a.taken a.closes a.more))
+          subst (λ y. Follows u sure all store' y.state y.outcome (Gave t.bytes a.taken a.closes a.more))
               (sym is_turn.step_is) f,
           turn.bytes,
         )
 
     -- an error closes the connection
     pub stopped : (t : Turn) (stop : Stop) (old new : List ℕ) → IsPut places all (conn_in e) None
-        → Turned u store' (Err stop) old new st.world conn.draft t
-        → Told u all store' (Err (error_of stop)) old new st e
+        → Turned u sure store' (Err stop) old new st.world conn.draft t
+        → Told u sure all store' (Err (error_of stop)) old new st e
     stopped t stops.NoMemory old new is_put (shown, same) = (lost is_put shown, same)
     stopped t stops.DiskFault old new is_put same = (failed_is st e conn on is, same)
 
     pub ends : IsPut places all (conn_in e) None
         → step st e Served ≡ record { state = put st (ended_world st.world conn) (conn_in e) None; outcome = Done }
-        → EndedAs u store' st.world conn.draft (ended_world st.world conn) → Ends u all store' (Ok tt) st e
+        → EndedAs u sure store' st.world conn.draft (ended_world st.world conn) → Ends u sure all store' (Ok tt) st e
     ends is_put done turn =
         let w' = ended_world st.world conn in
-        let s : SessionStands u all store' (put st w' (conn_in e) None) =
+        let s : SessionStands u sure all store' (put st w' (conn_in e) None) =
         in_place u places all store store' st w' (conn_in e) None None stands is_put
         (moves_at w' None turn.moves) turn.shown tt in
         let x : Step = record { state = put st w' (conn_in e) None; outcome = Done } in
-        let f : Follows u all store' x.state x.outcome Done = record { stands = s; outcome = refl } in
-        subst (λ y. Follows u all store' y.state y.outcome Done) (sym done) f
+        let f : Follows u sure all store' x.state x.outcome Done = record { stands = s; outcome = refl } in
+        subst (λ y. Follows u sure all store' y.state y.outcome Done) (sym done) f
 
     pub ends_stopped : (stop : Stop) → IsPut places all (conn_in e) None
         → EndedBy u store' (Err stop) st.world conn.draft (ended_world st.world conn)
-        → Ends u all store' (Err (error_of stop)) st e
+        → Ends u sure all store' (Err (error_of stop)) st e
     ends_stopped stops.NoMemory is_put shown = lost is_put shown
     ends_stopped stops.DiskFault is_put turn = failed_is st e conn on is
 
   -- no connection is open there
   pub none_came : (places : List (Option (Link B))) (store : U) (st : State) (c : ℕ) (bytes : List ℕ)
-      → SessionStands u places store st → st.conns c ≡ None
-      → Follows u places store st (step st (Came c bytes) Served).outcome (Refused errors.Closed)
+      → SessionStands u sure places store st → st.conns c ≡ None
+      → Follows u sure places store st (step st (Came c bytes) Served).outcome (Refused errors.Closed)
   unfolding step
   none_came places store st c bytes stands none =
       record { stands = stands; outcome = ap (λ o. (came_at st c bytes o).outcome) none }
 
-  pub none_more : (places : List (Option (Link B))) (store : U) (st : State) (c : ℕ) → SessionStands u places store st
+  pub none_more : (places : List (Option (Link B))) (store : U) (st : State) (c : ℕ) → SessionStands u sure places store st
       → st.conns c ≡ None
-      → Follows u places store st (step st (More c) Served).outcome (Refused errors.Closed)
+      → Follows u sure places store st (step st (More c) Served).outcome (Refused errors.Closed)
   unfolding step
   none_more places store st c stands none =
       record { stands = stands; outcome = ap (λ o. (more_at st c o).outcome) none }
 
-  pub none_ended : (places : List (Option (Link B))) (store : U) (st : State) (c : ℕ) → SessionStands u places store st
+  pub none_ended : (places : List (Option (Link B))) (store : U) (st : State) (c : ℕ) → SessionStands u sure places store st
       → st.conns c ≡ None
-      → Follows u places store st (step st (Ended c) Served).outcome (Refused errors.Closed)
+      → Follows u sure places store st (step st (Ended c) Served).outcome (Refused errors.Closed)
   unfolding step
   none_ended places store st c stands none = record {
     stands = stands;

@@ -93,11 +93,11 @@ draft_at None = None
 draft_at (Some conn) = conn.draft
 
 -- the store shows the history's world, each place is the history's, and no two connections have one draft
-pub record SessionStands {U B : Type 0} (u : Ghosts U B) (places : List (Option (Link B))) (store : U) (st : State) :
+pub record SessionStands {U B : Type 0} (u : Ghosts U B) (sure : Bool) (places : List (Option (Link B))) (store : U) (st : State) :
     Type 0
   where
     pub count : length places ≡ most_open
-    pub shown : u.stands store st.world
+    pub shown : u.stands store sure st.world
     pub each : (c : ℕ) → PlaceIs u st.world (get_or places c None) (st.conns c)
     pub apart : (c e d : ℕ) → draft_at (st.conns c) ≡ Some d → draft_at (st.conns e) ≡ Some d → c ≡ e
     pub unique : IsApart st.world.patches

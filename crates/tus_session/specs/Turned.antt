@@ -12,9 +12,9 @@ use Rattle.tus_action.specs.declared.acts.Stop.{Stop}
 use Rattle.tus_action.specs.declared.acts.Stop.TheVariants.{NoMemory, DiskFault}
 
 -- the turn's world, connection and bytes
-pub record TurnedAs {U B : Type 0} (u : Ghosts U B) (store : U) (link : Option (Link B)) (a : Answer)
+pub record TurnedAs {U B : Type 0} (u : Ghosts U B) (sure : Bool) (store : U) (link : Option (Link B)) (a : Answer)
     (old new : List ℕ) (w : World) (own : Option ℕ) (t : Turn) : Type 0 where
-  pub shown : u.stands store t.world
+  pub shown : u.stands store sure t.world
   pub here : PlaceIs u t.world link t.conn
   pub moves : Moves w t.world own (draft_at t.conn)
   pub taken : a.taken ≡ t.taken
@@ -24,19 +24,19 @@ pub record TurnedAs {U B : Type 0} (u : Ghosts U B) (store : U) (link : Option (
 
 -- the turn is done, and this is the connection after it; or it was out of memory, and the draft is gone; or the
 -- disk failed. An error closes the connection
-abbrev pub Turned : {U B : Type 0} → Ghosts U B → U → Result (Option (Link B) × Answer) Stop → List ℕ → List ℕ → World
+abbrev pub Turned : {U B : Type 0} → Ghosts U B → Bool → U → Result (Option (Link B) × Answer) Stop → List ℕ → List ℕ → World
     → Option ℕ → Turn → Type 0
-Turned u store (Ok (link, a)) old new w own t = TurnedAs u store link a old new w own t
-Turned u store (Err NoMemory) old new w own t = u.stands store (left_world w own) × (new ≡ old)
-Turned u store (Err DiskFault) old new w own t = new ≡ old
+Turned u sure store (Ok (link, a)) old new w own t = TurnedAs u sure store link a old new w own t
+Turned u sure store (Err NoMemory) old new w own t = u.stands store sure (left_world w own) × (new ≡ old)
+Turned u sure store (Err DiskFault) old new w own t = new ≡ old
 
 -- a connection's end: its draft is spent
-pub record EndedAs {U B : Type 0} (u : Ghosts U B) (store : U) (w : World) (own : Option ℕ) (done : World) : Type 0
+pub record EndedAs {U B : Type 0} (u : Ghosts U B) (sure : Bool) (store : U) (w : World) (own : Option ℕ) (done : World) : Type 0
   where
-    pub shown : u.stands store done
+    pub shown : u.stands store sure done
     pub moves : Moves w done own None
 
-abbrev pub Ended : {U B : Type 0} → Ghosts U B → U → Result (Unit {0}) Stop → World → Option ℕ → World → Type 0
-Ended u store (Ok x) w own done = EndedAs u store w own done
-Ended u store (Err NoMemory) w own done = u.stands store (left_world w own)
-Ended u store (Err DiskFault) w own done = Unit {0}
+abbrev pub Ended : {U B : Type 0} → Ghosts U B → Bool → U → Result (Unit {0}) Stop → World → Option ℕ → World → Type 0
+Ended u sure store (Ok x) w own done = EndedAs u sure store w own done
+Ended u sure store (Err NoMemory) w own done = u.stands store sure (left_world w own)
+Ended u sure store (Err DiskFault) w own done = Unit {0}

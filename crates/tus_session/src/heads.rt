@@ -47,19 +47,19 @@ fn request_of<U: Uploads>(
     out: &mut Vec<u8>,
 ) -> Result<(Option<Link<U::Draft>>, Answer), Stop>
     requires makeable { CanBeMade (request_shown request).action }
-    requires usable { (w : World) → U.stands store.old w → CanBeRead w (request_shown request).action }
+    requires usable { (sure : Bool) (w : World) → U.stands store.old sure w → CanBeRead w (request_shown request).action }
     requires small { IsSmall (request_shown request) }
     requires within { before ≤ length bytes.now }
     requires cleared { (bytes_of head) ≡ [] }
-    ensures answer { (w : World) (conn : Conn) (h : List ℕ) (n : ℕ) → U.stands store.old w
+    ensures answer { (sure : Bool) (w : World) (conn : Conn) (h : List ℕ) (n : ℕ) → U.stands store.old sure w
         → IsWhole w conn h bytes.now n before (Asks (request_shown request))
-        → Turned U.Uploads store.new result out.old.items out.new.items w conn.draft
+        → Turned U.Uploads sure store.new result out.old.items out.new.items w conn.draft
         (came_turn w conn bytes.now) }
-    ensures crash { (w : World) (conn : Conn) (h : List ℕ) (n : ℕ) → U.stands store.old w
+    ensures crash { (w : World) (conn : Conn) (h : List ℕ) (n : ℕ) → U.stands store.old true w
         → IsWhole w conn h bytes.now n before (Asks (request_shown request))
         → Limits (U.moment store.old) (U.moment store.new) (U.left_only store.old) (U.left_only store.new) w.store
         (came_turn w conn bytes.now).world.store }
-    ensures unmade { (w : World) (conn : Conn) (h : List ℕ) (n : ℕ) → U.stands store.old w
+    ensures unmade { (w : World) (conn : Conn) (h : List ℕ) (n : ℕ) → U.stands store.old true w
         → IsWhole w conn h bytes.now n before (Asks (request_shown request)) → IsErrOf result Stop.NoMemory
         → Limits (U.moment store.old) (U.moment store.new) (U.left_only store.old)
         (U.left_only store.new) w.store w.store }
@@ -116,13 +116,13 @@ fn head_of<U: Uploads>(
     buffer: &mut PieceBuffer,
     out: &mut Vec<u8>,
 ) -> Result<(Option<Link<U::Draft>>, Answer), Stop>
-    ensures answer { (w : World) (conn : Conn) → U.stands store.old w → InsideHead w conn (bytes_of head)
-        → Turned U.Uploads store.new result out.old.items out.new.items w conn.draft
+    ensures answer { (sure : Bool) (w : World) (conn : Conn) → U.stands store.old sure w → InsideHead w conn (bytes_of head)
+        → Turned U.Uploads sure store.new result out.old.items out.new.items w conn.draft
         (came_turn w conn bytes.now) }
-    ensures crash { (w : World) (conn : Conn) → U.stands store.old w → InsideHead w conn (bytes_of head)
+    ensures crash { (w : World) (conn : Conn) → U.stands store.old true w → InsideHead w conn (bytes_of head)
         → Limits (U.moment store.old) (U.moment store.new) (U.left_only store.old) (U.left_only store.new) w.store
         (came_turn w conn bytes.now).world.store }
-    ensures unmade { (w : World) (conn : Conn) → U.stands store.old w → InsideHead w conn (bytes_of head)
+    ensures unmade { (w : World) (conn : Conn) → U.stands store.old true w → InsideHead w conn (bytes_of head)
         → IsErrOf result Stop.NoMemory
         → Limits (U.moment store.old) (U.moment store.new) (U.left_only store.old)
         (U.left_only store.new) w.store w.store }
@@ -166,15 +166,15 @@ pub(crate) fn came_of<U: Uploads>(
     buffer: &mut PieceBuffer,
     out: &mut Vec<u8>,
 ) -> Result<(Option<Link<U::Draft>>, Answer), Stop>
-    ensures answer { (w : World) (conn : Conn) → U.stands store.old w
+    ensures answer { (sure : Bool) (w : World) (conn : Conn) → U.stands store.old sure w
         → LinkIs U.Uploads w (bytes_of link.head) link.awaiting conn
-        → Turned U.Uploads store.new result out.old.items out.new.items w conn.draft
+        → Turned U.Uploads sure store.new result out.old.items out.new.items w conn.draft
         (came_turn w conn bytes.now) }
-    ensures crash { (w : World) (conn : Conn) → U.stands store.old w
+    ensures crash { (w : World) (conn : Conn) → U.stands store.old true w
         → LinkIs U.Uploads w (bytes_of link.head) link.awaiting conn
         → Limits (U.moment store.old) (U.moment store.new) (U.left_only store.old) (U.left_only store.new) w.store
         (came_turn w conn bytes.now).world.store }
-    ensures unmade { (w : World) (conn : Conn) → U.stands store.old w
+    ensures unmade { (w : World) (conn : Conn) → U.stands store.old true w
         → LinkIs U.Uploads w (bytes_of link.head) link.awaiting conn → IsErrOf result Stop.NoMemory
         → Limits (U.moment store.old) (U.moment store.new) (U.left_only store.old)
         (U.left_only store.new) w.store w.store }

@@ -33,8 +33,8 @@ pub struct Session<U: Uploads> {
 impl<U: Uploads> Session<U> {
     /// No connection is open.
     pub fn new(alloc: Global) -> Result<Self, AllocError>
-        ensures { (store : U) (m : Store) (blocks : Option ℕ) → U.stands store (at_rest m blocks)
-            → IfOk result (λ s. SessionStands U.Uploads (places_of s) store (beginning m blocks)) }
+        ensures { (sure : Bool) (store : U) (m : Store) (blocks : Option ℕ) → U.stands store sure (at_rest m blocks)
+            → IfOk result (λ s. SessionStands U.Uploads sure (places_of s) store (beginning m blocks)) }
     {
         let buffer = Box::new(alloc, [0; PIECE])?;
         let mut links = Vec::with_capacity(alloc, MOST_OPEN)?;
@@ -53,8 +53,8 @@ impl<U: Uploads> Session<U> {
 
     /// Opens a connection. It needs no memory.
     pub fn opened(&mut self, conn: usize) -> Result<(), SessionError>
-        ensures answer { (store : U) (st : State) → SessionStands U.Uploads (places_of self.old) store st
-            → Opens U.Uploads (places_of self.new) store result st (Opened conn) }
+        ensures answer { (sure : Bool) (store : U) (st : State) → SessionStands U.Uploads sure (places_of self.old) store st
+            → Opens U.Uploads sure (places_of self.new) store result st (Opened conn) }
         ensures no_device { IsErrOf result SessionError.DiskFault → ⊥ }
         ensures no_down { IsErrOf result SessionError.Down → ⊥ }
     {
@@ -85,14 +85,14 @@ impl<U: Uploads> Session<U> {
         bytes: &[u8],
         out: &mut Vec<u8>,
     ) -> Result<Answer, SessionError>
-        ensures answer { (st : State) → SessionStands U.Uploads (places_of self.old) store.old st
-            → Told U.Uploads (places_of self.new) store.new result out.old.items out.new.items st
+        ensures answer { (sure : Bool) (st : State) → SessionStands U.Uploads sure (places_of self.old) store.old st
+            → Told U.Uploads sure (places_of self.new) store.new result out.old.items out.new.items st
             (Came conn bytes.now) }
-        ensures crash { (st : State) → SessionStands U.Uploads (places_of self.old) store.old st
+        ensures crash { (st : State) → SessionStands U.Uploads true (places_of self.old) store.old st
             → Limits (U.moment store.old) (U.moment store.new) (U.left_only store.old)
             (U.left_only store.new) st.world.store
             (step st (Came conn bytes.now) Served).state.world.store }
-        ensures unmade { (st : State) → SessionStands U.Uploads (places_of self.old) store.old st
+        ensures unmade { (st : State) → SessionStands U.Uploads true (places_of self.old) store.old st
             → IsErrOf result SessionError.NoMemory
             → Limits (U.moment store.old) (U.moment store.new) (U.left_only store.old)
             (U.left_only store.new) st.world.store st.world.store }
@@ -118,8 +118,8 @@ impl<U: Uploads> Session<U> {
         conn: usize,
         out: &mut Vec<u8>,
     ) -> Result<Answer, SessionError>
-        ensures answer { (st : State) → SessionStands U.Uploads (places_of self.old) store.old st
-            → Told U.Uploads (places_of self.new) store.new result out.old.items out.new.items st (More conn) }
+        ensures answer { (sure : Bool) (st : State) → SessionStands U.Uploads sure (places_of self.old) store.old st
+            → Told U.Uploads sure (places_of self.new) store.new result out.old.items out.new.items st (More conn) }
         ensures crash { Quiet (U.moment store.old) (U.moment store.new) (U.left_only store.old)
             (U.left_only store.new) }
         ensures counts { Counts (IsErrOf result SessionError.DiskFault) (U.failures store.old) (U.failures store.new) }
@@ -137,13 +137,13 @@ impl<U: Uploads> Session<U> {
     /// Refused with `Closed` where the connection isn't open, and then with `NoMemory` or `DiskFault`. It is closed in
     /// every case.
     pub fn ended(&mut self, store: &mut U, conn: usize) -> Result<(), SessionError>
-        ensures answer { (st : State) → SessionStands U.Uploads (places_of self.old) store.old st
-            → Ends U.Uploads (places_of self.new) store.new result st (Ended conn) }
-        ensures crash { (st : State) → SessionStands U.Uploads (places_of self.old) store.old st
+        ensures answer { (sure : Bool) (st : State) → SessionStands U.Uploads sure (places_of self.old) store.old st
+            → Ends U.Uploads sure (places_of self.new) store.new result st (Ended conn) }
+        ensures crash { (st : State) → SessionStands U.Uploads true (places_of self.old) store.old st
             → Limits (U.moment store.old) (U.moment store.new) (U.left_only store.old)
             (U.left_only store.new) st.world.store
             (step st (Ended conn) Served).state.world.store }
-        ensures unmade { (st : State) → SessionStands U.Uploads (places_of self.old) store.old st
+        ensures unmade { (st : State) → SessionStands U.Uploads true (places_of self.old) store.old st
             → IsErrOf result SessionError.NoMemory
             → Limits (U.moment store.old) (U.moment store.new) (U.left_only store.old)
             (U.left_only store.new) st.world.store st.world.store }
@@ -157,12 +157,12 @@ impl<U: Uploads> Session<U> {
 
     // Takes an open connection out of its place, which is closed then. Refused with `Closed` where none is open.
     fn take(&mut self, conn: usize) -> Result<Link<U::Draft>, SessionError>
-        ensures open { (store : U) (st : State) → SessionStands U.Uploads (places_of self.old) store st
+        ensures open { (sure : Bool) (store : U) (st : State) → SessionStands U.Uploads sure (places_of self.old) store st
             → IfOk result (IsOpen U.Uploads st conn) }
         ensures taken { OnOk result (IsPut (places_of self.old) (places_of self.new) conn None) }
         ensures within { OnOk result (conn < length (places_of self.new)) }
-        ensures closed { (store : U) (st : State) → SessionStands U.Uploads (places_of self.old) store st
-            → OnErr result ((st.conns conn ≡ None) × SessionStands U.Uploads (places_of self.new) store st) }
+        ensures closed { (sure : Bool) (store : U) (st : State) → SessionStands U.Uploads sure (places_of self.old) store st
+            → OnErr result ((st.conns conn ≡ None) × SessionStands U.Uploads sure (places_of self.new) store st) }
         ensures refusal { IfErr result (λ e. e ≡ SessionError.Closed) }
     {
         if conn >= self.links.len() {
@@ -173,8 +173,8 @@ impl<U: Uploads> Session<U> {
 
     /// Ends the session: the drafts that are open are dropped.
     pub fn close(self, store: &mut U)
-        ensures kept { (st : State) → SessionStands U.Uploads (places_of self) store.old st
-            → U.stands store.new (at_rest st.world.store st.world.blocks) }
+        ensures kept { (sure : Bool) (st : State) → SessionStands U.Uploads sure (places_of self) store.old st
+            → U.stands store.new sure (at_rest st.world.store st.world.blocks) }
         ensures crash { Quiet (U.moment store.old) (U.moment store.new) (U.left_only store.old)
             (U.left_only store.new) }
         ensures counts { U.failures store.new ≡ U.failures store.old }

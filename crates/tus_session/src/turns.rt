@@ -32,9 +32,9 @@ pub(crate) fn more_of<U: Uploads>(
     buffer: &mut PieceBuffer,
     out: &mut Vec<u8>,
 ) -> Result<(Option<Link<U::Draft>>, Answer), Stop>
-    ensures answer { (w : World) (conn : Conn) → U.stands store.old w
+    ensures answer { (sure : Bool) (w : World) (conn : Conn) → U.stands store.old sure w
         → LinkIs U.Uploads w (bytes_of link.head) link.awaiting conn
-        → Turned U.Uploads store.new result out.old.items out.new.items w conn.draft (more_turn w conn) }
+        → Turned U.Uploads sure store.new result out.old.items out.new.items w conn.draft (more_turn w conn) }
     ensures crash { Quiet (U.moment store.old) (U.moment store.new) (U.left_only store.old) (U.left_only store.new) }
     ensures counts { Counts (IsErrOf result Stop.DiskFault) (U.failures store.old) (U.failures store.new) }
     ensures few { GivesFew out.old.items out.new.items }
@@ -71,14 +71,14 @@ fn gave(closes: bool) -> Answer
 
 // The connection ended: what came of an open patch is committed.
 pub(crate) fn end_of<U: Uploads>(store: &mut U, link: Link<U::Draft>) -> Result<(), Stop>
-    ensures answer { (w : World) (conn : Conn) → U.stands store.old w
+    ensures answer { (sure : Bool) (w : World) (conn : Conn) → U.stands store.old sure w
         → LinkIs U.Uploads w (bytes_of link.head) link.awaiting conn
-        → Ended U.Uploads store.new result w conn.draft (ended_world w conn) }
-    ensures crash { (w : World) (conn : Conn) → U.stands store.old w
+        → Ended U.Uploads sure store.new result w conn.draft (ended_world w conn) }
+    ensures crash { (w : World) (conn : Conn) → U.stands store.old true w
         → LinkIs U.Uploads w (bytes_of link.head) link.awaiting conn
         → Limits (U.moment store.old) (U.moment store.new) (U.left_only store.old) (U.left_only store.new) w.store
         (ended_world w conn).store }
-    ensures unmade { (w : World) (conn : Conn) → U.stands store.old w
+    ensures unmade { (w : World) (conn : Conn) → U.stands store.old true w
         → LinkIs U.Uploads w (bytes_of link.head) link.awaiting conn → IsErrOf result Stop.NoMemory
         → Limits (U.moment store.old) (U.moment store.new) (U.left_only store.old)
         (U.left_only store.new) w.store w.store }
@@ -95,7 +95,7 @@ pub(crate) fn end_of<U: Uploads>(store: &mut U, link: Link<U::Draft>) -> Result<
 
 // The session ends: an open patch is dropped.
 pub(crate) fn drop_link<U: Uploads>(store: &mut U, link: Link<U::Draft>)
-    ensures kept { (w : World) → U.stands store.old w → U.stands store.new (dropped_by U.Uploads w link.awaiting) }
+    ensures kept { (sure : Bool) (w : World) → U.stands store.old sure w → U.stands store.new sure (dropped_by U.Uploads w link.awaiting) }
     ensures crash { Quiet (U.moment store.old) (U.moment store.new) (U.left_only store.old) (U.left_only store.new) }
     ensures counts { U.failures store.new ≡ U.failures store.old }
 {

@@ -1,5 +1,5 @@
 -- Reading a text.
-use Rattle.std.specs.Prelude.{◌≡◌, ℕ, ◌-◌, List, [], ◌++◌, length, take, drop, min, Option, Some, None}
+use Rattle.std.specs.Prelude.{◌≡◌, ℕ, ◌-◌, Bool, true, List, [], ◌++◌, length, take, drop, min, Option, Some, None}
 use Rattle.upload_rules.specs.declared.errors.UploadRefusal.{UploadRefusal}
 use Rattle.upload_rules.specs.declared.errors.UploadRefusal.TheVariants.{NoSuch}
 use Rattle.upload_rules.specs.Store.{Upload, Store, text_of}
@@ -17,3 +17,8 @@ text_at m (Some u) = text_of m.indexes u
 pub record IsRead (text : List ℕ) (at n : ℕ) (old new : List ℕ) : Type 0 where
   pub count : n ≡ min (length text - at) (length old)
   pub bytes : new ≡ take n (drop at text) ++ drop n old
+
+-- so many bytes were read of a disk, and they are the text's where that is sure
+pub record IsReadOf (sure : Bool) (text : List ℕ) (at n : ℕ) (old new : List ℕ) : Type 0 where
+  pub count : n ≡ min (length text - at) (length old)
+  pub read : sure ≡ true → IsRead text at n old new

@@ -95,9 +95,7 @@ impl Uploads for Table {
 
     type Draft = TableDraft;
 
-    ghost represents = { TableStands };
-
-    ghost stands = { TableStands };
+    ghost stands = { λ t sure w. TableStands t w };
 
     ghost number_of = { λ d. d.number };
 
@@ -109,9 +107,7 @@ impl Uploads for Table {
 
     ghost failures = { λ t. 0 };
 
-    ghost represented = { λ t w stands. stands };
-
-    ghost below = { λ t w number u stands there. upload_below t w stands number u there };
+    ghost below = { λ t sure w number u stands there. upload_below t w stands number u there };
 
     ghost durable = { λ t w ms stands among. tt };
 

@@ -1,8 +1,6 @@
-//! Uploads: each call is stated for every world that the store stands for, and for every one that it represents.
-//!
-//! What a store keeps in memory represents a world whatever its disk holds or says: each answer and refusal, and what
-//! stays after it, holds then. It stands for the world where the disk is honest too: then the texts are on it.
-ghost use Rattle.std.specs.Prelude.{◌≡◌, ◌≤◌, ◌<◌, ◌+◌, ◌-◌, ℕ, List, length, min, Option, Some, None, IfSome};
+//! Uploads: each call is stated for every world that the store stands for, whether or not its disk is known to be
+//! honest.
+ghost use Rattle.std.specs.Prelude.{◌≡◌, ◌≤◌, ◌<◌, ◌+◌, ℕ, Bool, true, List, length, Option, Some, None, IfSome};
 ghost use Rattle.std.specs.Prelude.{IsErrOf, option_copied};
 ghost use Rattle.upload_rules.specs.Store.{Upload, Store, upload_of, find};
 ghost use Rattle.upload_rules.specs.World.{Patch, World, free_number, reached};
@@ -11,7 +9,7 @@ ghost use Rattle.upload_rules.specs.Calls.{terminate_outcome, begin_refusal, beg
 ghost use Rattle.upload_rules.specs.Calls.{committed, commit_outcome, dropped};
 ghost use Rattle.upload_rules.specs.Answers.{Answers, IsBegun, Among, Limits, Quiet, Counts};
 ghost use Rattle.upload_rules.specs.Records.{IsShort, TellsOf, with_number, above, IsWellFormed, IsOffered};
-ghost use Rattle.upload_rules.specs.Reading.{no_such, text_at, IsRead};
+ghost use Rattle.upload_rules.specs.Reading.{no_such, text_at, IsReadOf};
 
 use crate::{New, Record, UploadError};
 use enc_index::IndexSet;
@@ -21,11 +19,9 @@ pub trait Uploads {
     /// An append under way: has to be spent, by `commit` or `drop_open`.
     type Draft;
 
-    /// What the store keeps is the world's, whatever its disk: a relation, since no accepted byte is kept.
-    ghost represents: { Self → World → Type 0 };
-
-    /// The store represents the world, its disk is honest, and holds the world's texts.
-    ghost stands: { Self → World → Type 0 };
+    /// What the store keeps in memory stands for the world: a relation, since no accepted byte is kept. Where that is
+    /// sure, its disk does too: it is honest, and holds the texts. Where it isn't, nothing is said of the disk.
+    ghost stands: { Self → Bool → World → Type 0 };
 
     /// The draft's number.
     ghost number_of: { Self.Draft → ℕ };
@@ -46,53 +42,47 @@ pub trait Uploads {
     /// The upload of a number.
     fn record(&self, number: u64) -> Option<&Record>
         ensures short { IfSome (option_copied result) IsShort }
-        ensures told { (w : World) → represents self.now w → TellsOf w.store.indexes
+        ensures told { (sure : Bool) (w : World) → stands self.now sure w → TellsOf w.store.indexes
             (with_number number (upload_of w.store number)) (option_copied result) };
 
     /// The upload of the least number above this one.
     fn record_after(&self, number: u64) -> Option<&Record>
-        ensures { (w : World) → represents self.now w → TellsOf w.store.indexes (above number w.store.uploads)
-            (option_copied result) };
+        ensures { (sure : Bool) (w : World) → stands self.now sure w
+            → TellsOf w.store.indexes (above number w.store.uploads) (option_copied result) };
 
     /// The number that the next upload gets.
     fn next_number(&self) -> u64
-        ensures { (w : World) → represents self.now w → result ≡ w.store.next };
+        ensures { (sure : Bool) (w : World) → stands self.now sure w → result ≡ w.store.next };
 
     /// The index files.
     fn indexes(&self) -> &IndexSet
-        ensures { (w : World) → represents self.now w → result.now ≡ w.store.indexes };
+        ensures { (sure : Bool) (w : World) → stands self.now sure w → result.now ≡ w.store.indexes };
 
     /// Makes an upload without bytes, and answers its number: refused with `TooLarge`, `Slots`, `NoMemory`,
     /// `DiskFault`.
     fn create(&mut self, new: New) -> Result<u64, UploadError>
         requires well_formed { IsWellFormed new }
-        requires offered { (w : World) → stands self.old w → IsOffered w.store.indexes new }
-        ensures represents { (w : World) → represents self.old w
-            → Answers (create_refusal w new) result (λ n. (n ≡ w.store.next) × represents self.new (created w new))
-            (represents self.new w) }
-        ensures answer { (w : World) → stands self.old w
-            → Answers (create_refusal w new) result (λ n. (n ≡ w.store.next) × stands self.new (created w new))
-            (stands self.new w) }
-        ensures crash { (w : World) → stands self.old w
+        requires offered { (sure : Bool) (w : World) → stands self.old sure w → IsOffered w.store.indexes new }
+        ensures answer { (sure : Bool) (w : World) → stands self.old sure w
+            → Answers (create_refusal w new) result (λ n. (n ≡ w.store.next) × stands self.new sure (created w new))
+            (stands self.new sure w) }
+        ensures crash { (w : World) → stands self.old true w
             → Limits (moment self.old) (moment self.new) (left_only self.old) (left_only self.new) w.store
             (create_outcome w new) }
-        ensures unmade { (w : World) → stands self.old w → IsErrOf result UploadError.NoMemory
+        ensures unmade { (w : World) → stands self.old true w → IsErrOf result UploadError.NoMemory
             → Limits (moment self.old) (moment self.new) (left_only self.old) (left_only self.new) w.store w.store }
         ensures counts { Counts (IsErrOf result UploadError.DiskFault) (failures self.old) (failures self.new) };
 
     /// Takes an upload away with its text: refused with `NoSuch`, `NoMemory`, `DiskFault`. Its number is never used
     /// again, and an open draft of it can only be refused from then on.
     fn terminate(&mut self, number: u64) -> Result<(), UploadError>
-        ensures represents { (w : World) → represents self.old w
-            → Answers (terminate_refusal w number) result (λ done. represents self.new (terminated w number))
-            (represents self.new w) }
-        ensures answer { (w : World) → stands self.old w
-            → Answers (terminate_refusal w number) result (λ done. stands self.new (terminated w number))
-            (stands self.new w) }
-        ensures crash { (w : World) → stands self.old w
+        ensures answer { (sure : Bool) (w : World) → stands self.old sure w
+            → Answers (terminate_refusal w number) result (λ done. stands self.new sure (terminated w number))
+            (stands self.new sure w) }
+        ensures crash { (w : World) → stands self.old true w
             → Limits (moment self.old) (moment self.new) (left_only self.old) (left_only self.new) w.store
             (terminate_outcome w number) }
-        ensures unmade { (w : World) → stands self.old w → IsErrOf result UploadError.NoMemory
+        ensures unmade { (w : World) → stands self.old true w → IsErrOf result UploadError.NoMemory
             → Limits (moment self.old) (moment self.new) (left_only self.old) (left_only self.new) w.store w.store }
         ensures counts { Counts (IsErrOf result UploadError.DiskFault) (failures self.old) (failures self.new) };
 
@@ -105,16 +95,11 @@ pub trait Uploads {
         count: u64,
         declare: Option<u64>,
     ) -> Result<Self::Draft, UploadError>
-        ensures represents { (w : World) → represents self.old w
+        ensures answer { (sure : Bool) (w : World) → stands self.old sure w
             → Answers (begin_refusal w number offset count declare) result
             (λ draft. (Self.number_of draft ≡ free_number w) × IsBegun (holds draft) number count declare
-            (upload_of w.store number) × represents self.new (begun w number count declare))
-            (represents self.new w) }
-        ensures answer { (w : World) → stands self.old w
-            → Answers (begin_refusal w number offset count declare) result
-            (λ draft. (Self.number_of draft ≡ free_number w) × IsBegun (holds draft) number count declare
-            (upload_of w.store number) × stands self.new (begun w number count declare))
-            (stands self.new w) }
+            (upload_of w.store number) × stands self.new sure (begun w number count declare))
+            (stands self.new sure w) }
         ensures no_device { IsErrOf result UploadError.DiskFault → ⊥ }
         ensures crash { Quiet (moment self.old) (moment self.new) (left_only self.old) (left_only self.new) }
         ensures counts { failures self.new ≡ failures self.old };
@@ -123,22 +108,15 @@ pub trait Uploads {
     /// only be dropped. Text that can't be encoded or stored is kept as the draft's fault.
     fn append(&mut self, draft: &mut Self::Draft, piece: &[u8]) -> Result<(), UploadError>
         ensures same { Self.number_of draft.new ≡ Self.number_of draft.old }
-        ensures represents { (w : World) (p : Patch) → represents self.old w
+        ensures answer { (sure : Bool) (w : World) (p : Patch) → stands self.old sure w
             → find (Self.number_of draft.old) w.patches ≡ Some p → holds draft.old p
             → length p.body + length piece.now ≤ p.count
             → Answers None result
-            (λ done. holds draft.new (longer w (Self.number_of draft.old) p piece.now) × represents self.new
+            (λ done. holds draft.new (longer w (Self.number_of draft.old) p piece.now) × stands self.new sure
             (appended w (Self.number_of draft.old) piece.now))
-            (represents self.new w) }
-        ensures answer { (w : World) (p : Patch) → stands self.old w → find (Self.number_of draft.old) w.patches ≡ Some
-            p → holds draft.old p
-            → length p.body + length piece.now ≤ p.count
-            → Answers None result
-            (λ done. holds draft.new (longer w (Self.number_of draft.old) p piece.now) × stands self.new
-            (appended w (Self.number_of draft.old) piece.now))
-            (stands self.new w) }
-        ensures crash { (w : World) (p : Patch) → stands self.old w → find (Self.number_of draft.old) w.patches ≡ Some p
-            → holds draft.old p
+            (stands self.new sure w) }
+        ensures crash { (w : World) (p : Patch) → stands self.old true w
+            → find (Self.number_of draft.old) w.patches ≡ Some p → holds draft.old p
             → Quiet (moment self.old) (moment self.new) (left_only self.old) (left_only self.new) }
         ensures counts { Counts (IsErrOf result UploadError.DiskFault) (failures self.old) (failures self.new) };
 
@@ -146,55 +124,44 @@ pub trait Uploads {
     /// and answers the new offset: refused with `NoSuch`, `Offset`, `LengthSet`, `TooLong`, `Unencodable`, `Full`,
     /// `NoMemory`, `DiskFault`. The draft is spent in every case.
     fn commit(&mut self, draft: Self::Draft) -> Result<u64, UploadError>
-        ensures represents { (w : World) (p : Patch) → represents self.old w
+        ensures answer { (sure : Bool) (w : World) (p : Patch) → stands self.old sure w
             → find (Self.number_of draft) w.patches ≡ Some p → holds draft p
             → Answers (commit_refusal w (Self.number_of draft) p) result
-            (λ n. (n ≡ reached p) × represents self.new (committed w (Self.number_of draft) p))
-            (represents self.new (dropped w (Self.number_of draft))) }
-        ensures answer { (w : World) (p : Patch) → stands self.old w → find (Self.number_of draft) w.patches ≡ Some p
-            → holds draft p
-            → Answers (commit_refusal w (Self.number_of draft) p) result
-            (λ n. (n ≡ reached p) × stands self.new (committed w (Self.number_of draft) p))
-            (stands self.new (dropped w (Self.number_of draft))) }
-        ensures crash { (w : World) (p : Patch) → stands self.old w → find (Self.number_of draft) w.patches ≡ Some p
-            → holds draft p
+            (λ n. (n ≡ reached p) × stands self.new sure (committed w (Self.number_of draft) p))
+            (stands self.new sure (dropped w (Self.number_of draft))) }
+        ensures crash { (w : World) (p : Patch) → stands self.old true w
+            → find (Self.number_of draft) w.patches ≡ Some p → holds draft p
             → Limits (moment self.old) (moment self.new) (left_only self.old) (left_only self.new) w.store
             (commit_outcome w (Self.number_of draft) p) }
-        ensures unmade { (w : World) (p : Patch) → stands self.old w → find (Self.number_of draft) w.patches ≡ Some p
-            → holds draft p → IsErrOf result UploadError.NoMemory
+        ensures unmade { (w : World) (p : Patch) → stands self.old true w
+            → find (Self.number_of draft) w.patches ≡ Some p → holds draft p → IsErrOf result UploadError.NoMemory
             → Limits (moment self.old) (moment self.new) (left_only self.old) (left_only self.new) w.store w.store }
         ensures counts { Counts (IsErrOf result UploadError.DiskFault) (failures self.old) (failures self.new) };
 
     /// Gives a draft up. It serves after a fault too, when the store stands for no world.
     fn drop_open(&mut self, draft: Self::Draft)
-        ensures represents { (w : World) → represents self.old w
-            → represents self.new (dropped w (Self.number_of draft)) }
-        ensures stands { (w : World) → stands self.old w → stands self.new (dropped w (Self.number_of draft)) }
+        ensures stands { (sure : Bool) (w : World) → stands self.old sure w
+            → stands self.new sure (dropped w (Self.number_of draft)) }
         ensures crash { Quiet (moment self.old) (moment self.new) (left_only self.old) (left_only self.new) }
         ensures counts { failures self.new ≡ failures self.old };
 
-    /// Reads a text's bytes from `at` on, as many as there are and fit: refused with `NoSuch`, `DiskFault`.
+    /// Reads a text's bytes from `at` on, as many as there are and fit: refused with `NoSuch`, `DiskFault`. A disk that
+    /// isn't honest may give other bytes, but as many.
     fn read_text(&mut self, number: u64, at: u64, buf: &mut [u8]) -> Result<usize, UploadError>
-        ensures represents { (w : World) → represents self.old w
+        ensures answer { (sure : Bool) (w : World) → stands self.old sure w
             → Answers (no_such (upload_of w.store number)) result
-            (λ n. (n ≡ min (length (text_at w.store (upload_of w.store number)) - at) (length buf.old))
-            × represents self.new w) (represents self.new w) }
-        ensures answer { (w : World) → stands self.old w
-            → Answers (no_such (upload_of w.store number)) result
-            (λ n. IsRead (text_at w.store (upload_of w.store number)) at n buf.old buf.new × stands self.new w)
-            (stands self.new w) }
+            (λ n. IsReadOf sure (text_at w.store (upload_of w.store number)) at n buf.old buf.new
+            × stands self.new sure w)
+            (stands self.new sure w) }
         ensures no_memory { IsErrOf result UploadError.NoMemory → ⊥ }
         ensures crash { Quiet (moment self.old) (moment self.new) (left_only self.old) (left_only self.new) }
         ensures counts { Counts (IsErrOf result UploadError.DiskFault) (failures self.old) (failures self.new) };
 
-    /// A store that stands for a world represents it.
-    ghost represented: { (store : Self) (w : World) → stands store w → represents store w };
-
     /// Each upload's number is below the next one.
-    ghost below: { (store : Self) (w : World) (number : ℕ) (u : Upload) → stands store w
+    ghost below: { (store : Self) (sure : Bool) (w : World) (number : ℕ) (u : Upload) → stands store sure w
         → upload_of w.store number ≡ Some u → number < w.store.next };
 
     /// A store that stands for a world is on the disk.
-    ghost durable: { (store : Self) (w : World) (ms : List Store) → stands store w → Among w.store ms
+    ghost durable: { (store : Self) (w : World) (ms : List Store) → stands store true w → Among w.store ms
         → left_only store w.blocks (moment store) ms };
 }

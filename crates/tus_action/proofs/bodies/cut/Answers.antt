@@ -1,12 +1,20 @@
+use Rattle.std.proofs.Common.{subst, sym}
+use Rattle.upload_rules.specs.Calls.{spent}
 use Rattle.tus_action.proofs.Answered.{spent_refused, refused_answer, memory_answer}
 use Rattle.tus_action.proofs.bodies.cut.Goals as goal
 
 pub returns-in-Err-Refused-clause-answer : goal.returns-in-Err-Refused-clause-answer
-returns-in-Err-Refused-clause-answer g c = λ w p stands found holds.
+returns-in-Err-Refused-clause-answer g c = λ sure w p stands found holds.
     let a = refused_answer _ _ _ _ _ c.in-Err-Refused.field-0-is
-    (c.in-Err-Refused.ensures.answer w p stands found holds) in
-    spent_refused (λ v. g.U.Uploads.stands c.commit.new.self v) w _ p _ _ a.0 a.1
+    (c.in-Err-Refused.ensures.answer sure w p stands found holds) in
+    spent_refused (λ v. g.U.Uploads.stands c.commit.new.self sure v) w _ p _ _ a.0 a.1
 
 pub returns-in-Err-NoMemory-clause-answer : goal.returns-in-Err-NoMemory-clause-answer
-returns-in-Err-NoMemory-clause-answer g c = λ w p stands found holds.
-    (memory_answer _ _ _ _ c.in-Err-NoMemory.field-0-is (c.in-Err-NoMemory.ensures.answer w p stands found holds)).1
+returns-in-Err-NoMemory-clause-answer g c = λ sure w p stands found holds.
+    (memory_answer _ _ _ _ c.in-Err-NoMemory.field-0-is (c.in-Err-NoMemory.ensures.answer sure w p stands found holds)).1
+
+pub returns-in-Ok-clause-answer : goal.returns-in-Ok-clause-answer
+returns-in-Ok-clause-answer g c = λ sure w p stands found holds.
+    let d = g.U.Uploads.number_of c.args.patch.draft in
+    let a = c.in-Ok.ensures.answer sure w p stands found holds in
+    subst (λ r. g.U.Uploads.stands c.commit.new.self sure (spent w d p r)) (sym a.0) a.1.1

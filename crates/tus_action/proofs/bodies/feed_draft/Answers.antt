@@ -7,8 +7,8 @@ use Rattle.tus_action.proofs.Answered.{fed_some, fed_patch_some, find_appended, 
 use Rattle.tus_action.proofs.bodies.feed_draft.Goals as goal
 
 pub returns-in-Ok-clause-answer : goal.returns-in-Ok-clause-answer
-returns-in-Ok-clause-answer g c = λ w p stands found holds fits.
-    let a = c.in-Ok.ensures.answer w p stands found holds fits in
+returns-in-Ok-clause-answer g c = λ sure w p stands found holds fits.
+    let a = c.in-Ok.ensures.answer sure w p stands found holds fits in
     let d = g.U.Uploads.number_of c.args.draft in
     let piece = c.args.piece.now in
     let some : piece ≡ [] → ⊥ = some_items _ piece c.is_empty.ensures c.if-is_empty.false in
@@ -17,13 +17,13 @@ returns-in-Ok-clause-answer g c = λ w p stands found holds fits.
       c.append.ensures.same,
       subst (λ x. g.U.Uploads.holds c.append.new.draft x) patch a.1.0,
       ap (λ x. find d x.patches) (sym world) ∙ (find_appended w d p piece found ∙ ap Some patch),
-      subst (λ x. g.U.Uploads.stands c.append.new.self x) world a.1.1,
+      subst (λ x. g.U.Uploads.stands c.append.new.self sure x) world a.1.1,
     )
 
 pub returns-in-Err-clause-answer : goal.returns-in-Err-clause-answer
-returns-in-Err-clause-answer g c = λ w p stands found holds fits.
+returns-in-Err-clause-answer g c = λ sure w p stands found holds fits.
     let d = g.U.Uploads.number_of c.args.draft in
-    subst (λ s. FeedsDraft g.U.Uploads c.drop_open.new.self (Err s) (dropped w d) (fed w d c.args.piece.now) d
+    subst (λ s. FeedsDraft g.U.Uploads sure c.drop_open.new.self (Err s) (dropped w d) (fed w d c.args.piece.now) d
     (fed_patch w d p c.args.piece.now)) (sym c.from.ensures)
     (fed_gone g.U.Uploads c.append.new.self c.drop_open.new.self w c.in-Err.error d _ _ _ _
-    (c.in-Err.ensures.answer w p stands found holds fits) (c.drop_open.ensures.stands w) c.append.ensures.same)
+    (c.in-Err.ensures.answer sure w p stands found holds fits) (c.drop_open.ensures.stands sure w) c.append.ensures.same)

@@ -8,18 +8,18 @@ use Rattle.tus_action.proofs.Answered.{refused_serves, taken_back}
 use Rattle.tus_action.proofs.writes.delete.Goals as goal
 
 pub returns-in-Err-clause-answer : goal.returns-in-Err-clause-answer
-returns-in-Err-clause-answer g c = λ w r stands bare closes.
+returns-in-Err-clause-answer g c = λ sure w r stands bare closes.
     let old : List ℕ = c.args.out.now.items in
     let before : ℕ = length c.as_slice-before.result.now in
     let back : c.truncate.new.self.items ≡ old =
     taken_back old _ c.truncate.new.self.items before (ap length c.as_slice-before.ensures.value)
     (c.truncate.ensures.items ∙ ap (λ l. take before l) c.in-Ok.ensures.ok) in
-    refused_serves g.U.Uploads c.terminate.new.self w (delete w r c.args.number) (terminate_refusal w c.args.number)
+    refused_serves g.U.Uploads sure c.terminate.new.self w (delete w r c.args.number) (terminate_refusal w c.args.number)
     c.in-Err.error c.refused.result false c.args.bare c.args.closes
     old c.refused.new.out.items _
     (λ f. sym (ap (λ b. replied w (reply_refused (fault_of f) false c.args.bare b) b) closes
     ∙ ap (λ b. replied w (reply_refused (fault_of f) false b r.closes) r.closes) bare))
-    (c.in-Err.ensures.answer w stands)
+    (c.in-Err.ensures.answer sure w stands)
     (subst (λ l. RepliesOnly c.refused.result c.in-Err.error false c.args.bare c.args.closes l c.refused.new.out.items)
     back
     c.refused.ensures.answer)

@@ -2,8 +2,8 @@ use Rattle.std.proofs.Common.{refl}
 use Rattle.tus_session.proofs.bodies.go_on.Goals as goal
 
 pub returns-clause-answer : goal.returns-clause-answer
-returns-clause-answer g c w p stands found holds few =
-    let fed = c.in_ok-patch.ensures.answer w p stands found holds few in (
+returns-clause-answer g c sure w p stands found holds few =
+    let fed = c.in_ok-patch.ensures.answer sure w p stands found holds few in (
       c.in_ok-patch.patch,
       record {
         link_is = refl;

@@ -9,10 +9,10 @@ use Rattle.tus_session.proofs.Limiting.{quiet_then, limits_from, limits_both}
 use Rattle.tus_session.proofs.bodies.last_of.Goals as goal
 
 pub returns-in_err-finish-clause-answer : goal.returns-in_err-finish-clause-answer
-returns-in_err-finish-clause-answer g c w p r stands found holds all reached bare closes =
+returns-in_err-finish-clause-answer g c sure w p r stands found holds all reached bare closes =
     let few : length p.body + length c.args.bytes.now ≤ p.count = omega arith in
     let d = g.U.Uploads.number_of c.args.patch.draft in
-    let fed_is = c.in_ok-fed.ensures.answer w p stands found holds few in
+    let fed_is = c.in_ok-fed.ensures.answer sure w p stands found holds few in
     let w1 = fed w d c.args.bytes.now in
     let p1 = fed_patch w d p c.args.bytes.now in
     let found1 = fed_found_as g.U.Uploads w d p c.args.bytes.now c.in_ok-fed.fed.draft fed_is.number fed_is.found in
@@ -24,10 +24,10 @@ returns-in_err-finish-clause-answer g c w p r stands found holds all reached bar
     (drop_fed w d p c.args.bytes.now found) a)
 
 pub returns-clause-answer : goal.returns-clause-answer
-returns-clause-answer g c w p r stands found holds all reached bare closes =
+returns-clause-answer g c sure w p r stands found holds all reached bare closes =
     let few : length p.body + length c.args.bytes.now ≤ p.count = omega arith in
     let d = g.U.Uploads.number_of c.args.patch.draft in
-    let fed_is = c.in_ok-fed.ensures.answer w p stands found holds few in
+    let fed_is = c.in_ok-fed.ensures.answer sure w p stands found holds few in
     let w1 = fed w d c.args.bytes.now in
     let p1 = fed_patch w d p c.args.bytes.now in
     let found1 = fed_found_as g.U.Uploads w d p c.args.bytes.now c.in_ok-fed.fed.draft fed_is.number fed_is.found in
@@ -39,7 +39,7 @@ returns-clause-answer g c w p r stands found holds all reached bare closes =
 pub returns-in_err-finish-clause-crash : goal.returns-in_err-finish-clause-crash
 returns-in_err-finish-clause-crash g c w p r stands found holds few =
     let d = g.U.Uploads.number_of c.args.patch.draft in
-    let fed_is = c.in_ok-fed.ensures.answer w p stands found holds few in
+    let fed_is = c.in_ok-fed.ensures.answer true w p stands found holds few in
     let found1 = fed_found_as g.U.Uploads w d p c.args.bytes.now c.in_ok-fed.fed.draft fed_is.number fed_is.found in
     let l = limits_from (fed_store w d c.args.bytes.now)
     (rw fed_is.number at (c.finish.ensures.crash _ _ fed_is.shown found1 fed_is.holds)) in
@@ -48,7 +48,7 @@ returns-in_err-finish-clause-crash g c w p r stands found holds few =
 pub returns-clause-crash : goal.returns-clause-crash
 returns-clause-crash g c w p r stands found holds few =
     let d = g.U.Uploads.number_of c.args.patch.draft in
-    let fed_is = c.in_ok-fed.ensures.answer w p stands found holds few in
+    let fed_is = c.in_ok-fed.ensures.answer true w p stands found holds few in
     let found1 = fed_found_as g.U.Uploads w d p c.args.bytes.now c.in_ok-fed.fed.draft fed_is.number fed_is.found in
     let l = limits_from (fed_store w d c.args.bytes.now)
     (rw fed_is.number at (c.finish.ensures.crash _ _ fed_is.shown found1 fed_is.holds)) in
@@ -57,7 +57,7 @@ returns-clause-crash g c w p r stands found holds few =
 pub returns-in_err-finish-clause-unmade : goal.returns-in_err-finish-clause-unmade
 returns-in_err-finish-clause-unmade g c w p stands found holds few none_left =
     let d = g.U.Uploads.number_of c.args.patch.draft in
-    let fed_is = c.in_ok-fed.ensures.answer w p stands found holds few in
+    let fed_is = c.in_ok-fed.ensures.answer true w p stands found holds few in
     let found1 = fed_found_as g.U.Uploads w d p c.args.bytes.now c.in_ok-fed.fed.draft fed_is.number fed_is.found in
     let stopped = err_from_is_err_and c.from_residual-in_err-finish.result c.from_residual-in_err-finish.ensures.1 in
     let l = limits_both (fed_store w d c.args.bytes.now)

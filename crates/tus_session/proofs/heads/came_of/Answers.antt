@@ -12,7 +12,7 @@ use Rattle.tus_session.proofs.BodyTold.{patch_told, left_wanted, rest_store, ski
 use Rattle.tus_session.proofs.heads.came_of.Goals as goal
 
 pub returns-in-Head-clause-answer : goal.returns-in-Head-clause-answer
-returns-in-Head-clause-answer g c w conn stands link = c.head_of.ensures.answer w conn stands (rw c.in-Head.is at link)
+returns-in-Head-clause-answer g c sure w conn stands link = c.head_of.ensures.answer sure w conn stands (rw c.in-Head.is at link)
 
 pub returns-in-Head-clause-crash : goal.returns-in-Head-clause-crash
 returns-in-Head-clause-crash g c w conn stands link = c.head_of.ensures.crash w conn stands (rw c.in-Head.is at link)
@@ -22,7 +22,7 @@ returns-in-Head-clause-unmade g c w conn stands link none_left =
     c.head_of.ensures.unmade w conn stands (rw c.in-Head.is at link) none_left
 
 pub returns-in-Patch-clause-answer : goal.returns-in-Patch-clause-answer
-returns-in-Patch-clause-answer g c w conn stands link =
+returns-in-Patch-clause-answer g c sure w conn stands link =
     let head = c.args.link.head in
     let b = c.in-Patch.patch in
     let left = c.in-Patch.left in
@@ -61,19 +61,19 @@ returns-in-Patch-clause-unmade g c w conn stands link none_left =
     c.body_of.ensures.unmade w is.p stands found is.patches.holds (omega arith) none_left
 
 pub returns-in-Skip-clause-answer : goal.returns-in-Skip-clause-answer
-returns-in-Skip-clause-answer g c w conn stands link =
+returns-in-Skip-clause-answer g c sure w conn stands link =
     let is : IsSkipping w conn (bytes_of c.args.link.head) c.in-Skip.left = rw c.in-Skip.is at link in
     skip_told g.U.Uploads _ w conn c.args.link.head c.in-Skip.left stands is _ _ _ c.args.bytes.now
     c.skip.ensures.link c.skip.ensures.answer
 
 pub returns-in-Text-clause-answer : goal.returns-in-Text-clause-answer
-returns-in-Text-clause-answer g c w conn stands link =
+returns-in-Text-clause-answer g c sure w conn stands link =
     let g' = c.in-Text.giving in
     let is : IsGivingText w conn (bytes_of c.args.link.head) g' c.in-Text.left = rw c.in-Text.is at link in
     let k = record c.args.link { awaiting = Text g' c.in-Text.left } in
     let turn = stays g.U.Uploads c.args.store.now w k conn true c.args.out.now.items stands is
     (sym (ap is_pending is.pending)) in
     rw c.waits.ensures
-    (subst (TurnedAs g.U.Uploads c.args.store.now (Some k) (record { taken = 0; closes = false; more = true })
+    (subst (TurnedAs g.U.Uploads sure c.args.store.now (Some k) (record { taken = 0; closes = false; more = true })
     c.args.out.now.items c.args.out.now.items w conn.draft)
     (text_turn_is w conn c.args.bytes.now is.h is.pending) turn)

@@ -23,12 +23,12 @@ slice_bounds-after-start g c =
     omega (arith, w, c.len-had.ensures, c.saturating_sub-before.ensures)
 
 pub request_of-requires-clause-usable : goal.request_of-requires-clause-usable
-request_of-requires-clause-usable g c w stands =
+request_of-requires-clause-usable g c sure w stands =
     let j = judged_by c.indexes.result.now (bytes_of c.args.head ++ c.args.bytes.now) _ _
     c.in_ok-parsed.ensures.function
     c.in-Head.is in
     usable w (bytes_of c.args.head ++ c.args.bytes.now) c.in-Head.taken _ (in_world w c.indexes.result.now _ _
-    (c.indexes.ensures w (g.met.U.Uploads.represented c.args.store.now w stands)) j)
+    (c.indexes.ensures sure w stands) j)
 
 pub request_of-requires-clause-makeable : goal.request_of-requires-clause-makeable
 request_of-requires-clause-makeable g c =
@@ -56,16 +56,16 @@ pub request_of-requires-clause-cleared : goal.request_of-requires-clause-cleared
 request_of-requires-clause-cleared g c = rw c.in-Head.is at c.in_ok-parsed.ensures.rest
 
 pub returns-in-More-clause-answer : goal.returns-in-More-clause-answer
-returns-in-More-clause-answer g c w conn stands inside =
+returns-in-More-clause-answer g c sure w conn stands inside =
     let j = judged_by c.indexes.result.now (bytes_of c.args.head ++ c.args.bytes.now) _ _
     c.in_ok-parsed.ensures.function
     c.in-More.is in
     more_told g.U.Uploads _ _ _ w conn (bytes_of c.args.head) c.args.bytes.now c.read.new.self stands inside
-    (in_world w c.indexes.result.now _ _ (c.indexes.ensures w (g.met.U.Uploads.represented c.args.store.now w stands)) j)
+    (in_world w c.indexes.result.now _ _ (c.indexes.ensures sure w stands) j)
     (rw c.in-More.is at c.in_ok-parsed.ensures.rest) c.waits.ensures
 
 pub returns-in_ok-reply_refused-in-Refused-clause-answer : goal.returns-in_ok-reply_refused-in-Refused-clause-answer
-returns-in_ok-reply_refused-in-Refused-clause-answer g c w conn stands inside =
+returns-in_ok-reply_refused-in-Refused-clause-answer g c sure w conn stands inside =
     let j = judged_by c.indexes.result.now (bytes_of c.args.head ++ c.args.bytes.now) _ _
     c.in_ok-parsed.ensures.function
     c.in-Refused.is in
@@ -80,7 +80,7 @@ returns-in_ok-reply_refused-in-Refused-clause-answer g c w conn stands inside =
     c.saturating_sub-before.result (Refuses r)
     (record {
       inside = inside;
-      judged = in_world w c.indexes.result.now _ _ (c.indexes.ensures w (g.met.U.Uploads.represented c.args.store.now w stands)) j;
+      judged = in_world w c.indexes.result.now _ _ (c.indexes.ensures sure w stands) j;
       before_is = omega (arith, c.len-had.ensures, c.saturating_sub-before.ensures);
     })
     _ _ _ _ c.read.new.self _
@@ -90,13 +90,13 @@ returns-in_ok-reply_refused-in-Refused-clause-answer g c w conn stands inside =
     c.in_ok-reply_refused-in-Refused.ensures.ok
 
 pub returns-in-Head-clause-answer : goal.returns-in-Head-clause-answer
-returns-in-Head-clause-answer g c w conn stands inside =
+returns-in-Head-clause-answer g c sure w conn stands inside =
     let j = judged_by c.indexes.result.now (bytes_of c.args.head ++ c.args.bytes.now) _ _
     c.in_ok-parsed.ensures.function
     c.in-Head.is in
-    c.request_of.ensures.answer w conn (bytes_of c.args.head) c.in-Head.taken stands (record {
+    c.request_of.ensures.answer sure w conn (bytes_of c.args.head) c.in-Head.taken stands (record {
       inside = inside;
-      judged = in_world w c.indexes.result.now _ _ (c.indexes.ensures w (g.met.U.Uploads.represented c.args.store.now w stands)) j;
+      judged = in_world w c.indexes.result.now _ _ (c.indexes.ensures sure w stands) j;
       before_is = omega (arith, c.len-had.ensures, c.saturating_sub-before-in-Head.ensures);
     })
 
@@ -107,7 +107,7 @@ returns-in-Head-clause-crash g c w conn stands inside =
     c.in-Head.is in
     c.request_of.ensures.crash w conn (bytes_of c.args.head) c.in-Head.taken stands (record {
       inside = inside;
-      judged = in_world w c.indexes.result.now _ _ (c.indexes.ensures w (g.met.U.Uploads.represented c.args.store.now w stands)) j;
+      judged = in_world w c.indexes.result.now _ _ (c.indexes.ensures true w stands) j;
       before_is = omega (arith, c.len-had.ensures, c.saturating_sub-before-in-Head.ensures);
     })
 
@@ -118,6 +118,6 @@ returns-in-Head-clause-unmade g c w conn stands inside none_left =
     c.in-Head.is in
     c.request_of.ensures.unmade w conn (bytes_of c.args.head) c.in-Head.taken stands (record {
       inside = inside;
-      judged = in_world w c.indexes.result.now _ _ (c.indexes.ensures w (g.met.U.Uploads.represented c.args.store.now w stands)) j;
+      judged = in_world w c.indexes.result.now _ _ (c.indexes.ensures true w stands) j;
       before_is = omega (arith, c.len-had.ensures, c.saturating_sub-before-in-Head.ensures);
     }) none_left

@@ -18,10 +18,10 @@ returns-in_err-done-clause-crash g c w conn h n stands is =
     head_limits w conn h _ n _ _ is (c.act.ensures.crash w stands)
 
 pub returns-in_err-done-clause-answer : goal.returns-in_err-done-clause-answer
-returns-in_err-done-clause-answer g c w conn h n stands is =
+returns-in_err-done-clause-answer g c sure w conn h n stands is =
     let stopped = err_from_is_err_and c.from_residual.result c.from_residual.ensures.1 in
     rw (stopped.1, stopped.2) (head_stopped g.U.Uploads _ c.in_err-done.field-0.0 _ _ w conn _ _ is.inside.draft
-    (c.in_err-done.ensures.answer w stands))
+    (c.in_err-done.ensures.answer sure w stands))
 
 pub returns-in-Replied-clause-crash : goal.returns-in-Replied-clause-crash
 returns-in-Replied-clause-crash g c w conn h n stands is =
@@ -32,22 +32,22 @@ returns-in-Giving-clause-crash g c w conn h n stands is =
     head_limits w conn h _ n _ _ is (c.act.ensures.crash w stands)
 
 pub returns-in-Replied-clause-answer : goal.returns-in-Replied-clause-answer
-returns-in-Replied-clause-answer g c w conn h n stands is =
-    let done = rw c.in-Replied.is at (c.in_ok-done.ensures.answer w stands) in
+returns-in-Replied-clause-answer g c sure w conn h n stands is =
+    let done = rw c.in-Replied.is at (c.in_ok-done.ensures.answer sure w stands) in
     nothing_told w conn h c.args.bytes.now n c.args.before _ is g.U.Uploads _ _ _ (Replied c.in-Replied.closes) _ _
     c.args.head _ done refl refl (slice_rest c.args.before c.args.bytes.now) c.skip.ensures.link
     c.requires.cleared c.skip.ensures.answer
 
 pub returns-in-Giving-clause-answer : goal.returns-in-Giving-clause-answer
-returns-in-Giving-clause-answer g c w conn h n stands is =
-    let done = rw c.in-Giving.is at (c.in_ok-done.ensures.answer w stands) in
+returns-in-Giving-clause-answer g c sure w conn h n stands is =
+    let done = rw c.in-Giving.is at (c.in_ok-done.ensures.answer sure w stands) in
     rw c.waits.ensures
     (text_told w conn h c.args.bytes.now n c.args.before _ is g.U.Uploads _ (Giving c.in-Giving.giving)
     c.in-Giving.giving _ _
     c.args.head done refl refl c.requires.cleared)
 
 pub returns-in-Opened-clause-answer : goal.returns-in-Opened-clause-answer
-returns-in-Opened-clause-answer g c w conn h n stands is =
+returns-in-Opened-clause-answer g c sure w conn h n stands is =
     let U = g.U.Uploads in
     let r = request_shown c.args.request in
     let bytes = c.args.bytes.now in
@@ -58,9 +58,9 @@ returns-in-Opened-clause-answer g c w conn h n stands is =
       closes = c.args.request.closes;
     } in
     let done : ActedAs U c.act.new.store (Opened c.in-Opened.draft) c.args.out.now.items c.act.new.out.items
-    (acted w (Asks r)) = rw c.in-Opened.is at (c.in_ok-done.ensures.answer w stands) in
+    (acted w (Asks r)) = rw c.in-Opened.is at (c.in_ok-done.ensures.answer sure w stands) in
     let x = begun U w conn h bytes n c.args.before r is _ _ _ b done (c.reached_by-reached.ensures c.requires.small)
-    refl refl (λ n up there. g.met.U.Uploads.below c.args.store.now w n up stands there) in
+    refl refl (λ n up there. g.met.U.Uploads.below c.args.store.now sure w n up stands there) in
     let v0 = v U w conn h bytes n c.args.before r is b x in
     let p = p0 U w conn h bytes n c.args.before r is b x in
     let shown = begun_shown U w conn h bytes n c.args.before r is b x c.act.new.store done.stands in
@@ -90,9 +90,9 @@ returns-in-Opened-clause-crash g c w conn h n stands is =
       closes = c.args.request.closes;
     } in
     let done : ActedAs U c.act.new.store (Opened c.in-Opened.draft) c.args.out.now.items c.act.new.out.items
-    (acted w (Asks r)) = rw c.in-Opened.is at (c.in_ok-done.ensures.answer w stands) in
+    (acted w (Asks r)) = rw c.in-Opened.is at (c.in_ok-done.ensures.answer true w stands) in
     let x = begun U w conn h bytes n c.args.before r is _ _ _ b done (c.reached_by-reached.ensures c.requires.small)
-    refl refl (λ n up there. g.met.U.Uploads.below c.args.store.now w n up stands there) in
+    refl refl (λ n up there. g.met.U.Uploads.below c.args.store.now true w n up stands there) in
     let v0 = v U w conn h bytes n c.args.before r is b x in
     let p = p0 U w conn h bytes n c.args.before r is b x in
     let shown = begun_shown U w conn h bytes n c.args.before r is b x c.act.new.store done.stands in

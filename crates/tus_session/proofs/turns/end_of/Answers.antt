@@ -4,11 +4,11 @@ use Rattle.tus_session.proofs.Tasks.{no_draft, ends_idle, ends_cut, ends_store, 
 use Rattle.tus_session.proofs.turns.end_of.Goals as goal
 
 pub returns-in-Patch-clause-answer : goal.returns-in-Patch-clause-answer
-returns-in-Patch-clause-answer g c w conn stands link =
+returns-in-Patch-clause-answer g c sure w conn stands link =
     let b = c.in-Patch.patch in
     let is : IsPatching g.U.Uploads w conn (bytes_of c.args.link.head) b _ = rw c.in-Patch.is at link in
     ends_cut g.U.Uploads w conn _ b _ is _ c.cut.result
-    (c.cut.ensures.answer w is.p stands (found_as g.U.Uploads w conn _ b _ is) is.patches.holds)
+    (c.cut.ensures.answer sure w is.p stands (found_as g.U.Uploads w conn _ b _ is) is.patches.holds)
 
 pub returns-in-Patch-clause-crash : goal.returns-in-Patch-clause-crash
 returns-in-Patch-clause-crash g c w conn stands link =
@@ -18,7 +18,7 @@ returns-in-Patch-clause-crash g c w conn stands link =
     (c.cut.ensures.crash w is.p stands (found_as g.U.Uploads w conn _ b _ is) is.patches.holds)
 
 pub returns-in-Head-clause-answer : goal.returns-in-Head-clause-answer
-returns-in-Head-clause-answer g c w conn stands link =
+returns-in-Head-clause-answer g c sure w conn stands link =
     ends_idle g.U.Uploads _ w conn stands (no_draft g.U.Uploads w _ _ conn link c.in-Head.is)
 
 pub returns-in-Head-clause-crash : goal.returns-in-Head-clause-crash

@@ -48,8 +48,8 @@ returns-in-Ok-clause-stands g c n m is =
     (λ _. c.in-Ok.ensures.honest.0 is.honest) (λ _. is.shows.is) said is.shows.shows
     (λ _. c.in-Ok.ensures.settled is.honest))
 
-pub returns-in-Ok-clause-represents : goal.returns-in-Ok-clause-represents
-returns-in-Ok-clause-represents g c v m shows keeps =
+pub returns-in-Ok-clause-kept : goal.returns-in-Ok-clause-kept
+returns-in-Ok-clause-kept g c v m shows keeps =
     stands_opened g.D.Disk c.load.new.disk (g.D.Disk.seen c.args.disk) c.in-Ok.kept c.new.result.items m v
     c.new.ensures.items (λ (known : false ≡ true). absurd cc) (λ known. absurd cc) keeps shows (λ known. absurd cc)
 

@@ -1,18 +1,13 @@
-use Rattle.std.proofs.Common.{None, ap, false, true}
+use Rattle.std.proofs.Common.{None, ap}
 use Rattle.spool_kept.specs.Holding.{Holding}
 use Rattle.spool_image.proofs.AnswersMore.{answers_more}
 use Rattle.spool_image.proofs.LeftImages.{quiet_shown}
 use Rattle.spool_image.proofs.spool.SpoolUploads.append.Goals as goal
 
 pub returns-clause-answer : goal.returns-clause-answer
-returns-clause-answer g c w p stands there holds fits =
+returns-clause-answer g c sure w p stands there holds fits =
     answers_more None c.append.result (λ done after. (tt, after)) (λ after. after)
-    (c.append.ensures.answer true w p stands there fits)
-
-pub returns-clause-represents : goal.returns-clause-represents
-returns-clause-represents g c w p represents there holds fits =
-    answers_more None c.append.result (λ done after. (tt, after)) (λ after. after)
-    (c.append.ensures.answer false w p represents there fits)
+    (c.append.ensures.answer sure w p stands there fits)
 
 pub returns-clause-crash : goal.returns-clause-crash
 returns-clause-crash g c w p stands there holds =

@@ -1,22 +1,12 @@
-use Rattle.std.proofs.Common.{Bool, false, true, ◌≡◌, subst}
-use Rattle.upload_rules.specs.Answers.{Answers}
-use Rattle.upload_rules.specs.Calls.{create_outcome, create_refusal, created}
-use Rattle.upload_rules.specs.World.{World}
-use Rattle.spool_kept.specs.Drafting.{StandsFor}
+use Rattle.std.proofs.Common.{Bool, true, ◌≡◌, subst}
+use Rattle.upload_rules.specs.Calls.{create_outcome, create_refusal}
 use Rattle.spool_kept.specs.Stored.{Stored}
 use Rattle.spool_image.proofs.LeftImages.{limits_on}
 use Rattle.spool_image.proofs.StandsOn.{created_answers, on_known, stands_created, stands_same}
-use Rattle.spool_image.proofs.spool.SpoolUploads.create.Given.{Over}
 use Rattle.spool_image.proofs.spool.SpoolUploads.create.Goals as goal
-use Rattle.spool_image.proofs.spool.SpoolUploads.create.Goals.{After-create}
 
-answered : (g : Over) (c : After-create g) (sure : Bool) (w : World)
-    → StandsFor sure g.D.Disk c.args.self.now.disk c.args.self.now.kept c.args.self.now.drafts.items w
-    → Answers (create_refusal w c.args.new) c.create.result
-    (λ n. (n ≡ w.store.next) × StandsFor sure g.D.Disk c.create.new.disk c.create.new.kept
-    c.args.self.now.drafts.items (created w c.args.new))
-    (StandsFor sure g.D.Disk c.create.new.disk c.create.new.kept c.args.self.now.drafts.items w)
-answered g c sure w s =
+pub returns-clause-answer : goal.returns-clause-answer
+returns-clause-answer g c sure w s =
     let disk = c.args.self.now.disk in
     let disk' = c.create.new.disk in
     let kept = c.args.self.now.kept in
@@ -36,12 +26,6 @@ answered g c sure w s =
     (λ e. stands_same g.D.Disk disk disk' kept kept' drafts w s (now.unmade e))
     (λ f e. stands_same g.D.Disk disk disk' kept kept' drafts w s (now.refused f e))
     (now.answer sure w.store s.stored)
-
-pub returns-clause-answer : goal.returns-clause-answer
-returns-clause-answer g c w s = answered g (goal.at.returns-clause-answer g c).After-create true w s
-
-pub returns-clause-represents : goal.returns-clause-represents
-returns-clause-represents g c w s = answered g (goal.at.returns-clause-represents g c).After-create false w s
 
 pub returns-clause-crash : goal.returns-clause-crash
 returns-clause-crash g c w s =

@@ -1,13 +1,10 @@
-use Rattle.std.proofs.Common.{ap, false, true}
+use Rattle.std.proofs.Common.{ap}
 use Rattle.spool_kept.specs.Holding.{Holding}
 use Rattle.spool_image.proofs.LeftImages.{quiet_still}
 use Rattle.spool_image.proofs.spool.SpoolUploads.drop_open.Goals as goal
 
 pub returns-clause-stands : goal.returns-clause-stands
-returns-clause-stands g c w stands = c.drop_open.ensures.stands true c.args.self.now.disk w stands
-
-pub returns-clause-represents : goal.returns-clause-represents
-returns-clause-represents g c w represents = c.drop_open.ensures.stands false c.args.self.now.disk w represents
+returns-clause-stands g c sure w stands = c.drop_open.ensures.stands sure c.args.self.now.disk w stands
 
 pub returns-clause-crash : goal.returns-clause-crash
 returns-clause-crash g c =

@@ -9,14 +9,14 @@ use Rattle.tus_session.proofs.Tolds.{came_is, none_came, told, stopped}
 use Rattle.tus_session.proofs.session.Session.came.Goals as goal
 
 pub returns-in_err-link-clause-answer : goal.returns-in_err-link-clause-answer
-returns-in_err-link-clause-answer g c st stands =
+returns-in_err-link-clause-answer g c sure st stands =
     let stop = err_from_is_err_and c.from_residual.result c.from_residual.ensures.1 in
     let none = c.in_err-link.ensures.closed c.args.store.now st stands in
     rw (stop.1, stop.2, c.in_err-link.ensures.refusal)
     (none_came g.U.Uploads _ _ st c.args.conn c.args.bytes.now none.1 none.0, refl)
 
 pub returns-in_err-next-clause-answer : goal.returns-in_err-next-clause-answer
-returns-in_err-next-clause-answer g c st stands =
+returns-in_err-next-clause-answer g c sure st stands =
     let stop = err_from_is_err_and c.from_residual-in_err-next.result c.from_residual-in_err-next.ensures.1 in
     let o = c.in_ok-link.ensures.open c.args.store.now st stands in
     rw (stop.1, stop.2)
@@ -36,7 +36,7 @@ returns-in_err-next-clause-no_down g c =
     rw stop.1 (no_down c.in_err-next.field-0.0 stop.0 stop.2)
 
 pub returns-clause-answer : goal.returns-clause-answer
-returns-clause-answer g c st stands =
+returns-clause-answer g c sure st stands =
     let o = c.in_ok-link.ensures.open c.args.store.now st stands in
     rw c.put_back.ensures
     (told g.U.Uploads _ _ _ _ st (Came c.args.conn c.args.bytes.now) o.0 stands tt o.1 c.in_ok-next.next

@@ -50,7 +50,7 @@ loop-place-preserved-in-Some-place g c =
     }
 
 pub returns-clause-kept : goal.returns-clause-kept
-returns-clause-kept g c st stands =
+returns-clause-kept g c sure st stands =
     let none : length c.loop-place.links.items ≡ 0 =
     omega (arith, c.in_default.ensures.cases.0, c.loop-place.links.ok.0) in
     let v = c.loop-place.invariant.kept st stands in

@@ -8,7 +8,7 @@ use Rattle.tus_session.proofs.session.Session.close.Given as goal
 
 abbrev pub invariant-loop-place : goal.invariant-loop-place
 invariant-loop-place g l = record {
-  kept : (st : State) → SessionStands g.U.Uploads l.fn.self.links.items l.fn.store st
+  kept : (st : State) → SessionStands g.U.Uploads sure l.fn.self.links.items l.fn.store st
       → (v : World) × IsClosing g.U.Uploads st (length l.links.items) l.store v;
   front : l.links.items ≡ take (length l.links.items) l.fn.self.links.items;
   below : length l.links.items ≤ length l.fn.self.links.items;

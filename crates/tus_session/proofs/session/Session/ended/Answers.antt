@@ -7,13 +7,13 @@ use Rattle.tus_session.proofs.Tolds.{ended_step, none_ended, ends, ends_stopped}
 use Rattle.tus_session.proofs.session.Session.ended.Goals as goal
 
 pub returns-in_err-link-clause-answer : goal.returns-in_err-link-clause-answer
-returns-in_err-link-clause-answer g c st stands =
+returns-in_err-link-clause-answer g c sure st stands =
     let stop = err_from_is_err_and c.from_residual.result c.from_residual.ensures.1 in
     let none = c.in_err-link.ensures.closed c.args.store.now st stands in
     rw (stop.1, stop.2, c.in_err-link.ensures.refusal) (none_ended g.U.Uploads _ _ st c.args.conn none.1 none.0)
 
 pub returns-in_err-end_of-clause-answer : goal.returns-in_err-end_of-clause-answer
-returns-in_err-end_of-clause-answer g c st stands =
+returns-in_err-end_of-clause-answer g c sure st stands =
     let stop = err_from_is_err_and c.from_residual-in_err-end_of.result c.from_residual-in_err-end_of.ensures.1 in
     let o = c.in_ok-link.ensures.open c.args.store.now st stands in
     rw (stop.1, stop.2)
@@ -44,7 +44,7 @@ returns-in_err-end_of-clause-no_down g c =
     rw stop.1 (no_down c.in_err-end_of.field-0.0 stop.0 stop.2)
 
 pub returns-clause-answer : goal.returns-clause-answer
-returns-clause-answer g c st stands =
+returns-clause-answer g c sure st stands =
     let o = c.in_ok-link.ensures.open c.args.store.now st stands in
     ends g.U.Uploads _ _ _ _ st (Ended c.args.conn) o.0 stands tt o.1 c.in_ok-link.ensures.taken
     (ended_step st c.args.conn o.0 o.1) (c.in_ok-end_of.ensures.answer st.world o.0 stands.shown o.2)

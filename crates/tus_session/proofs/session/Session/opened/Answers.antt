@@ -5,7 +5,7 @@ use Rattle.tus_session.proofs.session.Session.opened.Goals.{then-conn-len-via-th
 use Rattle.tus_session.proofs.session.Session.opened.Goals.{then-conn-len-via-else-conn-len+then-is_some}
 
 pub returns-then-conn-len-clause-answer : goal.returns-then-conn-len-clause-answer
-returns-then-conn-len-clause-answer g c store st stands = elim c.then-conn-len.branch [
+returns-then-conn-len-clause-answer g c sure store st stands = elim c.then-conn-len.branch [
   | then-conn-len-via-then-conn-len w ↦
       not_below g.U.Uploads _ store st c.args.conn stands
       (omega (arith, w.if-conn-len.true, c.len.ensures, c.args.self.now.links.ok.0))
@@ -17,7 +17,7 @@ returns-then-conn-len-clause-answer g c store st stands = elim c.then-conn-len.b
 ]
 
 pub returns-clause-answer : goal.returns-clause-answer
-returns-clause-answer g c store st stands =
+returns-clause-answer g c sure store st stands =
     let lt : c.args.conn < length c.args.self.now.links.items =
     omega (arith, c.if-conn-len.false, c.len.ensures, c.args.self.now.links.ok.0) in
     let none = not_open g.U.Uploads c.args.self.now.links.items store st c.args.conn c.index.result.now stands lt

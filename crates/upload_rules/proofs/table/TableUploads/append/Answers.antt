@@ -5,7 +5,7 @@ use Rattle.upload_rules.proofs.Refusals.{append_is, fed, not_fed}
 use Rattle.upload_rules.proofs.table.TableUploads.append.Goals as goal
 
 pub returns-in-Ok-clause-answer : goal.returns-in-Ok-clause-answer
-returns-in-Ok-clause-answer c = λ w p stands there holds held.
+returns-in-Ok-clause-answer c = λ sure w p stands there holds held.
     let t = c.args.self.now in
     let d = c.args.draft.now.number in
     let o = c.in-Some.append in
@@ -25,7 +25,7 @@ returns-in-Ok-clause-answer c = λ w p stands there holds held.
     )
 
 pub returns-in-Err-clause-answer : goal.returns-in-Err-clause-answer
-returns-in-Err-clause-answer c = λ w p stands there holds held.
+returns-in-Err-clause-answer c = λ sure w p stands there holds held.
     let t = c.args.self.now in
     let d = c.args.draft.now.number in
     let o = c.in-Some.append in
@@ -39,9 +39,3 @@ returns-in-Err-clause-answer c = λ w p stands there holds held.
           c.in-Some.ensures.after c.put_back.ensures
           (subst (λ y. AppendStands y w.store.next p new) stands.indexes after),
     )
-
-pub returns-in-Ok-clause-represents : goal.returns-in-Ok-clause-represents
-returns-in-Ok-clause-represents c = returns-in-Ok-clause-answer c
-
-pub returns-in-Err-clause-represents : goal.returns-in-Err-clause-represents
-returns-in-Err-clause-represents c = returns-in-Err-clause-answer c

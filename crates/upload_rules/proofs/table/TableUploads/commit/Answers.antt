@@ -22,14 +22,14 @@ same_slot slots place a b lt e f = e ∙ get_or_same slots place a b lt ∙ sym 
     get_or_same (s ∷ slots) (suc place) a b lt = get_or_same slots place a b (omega arith)
 
 pub returns-in_default-place_of-clause-answer : goal.returns-in_default-place_of-clause-answer
-returns-in_default-place_of-clause-answer c = λ w p stands there holds.
+returns-in_default-place_of-clause-answer c = λ sure w p stands there holds.
     refused_missing c.args.self.now w stands c.args.draft.number p there c.taken.new.drafts c.in-Some.ensures.after
     c.in-Some.append c.in-Some.ensures.taken
     (subst (λ (l : List Slot). IsRising (numbers l) → IsNowhere (numbers l) c.in-Some.append.number)
     c.deref.ensures.value c.in_default-place_of.ensures.place stands.rising)
 
 pub returns-then-record-append-clause-answer : goal.returns-then-record-append-clause-answer
-returns-then-record-append-clause-answer c = λ w p stands there holds.
+returns-then-record-append-clause-answer c = λ sure w p stands there holds.
     let first = subst (λ (l : List Slot). IsRising (numbers l) → IsFirstAt (numbers l) c.in-Some.append.number
     c.in-Some-place_of.place) c.deref.ensures.value c.in-Some-place_of.ensures.place stands.rising in
     refused_offset c.args.self.now w stands c.args.draft.number p there c.taken.new.drafts c.in-Some.ensures.after
@@ -37,7 +37,7 @@ returns-then-record-append-clause-answer c = λ w p stands there holds.
     c.in-Some-place_of.place c.index.result.now first c.index.ensures c.if-record-append.true
 
 pub returns-in-Err-clause-answer : goal.returns-in-Err-clause-answer
-returns-in-Err-clause-answer c = λ w p stands there holds.
+returns-in-Err-clause-answer c = λ sure w p stands there holds.
     let first = subst (λ (l : List Slot). IsRising (numbers l) → IsFirstAt (numbers l) c.in-Some.append.number
     c.in-Some-place_of.place) c.deref.ensures.value c.in-Some-place_of.ensures.place stands.rising in
     refused_length c.args.self.now w stands c.args.draft.number p there c.taken.new.drafts c.in-Some.ensures.after
@@ -46,7 +46,7 @@ returns-in-Err-clause-answer c = λ w p stands there holds.
     c.in-Err.refusal c.in-Err.ensures
 
 pub returns-then-is_idle-clause-answer : goal.returns-then-is_idle-clause-answer
-returns-then-is_idle-clause-answer c = λ w p stands there holds.
+returns-then-is_idle-clause-answer c = λ sure w p stands there holds.
     let first = subst (λ (l : List Slot). IsRising (numbers l) → IsFirstAt (numbers l) c.in-Some.append.number
     c.in-Some-place_of.place) c.deref.ensures.value c.in-Some-place_of.ensures.place stands.rising in
     commits_nothing c.args.self.now w stands c.args.draft.number p there c.taken.new.drafts c.in-Some.ensures.after
@@ -55,7 +55,7 @@ returns-then-is_idle-clause-answer c = λ w p stands there holds.
     c.in-Ok.ensures.2 (sym c.is_idle.ensures ∙ c.if-is_idle.true)
 
 pub returns-clause-answer : goal.returns-clause-answer
-returns-clause-answer c = λ w p stands there holds.
+returns-clause-answer c = λ sure w p stands there holds.
     let t = c.args.self.now in
     let d = c.args.draft.number in
     let o = c.in-Some.append in
@@ -91,18 +91,3 @@ returns-clause-answer c = λ w p stands there holds.
     (with_item t.slots place new)
     (completes_is w.store p up.0 up.1 ∙ ap (λ k. is_length k (reached p)) (sym known)) unfinished refl
     (subst (λ y. IsPut y p up.0 done new r) stands.indexes put)
-
-pub returns-in_default-place_of-clause-represents : goal.returns-in_default-place_of-clause-represents
-returns-in_default-place_of-clause-represents c = returns-in_default-place_of-clause-answer c
-
-pub returns-then-record-append-clause-represents : goal.returns-then-record-append-clause-represents
-returns-then-record-append-clause-represents c = returns-then-record-append-clause-answer c
-
-pub returns-in-Err-clause-represents : goal.returns-in-Err-clause-represents
-returns-in-Err-clause-represents c = returns-in-Err-clause-answer c
-
-pub returns-then-is_idle-clause-represents : goal.returns-then-is_idle-clause-represents
-returns-then-is_idle-clause-represents c = returns-then-is_idle-clause-answer c
-
-pub returns-clause-represents : goal.returns-clause-represents
-returns-clause-represents c = returns-clause-answer c

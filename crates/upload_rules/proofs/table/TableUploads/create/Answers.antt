@@ -10,7 +10,7 @@ use Rattle.upload_rules.proofs.table.TableUploads.create.Goals.{then-len-ge-SLOT
 use Rattle.upload_rules.proofs.table.TableUploads.create.Goals.{then-len-ge-SLOT_COUNT-via-else-len-ge-SLOT_COUNT+then-self-ge-NUMBERS_END}
 
 pub returns-then-len-ge-SLOT_COUNT-clause-answer : goal.returns-then-len-ge-SLOT_COUNT-clause-answer
-returns-then-len-ge-SLOT_COUNT-clause-answer c = λ w stands.
+returns-then-len-ge-SLOT_COUNT-clause-answer c = λ sure w stands.
     let t = c.args.self.now in
     let small : is_too_large c.args.new.declared ≡ false =
     ap is_too_large (sym (ap (λ (n : New). n.declared) c.new.view_is)) ∙ sym c.is_too_large.ensures
@@ -27,7 +27,7 @@ returns-then-len-ge-SLOT_COUNT-clause-answer c = λ w stands.
     )
 
 pub returns-then-is_err-clause-answer : goal.returns-then-is_err-clause-answer
-returns-then-is_err-clause-answer c = λ w stands.
+returns-then-is_err-clause-answer c = λ sure w stands.
     let t = c.args.self.now in
     let small : is_too_large c.args.new.declared ≡ false =
     ap is_too_large (sym (ap (λ (n : New). n.declared) c.new.view_is)) ∙ sym c.is_too_large.ensures
@@ -41,7 +41,7 @@ returns-then-is_err-clause-answer c = λ w stands.
     )
 
 pub returns-clause-answer : goal.returns-clause-answer
-returns-clause-answer c = λ w stands.
+returns-clause-answer c = λ sure w stands.
     let t = c.args.self.now in
     let small : is_too_large c.args.new.declared ≡ false =
     ap is_too_large (sym (ap (λ (n : New). n.declared) c.new.view_is)) ∙ sym c.is_too_large.ensures
@@ -56,12 +56,3 @@ returns-clause-answer c = λ w stands.
             (c.is_err.ensures.negation ∙ ap not c.if-is_err.false)) refl (c.new-2.ensures w.store.indexes),
       ),
     )
-
-pub returns-then-len-ge-SLOT_COUNT-clause-represents : goal.returns-then-len-ge-SLOT_COUNT-clause-represents
-returns-then-len-ge-SLOT_COUNT-clause-represents c = returns-then-len-ge-SLOT_COUNT-clause-answer c
-
-pub returns-then-is_err-clause-represents : goal.returns-then-is_err-clause-represents
-returns-then-is_err-clause-represents c = returns-then-is_err-clause-answer c
-
-pub returns-clause-represents : goal.returns-clause-represents
-returns-clause-represents c = returns-clause-answer c

@@ -5,7 +5,7 @@ use Rattle.upload_rules.proofs.Lookups.{following, none_following}
 use Rattle.upload_rules.proofs.table.TableUploads.record_after.Goals as goal
 
 pub returns-in_err-get : goal.returns-in_err-get
-returns-in_err-get c = λ w stands.
+returns-in_err-get c = λ sure w stands.
     let place = c.places_to-place.result in
     none_following c.args.self.now w stands c.args.number place (option_copied c.from_residual.result)
     (subst (λ (l : List Slot). IsRising (numbers l) → IsDivided (numbers l) c.args.number place) c.deref.ensures.value
@@ -14,7 +14,7 @@ returns-in_err-get c = λ w stands.
     (ap option_copied c.from_residual.ensures)
 
 pub returns : goal.returns
-returns c = λ w stands.
+returns c = λ sure w stands.
     let place = c.places_to-place.result in
     let s = c.in_ok-get.field-0.now in
     following c.args.self.now w stands c.args.number place s

@@ -5,7 +5,7 @@ use Rattle.upload_rules.proofs.Deleted.{not_there, there, deletes}
 use Rattle.upload_rules.proofs.table.TableUploads.terminate.Goals as goal
 
 pub returns-in_default-clause-answer : goal.returns-in_default-clause-answer
-returns-in_default-clause-answer c = λ w stands. (
+returns-in_default-clause-answer c = λ sure w stands. (
   not_there c.args.self.now w stands c.args.number
       (subst (λ (l : List Slot). IsRising (numbers l) → IsNowhere (numbers l) c.args.number) c.deref.ensures.value
       c.in_default.ensures.place stands.rising),
@@ -13,16 +13,10 @@ returns-in_default-clause-answer c = λ w stands. (
 )
 
 pub returns-clause-answer : goal.returns-clause-answer
-returns-clause-answer c = λ w stands.
+returns-clause-answer c = λ sure w stands.
     let place = c.in-Some.place in
     let first = subst (λ (l : List Slot). IsRising (numbers l) → IsFirstAt (numbers l) c.args.number place)
     c.deref.ensures.value c.in-Some.ensures.place stands.rising in (
       there c.args.self.now w stands c.args.number place c.remove-gone.result first c.remove-gone.ensures.value,
       deletes c.args.self.now w stands c.args.number place c.remove-gone.new.self first c.remove-gone.ensures.items,
     )
-
-pub returns-in_default-clause-represents : goal.returns-in_default-clause-represents
-returns-in_default-clause-represents c = returns-in_default-clause-answer c
-
-pub returns-clause-represents : goal.returns-clause-represents
-returns-clause-represents c = returns-clause-answer c
