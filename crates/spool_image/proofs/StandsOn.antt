@@ -175,9 +175,9 @@ stands_same {D = D} {sure = sure} disk d d' h h' drafts w s same =
     (subst (λ (k : Holding). StandsFor sure disk d k drafts w) (sym same.1) s)
 
 -- what holds of a call that succeeds, where something is known
-pub on_known : {T E K X : Type 0} (r : Result T E) → (K → OnOk r X) → OnOk r (K → X)
-on_known (Ok t) is = is
-on_known (Err e) is = tt
+pub on_known : {T E K : Type 0} (X : Type 0) (r : Result T E) → (K → OnOk r X) → OnOk r (K → X)
+on_known X (Ok t) is = is
+on_known X (Err e) is = tt
 
 -- what was created, or nothing has changed
 pub created_answers : (refusal : Option UploadRefusal) (r : Result ℕ UploadError) (next : ℕ) (Same : Type 0)

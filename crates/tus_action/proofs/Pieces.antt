@@ -12,7 +12,7 @@ use Rattle.upload_rules.specs.Records.{TellsOf, with_number}
 use Rattle.upload_rules.specs.declared.records.Record.{Record}
 use Rattle.upload_rules.specs.declared.uploads.Uploads.{Ghosts}
 use Rattle.tus_action.specs.Acts.{Giving, piece_of, pending_of, pending_after}
-use Rattle.tus_action.specs.Serves.{Appends, AppendsText, GivesAs, IsGiving, GivingIs, GivesPiece, IsGiven, Gives}
+use Rattle.tus_action.specs.Serves.{Appends, AppendsPiece, AppendsText, GivesAs, IsGiving, GivingIs, GivesPiece, IsGiven, Gives}
 use Rattle.tus_action.specs.Serves.{giving_after}
 use Rattle.tus_action.specs.declared.acts.Giving as given
 use Rattle.tus_action.specs.declared.acts.Given.TheVariants.{Piece, Last}
@@ -86,6 +86,16 @@ appends old new bytes [] is =
     let none : is.piece ≡ [] = nil_from_length is.piece is.are.size in
     is.appended ∙ ap (λ x. old ++ (is.reply ++ x)) none ∙ ap (λ x. old ++ x) (sym is.parts)
 appends old new bytes (b ∷ text) is = is
+
+-- a piece alone
+pub piece_appends : {sure : Bool} (old new text : List ℕ) → AppendsPiece sure old new text → Appends sure old new text text
+piece_appends old new text is = appends old new text text (record {
+  reply = [];
+  piece = is.0;
+  parts = refl;
+  appended = is.1;
+  are = is.2;
+})
 
 -- where that is sure these are the bytes
 pub all_appended : (old new bytes text : List ℕ) → Appends true old new bytes text → new ≡ old ++ bytes

@@ -26,7 +26,7 @@ conn_again x y d g false = refl
 turn_again : (k : Conn) (u piece : List ℕ) (n : ℕ) (a : Acted) → turn_of k piece n a ≡ restreamed k.stream piece
     (turn_of (with_stream u k) piece n a)
 turn_again k u piece n a =
-    ap (λ c. record { world = a.world; conn = c; bytes = a.bytes; taken = n })
+    ap (λ c. record { world = a.world; conn = c; bytes = a.bytes; text = a.text; taken = n })
     (conn_again (k.stream ++ take n piece) (u ++ take n piece) a.draft a.pending a.closes)
 
 with_again : (k : Conn) (u piece : List ℕ) (n : ℕ) (m : Moments) (a : Acted) (b : Bool)
@@ -51,7 +51,7 @@ at_again w k u piece n m = let a = at_head w k.draft m.head in with_again k u pi
 on_again : (w : World) (k : Conn) (piece : List ℕ) → IsSteady (reader w) → (g : Option Giving)
     → came_on w k piece g ≡ restreamed k.stream piece (came_on w (with_stream (left (reader w) k.stream) k) piece g)
 on_again w k piece _ (Some g) =
-    ap (λ x. record { world = w; conn = Some (with_stream x k); bytes = []; taken = 0 }) (sym (append-nil k.stream))
+    ap (λ x. record { world = w; conn = Some (with_stream x k); bytes = []; text = []; taken = 0 }) (sym (append-nil k.stream))
 on_again w k piece steady None =
     let answer = reader w in
     let u = left answer k.stream in

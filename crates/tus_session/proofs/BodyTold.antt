@@ -13,11 +13,12 @@ use Rattle.upload_rules.specs.Lengths.{known_or, longest}
 use Rattle.upload_rules.specs.Store.{Upload, upload_of, patched, find}
 use Rattle.upload_rules.specs.World.{Patch, World}
 use Rattle.upload_rules.specs.Grown.{GrewFrom}
-use Rattle.upload_rules.specs.Calls.{dropped, spent, commit_refusal, appended_at}
+use Rattle.upload_rules.specs.Calls.{dropped, spent, commit_refusal, appended_at, appended}
 use Rattle.upload_rules.specs.Calls.{longer as longer_patch}
 use Rattle.upload_rules.proofs.Finds.{find_replaced_same}
 use Rattle.upload_rules.specs.declared.uploads.Uploads.{Ghosts}
 use Rattle.tus_action.specs.Acts.{Giving, Acted, fed, fed_patch, commit_with}
+use Rattle.tus_action.specs.Serves.{Appends}
 use Rattle.tus_session.specs.Streams.{Asked, InHead, InBody, Rest, cut}
 use Rattle.tus_session.specs.Turns.{Conn, Turn, reader, came_on, came_turn}
 use Rattle.tus_session.specs.Stands.{PatchesAs, IsPatching, IsSkipping, RestIs, LinkIs, PlaceIs}
@@ -47,7 +48,7 @@ pub conn_is : (conn : Conn) (d : Option ℕ) → conn.draft ≡ d → conn.pendi
 conn_is conn d e f = ap (plain conn.stream) (sym e)
     ∙ ap (λ x. record { stream = conn.stream; draft = conn.draft; pending = x }) (sym f)
 
-module _ {U B : Type 0} {sure : Bool} (u : Ghosts U B) where
+module _ {U B : Type 0} (u : Ghosts U B) (sure : Bool) where
   -- a body of which so many bytes are to come is dropped
   dropping_is : (w : World) (conn : Conn) (head : List ℕ) (left : ℕ) (rest : Rest)
       → (cut (reader w) conn.stream).rest ≡ rest → RestIs head left rest → conn.draft ≡ None → conn.pending ≡ None
@@ -68,18 +69,19 @@ module _ {U B : Type 0} {sure : Bool} (u : Ghosts U B) where
   }
 
   -- a reply was given, and nothing is open
-  pub answered_here : (store : U) (link : Option (Link B)) (a : Answer) (old new bytes : List ℕ) (w w' : World)
+  pub answered_here : (store : U) (link : Option (Link B)) (a : Answer) (old new bytes text : List ℕ) (w w' : World)
       (own : Option ℕ) (head : HeadBuffer) (left taken : ℕ) (closes : Bool) (s' : List ℕ) (rest : Rest)
       → u.stands store sure w' → Moves w w' own None → link ≡ link_after head left closes
       → RestIs (bytes_of head) left rest → (cut (reader w) s').rest ≡ rest → a ≡ took taken closes
-      → new ≡ old ++ bytes
+      → Appends sure old new bytes text
       → TurnedAs u sure store link a old new w own (record {
         world = w';
         conn = if closes then None else Some (plain s' None);
         bytes = bytes;
+        text = text;
         taken = taken;
       })
-  answered_here store link a old new bytes w w' own head left taken true s' rest shown moves e kept here is given =
+  answered_here store link a old new bytes text w w' own head left taken true s' rest shown moves e kept here is given =
       record {
         shown = shown;
         here = subst (λ k. PlaceIs u w' k None) (sym e) tt;
@@ -89,7 +91,7 @@ module _ {U B : Type 0} {sure : Bool} (u : Ghosts U B) where
         more = ap (λ x. x.more) is;
         bytes = given;
       }
-  answered_here store link a old new bytes w w' own head left taken false s' rest shown moves e kept here is given =
+  answered_here store link a old new bytes text w w' own head left taken false s' rest shown moves e kept here is given =
       record {
         shown = shown;
         here = subst (λ k. PlaceIs u w' k (Some (plain s' None))) (sym e)
@@ -198,14 +200,20 @@ fed_found w d p (b ∷ q) found =
 -- THE TURNS
 module _ (w : World) (s : List ℕ) (d : ℕ) (asked : Asked) (inside : (cut (reader w) s).rest ≡ InBody asked) where
   abbrev pub part_turned : List ℕ → Turn
-  part_turned q = record { world = fed w d q; conn = Some (plain (s ++ q) (Some d)); bytes = []; taken = length q }
+  part_turned q = record {
+    world = fed w d q;
+    conn = Some (plain (s ++ q) (Some d));
+    bytes = [];
+    text = [];
+    taken = length q;
+  }
 
   pub part_is : (bytes : List ℕ) → length asked.body + length bytes < body_length asked.verdict
       → came_turn w (plain s (Some d)) bytes ≡ part_turned bytes
   part_is bytes few =
       let t : take (length bytes) bytes ≡ bytes = take_all (length bytes) bytes (omega arith) in
       part_turn w (plain s (Some d)) asked inside bytes refl few
-      ∙ ap (λ q. record { world = fed w d q; conn = Some (plain (s ++ q) (Some d)); bytes = []; taken = length bytes })
+      ∙ ap (λ q. record { world = fed w d q; conn = Some (plain (s ++ q) (Some d)); bytes = []; text = []; taken = length bytes })
       t
 
   abbrev pub rest_turned : Patch → List ℕ → Request → ℕ → Turn
@@ -215,6 +223,7 @@ module _ (w : World) (s : List ℕ) (d : ℕ) (asked : Asked) (inside : (cut (re
         world = m.world;
         conn = if m.closes then None else Some (plain (s ++ q) None);
         bytes = m.bytes;
+        text = [];
         taken = n;
       }
 
@@ -224,6 +233,7 @@ module _ (w : World) (s : List ℕ) (d : ℕ) (asked : Asked) (inside : (cut (re
     conn = if m.closes then None else Some
         (record { stream = s ++ q; draft = m.draft; pending = m.pending });
     bytes = m.bytes;
+    text = m.text;
     taken = n;
   }
 
@@ -241,7 +251,7 @@ module _ (w : World) (s : List ℕ) (d : ℕ) (asked : Asked) (inside : (cut (re
       ∙ (ap (λ v. with_acted q n (commit_with (fed w d q) d v (find d (fed w d q).patches))) asks
       ∙ ap (λ o. with_acted q n (commit_with (fed w d q) d (Asks r) o)) f))
 
-module _ {U B : Type 0} {sure : Bool} (u : Ghosts U B) (store' : U) (old new : List ℕ) (w : World) (s : List ℕ)
+module _ {U B : Type 0} (u : Ghosts U B) (sure : Bool) (store' : U) (old new : List ℕ) (w : World) (s : List ℕ)
     (b : OpenPatch B) (asked : Asked) (r : Request) (p : Patch)
     (is : PatchesAs u w b (u.number_of b.draft) asked r p) (inside : (cut (reader w) s).rest ≡ InBody asked)
     (head : HeadBuffer) (left : ℕ)
@@ -259,7 +269,7 @@ module _ {U B : Type 0} {sure : Bool} (u : Ghosts U B) (store' : U) (old new : L
       let here = body_part_rest (reader w) (steady (offers w.store.indexes)) s bytes asked inside (omega arith) in
       record {
         shown = goes.shown;
-        here = part_here u w b asked r p is store' link a head b' (left - length bytes) (0 + length bytes) bytes
+        here = part_here u sure w b asked r p is store' link a head b' (left - length bytes) (0 + length bytes) bytes
             (s ++ bytes) goes none (omega arith) (omega arith) here;
         moves = feed_moves w own p bytes is.found;
         taken = ap (λ x. x.taken) goes.answer_is ∙ (let x : 0 + length bytes ≡ length bytes = omega arith in x);
@@ -277,8 +287,8 @@ module _ {U B : Type 0} {sure : Bool} (u : Ghosts U B) (store' : U) (old new : L
   rest_told q (Ok (link, a)) ends x =
       let m = ended_by w own p q r in
       let t : 0 + left ≡ left = omega arith in
-      answered_here u store' link a old new m.bytes w m.world (Some own) head 0 left m.closes (s ++ q) (InHead [])
-      x.shown (rest_moves u w b asked r p is q) x.link_is (none, refl) ends
+      answered_here u sure store' link a old new m.bytes [] w m.world (Some own) head 0 left m.closes (s ++ q) (InHead [])
+      x.shown (rest_moves u sure w b asked r p is q) x.link_is (none, refl) ends
       (x.answer_is ∙ ap (λ i. took i m.closes) t) x.bytes
   rest_told q (Err stops.NoMemory) ends x = x
   rest_told q (Err stops.DiskFault) ends x = x
@@ -305,7 +315,7 @@ module _ {U B : Type 0} {sure : Bool} (u : Ghosts U B) (store' : U) (old new : L
             (rest_told (take left bytes) a ends (rest enough))
       ]
 
-module _ {U B : Type 0} {sure : Bool} (u : Ghosts U B) (w : World) (conn : Conn) (head : HeadBuffer) (b : OpenPatch B) (left : ℕ)
+module _ {U B : Type 0} (u : Ghosts U B) (sure : Bool) (w : World) (conn : Conn) (head : HeadBuffer) (b : OpenPatch B) (left : ℕ)
     (is : IsPatching u w conn (bytes_of head) b left) where
   abbrev pub own_of : ℕ
   own_of = u.number_of b.draft
@@ -337,7 +347,7 @@ module _ {U B : Type 0} {sure : Bool} (u : Ghosts U B) (w : World) (conn : Conn)
   patch_told store' old new bytes a part same rest =
       subst (λ x. Turned u sure store' a old new w x.draft (came_turn w x bytes))
       (conn_is conn (Some own_of) draft_is_own is.pending)
-      (body_told u store' old new w conn.stream b is.asked is.r is.p own_patches is.inside.rest head left
+      (body_told u sure store' old new w conn.stream b is.asked is.r is.p own_patches is.inside.rest head left
       is.inside.cleared is.inside.wanted bytes a part same rest)
 
   pub rest_store : (bytes : List ℕ) → left ≤ length bytes
@@ -350,10 +360,10 @@ module _ {U B : Type 0} {sure : Bool} (u : Ghosts U B) (w : World) (conn : Conn)
       ∙ ap (λ x. (came_turn w x bytes).world.store) (conn_is conn (Some own_of) draft_is_own is.pending)
 
 abbrev dropped_turn : World → List ℕ → ℕ → Turn
-dropped_turn w s n = record { world = w; conn = Some (plain s None); bytes = []; taken = n }
+dropped_turn w s n = record { world = w; conn = Some (plain s None); bytes = []; text = []; taken = n }
 
 -- a body that is dropped
-module _ {U B : Type 0} {sure : Bool} (u : Ghosts U B) (store : U) (w : World) (conn : Conn) (head : HeadBuffer) (left : ℕ)
+module _ {U B : Type 0} (u : Ghosts U B) (sure : Bool) (store : U) (w : World) (conn : Conn) (head : HeadBuffer) (left : ℕ)
     (stands : u.stands store sure w) (is : IsSkipping w conn (bytes_of head) left) where
   dropped_told : (link : Option (Link B)) (a : Answer) (out bytes : List ℕ)
       → link ≡ link_after head (left - min left (length bytes)) false
@@ -375,7 +385,7 @@ module _ {U B : Type 0} {sure : Bool} (u : Ghosts U B) (store : U) (w : World) (
             subst (TurnedAs u sure store link a out out w None)
             (sym (part_turn w (plain s None) asked inside bytes refl (omega arith)
             ∙ ap (λ q. dropped_turn w (s ++ q) (length bytes)) t))
-            (answered_here u store link a out out [] w w None head still_left (length bytes) false (s ++ bytes)
+            (answered_here u sure store link a out out [] [] w w None head still_left (length bytes) false (s ++ bytes)
             (InBody (longer asked bytes)) stands (still w None) link_is (is.inside.cleared, omega arith)
             (body_part_rest (reader w) (steady (offers w.store.indexes)) s bytes asked inside (omega arith))
             (answer_is ∙ ap (λ i. took i false) count) (sym (append-nil out)))
@@ -386,7 +396,7 @@ module _ {U B : Type 0} {sure : Bool} (u : Ghosts U B) (store : U) (w : World) (
             subst (TurnedAs u sure store link a out out w None)
             (sym (rest_turn w (plain s None) asked inside bytes refl (omega arith) wants
             ∙ ap (λ m. dropped_turn w (s ++ take m bytes) m) (sym wanted)))
-            (answered_here u store link a out out [] w w None head still_left left false (s ++ q)
+            (answered_here u sure store link a out out [] [] w w None head still_left left false (s ++ q)
             (InHead []) stands (still w None) link_is (is.inside.cleared, omega arith)
             (body_whole_rest (reader w) (steady (offers w.store.indexes)) s q asked inside (omega arith))
             (answer_is ∙ ap (λ i. took i false) count) (sym (append-nil out)))
@@ -402,6 +412,6 @@ module _ {U B : Type 0} {sure : Bool} (u : Ghosts U B) (store : U) (w : World) (
       (dropped_told link a out bytes e f)
 
 pub text_turn_is : (w : World) (conn : Conn) (bytes : List ℕ) (h : Giving) → conn.pending ≡ Some h
-    → record { world = w; conn = Some conn; bytes = []; taken = 0 } ≡ came_turn w conn bytes
+    → record { world = w; conn = Some conn; bytes = []; text = []; taken = 0 } ≡ came_turn w conn bytes
 unfolding came_turn
 text_turn_is w conn bytes h e = sym (ap (came_on w conn bytes) e)

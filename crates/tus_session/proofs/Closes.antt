@@ -1,6 +1,6 @@
 -- The end of a session: its drafts are dropped, one place after another.
 use Rattle.std.proofs.Common.{◌≡◌, ◌≢◌, inl, inr, ℕ, suc, ◌+◌, ◌<◌, List, [], ◌∷◌, ◌++◌, length, take, drop, get_or}
-use Rattle.std.proofs.Common.{append_assoc, Option, Some, None, refl, sym, ◌∙◌, ap, subst, arith}
+use Rattle.std.proofs.Common.{append_assoc, Option, Some, None, refl, sym, ◌∙◌, ap, subst, arith, Bool}
 use Rattle.std.proofs.lemmas.Bool.{cases_eq, cases_lt}
 use Rattle.std.proofs.lemmas.Bool.Decides.{nat_tests}
 use Rattle.std.proofs.lemmas.List.{length-append, take-append-drop}
@@ -22,23 +22,23 @@ use Rattle.tus_session.proofs.InPlace.{beyond}
 use Rattle.tus_session.proofs.Moved.{apart_without}
 
 -- a world with the uploads of the history, in which only the drafts of the first places are open
-pub record IsClosing {U B : Type 0} {sure : Bool} (u : Ghosts U B) (st : State) (left : ℕ) (store : U) (v : World) : Type 0 where
+pub record IsClosing {U B : Type 0} (u : Ghosts U B) (sure : Bool) (st : State) (left : ℕ) (store : U) (v : World) : Type 0 where
   pub shown : u.stands store sure v
   pub uploads : v.store ≡ st.world.store
   pub blocks : v.blocks ≡ st.world.blocks
   pub unique : IsApart v.patches
   pub owned : (d : ℕ) (p : Patch) → find d v.patches ≡ Some p → (c : ℕ) × (c < left) × (draft_at (st.conns c) ≡ Some d)
 
-module _ {U B : Type 0} {sure : Bool} (u : Ghosts U B) where
+module _ {U B : Type 0} (u : Ghosts U B) (sure : Bool) where
   conn_below : (places : List (Option (Link B))) (store : U) (st : State) (c d : ℕ) → SessionStands u sure places store st
       → draft_at (st.conns c) ≡ Some d → c < length places
   conn_below places store st c d stands e = elim (cases_lt c (length places)) [
     | inl lt ↦ lt
-    | inr le ↦ let x : Some d ≡ None = sym e ∙ ap draft_at (beyond u places store st c stands le) in absurd (cc)
+    | inr le ↦ let x : Some d ≡ None = sym e ∙ ap draft_at (beyond u sure places store st c stands le) in absurd (cc)
   ]
 
   pub begins_closing : (places : List (Option (Link B))) (store : U) (st : State) → SessionStands u sure places store st
-      → IsClosing u st (length places) store st.world
+      → IsClosing u sure st (length places) store st.world
   begins_closing places store st stands = record {
     shown = stands.shown;
     uploads = refl;
@@ -48,8 +48,8 @@ module _ {U B : Type 0} {sure : Bool} (u : Ghosts U B) where
   }
 
   -- a place that has no draft
-  pub none_closing : (st : State) (left : ℕ) (store : U) (v : World) → IsClosing u st (suc left) store v
-      → draft_at (st.conns left) ≡ None → IsClosing u st left store v
+  pub none_closing : (st : State) (left : ℕ) (store : U) (v : World) → IsClosing u sure st (suc left) store v
+      → draft_at (st.conns left) ≡ None → IsClosing u sure st left store v
   none_closing st left store v is none = record {
     shown = is.shown;
     uploads = is.uploads;
@@ -63,9 +63,9 @@ module _ {U B : Type 0} {sure : Bool} (u : Ghosts U B) where
   }
 
   -- a place whose draft is dropped
-  pub draft_closing : (st : State) (left : ℕ) (store store' : U) (v : World) (d : ℕ) → IsClosing u st (suc left) store v
+  pub draft_closing : (st : State) (left : ℕ) (store store' : U) (v : World) (d : ℕ) → IsClosing u sure st (suc left) store v
       → draft_at (st.conns left) ≡ Some d
-      → u.stands store sure' (dropped v d) → IsClosing u st left store' (dropped v d)
+      → u.stands store' sure (dropped v d) → IsClosing u sure st left store' (dropped v d)
   draft_closing st left store store' v d is own shown = record {
     shown = shown;
     uploads = is.uploads;
@@ -87,10 +87,10 @@ module _ {U B : Type 0} {sure : Bool} (u : Ghosts U B) where
 
   -- a connection without a patch
   idle_closing : (st : State) (left : ℕ) (store store' : U) (v : World) (conn : Conn)
-      → IsClosing u st (suc left) store v → st.conns left ≡ Some conn → conn.draft ≡ None → u.stands store sure' v
-      → (v' : World) × IsClosing u st left store' v'
+      → IsClosing u sure st (suc left) store v → st.conns left ≡ Some conn → conn.draft ≡ None → u.stands store' sure v
+      → (v' : World) × IsClosing u sure st left store' v'
   idle_closing st left store store' v conn is e none shown =
-      let now : IsClosing u st (suc left) store' v = record {
+      let now : IsClosing u sure st (suc left) store' v = record {
         shown = shown;
         uploads = is.uploads;
         blocks = is.blocks;
@@ -100,9 +100,9 @@ module _ {U B : Type 0} {sure : Bool} (u : Ghosts U B) where
       (v, none_closing st left store' v now (ap draft_at e ∙ none))
 
   awaiting_closing : (st : State) (left : ℕ) (store store' : U) (v : World) (head : List ℕ) (awaiting : Awaiting B)
-      (conn : Conn) → IsClosing u st (suc left) store v → st.conns left ≡ Some conn
-      → LinkIs u st.world head awaiting conn → u.stands store sure' (dropped_by u v awaiting)
-      → (v' : World) × IsClosing u st left store' v'
+      (conn : Conn) → IsClosing u sure st (suc left) store v → st.conns left ≡ Some conn
+      → LinkIs u st.world head awaiting conn → u.stands store' sure (dropped_by u v awaiting)
+      → (v' : World) × IsClosing u sure st left store' v'
   awaiting_closing st left store store' v head awaits.Head conn is e link shown =
       idle_closing st left store store' v conn is e link.draft shown
   awaiting_closing st left store store' v head (awaits.Skip wanted) conn is e link shown =
@@ -110,21 +110,21 @@ module _ {U B : Type 0} {sure : Bool} (u : Ghosts U B) where
   awaiting_closing st left store store' v head (awaits.Text g wanted) conn is e link shown =
       idle_closing st left store store' v conn is e link.draft shown
   awaiting_closing st left store store' v head (awaits.Patch b wanted) conn is e link shown =
-      let stands : u.stands store sure' (dropped v link.d) =
-      subst (λ n. u.stands store sure' (dropped v n)) link.patches.number shown in
+      let stands : u.stands store' sure (dropped v link.d) =
+      subst (λ n. u.stands store' sure (dropped v n)) link.patches.number shown in
       (dropped v link.d, draft_closing st left store store' v link.d is (ap draft_at e ∙ link.draft) stands)
 
   pub link_closing : (st : State) (left : ℕ) (store store' : U) (v : World) (k : Link B) (o : Option Conn)
-      → IsClosing u st (suc left) store v → st.conns left ≡ o
-      → PlaceIs u st.world (Some k) o → u.stands store sure' (dropped_by u v k.awaiting)
-      → (v' : World) × IsClosing u st left store' v'
+      → IsClosing u sure st (suc left) store v → st.conns left ≡ o
+      → PlaceIs u st.world (Some k) o → u.stands store' sure (dropped_by u v k.awaiting)
+      → (v' : World) × IsClosing u sure st left store' v'
   link_closing st left store store' v k None is e place shown = absurd place
   link_closing st left store store' v k (Some conn) is e place shown =
       awaiting_closing st left store store' v (bytes_of k.head) k.awaiting conn is e place shown
 
   pub closed_closing : (st : State) (left : ℕ) (store : U) (v : World) (o : Option Conn)
-      → IsClosing u st (suc left) store v → st.conns left ≡ o
-      → PlaceIs u st.world None o → (v' : World) × IsClosing u st left store v'
+      → IsClosing u sure st (suc left) store v → st.conns left ≡ o
+      → PlaceIs u st.world None o → (v' : World) × IsClosing u sure st left store v'
   closed_closing st left store v None is e place = (v, none_closing st left store v is (ap draft_at e))
   closed_closing st left store v (Some conn) is e place = absurd place
 
@@ -133,7 +133,7 @@ module _ {U B : Type 0} {sure : Bool} (u : Ghosts U B) where
   no_patches (x ∷ patches) none = absurd (none x.0 x.1 (grind (arith, nat_tests)))
 
   -- no place is left
-  pub all_closed : (st : State) (store : U) (v : World) → IsClosing u st 0 store v
+  pub all_closed : (st : State) (store : U) (v : World) → IsClosing u sure st 0 store v
       → u.stands store sure (at_rest st.world.store st.world.blocks)
   all_closed st store v is =
       let none : v.patches ≡ [] =
@@ -176,25 +176,25 @@ popped all old new x front items =
       count = omega arith;
     }
 
-module _ {U B : Type 0} {sure : Bool} (u : Ghosts U B) (all old new : List (Option (Link B))) (first : U) (st : State)
+module _ {U B : Type 0} (u : Ghosts U B) (sure : Bool) (all old new : List (Option (Link B))) (first : U) (st : State)
     (stands : SessionStands u sure all first st) where
   place_there : (x : Option (Link B)) → Popped all old new x → PlaceIs u st.world x (st.conns (length new))
   place_there x is = subst (λ p. PlaceIs u st.world p (st.conns (length new))) is.here (stands.each (length new))
 
-  one_less : (store : U) (v : World) (x : Option (Link B)) → Popped all old new x → IsClosing u st (length old) store v
-      → IsClosing u st (suc (length new)) store v
-  one_less store v x is closing = subst (λ n. IsClosing u st n store v) is.count closing
+  one_less : (store : U) (v : World) (x : Option (Link B)) → Popped all old new x → IsClosing u sure st (length old) store v
+      → IsClosing u sure st (suc (length new)) store v
+  one_less store v x is closing = subst (λ n. IsClosing u sure st n store v) is.count closing
 
   pub after_closed : (store : U) (v : World) (x : Option (Link B)) → x ≡ None → Popped all old new x
-      → IsClosing u st (length old) store v
-      → (v' : World) × IsClosing u st (length new) store v'
+      → IsClosing u sure st (length old) store v
+      → (v' : World) × IsClosing u sure st (length new) store v'
   after_closed store v x e is closing =
-      closed_closing u st (length new) store v (st.conns (length new)) (one_less store v x is closing) refl
+      closed_closing u sure st (length new) store v (st.conns (length new)) (one_less store v x is closing) refl
       (subst (λ p. PlaceIs u st.world p (st.conns (length new))) e (place_there x is))
 
   pub after_open : (store store' : U) (v : World) (x : Option (Link B)) (k : Link B) → x ≡ Some k → Popped all old new x
-      → IsClosing u st (length old) store v
-      → u.stands store sure' (dropped_by u v k.awaiting) → (v' : World) × IsClosing u st (length new) store' v'
+      → IsClosing u sure st (length old) store v
+      → u.stands store' sure (dropped_by u v k.awaiting) → (v' : World) × IsClosing u sure st (length new) store' v'
   after_open store store' v x k e is closing shown =
-      link_closing u st (length new) store store' v k (st.conns (length new)) (one_less store v x is closing) refl
+      link_closing u sure st (length new) store store' v k (st.conns (length new)) (one_less store v x is closing) refl
       (subst (λ p. PlaceIs u st.world p (st.conns (length new))) e (place_there x is)) shown

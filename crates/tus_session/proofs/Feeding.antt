@@ -86,7 +86,7 @@ ended_store w d p piece r =
     sym (spent_store (fed w d piece) d (fed_patch w d p piece)
     (commit_refusal (fed w d piece) d (fed_patch w d p piece)))
 
-module _ {U B : Type 0} {sure : Bool} (u : Ghosts U B) where
+module _ {U B : Type 0} (u : Ghosts U B) (sure : Bool) where
   -- a reply was given, and nothing is open
   pub answered_as : (store : U) (link : Option (Link B)) (old new : List ℕ) (head : HeadBuffer) (taken : ℕ) (m : Acted)
       (closes : Bool) → u.stands store sure m.world → closes ≡ m.closes

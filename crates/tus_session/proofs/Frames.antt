@@ -1,6 +1,6 @@
 -- A turn on one connection leaves the others as they were.
 use Rattle.std.proofs.Common.{◌≡◌, ◌<◌, ℕ, ◌+◌, List, ◌++◌, length, take, drop, Option, Some, None, refl, sym, ◌∙◌, ap}
-use Rattle.std.proofs.Common.{subst, arith}
+use Rattle.std.proofs.Common.{subst, arith, Bool}
 use Rattle.std.proofs.lemmas.List.{length-append, take-append-le}
 use Rattle.tus_request.specs.Buffers.{bytes_of}
 use Rattle.enc_model.specs.Indexes.{offers}
@@ -75,7 +75,7 @@ pub rest_same : (w w' : World) (s : List ℕ) → w'.store.indexes ≡ w.store.i
     → (cut (reader w') s).rest ≡ (cut (reader w) s).rest
 rest_same w w' s e = ap (λ x. (cut (answer_of (offers x)) s).rest) e
 
-module _ {U B : Type 0} {sure : Bool} (u : Ghosts U B) where
+module _ {U B : Type 0} (u : Ghosts U B) (sure : Bool) where
   patch_moved : (w w' : World) (own : Option ℕ) (b : OpenPatch B) (d : ℕ) (asked : Asked) (r : Request) (p : Patch)
       (own' : Option ℕ) → Moves w w' own own' → (own ≡ Some d → ⊥) → PatchesAs u w b d asked r p
       → PatchesAs u w' b d asked r p

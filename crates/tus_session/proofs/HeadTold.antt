@@ -1,5 +1,5 @@
 -- From what a head comes to, to the turn's answer.
-use Rattle.std.proofs.Common.{ℕ, ◌+◌, ◌-◌, ◌≤◌, ◌≡◌, inl, inr, true, false, List, [], ◌++◌, Option, Some, None}
+use Rattle.std.proofs.Common.{ℕ, ◌+◌, ◌-◌, ◌≤◌, ◌≡◌, inl, inr, true, false, List, [], ◌++◌, Option, Some, None, Bool}
 use Rattle.std.proofs.Common.{length, take, drop, min, refl, sym, ◌∙◌, ap, subst, arith, append-nil, if◌then◌else◌}
 use Rattle.std.proofs.lemmas.Bool.{cases_lt}
 use Rattle.std.proofs.lemmas.List.{length-take-le, take_all, length-append, length-drop}
@@ -14,6 +14,7 @@ use Rattle.tus_request.specs.Steady.{IsSteady}
 use Rattle.upload_rules.specs.World.{World}
 use Rattle.upload_rules.specs.declared.uploads.Uploads.{Ghosts}
 use Rattle.tus_action.specs.Acts.{Acted, Giving, acted, is_pending}
+use Rattle.tus_action.specs.Serves.{Appends}
 use Rattle.tus_session.specs.Streams.{InHead, InBody, Moments}
 use Rattle.tus_session.specs.Turns.{Conn, Turn, reader, turn_of, came_with, body_step, came_turn}
 use Rattle.tus_session.specs.Heads.{InsideHead, IsWhole}
@@ -48,6 +49,7 @@ answered_turn a s n = record {
   world = a.world;
   conn = if a.closes then None else Some (plain s None);
   bytes = a.bytes;
+  text = a.text;
   taken = n;
 }
 
@@ -59,23 +61,24 @@ turn_plain k piece n a idle none =
       world = a.world;
       conn = if a.closes then None else Some (record { stream = s; draft = d; pending = g });
       bytes = a.bytes;
+      text = a.text;
       taken = n;
     } in
     ap (λ d. T d a.pending) none ∙ ap (T None) idle
 
-module _ {U B : Type 0} {sure : Bool} (u : Ghosts U B) where
+module _ {U B : Type 0} (u : Ghosts U B) (sure : Bool) where
   -- the head isn't whole yet
   pub more_told : (store : U) (x : code.Answer) (out : List ℕ) (w : World) (conn : Conn)
       (h bytes : List ℕ) (head : HeadBuffer) → u.stands store sure w → InsideHead w conn h
       → reader w (h ++ bytes) ≡ More → (bytes_of head) ≡ h ++ bytes → x ≡ took (length bytes) false
       → TurnedAs u sure store (link_after head 0 false) x out out w conn.draft (came_turn w conn bytes)
   more_told store x out w conn h bytes head stands inside more head_is answer_is =
-      let a : Acted = record { world = w; draft = None; bytes = []; pending = None; closes = false } in
+      let a : Acted = record { world = w; draft = None; bytes = []; text = []; pending = None; closes = false } in
       let t : take (length bytes) bytes ≡ bytes = take_all (length bytes) bytes (omega arith) in
       let turn : came_turn w conn bytes ≡ answered_turn a (conn.stream ++ bytes) (length bytes) =
       more_turn_is w conn h inside bytes more ∙ ap (λ q. answered_turn a (conn.stream ++ q) (length bytes)) t in
       let here = head_more_rest (reader w) (is_steady w) conn.stream h inside.rest bytes more in
-      let now = answered_here u store (link_after head 0 false) x out out [] w w None head 0 (length bytes) false
+      let now = answered_here u sure store (link_after head 0 false) x out out [] [] w w None head 0 (length bytes) false
       (conn.stream ++ bytes) (InHead (h ++ bytes)) stands (still w None) refl (head_is, refl) here answer_is
       (sym (append-nil out)) in
       subst (λ d. TurnedAs u sure store (link_after head 0 false) x out out w d (came_turn w conn bytes)) (sym inside.draft)
@@ -88,11 +91,12 @@ module _ {U B : Type 0} {sure : Bool} (u : Ghosts U B) where
 
     -- what the head did is all: the rest of the body is dropped
     pub no_patch_told : (link : Option (Link B)) (x : code.Answer) (old new : List ℕ) (head : HeadBuffer)
-        → u.stands store sure' (acted w v).world → Moves w (acted w v).world None None
+        → u.stands store' sure (acted w v).world → Moves w (acted w v).world None None
         → (acted w v).draft ≡ None → (acted w v).pending ≡ None
         → link ≡ link_after head (body_length v - min (body_length v) (length after)) (acted w v).closes
         → (bytes_of head) ≡ []
-        → x ≡ took (before + min (body_length v) (length after)) (acted w v).closes → new ≡ old ++ (acted w v).bytes
+        → x ≡ took (before + min (body_length v) (length after)) (acted w v).closes
+        → Appends sure old new (acted w v).bytes (acted w v).text
         → TurnedAs u sure store' link x old new w conn.draft (came_turn w conn bytes)
     no_patch_told link x old new head shown moves none idle link_is head_is answer_is bytes_are =
         let a = acted w v in
@@ -116,7 +120,7 @@ module _ {U B : Type 0} {sure : Bool} (u : Ghosts U B) where
               (omega arith) in
               let left_is : left ≡ m - length (drop n (h ++ bytes)) = omega arith in
               let count : before + min m (length after) ≡ length bytes = omega arith in
-              let now = answered_here u store' link x old new a.bytes w a.world None head left (length bytes) a.closes
+              let now = answered_here u sure store' link x old new a.bytes a.text w a.world None head left (length bytes) a.closes
               (conn.stream ++ bytes) (InBody (judged_as (h ++ bytes) n v)) shown moves link_is (head_is, left_is) here
               (answer_is ∙ ap (λ i. took i a.closes) count) bytes_are in
               subst (TurnedAs u sure store' link x old new w None) (sym turn) now
@@ -137,7 +141,7 @@ module _ {U B : Type 0} {sure : Bool} (u : Ghosts U B) where
               (front_judged w conn h is.inside bytes n before v is.judged is.before_is m) all in
               let left_is : left ≡ 0 = omega arith in
               let count : before + min m (length after) ≡ before + m = omega arith in
-              let now = answered_here u store' link x old new a.bytes w a.world None head left (before + m) a.closes
+              let now = answered_here u sure store' link x old new a.bytes a.text w a.world None head left (before + m) a.closes
               (conn.stream ++ q) (InHead []) shown moves link_is (head_is, left_is) here
               (answer_is ∙ ap (λ i. took i a.closes) count) bytes_are in
               subst (TurnedAs u sure store' link x old new w None) (sym turn) now
@@ -166,17 +170,18 @@ slice_rest before bytes =
     let l : length (drop before bytes) ≡ length bytes - before = length-drop before bytes in
     ap length (take_all (length bytes - before) (drop before bytes) (omega arith))
 
-module _ {U B : Type 0} {sure : Bool} (u : Ghosts U B) (store' : U) (w : World) (conn : Conn) (h bytes : List ℕ) (n before : ℕ)
+module _ {U B : Type 0} (u : Ghosts U B) (sure : Bool) (store' : U) (w : World) (conn : Conn) (h bytes : List ℕ) (n before : ℕ)
     (v : Verdict) (is : IsWhole w conn h bytes n before v) where
   pub no_patch_len : (link : Option (Link B)) (x : code.Answer) (old new : List ℕ) (head : HeadBuffer) (len : ℕ)
       → len ≡ length (drop before bytes)
-      → u.stands store sure' (acted w v).world → Moves w (acted w v).world None None → (acted w v).draft ≡ None
+      → u.stands store' sure (acted w v).world → Moves w (acted w v).world None None → (acted w v).draft ≡ None
       → (acted w v).pending ≡ None
       → link ≡ link_after head (body_length v - min (body_length v) len) (acted w v).closes
       → (bytes_of head) ≡ []
-      → x ≡ took (before + min (body_length v) len) (acted w v).closes → new ≡ old ++ (acted w v).bytes
+      → x ≡ took (before + min (body_length v) len) (acted w v).closes
+      → Appends sure old new (acted w v).bytes (acted w v).text
       → TurnedAs u sure store' link x old new w conn.draft (came_turn w conn bytes)
   no_patch_len link x old new head len len_is shown moves none idle link_is head_is answer_is bytes_are =
-      no_patch_told u store' w conn h bytes n before v is link x old new head shown moves none idle
+      no_patch_told u sure store' w conn h bytes n before v is link x old new head shown moves none idle
       (link_is ∙ ap (λ i. link_after head (body_length v - min (body_length v) i) (acted w v).closes) len_is)
       head_is (answer_is ∙ ap (λ i. took (before + min (body_length v) i) (acted w v).closes) len_is) bytes_are

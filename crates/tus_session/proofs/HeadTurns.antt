@@ -52,6 +52,7 @@ module _ (w : World) (conn : Conn) (h : List ℕ) (inside : InsideHead w conn h)
         world = w;
         draft = None;
         bytes = [];
+        text = [];
         pending = None;
         closes = false;
       })

@@ -1,5 +1,5 @@
 -- A connection in its place again, after an event.
-use Rattle.std.proofs.Common.{◌≡◌, ◌≢◌, inl, inr, ℕ, ◌<◌, ◌≤◌, List, length, get_or, slice_set}
+use Rattle.std.proofs.Common.{◌≡◌, ◌≢◌, inl, inr, ℕ, ◌<◌, ◌≤◌, List, length, get_or, slice_set, Bool}
 use Rattle.std.proofs.Common.{Option, Some, None, refl, sym, ◌∙◌, ap, subst, arith, get_or-set_same, get_or-set_other}
 use Rattle.std.proofs.Common.{length-set}
 use Rattle.std.proofs.lemmas.Bool.Decides.{nat_tests}
@@ -22,12 +22,12 @@ conns_here conns k conn = grind (arith, nat_tests)
 pub conns_else : (conns : ℕ → Option Conn) (k j : ℕ) (conn : Option Conn) → j ≢ k → with_conn conns k conn j ≡ conns j
 conns_else conns k j conn ne = grind (arith, nat_tests)
 
-module _ {U B : Type 0} {sure : Bool} (u : Ghosts U B) where
+module _ {U B : Type 0} (u : Ghosts U B) (sure : Bool) where
   module _ (places all : List (Option (Link B))) (store store' : U) (st : State) (w' : World) (k : ℕ) (next : Option
       (Link B))
       (conn' : Option Conn)
       (stands : SessionStands u sure places store st) (is_put : IsPut places all k next)
-      (moves : Moves st.world w' (draft_at (st.conns k)) (draft_at conn')) (shown : u.stands store sure' w')
+      (moves : Moves st.world w' (draft_at (st.conns k)) (draft_at conn')) (shown : u.stands store' sure w')
       (here : PlaceIs u w' next conn') where
     each_there : (c : ℕ) → PlaceIs u w' (get_or all c None) (with_conn st.conns k conn' c)
     each_there c = elim (cases_eq c k) [
@@ -38,7 +38,7 @@ module _ {U B : Type 0} {sure : Bool} (u : Ghosts U B) where
           subst P (sym is) b
       | inr ne ↦
           let a : PlaceIs u w' (get_or places c None) (st.conns c) =
-          place_moved u st.world w' (draft_at (st.conns k)) (draft_at conn') (get_or places c None) (st.conns c) moves
+          place_moved u sure st.world w' (draft_at (st.conns k)) (draft_at conn') (get_or places c None) (st.conns c) moves
           (λ e f g. ne (stands.apart c k e f g)) (stands.each c) in
           let b : PlaceIs u w' (get_or all c None) (st.conns c) =
           subst (λ x. PlaceIs u w' x (st.conns c)) (sym (is_put.others c ne)) a in
@@ -49,7 +49,7 @@ module _ {U B : Type 0} {sure : Bool} (u : Ghosts U B) where
     not_both : (e d : ℕ) → e ≢ k → draft_at conn' ≡ Some d → draft_at (st.conns e) ≡ Some d → ⊥
     not_both e d ne f g = elim (moves.fresh d f) [
       | inl own ↦ ne (stands.apart e k d g own)
-      | inr none ↦ let p = draft_found u st.world (get_or places e None) (st.conns e) d (stands.each e)
+      | inr none ↦ let p = draft_found u sure st.world (get_or places e None) (st.conns e) d (stands.each e)
           g in let x : Some p.0 ≡ None = sym p.1 ∙ none in absurd (cc)
     ]
 

@@ -6,7 +6,7 @@ use Rattle.upload_rules.specs.Store.{Store, Upload, upload_of}
 use Rattle.upload_rules.specs.World.{World}
 use Rattle.upload_rules.specs.declared.uploads.Uploads.{Ghosts}
 use Rattle.tus_action.specs.Acts.{Giving, is_pending, pending_after, piece_of}
-use Rattle.tus_action.specs.Serves.{GivingIs, IsGiven, Gives}
+use Rattle.tus_action.specs.Serves.{GivingIs, IsGiven, Gives, Appends}
 use Rattle.tus_action.specs.declared.acts.Giving as given
 use Rattle.tus_action.specs.declared.acts.Given.TheVariants.{Piece, Last, Gone}
 use Rattle.tus_session.specs.Streams.{cut}
@@ -23,16 +23,18 @@ use Rattle.tus_session.specs.declared.conns.Awaiting.{Awaiting}
 use Rattle.tus_session.specs.declared.conns.Awaiting.TheVariants as awaits
 use Rattle.tus_session.specs.declared.conns.Link.{Link}
 use Rattle.tus_session.proofs.BodyTold.{answered_here}
+use Rattle.tus_action.proofs.Pieces.{piece_appends}
 use Rattle.tus_session.proofs.Opening.{still}
 
 abbrev unmoved_turn : World → Conn → Turn
-unmoved_turn w conn = record { world = w; conn = Some conn; bytes = []; taken = 0 }
+unmoved_turn w conn = record { world = w; conn = Some conn; bytes = []; text = []; taken = 0 }
 
 abbrev given_turn : World → Conn → Giving → Turn
 given_turn w conn h = record {
   world = w;
   conn = given_up conn h.closes (pending_after h);
   bytes = piece_of h;
+  text = piece_of h;
   taken = 0;
 }
 
@@ -46,14 +48,14 @@ unfolding more_turn
 more_some_is w conn h up e there = sym (ap (more_on w conn) e ∙ ap (give_on w conn h) there)
 
 abbrev gone_turn : World → Turn
-gone_turn w = record { world = w; conn = None; bytes = []; taken = 0 }
+gone_turn w = record { world = w; conn = None; bytes = []; text = []; taken = 0 }
 
 more_gone_is : (w : World) (conn : Conn) (h : Giving) → conn.pending ≡ Some h → upload_of w.store h.number ≡ None
     → gone_turn w ≡ more_turn w conn
 unfolding more_turn
 more_gone_is w conn h e none = sym (ap (more_on w conn) e ∙ ap (give_on w conn h) none)
 
-module _ {U B : Type 0} {sure : Bool} (u : Ghosts U B) where
+module _ {U B : Type 0} (u : Ghosts U B) (sure : Bool) where
   -- a connection stays as it is, and nothing is given
   pub stays : (store : U) (w : World) (k : Link B) (conn : Conn) (more : Bool) (out : List ℕ) → u.stands store sure w
       → LinkIs u w (bytes_of k.head) k.awaiting conn
@@ -103,9 +105,9 @@ module _ {U B : Type 0} {sure : Bool} (u : Ghosts U B) where
     text_link rest = Some (record { head = head; awaiting = awaits.Text rest left })
 
     some_turned : (old new : List ℕ) (rest : given.Giving) (pending : Option Giving)
-        → GivingIs w.store (Some rest) pending → new ≡ old ++ piece_of is.h
+        → GivingIs w.store (Some rest) pending → Appends sure old new (piece_of is.h) (piece_of is.h)
         → TurnedAs u sure store (text_link rest) (gave false true) old new w conn.draft
-        (record { world = w; conn = given_up conn is.h.closes pending; bytes = piece_of is.h; taken = 0 })
+        (record { world = w; conn = given_up conn is.h.closes pending; bytes = piece_of is.h; text = piece_of is.h; taken = 0 })
     some_turned old new rest None given e = absurd given
     some_turned old new rest (Some h) given e = record {
       shown = stands;
@@ -119,16 +121,16 @@ module _ {U B : Type 0} {sure : Bool} (u : Ghosts U B) where
 
     -- more of the text is left
     pub more_some : (old new : List ℕ) (rest : given.Giving) (up : Upload) → upload_of w.store is.h.number ≡ Some up
-        → GivingIs w.store (Some rest) (pending_after is.h) → new ≡ old ++ piece_of is.h
+        → GivingIs w.store (Some rest) (pending_after is.h) → Appends sure old new (piece_of is.h) (piece_of is.h)
         → TurnedAs u sure store (text_link rest) (gave false true) old new w conn.draft (more_turn w conn)
     more_some old new rest up there given e =
         subst (TurnedAs u sure store (text_link rest) (gave false true) old new w conn.draft)
         (more_some_is w conn is.h up is.pending there) (some_turned old new rest (pending_after is.h) given e)
 
     none_turned : (old new : List ℕ) (closes : Bool) (pending : Option Giving) → GivingIs w.store None pending
-        → new ≡ old ++ piece_of is.h
+        → Appends sure old new (piece_of is.h) (piece_of is.h)
         → TurnedAs u sure store (link_after head left closes) (gave closes false) old new w conn.draft
-        (record { world = w; conn = given_up conn closes pending; bytes = piece_of is.h; taken = 0 })
+        (record { world = w; conn = given_up conn closes pending; bytes = piece_of is.h; text = piece_of is.h; taken = 0 })
     none_turned old new closes (Some h) given e = absurd given
     none_turned old new closes None given e =
         subst (λ d. TurnedAs u sure store (link_after head left closes) (gave closes false) old new w d
@@ -136,19 +138,20 @@ module _ {U B : Type 0} {sure : Bool} (u : Ghosts U B) where
           world = w;
           conn = given_up (record conn { draft = d }) closes None;
           bytes = piece_of is.h;
+          text = piece_of is.h;
           taken = 0;
         }))
         (sym is.draft)
-        (answered_here u store (link_after head left closes) (gave closes false) old new (piece_of is.h) w w None head
+        (answered_here u sure store (link_after head left closes) (gave closes false) old new (piece_of is.h) (piece_of is.h) w w None head
         left 0 closes conn.stream (cut (reader w) conn.stream).rest stands (still w None) refl is.rest refl refl e)
 
     -- the text is given
     pub more_done : (old new : List ℕ) (up : Upload) → upload_of w.store is.h.number ≡ Some up
-        → pending_after is.h ≡ None → new ≡ old ++ piece_of is.h
+        → pending_after is.h ≡ None → Appends sure old new (piece_of is.h) (piece_of is.h)
         → TurnedAs u sure store (link_after head left g.closes) (gave g.closes false) old new w conn.draft (more_turn w conn)
     more_done old new up there last e =
         subst (TurnedAs u sure store (link_after head left g.closes) (gave g.closes false) old new w conn.draft)
-        (ap (λ c. record { world = w; conn = given_up conn c (pending_after is.h); bytes = piece_of is.h; taken = 0 })
+        (ap (λ c. record { world = w; conn = given_up conn c (pending_after is.h); bytes = piece_of is.h; text = piece_of is.h; taken = 0 })
         is.gives.closes ∙ more_some_is w conn is.h up is.pending there)
         (none_turned old new g.closes (pending_after is.h) (subst (GivingIs w.store None) (sym last) tt) e)
 
@@ -167,7 +170,7 @@ module _ {U B : Type 0} {sure : Bool} (u : Ghosts U B) where
           bytes = e ∙ sym (append-nil old);
         })
 
-module _ {U B : Type 0} {sure : Bool} (u : Ghosts U B) where
+module _ {U B : Type 0} (u : Ghosts U B) (sure : Bool) where
   -- nothing was given, and the connection closes
   pub more_stopped : (store : U) (w : World) (conn : Conn) (head : List ℕ) (g : given.Giving) (left : ℕ)
       (is : IsGivingText w conn head g left) (e : Stop) (old new : List ℕ) (t : Turn)
@@ -179,19 +182,23 @@ module _ {U B : Type 0} {sure : Bool} (u : Ghosts U B) where
 -- WHAT WAS GIVEN TELLS OF THE UPLOAD
 
 -- a piece is given of an upload that is there
-pub piece_of_upload : (m : Store) (g : given.Giving) (old new : List ℕ) (h : Giving) (o : Option Upload)
-    → IsGiven m (Piece g) old new h o
-    → (up : Upload) × (o ≡ Some up) × GivingIs m (Some g) (pending_after h) × (new ≡ old ++ piece_of h)
-piece_of_upload m g old new h None is = absurd is
-piece_of_upload m g old new h (Some up) is = (up, refl, is.0, is.1)
+pub piece_of_upload : (sure : Bool) (m : Store) (g : given.Giving) (old new : List ℕ) (h : Giving) (o : Option Upload)
+    → IsGiven sure m (Piece g) old new h o
+    → (up : Upload) × (o ≡ Some up) × GivingIs m (Some g) (pending_after h)
+    × Appends sure old new (piece_of h) (piece_of h)
+piece_of_upload sure m g old new h None is = absurd is
+piece_of_upload sure m g old new h (Some up) is = (up, refl, is.0, piece_appends old new (piece_of h) is.1)
 
-pub last_of_upload : (m : Store) (old new : List ℕ) (h : Giving) (o : Option Upload) → IsGiven m Last old new h o
-    → (up : Upload) × (o ≡ Some up) × (pending_after h ≡ None) × (new ≡ old ++ piece_of h)
-last_of_upload m old new h None is = absurd is
-last_of_upload m old new h (Some up) is = (up, refl, is.0, is.1)
+pub last_of_upload : (sure : Bool) (m : Store) (old new : List ℕ) (h : Giving) (o : Option Upload)
+    → IsGiven sure m Last old new h o
+    → (up : Upload) × (o ≡ Some up) × (pending_after h ≡ None)
+    × Appends sure old new (piece_of h) (piece_of h)
+last_of_upload sure m old new h None is = absurd is
+last_of_upload sure m old new h (Some up) is = (up, refl, is.0, piece_appends old new (piece_of h) is.1)
 
 -- and nothing of one that is gone
-pub gone_with_upload : (m : Store) (old new : List ℕ) (h : Giving) (o : Option Upload) → IsGiven m Gone old new h o
+pub gone_with_upload : (sure : Bool) (m : Store) (old new : List ℕ) (h : Giving) (o : Option Upload)
+    → IsGiven sure m Gone old new h o
     → (o ≡ None) × (new ≡ old)
-gone_with_upload m old new h None is = (refl, is)
-gone_with_upload m old new h (Some up) is = absurd is
+gone_with_upload sure m old new h None is = (refl, is)
+gone_with_upload sure m old new h (Some up) is = absurd is

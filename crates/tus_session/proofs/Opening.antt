@@ -56,7 +56,7 @@ still w own = record {
   unique = λ h. h;
 }
 
-module _ {U B : Type 0} {sure : Bool} (u : Ghosts U B) where
+module _ {U B : Type 0} (u : Ghosts U B) (sure : Bool) where
   new_place : (w : World) (head : HeadBuffer) → (bytes_of head) ≡ []
       → PlaceIs u w (Some (record { head = head; awaiting = awaits.Head })) (Some fresh)
   new_place w head e = record {
@@ -78,8 +78,8 @@ module _ {U B : Type 0} {sure : Bool} (u : Ghosts U B) where
       let moves : Moves st.world st.world (draft_at (st.conns c)) None =
       subst (λ o. Moves st.world st.world o None) d (still st.world None) in
       let s : SessionStands u sure (slice_set places c (Some k)) store (put st st.world c (Some fresh)) =
-      in_place u places (slice_set places c (Some k)) store store st st.world c (Some k) (Some fresh) stands
-      (is_set u places c (Some k) lt) moves stands.shown (new_place st.world head e) in
+      in_place u sure places (slice_set places c (Some k)) store store st st.world c (Some k) (Some fresh) stands
+      (is_set u sure places c (Some k) lt) moves stands.shown (new_place st.world head e) in
       let P : Bool → Type 0 = λ b. let x : Step = opened_if st c b in
       Follows u sure (slice_set places c (Some k)) store x.state x.outcome Done in
       let now : P true = record { stands = s; outcome = refl } in
@@ -99,7 +99,7 @@ module _ {U B : Type 0} {sure : Bool} (u : Ghosts U B) where
   unfolding step
   not_below places store st c stands le =
       let n : nat_lt c most_open ≡ false = le-ltb c most_open (omega (arith, stands.count)) in
-      let none = beyond u places store st c stands le in
+      let none = beyond u sure places store st c stands le in
       let P : Bool → Type 0 = λ b. let x : Step = opened_if st c b in
       Follows u sure places store st x.outcome (Refused TooMany) in
       let Q : Option Conn → Type 0 = λ o. Follows u sure places store st (opened_at st c o).outcome (Refused TooMany) in
@@ -114,7 +114,7 @@ module _ {U B : Type 0} {sure : Bool} (u : Ghosts U B) where
   unfolding step
   is_open places store st c None stands lt e is = absurd (cc)
   is_open places store st c (Some k) stands lt e is =
-      let o = open_at u places store st c (Some k) k stands lt e refl in
+      let o = open_at u sure places store st c (Some k) k stands lt e refl in
       let Q : Option Conn → Type 0 = λ o. Follows u sure places store st (opened_at st c o).outcome (Refused TooMany) in
       let now : Q (Some o.0) = record { stands = stands; outcome = refl } in
       subst Q (sym o.1) now
@@ -122,7 +122,7 @@ module _ {U B : Type 0} {sure : Bool} (u : Ghosts U B) where
   pub not_open : (places : List (Option (Link B))) (store : U) (st : State) (c : ℕ) (x : Option (Link B))
       → SessionStands u sure places store st → c < length places
       → x ≡ get_or places c x → is_some x ≡ false → st.conns c ≡ None
-  not_open places store st c None stands lt e is = closed_at u places store st c None stands lt e refl
+  not_open places store st c None stands lt e is = closed_at u sure places store st c None stands lt e refl
   not_open places store st c (Some k) stands lt e is = absurd (cc)
 
   -- no connection in any place

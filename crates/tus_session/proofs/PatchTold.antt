@@ -1,5 +1,5 @@
 -- From a patch that a head opened, to the turn's answer.
-use Rattle.std.proofs.Common.{ℕ, ◌+◌, ◌-◌, ◌<◌, ◌≤◌, ◌≡◌, inl, inr, false, List, [], ◌∷◌, ◌++◌, Option}
+use Rattle.std.proofs.Common.{ℕ, ◌+◌, ◌-◌, ◌<◌, ◌≤◌, ◌≡◌, inl, inr, false, List, [], ◌∷◌, ◌++◌, Option, Bool}
 use Rattle.std.proofs.Common.{Some, None, Result, Ok, Err, length, take, drop, refl, sym, ◌∙◌, ap, subst, arith}
 use Rattle.std.proofs.Common.{append-nil, append_assoc, if◌then◌else◌}
 use Rattle.std.proofs.lemmas.Bool.{cases_lt}
@@ -42,7 +42,7 @@ use Rattle.tus_session.proofs.RequestLeaves.{Opened, Leaves, Nothing, Text, Patc
 use Rattle.tus_session.proofs.Unfinished.{judged_as}
 
 -- a patch that a head opened: the history's, and the code's
-pub record Begun {U B : Type 0} {sure : Bool} (u : Ghosts U B) (w : World) (r : Request) (b : OpenPatch B) : Type 0 where
+pub record Begun {U B : Type 0} (u : Ghosts U B) (sure : Bool) (w : World) (r : Request) (b : OpenPatch B) : Type 0 where
   pub x : Opened w r (acted w (Asks r))
   pub number : u.number_of b.draft ≡ x.d
   pub holds : u.holds b.draft (first_patch x.number r.length x.declare x.up)
@@ -63,16 +63,16 @@ module _ (w : World) (conn : Conn) (h bytes : List ℕ) (n before : ℕ) (r : Re
   reply = (acted w (Asks r)).bytes
 
   abbrev opened : Acted
-  opened = record { world = w1; draft = Some x.d; bytes = reply; pending = None; closes = false }
+  opened = record { world = w1; draft = Some x.d; bytes = reply; text = []; pending = None; closes = false }
 
   opened_is : acted w (Asks r) ≡ opened
   opened_is =
       let a = acted w (Asks r) in
       ap (λ v. record a { world = v }) x.world_is
-      ∙ (ap (λ d. record { world = w1; draft = d; bytes = reply; pending = a.pending; closes = a.closes })
-      x.draft_is
-      ∙ (ap (λ p. record { world = w1; draft = Some x.d; bytes = reply; pending = p; closes = a.closes }) x.idle
-      ∙ ap (λ c. record { world = w1; draft = Some x.d; bytes = reply; pending = None; closes = c }) x.stays))
+      ∙ (ap (λ d. record a { world = w1; draft = d }) x.draft_is
+      ∙ (ap (λ t. record a { world = w1; draft = Some x.d; text = t }) x.no_text
+      ∙ (ap (λ p. record a { world = w1; draft = Some x.d; text = []; pending = p }) x.idle
+      ∙ ap (λ c. record { world = w1; draft = Some x.d; bytes = reply; text = []; pending = None; closes = c }) x.stays)))
 
   first_found : find x.d w1.patches ≡ Some first
   first_found = grind (arith, nat_tests)
@@ -82,6 +82,7 @@ module _ (w : World) (conn : Conn) (h bytes : List ℕ) (n before : ℕ) (r : Re
     world = fed w1 x.d (drop before bytes);
     conn = Some (plain (conn.stream ++ bytes) (Some x.d));
     bytes = reply ++ [];
+    text = [];
     taken = length bytes;
   }
 
@@ -98,6 +99,7 @@ module _ (w : World) (conn : Conn) (h bytes : List ℕ) (n before : ℕ) (r : Re
         world = fed w1 x.d (drop before bytes);
         conn = Some (plain (conn.stream ++ q) (Some x.d));
         bytes = reply ++ [];
+        text = [];
         taken = length bytes;
       }) (take_all (length bytes) bytes (omega arith)))
 
@@ -110,6 +112,7 @@ module _ (w : World) (conn : Conn) (h bytes : List ℕ) (n before : ℕ) (r : Re
     conn = if ended.closes then None else Some
         (plain (conn.stream ++ take (before + r.length) bytes) None);
     bytes = reply ++ ended.bytes;
+    text = [];
     taken = before + r.length;
   }
 
@@ -119,6 +122,7 @@ module _ (w : World) (conn : Conn) (h bytes : List ℕ) (n before : ℕ) (r : Re
     conn = if m.closes then None else Some
         (record { stream = conn.stream ++ take (before + r.length) bytes; draft = m.draft; pending = m.pending });
     bytes = reply ++ m.bytes;
+    text = m.text;
     taken = before + r.length;
   }
 
@@ -138,35 +142,35 @@ module _ (w : World) (conn : Conn) (h bytes : List ℕ) (n before : ℕ) (r : Re
   pub first_there : find x.d w1.patches ≡ Some first
   first_there = first_found
 
-  draft_first : {U B : Type 0} {sure : Bool} (u : Ghosts U B) (b : B)
+  draft_first : {U B : Type 0} (u : Ghosts U B) (sure : Bool) (b : B)
       → DraftIs u (acted w (Asks r)).world (Some b) (acted w (Asks r)).draft → (u.number_of b ≡ x.d) × u.holds b first
-  draft_first u b draft =
+  draft_first u sure b draft =
       let at : DraftIs u w1 (Some b) (Some x.d) = subst (λ a. DraftIs u a.world (Some b) a.draft) opened_is draft in
       let same : Some at.1.0 ≡ Some first = sym at.1.1 ∙ first_found in
       let e : at.1.0 ≡ first = cc in
       (at.0, subst (u.holds b) e at.1.2)
 
 -- a draft that is open is a patch's
-opens_case : {U B : Type 0} {sure : Bool} (u : Ghosts U B) (w : World) (r : Request) (b : B) → Leaves w r (acted w (Asks r))
+opens_case : {U B : Type 0} (u : Ghosts U B) (sure : Bool) (w : World) (r : Request) (b : B) → Leaves w r (acted w (Asks r))
     → DraftIs u (acted w (Asks r)).world (Some b) (acted w (Asks r)).draft
     → Opened w r (acted w (Asks r))
-opens_case u w r b (Nothing moves none idle) is = absurd (subst (DraftIs u (acted w (Asks r)).world (Some b)) none is)
-opens_case u w r b (Text g same none some stays) is =
+opens_case u sure w r b (Nothing moves none idle) is = absurd (subst (DraftIs u (acted w (Asks r)).world (Some b)) none is)
+opens_case u sure w r b (Text g same none some stays) is =
     absurd (subst (DraftIs u (acted w (Asks r)).world (Some b)) none is)
-opens_case u w r b (AsPatch x) is = x
+opens_case u sure w r b (AsPatch x) is = x
 
-opens : {U B : Type 0} {sure : Bool} (u : Ghosts U B) (w : World) (r : Request) (b : B)
+opens : {U B : Type 0} (u : Ghosts U B) (sure : Bool) (w : World) (r : Request) (b : B)
     → DraftIs u (acted w (Asks r)).world (Some b) (acted w (Asks r)).draft → Opened w r (acted w (Asks r))
-opens u w r b is = opens_case u w r b (leaves w r) is
+opens u sure w r b is = opens_case u sure w r b (leaves w r) is
 
-pub begun : {U B : Type 0} {sure : Bool} (u : Ghosts U B) (w : World) (conn : Conn) (h bytes : List ℕ) (n before : ℕ) (r : Request)
+pub begun : {U B : Type 0} (u : Ghosts U B) (sure : Bool) (w : World) (conn : Conn) (h bytes : List ℕ) (n before : ℕ) (r : Request)
     → IsWhole w conn h bytes n before (Asks r) → (store : U) (old new : List ℕ) (b : OpenPatch B)
     → ActedAs u sure store (Done.Opened b.draft) old new (acted w (Asks r)) → ReachedIs r.action r.length b.reached
     → b.bare ≡ r.bare → b.closes ≡ r.closes
-    → ((number : ℕ) (up : Upload) → upload_of w.store number ≡ Some up → number < w.store.next) → Begun u w r b
-begun u w conn h bytes n before r is store old new b done reached bare closes below =
-    let x = opens u w r b.draft done.draft in
-    let f = draft_first w conn h bytes n before r is x u b.draft done.draft in
+    → ((number : ℕ) (up : Upload) → upload_of w.store number ≡ Some up → number < w.store.next) → Begun u sure w r b
+begun u sure w conn h bytes n before r is store old new b done reached bare closes below =
+    let x = opens u sure w r b.draft done.draft in
+    let f = draft_first w conn h bytes n before r is x u sure b.draft done.draft in
     record {
       x = x;
       number = f.0;
@@ -193,13 +197,14 @@ own_opened w r a x own e = record {
   free = ap (λ d. find d w.patches) e ∙ x.free;
   length_is = x.length_is;
   fits = x.fits;
+  no_text = x.no_text;
   idle = x.idle;
   stays = x.stays;
 }
 
-module _ {U B : Type 0} {sure : Bool} (u : Ghosts U B) (w : World) (conn : Conn) (h bytes : List ℕ) (n before : ℕ) (r : Request)
+module _ {U B : Type 0} (u : Ghosts U B) (sure : Bool) (w : World) (conn : Conn) (h bytes : List ℕ) (n before : ℕ) (r : Request)
     (is : IsWhole w conn h bytes n before (Asks r))
-    (b : OpenPatch B) (begins : Begun u w r b) where
+    (b : OpenPatch B) (begins : Begun u sure w r b) where
   abbrev pub own : ℕ
   own = u.number_of b.draft
 
@@ -278,7 +283,7 @@ module _ {U B : Type 0} {sure : Bool} (u : Ghosts U B) (w : World) (conn : Conn)
         let count : before + length q ≡ length bytes = omega arith in
         let now : TurnedAs u sure store' link a old new w None (part_opened w conn h bytes n before r is x) = record {
           shown = goes.shown;
-          here = part_here u v b asked r p0 patches store' link a head b' (r.length - length q) (before + length q) q
+          here = part_here u sure v b asked r p0 patches store' link a head b' (r.length - length q) (before + length q) q
               (conn.stream ++ bytes) goes cleared (omega arith) refl here;
           moves = both_moves w v (fed v own q) None (Some own) (Some own) (open_moves w own p0 x.free)
               (feed_moves v own p0 q first_as);
@@ -289,7 +294,7 @@ module _ {U B : Type 0} {sure : Bool} (u : Ghosts U B) (w : World) (conn : Conn)
         } in
         subst (TurnedAs u sure store' link a old new w None) (sym (part_is w conn h bytes n before r is x few)) now
     part_case (Err stops.NoMemory) few shown same out =
-        (subst (u.stands store sure') dropped_first shown, taken_back same out)
+        (subst (u.stands store' sure) dropped_first shown, taken_back same out)
     part_case (Err stops.DiskFault) few z same out = taken_back same out
 
     rest_case : (a : Result (Option (Link B) × code.Answer) Stop) → r.length ≤ length q
@@ -305,14 +310,14 @@ module _ {U B : Type 0} {sure : Bool} (u : Ghosts U B) (w : World) (conn : Conn)
         (take (before + r.length) bytes) n (Asks r)
         (front_judged w conn h is.inside bytes n before (Asks r) is.judged is.before_is r.length) all in
         let moves = both_moves w v m.world None (Some own) None (open_moves w own p0 x.free)
-        (rest_moves u v b asked r p0 patches (take r.length q)) in
+        (rest_moves u sure v b asked r p0 patches (take r.length q)) in
         subst (TurnedAs u sure store' link a old new w None) (sym (rest_is w conn h bytes n before r is x enough))
-        (answered_here u store' link a old new ((acted w (Asks r)).bytes ++ m.bytes) w m.world None head 0
+        (answered_here u sure store' link a old new ((acted w (Asks r)).bytes ++ m.bytes) [] w m.world None head 0
         (before + r.length) m.closes (conn.stream ++ take (before + r.length) bytes) (InHead []) answered.shown moves
         answered.link_is (cleared, refl) ends answered.answer_is
         (out ∙ (answered.bytes ∙ (ap (λ z. z ++ m.bytes) written ∙ append_assoc old (acted w (Asks r)).bytes m.bytes))))
     rest_case (Err stops.NoMemory) enough (shown, same) out =
-        (subst (u.stands store sure') dropped_first shown, taken_back same out)
+        (subst (u.stands store' sure) dropped_first shown, taken_back same out)
     rest_case (Err stops.DiskFault) enough same out = taken_back same out
 
     pub patch_opened : (a : Result (Option (Link B) × code.Answer) Stop) (z : List ℕ) → z ≡ q

@@ -31,6 +31,7 @@ pub record Opened (w : World) (r : Request) (a : Acted) : Type 0 where
   pub free : find d w.patches ≡ None
   pub length_is : length up.accepted ≡ offset
   pub fits : offset + r.length ≤ longest (known_or up.declared declare)
+  pub no_text : a.text ≡ []
   pub idle : a.pending ≡ None
   pub stays : a.closes ≡ false
 
@@ -112,6 +113,7 @@ patched w r number offset declare action None e =
       free = free_none w;
       length_is = b.length_is;
       fits = b.fits;
+      no_text = refl;
       idle = refl;
       stays = refl;
     })

@@ -86,7 +86,7 @@ module _ (w : World) (conn : Conn) (h bytes : List ℕ) (n before : ℕ) (r : Re
       → Limits m0 m1 l0 l1 w.store (came_turn w conn bytes).world.store
   head_limits l = limits_case (leaves w r) l
 
-  module _ {U B : Type 0} {sure : Bool} (u : Ghosts U B) where
+  module _ {U B : Type 0} (u : Ghosts U B) (sure : Bool) where
     absurd_draft : (v : World) (d : ℕ) (o : Option ℕ) → o ≡ Some d → DraftIs u v None o → ⊥
     absurd_draft v d None e is = absurd (cc)
     absurd_draft v d (Some x) e is = is
@@ -104,7 +104,7 @@ module _ (w : World) (conn : Conn) (h bytes : List ℕ) (n before : ℕ) (r : Re
         → TurnedAs u sure store' link x old new w conn.draft (came_turn w conn bytes)
     nothing_case store' link x c old new head len (Nothing moves none idle) as_is no_draft no_text len_is link_is
         head_is answer_is =
-        no_patch_len u store' w conn h bytes n before (Asks r) is link x old new head len len_is as_is.stands moves none
+        no_patch_len u sure store' w conn h bytes n before (Asks r) is link x old new head len len_is as_is.stands moves none
         idle (link_is ∙ ap (link_after head (r.length - min r.length len)) as_is.closes)
         head_is (answer_is ∙ ap (took (before + min r.length len)) as_is.closes) as_is.bytes
     nothing_case store' link x c old new head len (Text g same none some stays) as_is no_draft no_text len_is link_is
@@ -135,23 +135,25 @@ came_text k piece n m a g some =
       | false ↦ turn_of k piece n (body_step a m.came m.body a.draft)
     ]) (ap is_pending some)
 
-abbrev text_turn : World → List ℕ → List ℕ → Giving → ℕ → Turn
-text_turn w s bytes g n = record {
+abbrev text_turn : World → List ℕ → List ℕ → List ℕ → Giving → ℕ → Turn
+text_turn w s bytes text g n = record {
   world = w;
   conn = Some (record { stream = s; draft = None; pending = Some g });
   bytes = bytes;
+  text = text;
   taken = n;
 }
 
 text_turn_of : (k : Conn) (piece : List ℕ) (n : ℕ) (a : Acted) (g : Giving) → a.pending ≡ Some g → a.draft ≡ None
     → a.closes ≡ false
-    → turn_of k piece n a ≡ text_turn a.world (k.stream ++ take n piece) a.bytes g n
+    → turn_of k piece n a ≡ text_turn a.world (k.stream ++ take n piece) a.bytes a.text g n
 text_turn_of k piece n a g some none stays =
     let s = k.stream ++ take n piece in
     let T : Bool → Option ℕ → Option Giving → Turn = λ c d p. record {
       world = a.world;
       conn = if c then None else Some (record { stream = s; draft = d; pending = p });
       bytes = a.bytes;
+      text = a.text;
       taken = n;
     } in
     ap (λ c. T c a.draft a.pending) stays ∙ (ap (λ d. T false d a.pending) none ∙ ap (T false None) some)
@@ -162,7 +164,7 @@ module _ (w : World) (conn : Conn) (h bytes : List ℕ) (n before : ℕ) (r : Re
   text_is : (g : Giving) → (acted w (Asks r)).pending ≡ Some g → (acted w (Asks r)).draft ≡ None
       → (acted w (Asks r)).closes ≡ false
       → came_turn w conn bytes ≡ text_turn (acted w (Asks r)).world (conn.stream ++ take before bytes)
-      (acted w (Asks r)).bytes g before
+      (acted w (Asks r)).bytes (acted w (Asks r)).text g before
   text_is g some none stays =
       let a = acted w (Asks r) in
       let within = head_within w conn h is.inside bytes n before (Asks r) is.judged is.before_is in
@@ -217,7 +219,7 @@ module _ (w : World) (conn : Conn) (h bytes : List ℕ) (n before : ℕ) (r : Re
         )
       ]
 
-  module _ {U B : Type 0} {sure : Bool} (u : Ghosts U B) where
+  module _ {U B : Type 0} (u : Ghosts U B) (sure : Bool) where
     abbrev text_link : HeadBuffer → given.Giving → Option (Link B)
     text_link head g = Some (record { head = head; awaiting = awaits.Text g r.length })
 
@@ -252,7 +254,7 @@ module _ (w : World) (conn : Conn) (h bytes : List ℕ) (n before : ℕ) (r : Re
           gives = gives;
         } in
         let now : TurnedAs u sure store' (text_link head g) text_answer old new w None
-        (text_turn a.world s' a.bytes h' before) = record {
+        (text_turn a.world s' a.bytes a.text h' before) = record {
           shown = as_is.stands;
           here = link;
           moves = subst (λ v. Moves w v None None) (sym same) (still w None);

@@ -1,6 +1,6 @@
 -- What an open patch comes to at its connection's end.
 use Rattle.std.proofs.Common.{◌≡◌, ◌⊎◌, inl, inr, ℕ, ◌<◌, List, length, Option, Some, None, refl, sym, ◌∙◌, ap, subst}
-use Rattle.std.proofs.Common.{arith, Result, Ok, Err}
+use Rattle.std.proofs.Common.{arith, Result, Ok, Err, Bool}
 use Rattle.enc_model.specs.Indexes.{offers}
 use Rattle.tus_request.specs.Requests.{body_length}
 use Rattle.tus_request.proofs.Fronts.{steady}
@@ -61,7 +61,7 @@ pub spent_store : (w : World) (d : ℕ) (p : Patch) (o : Option UploadRefusal)
 spent_store w d p None = refl
 spent_store w d p (Some f) = refl
 
-module _ {U B : Type 0} {sure : Bool} (u : Ghosts U B) where
+module _ {U B : Type 0} (u : Ghosts U B) (sure : Bool) where
   -- nothing was open
   pub ends_idle : (store : U) (w : World) (conn : Conn) → u.stands store sure w → conn.draft ≡ None
       → EndedAs u sure store w conn.draft (ended_world w conn)

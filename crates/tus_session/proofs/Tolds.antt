@@ -1,7 +1,8 @@
 -- From a turn to the session's answer.
-use Rattle.std.proofs.Common.{◌≡◌, ℕ, List, Option, Some, None, Ok, Err, refl, sym, ◌∙◌, ap, subst}
+use Rattle.std.proofs.Common.{◌≡◌, ℕ, List, Option, Some, None, Ok, Err, refl, sym, ◌∙◌, ap, subst, [], Bool}
 use Rattle.upload_rules.specs.World.{World}
 use Rattle.upload_rules.specs.declared.uploads.Uploads.{Ghosts}
+use Rattle.tus_action.specs.Serves.{Appends}
 use Rattle.tus_session.specs.Turns.{Conn, Turn, left_world, more_turn, came_turn, ended_world}
 use Rattle.tus_session.specs.History.{State, Step, Event, Opened, Came, More, Ended, Served, OutOfMemory, Failed, Gave}
 use Rattle.tus_session.specs.History.{Done, Refused, step, put, turned, conn_in, lost_at, failed_at, came_at, more_at}
@@ -47,6 +48,7 @@ memory_is : (st : State) (e : Event) (conn : Conn) → IsOnOpen e → st.conns (
     → step st e OutOfMemory ≡ record {
       state = put st (left_world st.world conn.draft) (conn_in e) None;
       outcome = Refused errors.NoMemory;
+      text = [];
     }
 unfolding step
 memory_is st (Opened c) conn on is = absurd on
@@ -62,7 +64,7 @@ failed_is st (Came c piece) conn on is = ap (λ o. (failed_at st c o).outcome) i
 failed_is st (More c) conn on is = ap (λ o. (failed_at st c o).outcome) is
 failed_is st (Ended c) conn on is = ap (λ o. (failed_at st c o).outcome) is
 
-module _ {U B : Type 0} {sure : Bool} (u : Ghosts U B) where
+module _ {U B : Type 0} (u : Ghosts U B) (sure : Bool) where
   pub gave : (out new : List ℕ) (a : Answer) (t : Turn) → a.taken ≡ t.taken → a.closes ≡ is_closed t.conn
       → a.more ≡ has_text t.conn
       → Gave t.bytes t.taken (is_closed t.conn) (has_text t.conn) ≡ Gave t.bytes a.taken a.closes a.more
@@ -76,14 +78,14 @@ module _ {U B : Type 0} {sure : Bool} (u : Ghosts U B) where
     moves_at w' own' moves = subst (λ o. Moves st.world w' (draft_at o) own') (sym is) moves
 
     -- the connection is gone, with its draft
-    lost : IsPut places all (conn_in e) None → u.stands store sure' (left_world st.world conn.draft)
+    lost : IsPut places all (conn_in e) None → u.stands store' sure (left_world st.world conn.draft)
         → Follows u sure all store' (step st e OutOfMemory).state (step st e OutOfMemory).outcome (Refused errors.NoMemory)
     lost is_put shown =
         let w' = left_world st.world conn.draft in
         let s : SessionStands u sure all store' (put st w' (conn_in e) None) =
-        in_place u places all store store' st w' (conn_in e) None None stands is_put
+        in_place u sure places all store store' st w' (conn_in e) None None stands is_put
         (moves_at w' None (left_moves st.world conn.draft)) shown tt in
-        let x : Step = record { state = put st w' (conn_in e) None; outcome = Refused errors.NoMemory } in
+        let x : Step = record { state = put st w' (conn_in e) None; outcome = Refused errors.NoMemory; text = [] } in
         let f : Follows u sure all store' x.state x.outcome (Refused errors.NoMemory) =
         record { stands = s; outcome = refl } in
         subst (λ y. Follows u sure all store' y.state y.outcome (Refused errors.NoMemory))
@@ -94,7 +96,7 @@ module _ {U B : Type 0} {sure : Bool} (u : Ghosts U B) where
         → Told u sure all store' (Ok a) old new st e
     told next t a old new is_put is_turn turn =
         let s : SessionStands u sure all store' (put st t.world (conn_in e) t.conn) =
-        in_place u places all store store' st t.world (conn_in e) next t.conn stands is_put
+        in_place u sure places all store store' st t.world (conn_in e) next t.conn stands is_put
         (moves_at t.world (draft_at t.conn) turn.moves) turn.shown turn.here in
         let x = turned st (conn_in e) t in
         let f : Follows u sure all store' x.state x.outcome (Gave t.bytes a.taken a.closes a.more) =
@@ -102,7 +104,7 @@ module _ {U B : Type 0} {sure : Bool} (u : Ghosts U B) where
           t.bytes,
           subst (λ y. Follows u sure all store' y.state y.outcome (Gave t.bytes a.taken a.closes a.more))
               (sym is_turn.step_is) f,
-          turn.bytes,
+          subst (λ y. Appends sure old new t.bytes y.text) (sym is_turn.step_is) turn.bytes,
         )
 
     -- an error closes the connection
@@ -113,19 +115,19 @@ module _ {U B : Type 0} {sure : Bool} (u : Ghosts U B) where
     stopped t stops.DiskFault old new is_put same = (failed_is st e conn on is, same)
 
     pub ends : IsPut places all (conn_in e) None
-        → step st e Served ≡ record { state = put st (ended_world st.world conn) (conn_in e) None; outcome = Done }
+        → step st e Served ≡ record { state = put st (ended_world st.world conn) (conn_in e) None; outcome = Done; text = [] }
         → EndedAs u sure store' st.world conn.draft (ended_world st.world conn) → Ends u sure all store' (Ok tt) st e
     ends is_put done turn =
         let w' = ended_world st.world conn in
         let s : SessionStands u sure all store' (put st w' (conn_in e) None) =
-        in_place u places all store store' st w' (conn_in e) None None stands is_put
+        in_place u sure places all store store' st w' (conn_in e) None None stands is_put
         (moves_at w' None turn.moves) turn.shown tt in
-        let x : Step = record { state = put st w' (conn_in e) None; outcome = Done } in
+        let x : Step = record { state = put st w' (conn_in e) None; outcome = Done; text = [] } in
         let f : Follows u sure all store' x.state x.outcome Done = record { stands = s; outcome = refl } in
         subst (λ y. Follows u sure all store' y.state y.outcome Done) (sym done) f
 
     pub ends_stopped : (stop : Stop) → IsPut places all (conn_in e) None
-        → EndedBy u store' (Err stop) st.world conn.draft (ended_world st.world conn)
+        → EndedBy u sure store' (Err stop) st.world conn.draft (ended_world st.world conn)
         → Ends u sure all store' (Err (error_of stop)) st e
     ends_stopped stops.NoMemory is_put shown = lost is_put shown
     ends_stopped stops.DiskFault is_put turn = failed_is st e conn on is
@@ -155,6 +157,6 @@ module _ {U B : Type 0} {sure : Bool} (u : Ghosts U B) where
   }
 
 pub ended_step : (st : State) (c : ℕ) (conn : Conn) → st.conns c ≡ Some conn
-    → step st (Ended c) Served ≡ record { state = put st (ended_world st.world conn) c None; outcome = Done }
+    → step st (Ended c) Served ≡ record { state = put st (ended_world st.world conn) c None; outcome = Done; text = [] }
 unfolding step
 ended_step st c conn e = ap (ended_at st c) e

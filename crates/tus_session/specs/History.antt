@@ -35,9 +35,11 @@ pub record State : Type 0 where
   pub world : World
   pub conns : ℕ → Option Conn
 
+-- what an event makes of the state, what the call answers, and the bytes of a text that those given end in
 pub record Step : Type 0 where
   pub state : State
   pub outcome : Outcome
+  pub text : List ℕ
 
 abbrev pub with_conn : (ℕ → Option Conn) → ℕ → Option Conn → ℕ → Option Conn
 with_conn conns c conn k = if k == c then conn else conns k
@@ -46,7 +48,7 @@ abbrev pub put : State → World → ℕ → Option Conn → State
 put st w c conn = record { world = w; conns = with_conn st.conns c conn }
 
 abbrev pub kept : State → SessionError → Step
-kept st f = record { state = st; outcome = Refused f }
+kept st f = record { state = st; outcome = Refused f; text = [] }
 
 abbrev pub has_text : Option Conn → Bool
 has_text None = false
@@ -60,11 +62,12 @@ abbrev pub turned : State → ℕ → Turn → Step
 turned st c t = record {
   state = put st t.world c t.conn;
   outcome = Gave t.bytes t.taken (is_closed t.conn) (has_text t.conn);
+  text = t.text;
 }
 
 -- a connection is opened where its number is below the most
 abbrev pub opened_if : State → ℕ → Bool → Step
-opened_if st c true = record { state = put st st.world c (Some fresh); outcome = Done }
+opened_if st c true = record { state = put st st.world c (Some fresh); outcome = Done; text = [] }
 opened_if st c false = kept st TooMany
 
 abbrev pub opened_at : State → ℕ → Option Conn → Step
@@ -81,7 +84,7 @@ more_at st c (Some k) = turned st c (more_turn st.world k)
 
 abbrev pub ended_at : State → ℕ → Option Conn → Step
 ended_at st c None = kept st Closed
-ended_at st c (Some k) = record { state = put st (ended_world st.world k) c None; outcome = Done }
+ended_at st c (Some k) = record { state = put st (ended_world st.world k) c None; outcome = Done; text = [] }
 
 -- an event that is served
 abbrev pub served : State → Event → Step
@@ -93,7 +96,11 @@ served st (Ended c) = ended_at st c (st.conns c)
 -- a connection that isn't open is refused before memory is asked for, or the disk
 abbrev pub lost_at : State → ℕ → Option Conn → Step
 lost_at st c None = kept st Closed
-lost_at st c (Some k) = record { state = put st (left_world st.world k.draft) c None; outcome = Refused NoMemory }
+lost_at st c (Some k) = record {
+  state = put st (left_world st.world k.draft) c None;
+  outcome = Refused NoMemory;
+  text = [];
+}
 
 abbrev pub failed_at : State → ℕ → Option Conn → Step
 failed_at st c None = kept st Closed

@@ -1,5 +1,5 @@
 -- What a session stands for.
-use Rattle.std.specs.Prelude.{◌≡◌, ◌+◌, ◌≤◌, ◌<◌, ◌-◌, ℕ, List, [], length, get_or, Option, Some, None}
+use Rattle.std.specs.Prelude.{◌≡◌, ◌+◌, ◌≤◌, ◌<◌, ◌-◌, ℕ, List, [], length, get_or, Option, Some, None, Bool}
 use Rattle.tus_request.specs.Requests.{Request, Asks, body_length}
 use Rattle.tus_request.specs.Buffers.{bytes_of}
 use Rattle.upload_rules.specs.Lengths.{known_or, longest}

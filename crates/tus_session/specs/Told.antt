@@ -1,6 +1,7 @@
 -- How a call of a session answers.
-use Rattle.std.specs.Prelude.{◌≡◌, ◌++◌, ℕ, List, Option, Result, Ok, Err}
+use Rattle.std.specs.Prelude.{◌≡◌, ◌++◌, ℕ, List, Option, Result, Ok, Err, Bool}
 use Rattle.upload_rules.specs.declared.uploads.Uploads.{Ghosts}
+use Rattle.tus_action.specs.Serves.{Appends}
 use Rattle.tus_session.specs.History.{State, Event, Served, OutOfMemory, Failed, Outcome, Gave, Done, Refused, step}
 use Rattle.tus_session.specs.Stands.{SessionStands}
 use Rattle.tus_session.specs.declared.answers.Answer.{Answer}
@@ -21,7 +22,7 @@ abbrev pub Told : {U B : Type 0} → Ghosts U B → Bool → List (Option (Link 
     → State → Event → Type 0
 Told u sure places store (Ok a) old new st e =
     (bytes : List ℕ) × Follows u sure places store (step st e Served).state (step st e Served).outcome
-    (Gave bytes a.taken a.closes a.more) × (new ≡ old ++ bytes)
+    (Gave bytes a.taken a.closes a.more) × Appends sure old new bytes (step st e Served).text
 Told u sure places store (Err NoMemory) old new st e =
     Follows u sure places store (step st e OutOfMemory).state (step st e OutOfMemory).outcome
     (Refused NoMemory) × (new ≡ old)

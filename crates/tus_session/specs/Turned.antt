@@ -1,5 +1,5 @@
 -- How a turn on one connection answers.
-use Rattle.std.specs.Prelude.{◌≡◌, ◌++◌, ℕ, List, Option, None, Result, Ok, Err}
+use Rattle.std.specs.Prelude.{◌≡◌, ◌++◌, ℕ, List, Option, None, Result, Ok, Err, Bool}
 use Rattle.upload_rules.specs.World.{World}
 use Rattle.upload_rules.specs.declared.uploads.Uploads.{Ghosts}
 use Rattle.tus_session.specs.Turns.{Turn, left_world}
@@ -8,6 +8,7 @@ use Rattle.tus_session.specs.Stands.{PlaceIs, draft_at}
 use Rattle.tus_session.specs.Moves.{Moves}
 use Rattle.tus_session.specs.declared.answers.Answer.{Answer}
 use Rattle.tus_session.specs.declared.conns.Link.{Link}
+use Rattle.tus_action.specs.Serves.{Appends}
 use Rattle.tus_action.specs.declared.acts.Stop.{Stop}
 use Rattle.tus_action.specs.declared.acts.Stop.TheVariants.{NoMemory, DiskFault}
 
@@ -20,7 +21,7 @@ pub record TurnedAs {U B : Type 0} (u : Ghosts U B) (sure : Bool) (store : U) (l
   pub taken : a.taken ≡ t.taken
   pub closes : a.closes ≡ is_closed t.conn
   pub more : a.more ≡ has_text t.conn
-  pub bytes : new ≡ old ++ t.bytes
+  pub bytes : Appends sure old new t.bytes t.text
 
 -- the turn is done, and this is the connection after it; or it was out of memory, and the draft is gone; or the
 -- disk failed. An error closes the connection

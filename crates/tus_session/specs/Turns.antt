@@ -22,11 +22,11 @@ fresh = record { stream = []; draft = None; pending = None }
 
 -- no head moment: the patch that was open is open
 abbrev pub at_head : World → Option ℕ → Option Asked → Acted
-at_head w draft None = record { world = w; draft = draft; bytes = []; pending = None; closes = false }
+at_head w draft None = record { world = w; draft = draft; bytes = []; text = []; pending = None; closes = false }
 at_head w draft (Some r) = acted w r.verdict
 
 abbrev pub still_open : World → ℕ → Acted
-still_open w d = record { world = w; draft = Some d; bytes = []; pending = None; closes = false }
+still_open w d = record { world = w; draft = Some d; bytes = []; text = []; pending = None; closes = false }
 
 abbrev pub at_body : World → ℕ → Option Asked → Acted
 at_body w d None = still_open w d
@@ -38,11 +38,13 @@ body_step a piece moment None = a
 body_step a piece moment (Some d) = let b =
     at_body (fed a.world d piece) d moment in record b { bytes = a.bytes ++ b.bytes }
 
--- TURNS: the world, the connection unless it closed, the bytes that were given, and how many were taken
+-- TURNS: the world, the connection unless it closed, the bytes that were given, those of a text that they end in, and how
+-- many were taken
 pub record Turn : Type 0 where
   pub world : World
   pub conn : Option Conn
   pub bytes : List ℕ
+  pub text : List ℕ
   pub taken : ℕ
 
 abbrev pub conn_of : List ℕ → Acted → Option Conn
@@ -53,6 +55,7 @@ turn_of k piece n a = record {
   world = a.world;
   conn = conn_of (k.stream ++ take n piece) a;
   bytes = a.bytes;
+  text = a.text;
   taken = n;
 }
 
@@ -76,7 +79,7 @@ reader w = answer_of (offers w.store.indexes)
 
 -- `came`: nothing is taken while a text is pending
 abbrev pub came_on : World → Conn → List ℕ → Option Giving → Turn
-came_on w k piece (Some g) = record { world = w; conn = Some k; bytes = []; taken = 0 }
+came_on w k piece (Some g) = record { world = w; conn = Some k; bytes = []; text = []; taken = 0 }
 came_on w k piece None = came_to (reader w) w k piece (taken (reader w) k.stream piece)
 
 unfoldable pub came_turn : World → Conn → List ℕ → Turn
@@ -88,16 +91,17 @@ given_up k closes None = if closes then None else Some (record k { pending = Non
 given_up k closes (Some g) = Some (record k { pending = Some g })
 
 abbrev pub give_on : World → Conn → Giving → Option Upload → Turn
-give_on w k g None = record { world = w; conn = None; bytes = []; taken = 0 }
+give_on w k g None = record { world = w; conn = None; bytes = []; text = []; taken = 0 }
 give_on w k g (Some u) = record {
   world = w;
   conn = given_up k g.closes (pending_after g);
   bytes = piece_of g;
+  text = piece_of g;
   taken = 0;
 }
 
 abbrev pub more_on : World → Conn → Option Giving → Turn
-more_on w k None = record { world = w; conn = Some k; bytes = []; taken = 0 }
+more_on w k None = record { world = w; conn = Some k; bytes = []; text = []; taken = 0 }
 more_on w k (Some g) = give_on w k g (upload_of w.store g.number)
 
 unfoldable pub more_turn : World → Conn → Turn

@@ -1,5 +1,5 @@
 //! A body under way: what came of it, and its end.
-ghost use Rattle.std.specs.Prelude.{◌≡◌, ◌+◌, ◌-◌, ◌<◌, ◌≤◌, ◌^◌, false, length};
+ghost use Rattle.std.specs.Prelude.{◌≡◌, ◌+◌, ◌-◌, ◌<◌, ◌≤◌, ◌^◌, false, length, Bool, true};
 ghost use Rattle.std.specs.Prelude.{take, min, Some, IsErrOf};
 ghost use Rattle.upload_rules.specs.Store.{find};
 ghost use Rattle.upload_rules.specs.World.{World, Patch};

@@ -1,5 +1,5 @@
 //! What came on a connection: the bytes of a head, or of a body.
-ghost use Rattle.std.specs.Prelude.{◌≡◌, ◌+◌, ◌-◌, ◌<◌, ◌≤◌, ◌^◌, ℕ, List, []};
+ghost use Rattle.std.specs.Prelude.{◌≡◌, ◌+◌, ◌-◌, ◌<◌, ◌≤◌, ◌^◌, ℕ, List, [], Bool};
 ghost use Rattle.std.specs.Prelude.{length, min, true, false, None, Some, IsErrOf, if◌then◌else◌};
 ghost use Rattle.tus_request.specs.Requests.{Asks};
 ghost use Rattle.upload_rules.specs.World.{World};

@@ -1,5 +1,5 @@
 //! Up to `MOST_OPEN` connections over any store of uploads.
-ghost use Rattle.std.specs.Prelude.{◌≡◌, ◌<◌, ℕ, length, Option, None, IfOk, IfErr, OnOk, OnErr, IsErrOf};
+ghost use Rattle.std.specs.Prelude.{◌≡◌, ◌<◌, ℕ, length, Option, None, IfOk, IfErr, OnOk, OnErr, IsErrOf, Bool, true};
 ghost use Rattle.tus_session.specs.History.{State, Opened, Came, More, Ended, Served, step, beginning};
 ghost use Rattle.tus_session.specs.Places.{places_of, IsPut, IsOpen};
 ghost use Rattle.tus_session.specs.Stands.{SessionStands};

@@ -1,5 +1,5 @@
 //! A turn of one connection: the next piece of a text, and the connection's end.
-ghost use Rattle.std.specs.Prelude.{◌≡◌, false, IsErrOf, Ok};
+ghost use Rattle.std.specs.Prelude.{◌≡◌, false, IsErrOf, Ok, Bool, true};
 ghost use Rattle.upload_rules.specs.World.{World};
 ghost use Rattle.upload_rules.specs.Answers.{Limits, Quiet, Counts};
 ghost use Rattle.tus_request.specs.Buffers.{bytes_of};

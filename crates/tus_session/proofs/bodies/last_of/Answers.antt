@@ -1,8 +1,9 @@
-use Rattle.std.proofs.Common.{◌≤◌, ◌+◌, length, ◌∙◌, arith}
+use Rattle.std.proofs.Common.{◌≤◌, ◌+◌, length, ◌∙◌, arith, true}
 use Rattle.std.proofs.lemmas.Result.{err_from_is_err_and}
 use Rattle.tus_action.specs.Acts.{fed, fed_patch}
 use Rattle.tus_session.proofs.Feeding.{drop_fed, reached_fed, answered_as, ended_store, fed_store, fed_found_as}
 use Rattle.tus_session.proofs.Feeding.{stopped_as}
+use Rattle.tus_session.proofs.FedStops.{reply_stops}
 use Rattle.tus_session.proofs.Stops.{same_stop}
 use Rattle.tus_session.proofs.Tasks.{limits_to}
 use Rattle.tus_session.proofs.Limiting.{quiet_then, limits_from, limits_both}
@@ -15,13 +16,20 @@ returns-in_err-finish-clause-answer g c sure w p r stands found holds all reache
     let fed_is = c.in_ok-fed.ensures.answer sure w p stands found holds few in
     let w1 = fed w d c.args.bytes.now in
     let p1 = fed_patch w d p c.args.bytes.now in
-    let found1 = fed_found_as g.U.Uploads w d p c.args.bytes.now c.in_ok-fed.fed.draft fed_is.number fed_is.found in
+    let found1 = fed_found_as g.U.Uploads sure w d p c.args.bytes.now c.in_ok-fed.fed.draft fed_is.number fed_is.found in
     let after = reached_fed w d p c.args.bytes.now c.args.patch.reached all reached in
     let stopped = err_from_is_err_and c.from_residual-in_err-finish.result c.from_residual-in_err-finish.ensures.1 in
-    let a = rw fed_is.number at (c.in_err-finish.ensures.answer w1 p1 r fed_is.shown found1 fed_is.holds
+    let a = rw fed_is.number at (c.in_err-finish.ensures.answer sure w1 p1 r fed_is.shown found1 fed_is.holds
     (fed_is.reached ∙ after) (fed_is.bare ∙ bare) (fed_is.closes ∙ closes)) in
-    rw (stopped.1, stopped.2) (stopped_as g.U.Uploads _ c.in_err-finish.field-0.0 _ _ _ _ _ _ _ _
+    rw (stopped.1, stopped.2) (stopped_as g.U.Uploads sure _ c.in_err-finish.field-0.0 _ _ _ _ _ _ _ _
     (drop_fed w d p c.args.bytes.now found) a)
+
+pub returns-in_err-fed-clause-answer : goal.returns-in_err-fed-clause-answer
+returns-in_err-fed-clause-answer g c sure w p r stands found holds all reached bare closes =
+    let few : length p.body + length c.args.bytes.now ≤ p.count = omega arith in
+    let stopped = err_from_is_err_and c.from_residual.result c.from_residual.ensures.1 in
+    rw (stopped.1, stopped.2) (reply_stops g.U.Uploads sure c.feed.new.store c.args.head _ _ _ c.in_err-fed.field-0.0
+    c.args.patch c.args.out.now.items _ _ (c.in_err-fed.ensures.answer sure w p stands found holds few))
 
 pub returns-clause-answer : goal.returns-clause-answer
 returns-clause-answer g c sure w p r stands found holds all reached bare closes =
@@ -30,17 +38,17 @@ returns-clause-answer g c sure w p r stands found holds all reached bare closes 
     let fed_is = c.in_ok-fed.ensures.answer sure w p stands found holds few in
     let w1 = fed w d c.args.bytes.now in
     let p1 = fed_patch w d p c.args.bytes.now in
-    let found1 = fed_found_as g.U.Uploads w d p c.args.bytes.now c.in_ok-fed.fed.draft fed_is.number fed_is.found in
+    let found1 = fed_found_as g.U.Uploads sure w d p c.args.bytes.now c.in_ok-fed.fed.draft fed_is.number fed_is.found in
     let after = reached_fed w d p c.args.bytes.now c.args.patch.reached all reached in
-    let a = rw fed_is.number at (c.in_ok-finish.ensures.answer w1 p1 r fed_is.shown found1 fed_is.holds
+    let a = rw fed_is.number at (c.in_ok-finish.ensures.answer sure w1 p1 r fed_is.shown found1 fed_is.holds
     (fed_is.reached ∙ after) (fed_is.bare ∙ bare) (fed_is.closes ∙ closes)) in
-    answered_as g.U.Uploads _ _ _ _ c.args.head _ _ c.args.patch.closes a.0 closes c.after_reply.ensures a.1
+    answered_as g.U.Uploads sure _ _ _ _ c.args.head _ _ c.args.patch.closes a.0 closes c.after_reply.ensures a.1
 
 pub returns-in_err-finish-clause-crash : goal.returns-in_err-finish-clause-crash
 returns-in_err-finish-clause-crash g c w p r stands found holds few =
     let d = g.U.Uploads.number_of c.args.patch.draft in
     let fed_is = c.in_ok-fed.ensures.answer true w p stands found holds few in
-    let found1 = fed_found_as g.U.Uploads w d p c.args.bytes.now c.in_ok-fed.fed.draft fed_is.number fed_is.found in
+    let found1 = fed_found_as g.U.Uploads true w d p c.args.bytes.now c.in_ok-fed.fed.draft fed_is.number fed_is.found in
     let l = limits_from (fed_store w d c.args.bytes.now)
     (rw fed_is.number at (c.finish.ensures.crash _ _ fed_is.shown found1 fed_is.holds)) in
     limits_to (ended_store w d p c.args.bytes.now r) (quiet_then (c.feed.ensures.crash w p stands found holds) l)
@@ -49,7 +57,7 @@ pub returns-clause-crash : goal.returns-clause-crash
 returns-clause-crash g c w p r stands found holds few =
     let d = g.U.Uploads.number_of c.args.patch.draft in
     let fed_is = c.in_ok-fed.ensures.answer true w p stands found holds few in
-    let found1 = fed_found_as g.U.Uploads w d p c.args.bytes.now c.in_ok-fed.fed.draft fed_is.number fed_is.found in
+    let found1 = fed_found_as g.U.Uploads true w d p c.args.bytes.now c.in_ok-fed.fed.draft fed_is.number fed_is.found in
     let l = limits_from (fed_store w d c.args.bytes.now)
     (rw fed_is.number at (c.finish.ensures.crash _ _ fed_is.shown found1 fed_is.holds)) in
     limits_to (ended_store w d p c.args.bytes.now r) (quiet_then (c.feed.ensures.crash w p stands found holds) l)
@@ -58,7 +66,7 @@ pub returns-in_err-finish-clause-unmade : goal.returns-in_err-finish-clause-unma
 returns-in_err-finish-clause-unmade g c w p stands found holds few none_left =
     let d = g.U.Uploads.number_of c.args.patch.draft in
     let fed_is = c.in_ok-fed.ensures.answer true w p stands found holds few in
-    let found1 = fed_found_as g.U.Uploads w d p c.args.bytes.now c.in_ok-fed.fed.draft fed_is.number fed_is.found in
+    let found1 = fed_found_as g.U.Uploads true w d p c.args.bytes.now c.in_ok-fed.fed.draft fed_is.number fed_is.found in
     let stopped = err_from_is_err_and c.from_residual-in_err-finish.result c.from_residual-in_err-finish.ensures.1 in
     let l = limits_both (fed_store w d c.args.bytes.now)
     (c.in_err-finish.ensures.unmade _ _ fed_is.shown found1 fed_is.holds

@@ -27,12 +27,12 @@ returns-in-Patch-clause-answer g c sure w conn stands link =
     let b = c.in-Patch.patch in
     let left = c.in-Patch.left in
     let is : IsPatching g.U.Uploads w conn (bytes_of head) b left = rw c.in-Patch.is at link in
-    let found = found_as g.U.Uploads w conn (bytes_of head) b left is in
-    let all = left_wanted g.U.Uploads w conn head b left is in
-    patch_told g.U.Uploads w conn head b left is _ _ _ c.args.bytes.now c.body_of.result
-    (λ few. c.body_of.ensures.part few w is.p stands found is.patches.holds (omega arith))
+    let found = found_as g.U.Uploads sure w conn (bytes_of head) b left is in
+    let all = left_wanted g.U.Uploads sure w conn head b left is in
+    patch_told g.U.Uploads sure w conn head b left is _ _ _ c.args.bytes.now c.body_of.result
+    (λ few. c.body_of.ensures.part few sure w is.p stands found is.patches.holds (omega arith))
     (λ few. c.body_of.ensures.part_out few)
-    (λ enough. c.body_of.ensures.rest enough w is.p is.r stands found is.patches.holds all is.patches.reached
+    (λ enough. c.body_of.ensures.rest enough sure w is.p is.r stands found is.patches.holds all is.patches.reached
     is.patches.bare is.patches.closes)
 
 pub returns-in-Patch-clause-crash : goal.returns-in-Patch-clause-crash
@@ -41,12 +41,12 @@ returns-in-Patch-clause-crash g c w conn stands link =
     let b = c.in-Patch.patch in
     let left = c.in-Patch.left in
     let is : IsPatching g.U.Uploads w conn (bytes_of head) b left = rw c.in-Patch.is at link in
-    let found = found_as g.U.Uploads w conn (bytes_of head) b left is in
-    let all = left_wanted g.U.Uploads w conn head b left is in
+    let found = found_as g.U.Uploads true w conn (bytes_of head) b left is in
+    let all = left_wanted g.U.Uploads true w conn head b left is in
     elim (cases_lt (length c.args.bytes.now) left) [
       | inl few ↦ still_limits _ (c.body_of.ensures.part_crash few w is.p stands found is.patches.holds)
       | inr enough ↦
-          limits_to (rest_store g.U.Uploads w conn head b left is c.args.bytes.now enough)
+          limits_to (rest_store g.U.Uploads true w conn head b left is c.args.bytes.now enough)
           (c.body_of.ensures.rest_crash enough w is.p is.r stands found is.patches.holds (omega arith))
     ]
 
@@ -56,14 +56,14 @@ returns-in-Patch-clause-unmade g c w conn stands link none_left =
     let b = c.in-Patch.patch in
     let left = c.in-Patch.left in
     let is : IsPatching g.U.Uploads w conn (bytes_of head) b left = rw c.in-Patch.is at link in
-    let found = found_as g.U.Uploads w conn (bytes_of head) b left is in
-    let all = left_wanted g.U.Uploads w conn head b left is in
+    let found = found_as g.U.Uploads true w conn (bytes_of head) b left is in
+    let all = left_wanted g.U.Uploads true w conn head b left is in
     c.body_of.ensures.unmade w is.p stands found is.patches.holds (omega arith) none_left
 
 pub returns-in-Skip-clause-answer : goal.returns-in-Skip-clause-answer
 returns-in-Skip-clause-answer g c sure w conn stands link =
     let is : IsSkipping w conn (bytes_of c.args.link.head) c.in-Skip.left = rw c.in-Skip.is at link in
-    skip_told g.U.Uploads _ w conn c.args.link.head c.in-Skip.left stands is _ _ _ c.args.bytes.now
+    skip_told g.U.Uploads sure _ w conn c.args.link.head c.in-Skip.left stands is _ _ _ c.args.bytes.now
     c.skip.ensures.link c.skip.ensures.answer
 
 pub returns-in-Text-clause-answer : goal.returns-in-Text-clause-answer
@@ -71,7 +71,7 @@ returns-in-Text-clause-answer g c sure w conn stands link =
     let g' = c.in-Text.giving in
     let is : IsGivingText w conn (bytes_of c.args.link.head) g' c.in-Text.left = rw c.in-Text.is at link in
     let k = record c.args.link { awaiting = Text g' c.in-Text.left } in
-    let turn = stays g.U.Uploads c.args.store.now w k conn true c.args.out.now.items stands is
+    let turn = stays g.U.Uploads sure c.args.store.now w k conn true c.args.out.now.items stands is
     (sym (ap is_pending is.pending)) in
     rw c.waits.ensures
     (subst (TurnedAs g.U.Uploads sure c.args.store.now (Some k) (record { taken = 0; closes = false; more = true })

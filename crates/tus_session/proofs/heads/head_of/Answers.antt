@@ -1,4 +1,4 @@
-use Rattle.std.proofs.Common.{◌++◌, None, refl, arith}
+use Rattle.std.proofs.Common.{◌++◌, None, refl, arith, true}
 use Rattle.tus_request.specs.Buffers.{bytes_of}
 use Rattle.tus_request.specs.Requests.{Refusal, Refuses}
 use Rattle.tus_session.proofs.Verdicts.{small, makeable, usable}
@@ -60,7 +60,7 @@ returns-in-More-clause-answer g c sure w conn stands inside =
     let j = judged_by c.indexes.result.now (bytes_of c.args.head ++ c.args.bytes.now) _ _
     c.in_ok-parsed.ensures.function
     c.in-More.is in
-    more_told g.U.Uploads _ _ _ w conn (bytes_of c.args.head) c.args.bytes.now c.read.new.self stands inside
+    more_told g.U.Uploads sure _ _ _ w conn (bytes_of c.args.head) c.args.bytes.now c.read.new.self stands inside
     (in_world w c.indexes.result.now _ _ (c.indexes.ensures sure w stands) j)
     (rw c.in-More.is at c.in_ok-parsed.ensures.rest) c.waits.ensures
 
@@ -76,7 +76,7 @@ returns-in_ok-reply_refused-in-Refused-clause-answer g c sure w conn stands insi
       bare = c.in-Refused.bare;
       closes = c.in-Refused.closes;
     } in
-    no_patch_len g.U.Uploads _ w conn (bytes_of c.args.head) c.args.bytes.now c.in-Refused.taken
+    no_patch_len g.U.Uploads sure _ w conn (bytes_of c.args.head) c.args.bytes.now c.in-Refused.taken
     c.saturating_sub-before.result (Refuses r)
     (record {
       inside = inside;

@@ -1,4 +1,4 @@
-use Rattle.std.proofs.Common.{◌≡◌, ◌+◌, refl, arith}
+use Rattle.std.proofs.Common.{◌≡◌, ◌+◌, refl, arith, subst, true}
 use Rattle.tus_action.specs.declared.bodies.OpenPatch.{OpenPatch}
 use Rattle.tus_session.proofs.RequestTold.{head_limits, nothing_told, text_told}
 use Rattle.tus_session.proofs.HeadTold.{slice_rest}
@@ -9,7 +9,7 @@ use Rattle.tus_session.proofs.PatchTold.{reached_whole, first_as, v, p0}
 use Rattle.tus_request.specs.Requests.{Asks}
 use Rattle.tus_request.specs.Shown.{request_shown}
 use Rattle.tus_action.specs.Acts.{acted}
-use Rattle.tus_action.specs.Serves.{ActedAs}
+use Rattle.tus_action.specs.Serves.{ActedAs, Appends}
 use Rattle.tus_action.specs.declared.acts.Done.TheVariants.{Replied, Opened, Giving}
 use Rattle.tus_session.proofs.heads.request_of.Goals as goal
 
@@ -20,7 +20,7 @@ returns-in_err-done-clause-crash g c w conn h n stands is =
 pub returns-in_err-done-clause-answer : goal.returns-in_err-done-clause-answer
 returns-in_err-done-clause-answer g c sure w conn h n stands is =
     let stopped = err_from_is_err_and c.from_residual.result c.from_residual.ensures.1 in
-    rw (stopped.1, stopped.2) (head_stopped g.U.Uploads _ c.in_err-done.field-0.0 _ _ w conn _ _ is.inside.draft
+    rw (stopped.1, stopped.2) (head_stopped g.U.Uploads sure _ c.in_err-done.field-0.0 _ _ w conn _ _ is.inside.draft
     (c.in_err-done.ensures.answer sure w stands))
 
 pub returns-in-Replied-clause-crash : goal.returns-in-Replied-clause-crash
@@ -34,7 +34,7 @@ returns-in-Giving-clause-crash g c w conn h n stands is =
 pub returns-in-Replied-clause-answer : goal.returns-in-Replied-clause-answer
 returns-in-Replied-clause-answer g c sure w conn h n stands is =
     let done = rw c.in-Replied.is at (c.in_ok-done.ensures.answer sure w stands) in
-    nothing_told w conn h c.args.bytes.now n c.args.before _ is g.U.Uploads _ _ _ (Replied c.in-Replied.closes) _ _
+    nothing_told w conn h c.args.bytes.now n c.args.before _ is g.U.Uploads sure _ _ _ (Replied c.in-Replied.closes) _ _
     c.args.head _ done refl refl (slice_rest c.args.before c.args.bytes.now) c.skip.ensures.link
     c.requires.cleared c.skip.ensures.answer
 
@@ -42,7 +42,7 @@ pub returns-in-Giving-clause-answer : goal.returns-in-Giving-clause-answer
 returns-in-Giving-clause-answer g c sure w conn h n stands is =
     let done = rw c.in-Giving.is at (c.in_ok-done.ensures.answer sure w stands) in
     rw c.waits.ensures
-    (text_told w conn h c.args.bytes.now n c.args.before _ is g.U.Uploads _ (Giving c.in-Giving.giving)
+    (text_told w conn h c.args.bytes.now n c.args.before _ is g.U.Uploads sure _ (Giving c.in-Giving.giving)
     c.in-Giving.giving _ _
     c.args.head done refl refl c.requires.cleared)
 
@@ -57,25 +57,26 @@ returns-in-Opened-clause-answer g c sure w conn h n stands is =
       bare = c.args.request.bare;
       closes = c.args.request.closes;
     } in
-    let done : ActedAs U c.act.new.store (Opened c.in-Opened.draft) c.args.out.now.items c.act.new.out.items
+    let done : ActedAs U sure c.act.new.store (Opened c.in-Opened.draft) c.args.out.now.items c.act.new.out.items
     (acted w (Asks r)) = rw c.in-Opened.is at (c.in_ok-done.ensures.answer sure w stands) in
-    let x = begun U w conn h bytes n c.args.before r is _ _ _ b done (c.reached_by-reached.ensures c.requires.small)
+    let x = begun U sure w conn h bytes n c.args.before r is _ _ _ b done (c.reached_by-reached.ensures c.requires.small)
     refl refl (λ n up there. g.met.U.Uploads.below c.args.store.now sure w n up stands there) in
-    let v0 = v U w conn h bytes n c.args.before r is b x in
-    let p = p0 U w conn h bytes n c.args.before r is b x in
-    let shown = begun_shown U w conn h bytes n c.args.before r is b x c.act.new.store done.stands in
-    let found = first_as U w conn h bytes n c.args.before r is b x in
-    let whole = reached_whole U w conn h bytes n c.args.before r is b x in
+    let v0 = v U sure w conn h bytes n c.args.before r is b x in
+    let p = p0 U sure w conn h bytes n c.args.before r is b x in
+    let shown = begun_shown U sure w conn h bytes n c.args.before r is b x c.act.new.store done.stands in
+    let found = first_as U sure w conn h bytes n c.args.before r is b x in
+    let whole = reached_whole U sure w conn h bytes n c.args.before r is b x in
     let all : 0 + r.length ≡ r.length = omega arith in
     rw c.back_to.ensures.same
-    (patch_opened U w conn h bytes n c.args.before r is b x c.body_of-turned.new.store
+    (patch_opened U sure w conn h bytes n c.args.before r is b x c.body_of-turned.new.store
     c.args.out.now.items c.act.new.out.items c.body_of-turned.new.out.items
-    c.back_to.new.out.items c.args.head c.requires.cleared done.bytes c.len-start.result
+    c.back_to.new.out.items c.args.head c.requires.cleared (subst (Appends sure c.args.out.now.items c.act.new.out.items (acted w (Asks r)).bytes) x.x.no_text done.bytes)
+    c.len-start.result
     (omega (arith, c.len-start.ensures, c.args.out.now.ok.0)) c.body_of-turned.result _
     (slice_is c.args.before bytes)
-    (λ few. c.body_of-turned.ensures.part few v0 p shown found x.holds (omega arith))
+    (λ few. c.body_of-turned.ensures.part few sure v0 p shown found x.holds (omega arith))
     (λ few. c.body_of-turned.ensures.part_out few)
-    (λ enough. c.body_of-turned.ensures.rest enough v0 p r shown found x.holds all whole refl refl)
+    (λ enough. c.body_of-turned.ensures.rest enough sure v0 p r shown found x.holds all whole refl refl)
     c.back_to.ensures.back)
 
 pub returns-in-Opened-clause-crash : goal.returns-in-Opened-clause-crash
@@ -89,15 +90,15 @@ returns-in-Opened-clause-crash g c w conn h n stands is =
       bare = c.args.request.bare;
       closes = c.args.request.closes;
     } in
-    let done : ActedAs U c.act.new.store (Opened c.in-Opened.draft) c.args.out.now.items c.act.new.out.items
+    let done : ActedAs U true c.act.new.store (Opened c.in-Opened.draft) c.args.out.now.items c.act.new.out.items
     (acted w (Asks r)) = rw c.in-Opened.is at (c.in_ok-done.ensures.answer true w stands) in
-    let x = begun U w conn h bytes n c.args.before r is _ _ _ b done (c.reached_by-reached.ensures c.requires.small)
+    let x = begun U true w conn h bytes n c.args.before r is _ _ _ b done (c.reached_by-reached.ensures c.requires.small)
     refl refl (λ n up there. g.met.U.Uploads.below c.args.store.now true w n up stands there) in
-    let v0 = v U w conn h bytes n c.args.before r is b x in
-    let p = p0 U w conn h bytes n c.args.before r is b x in
-    let shown = begun_shown U w conn h bytes n c.args.before r is b x c.act.new.store done.stands in
-    let found = first_as U w conn h bytes n c.args.before r is b x in
-    patch_limits U w conn h bytes n c.args.before r is b x _
+    let v0 = v U true w conn h bytes n c.args.before r is b x in
+    let p = p0 U true w conn h bytes n c.args.before r is b x in
+    let shown = begun_shown U true w conn h bytes n c.args.before r is b x c.act.new.store done.stands in
+    let found = first_as U true w conn h bytes n c.args.before r is b x in
+    patch_limits U true w conn h bytes n c.args.before r is b x _
     (slice_is c.args.before bytes) (c.act.ensures.crash w stands)
     (λ few. c.body_of-turned.ensures.part_crash few v0 p shown found x.holds)
     (λ enough. c.body_of-turned.ensures.rest_crash enough v0 p r shown found x.holds (omega arith))

@@ -15,7 +15,7 @@ returns-clause-answer g c sure w s =
     let now = c.create.ensures in
     created_answers (create_refusal w c.args.new) c.create.result w.store.next
     (Stored sure g.D.Disk disk' kept' w.store)
-    (on_known c.create.result (λ (known : sure ≡ true).
+    (on_known _ c.create.result (λ (known : sure ≡ true).
     now.texts w.store (subst (λ (b : Bool). Stored b g.D.Disk disk kept w.store) known s.stored)))
     (λ texts stored. stands_created g.D.Disk disk disk' kept kept' drafts w c.args.new s now.layout now.blocks
     (λ slot number used. record {

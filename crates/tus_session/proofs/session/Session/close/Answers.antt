@@ -5,7 +5,7 @@ use Rattle.tus_session.proofs.session.Session.close.Goals as goal
 
 pub loop-place-init : goal.loop-place-init
 loop-place-init g c = record {
-  kept = λ st stands. (st.world, begins_closing g.U.Uploads c.args.self.links.items c.args.store.now st stands);
+  kept = λ sure st stands. (st.world, begins_closing g.U.Uploads sure c.args.self.links.items c.args.store.now st stands);
   front = sym (take_all (length c.args.self.links.items) c.args.self.links.items (omega arith));
   below = omega arith;
   counts = refl;
@@ -18,9 +18,9 @@ loop-place-preserved g c =
     let is = popped c.args.self.links.items c.loop-place.links.items c.pop.new.self.items c.in-Some.place inv.front
     c.in-Some.ensures.items in
     record {
-      kept = λ st stands.
-          let v = inv.kept st stands in
-          after_closed g.U.Uploads c.args.self.links.items c.loop-place.links.items c.pop.new.self.items
+      kept = λ sure st stands.
+          let v = inv.kept sure st stands in
+          after_closed g.U.Uploads sure c.args.self.links.items c.loop-place.links.items c.pop.new.self.items
           c.args.store.now st stands c.loop-place.store v.0 c.in-Some.place c.in_default-place.is is v.1;
       front = is.front;
       below = omega (arith, inv.below, is.count);
@@ -34,11 +34,11 @@ loop-place-preserved-in-Some-place g c =
     let is = popped c.args.self.links.items c.loop-place.links.items c.pop.new.self.items c.in-Some.place inv.front
     c.in-Some.ensures.items in
     record {
-      kept = λ st stands.
-          let v = inv.kept st stands in
-          after_open g.U.Uploads c.args.self.links.items c.loop-place.links.items c.pop.new.self.items
+      kept = λ sure st stands.
+          let v = inv.kept sure st stands in
+          after_open g.U.Uploads sure c.args.self.links.items c.loop-place.links.items c.pop.new.self.items
           c.args.store.now st stands c.loop-place.store c.drop_link.new.store v.0 c.in-Some.place c.in-Some-place.link
-          c.in-Some-place.is is v.1 (c.drop_link.ensures.kept v.0 v.1.shown);
+          c.in-Some-place.is is v.1 (c.drop_link.ensures.kept sure v.0 v.1.shown);
       front = is.front;
       below = omega (arith, inv.below, is.count);
       counts = c.drop_link.ensures.counts ∙ inv.counts;
@@ -53,6 +53,6 @@ pub returns-clause-kept : goal.returns-clause-kept
 returns-clause-kept g c sure st stands =
     let none : length c.loop-place.links.items ≡ 0 =
     omega (arith, c.in_default.ensures.cases.0, c.loop-place.links.ok.0) in
-    let v = c.loop-place.invariant.kept st stands in
-    all_closed g.U.Uploads st c.loop-place.store v.0
-    (subst (λ n. IsClosing g.U.Uploads st n c.loop-place.store v.0) none v.1)
+    let v = c.loop-place.invariant.kept sure st stands in
+    all_closed g.U.Uploads sure st c.loop-place.store v.0
+    (subst (λ n. IsClosing g.U.Uploads sure st n c.loop-place.store v.0) none v.1)

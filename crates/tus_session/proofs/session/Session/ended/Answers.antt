@@ -1,4 +1,4 @@
-use Rattle.std.proofs.Common.{sym, ap}
+use Rattle.std.proofs.Common.{sym, ap, true}
 use Rattle.std.proofs.lemmas.Result.{err_from_is_err_and}
 use Rattle.tus_session.specs.History.{Ended}
 use Rattle.tus_session.proofs.Stops.{counts_as, no_down, no_memory}
@@ -9,27 +9,27 @@ use Rattle.tus_session.proofs.session.Session.ended.Goals as goal
 pub returns-in_err-link-clause-answer : goal.returns-in_err-link-clause-answer
 returns-in_err-link-clause-answer g c sure st stands =
     let stop = err_from_is_err_and c.from_residual.result c.from_residual.ensures.1 in
-    let none = c.in_err-link.ensures.closed c.args.store.now st stands in
-    rw (stop.1, stop.2, c.in_err-link.ensures.refusal) (none_ended g.U.Uploads _ _ st c.args.conn none.1 none.0)
+    let none = c.in_err-link.ensures.closed sure c.args.store.now st stands in
+    rw (stop.1, stop.2, c.in_err-link.ensures.refusal) (none_ended g.U.Uploads sure _ _ st c.args.conn none.1 none.0)
 
 pub returns-in_err-end_of-clause-answer : goal.returns-in_err-end_of-clause-answer
 returns-in_err-end_of-clause-answer g c sure st stands =
     let stop = err_from_is_err_and c.from_residual-in_err-end_of.result c.from_residual-in_err-end_of.ensures.1 in
-    let o = c.in_ok-link.ensures.open c.args.store.now st stands in
+    let o = c.in_ok-link.ensures.open sure c.args.store.now st stands in
     rw (stop.1, stop.2)
-    (ends_stopped g.U.Uploads _ _ _ _ st (Ended c.args.conn) o.0 stands tt o.1 c.in_err-end_of.field-0.0
-    c.in_ok-link.ensures.taken (c.in_err-end_of.ensures.answer st.world o.0 stands.shown o.2))
+    (ends_stopped g.U.Uploads sure _ _ _ _ st (Ended c.args.conn) o.0 stands tt o.1 c.in_err-end_of.field-0.0
+    c.in_ok-link.ensures.taken (c.in_err-end_of.ensures.answer sure st.world o.0 stands.shown o.2))
 
 pub returns-in_err-end_of-clause-crash : goal.returns-in_err-end_of-clause-crash
 returns-in_err-end_of-clause-crash g c st stands =
-    let o = c.in_ok-link.ensures.open c.args.store.now st stands in
+    let o = c.in_ok-link.ensures.open true c.args.store.now st stands in
     limits_to (ap (λ x. x.state.world.store) (sym (ended_step st c.args.conn o.0 o.1)))
     (c.end_of.ensures.crash st.world o.0 stands.shown o.2)
 
 pub returns-in_err-end_of-clause-unmade : goal.returns-in_err-end_of-clause-unmade
 returns-in_err-end_of-clause-unmade g c st stands none_left =
     let stop = err_from_is_err_and c.from_residual-in_err-end_of.result c.from_residual-in_err-end_of.ensures.1 in
-    let o = c.in_ok-link.ensures.open c.args.store.now st stands in
+    let o = c.in_ok-link.ensures.open true c.args.store.now st stands in
     c.in_err-end_of.ensures.unmade st.world o.0 stands.shown o.2
     (no_memory c.in_err-end_of.field-0.0 stop.0 stop.2 (rw stop.1 at none_left))
 
@@ -45,12 +45,12 @@ returns-in_err-end_of-clause-no_down g c =
 
 pub returns-clause-answer : goal.returns-clause-answer
 returns-clause-answer g c sure st stands =
-    let o = c.in_ok-link.ensures.open c.args.store.now st stands in
-    ends g.U.Uploads _ _ _ _ st (Ended c.args.conn) o.0 stands tt o.1 c.in_ok-link.ensures.taken
-    (ended_step st c.args.conn o.0 o.1) (c.in_ok-end_of.ensures.answer st.world o.0 stands.shown o.2)
+    let o = c.in_ok-link.ensures.open sure c.args.store.now st stands in
+    ends g.U.Uploads sure _ _ _ _ st (Ended c.args.conn) o.0 stands tt o.1 c.in_ok-link.ensures.taken
+    (ended_step st c.args.conn o.0 o.1) (c.in_ok-end_of.ensures.answer sure st.world o.0 stands.shown o.2)
 
 pub returns-clause-crash : goal.returns-clause-crash
 returns-clause-crash g c st stands =
-    let o = c.in_ok-link.ensures.open c.args.store.now st stands in
+    let o = c.in_ok-link.ensures.open true c.args.store.now st stands in
     limits_to (ap (λ x. x.state.world.store) (sym (ended_step st c.args.conn o.0 o.1)))
     (c.end_of.ensures.crash st.world o.0 stands.shown o.2)

@@ -10,18 +10,18 @@ use Rattle.tus_session.proofs.session.Session.more.Goals as goal
 pub returns-in_err-link-clause-answer : goal.returns-in_err-link-clause-answer
 returns-in_err-link-clause-answer g c sure st stands =
     let stop = err_from_is_err_and c.from_residual.result c.from_residual.ensures.1 in
-    let none = c.in_err-link.ensures.closed c.args.store.now st stands in
+    let none = c.in_err-link.ensures.closed sure c.args.store.now st stands in
     rw (stop.1, stop.2, c.in_err-link.ensures.refusal)
-    (none_more g.U.Uploads _ _ st c.args.conn none.1 none.0, refl)
+    (none_more g.U.Uploads sure _ _ st c.args.conn none.1 none.0, refl)
 
 pub returns-in_err-next-clause-answer : goal.returns-in_err-next-clause-answer
 returns-in_err-next-clause-answer g c sure st stands =
     let stop = err_from_is_err_and c.from_residual-in_err-next.result c.from_residual-in_err-next.ensures.1 in
-    let o = c.in_ok-link.ensures.open c.args.store.now st stands in
+    let o = c.in_ok-link.ensures.open sure c.args.store.now st stands in
     rw (stop.1, stop.2)
-    (stopped g.U.Uploads _ _ _ _ st (More c.args.conn) o.0 stands tt o.1 (more_turn st.world o.0)
+    (stopped g.U.Uploads sure _ _ _ _ st (More c.args.conn) o.0 stands tt o.1 (more_turn st.world o.0)
     c.in_err-next.field-0.0 _ _ c.in_ok-link.ensures.taken
-    (c.in_err-next.ensures.answer st.world o.0 stands.shown o.2))
+    (c.in_err-next.ensures.answer sure st.world o.0 stands.shown o.2))
 
 pub returns-in_err-next-clause-counts : goal.returns-in_err-next-clause-counts
 returns-in_err-next-clause-counts g c =
@@ -35,9 +35,9 @@ returns-in_err-next-clause-no_down g c =
 
 pub returns-clause-answer : goal.returns-clause-answer
 returns-clause-answer g c sure st stands =
-    let o = c.in_ok-link.ensures.open c.args.store.now st stands in
+    let o = c.in_ok-link.ensures.open sure c.args.store.now st stands in
     rw c.put_back.ensures
-    (told g.U.Uploads _ _ _ _ st (More c.args.conn) o.0 stands tt o.1 c.in_ok-next.next
+    (told g.U.Uploads sure _ _ _ _ st (More c.args.conn) o.0 stands tt o.1 c.in_ok-next.next
     (more_turn st.world o.0) c.in_ok-next.answer _ _
-    (is_put_back g.U.Uploads _ _ c.args.conn c.in_ok-next.next c.in_ok-link.ensures.taken c.in_ok-link.ensures.within)
-    (more_is st c.args.conn o.0 o.1) (c.in_ok-next.ensures.answer st.world o.0 stands.shown o.2))
+    (is_put_back g.U.Uploads sure _ _ c.args.conn c.in_ok-next.next c.in_ok-link.ensures.taken c.in_ok-link.ensures.within)
+    (more_is st c.args.conn o.0 o.1) (c.in_ok-next.ensures.answer sure st.world o.0 stands.shown o.2))
