@@ -6,6 +6,7 @@ use Rattle.std.proofs.lemmas.Bool.{false_from_ne_true}
 use Rattle.upload_rules.specs.declared.uploads.Uploads.{Ghosts}
 use Rattle.upload_rules.specs.Store.{Store}
 use Rattle.upload_rules.specs.Answers.{Limits}
+use Rattle.tus_action.proofs.Pieces.{all_appended}
 use Rattle.tus_session.specs.Turns.{Conn, fresh}
 use Rattle.tus_session.specs.History.{State, Event, Opened, Came, More, Ended, Served, Done, Refused, Step, step, put}
 use Rattle.tus_session.specs.History.{most_open, opened_if}
@@ -88,18 +89,22 @@ module _ {U B : Type 0} (u : Ghosts U B) (g : Gateway U B) (st : State) (e : Eve
       → (IsErrOf result DiskFault → ⊥) → is_down g ≡ false
   still_up result falls sound = false_from_ne_true (is_down g) (λ down. sound (falls.0 down))
 
-  at : (s : State) → SessionStands u places g.store s → is_down g ≡ false → GatewayStands u g s
+  at : (s : State) → SessionStands u true places g.store s → is_down g ≡ false → GatewayStands u g s
   at s session up = record { session = session; up = up }
 
-  at_same : (s : State) → s ≡ st → SessionStands u places g.store st → is_down g ≡ false → GatewayStands u g s
-  at_same s same session up = at s (subst (λ x. SessionStands u places g.store x) (sym same) session) up
+  at_same : (s : State) → s ≡ st → SessionStands u true places g.store st → is_down g ≡ false → GatewayStands u g s
+  at_same s same session up = at s (subst (λ x. SessionStands u true places g.store x) (sym same) session) up
 
   pub told_gives : (result : Result Answer SessionError) (old new : List ℕ) → FallsBy (is_down g) result
-      → RefusedStays st (step st e Served) → Told u places g.store result old new st e
+      → RefusedStays st (step st e Served) → Told u true places g.store result old new st e
       → Gives stands result old new st e
   told_gives (Ok a) old new falls stays t =
       let up = still_up (Ok a) falls (λ f. absurd (cc)) in
-      (t.0, record { answer = t.1.outcome; keeps = at _ t.1.stands up }, t.2)
+      (
+        t.0,
+        record { answer = t.1.outcome; keeps = at _ t.1.stands up },
+        all_appended old new t.0 (step st e Served).text t.2,
+      )
   told_gives (Err NoMemory) old new falls stays t =
       let up = still_up {T = Answer} (Err NoMemory) falls (λ f. absurd (cc)) in
       ([], record { answer = t.0.outcome; keeps = at _ t.0.stands up }, t.1)
@@ -115,7 +120,7 @@ module _ {U B : Type 0} (u : Ghosts U B) (g : Gateway U B) (st : State) (e : Eve
       ([], record { answer = t.0.outcome; keeps = at_same _ (stays Down t.0.outcome) t.0.stands up }, t.1)
 
   pub ends_does : (result : Result (Unit {0}) SessionError) → FallsBy (is_down g) result
-      → RefusedStays st (step st e Served) → told.Ends u places g.store result st e → Does stands result st e
+      → RefusedStays st (step st e Served) → told.Ends u true places g.store result st e → Does stands result st e
   ends_does (Ok x) falls stays t =
       record { answer = t.outcome; keeps = at _ t.stands (still_up (Ok x) falls (λ f. absurd (cc))) }
   ends_does (Err NoMemory) falls stays t =
@@ -133,7 +138,7 @@ module _ {U B : Type 0} (u : Ghosts U B) (g : Gateway U B) (st : State) (e : Eve
       record { answer = t.outcome; keeps = at_same _ (stays Down t.outcome) t.stands up }
 
   pub opens_does : (result : Result (Unit {0}) SessionError) → is_down g ≡ false
-      → ManyStays st (step st e Served) → Opens u places g.store result st e → Does stands result st e
+      → ManyStays st (step st e Served) → Opens u true places g.store result st e → Does stands result st e
   opens_does (Ok x) up stays t = record { answer = t.outcome; keeps = at _ t.stands up }
   opens_does (Err NoMemory) up stays t = let f : NoMemory ≡ TooMany = (stays NoMemory t.outcome).0 in absurd (cc)
   opens_does (Err DiskFault) up stays t = let f : DiskFault ≡ TooMany = (stays DiskFault t.outcome).0 in absurd (cc)

@@ -1,5 +1,5 @@
 -- What a gateway stands for.
-use Rattle.std.specs.Prelude.{◌≡◌, ℕ, Bool, false, Result, Ok, Err}
+use Rattle.std.specs.Prelude.{◌≡◌, ℕ, Bool, false, true, Result, Ok, Err}
 use Rattle.spool_disk.specs.declared.disk.Disk as disks
 use Rattle.spool_image.specs.Spool.{disk_of, size_of}
 use Rattle.spool_kept.specs.declared.error.OpenFault.{OpenFault}
@@ -21,7 +21,7 @@ is_down g = g.down
 
 -- its session and its store are where the history is, and it isn't down
 pub record GatewayStands {U B : Type 0} (u : Ghosts U B) (g : Gateway U B) (st : State) : Type 0 where
-  pub session : SessionStands u (places_of g.session) g.store st
+  pub session : SessionStands u true (places_of g.session) g.store st
   pub up : is_down g ≡ false
 
 -- a gateway as connections

@@ -1,5 +1,5 @@
 -- What a run of a script comes to.
-use Rattle.std.specs.Prelude.{◌≡◌, ◌⊎◌, ◌<◌, ◌≤◌, ◌+◌, ◌^◌, ℕ, List, Option, Result, Ok, Err}
+use Rattle.std.specs.Prelude.{◌≡◌, ◌⊎◌, ◌<◌, ◌≤◌, ◌+◌, ◌^◌, ℕ, List, Option, Result, Ok, Err, true}
 use Rattle.std.specs.Io.KnownBytes.{Appends}
 use Rattle.upload_rules.specs.World.{at_rest}
 use Rattle.upload_rules.specs.declared.uploads.Uploads.{Ghosts}
@@ -22,7 +22,7 @@ pub record Shows {U B : Type 0} (u : Ghosts U B) (before now : U) (st : State) (
 
 -- the uploads are those of the history, and no draft is open
 abbrev pub Rests : {U B : Type 0} → Ghosts U B → U → State → Type 0
-Rests u store st = u.stands store (at_rest st.world.store st.world.blocks)
+Rests u store st = u.stands store true (at_rest st.world.store st.world.blocks)
 
 -- The script ended so, by the marks of its calls, and this was written after what was there: the output of all its
 -- events.

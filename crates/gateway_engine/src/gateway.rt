@@ -24,7 +24,7 @@ pub struct Gateway<U: Uploads> {
 impl<U: Uploads> Gateway<U> {
     /// No connection is open.
     pub fn new(alloc: Global, store: U) -> Result<Self, (U, AllocError)>
-        ensures ok { (m : Store) (blocks : Option ℕ) → U.stands store (at_rest m blocks)
+        ensures ok { (m : Store) (blocks : Option ℕ) → U.stands store true (at_rest m blocks)
             → IfOk result (λ g. GatewayStands U.Uploads g (beginning m blocks)) }
         ensures same { IfOk result (λ g. store_of g ≡ store) }
         ensures up { IfOk result (λ g. is_down g ≡ false) }
@@ -43,7 +43,7 @@ impl<U: Uploads> Gateway<U> {
     /// Ends the session: the drafts that are open are dropped. The store has the uploads.
     pub fn close(self) -> U
         ensures kept { (st : State) → GatewayStands U.Uploads self st
-            → U.stands result (at_rest st.world.store st.world.blocks) }
+            → U.stands result true (at_rest st.world.store st.world.blocks) }
         ensures crash { Quiet (U.moment (store_of self)) (U.moment result) (U.left_only (store_of self))
             (U.left_only result) }
         ensures counts { U.failures result ≡ U.failures (store_of self) }

@@ -1,5 +1,5 @@
 //! A script over a store of uploads.
-ghost use Rattle.std.specs.Prelude.{ℕ, List, Option};
+ghost use Rattle.std.specs.Prelude.{ℕ, List, Option, true};
 ghost use Rattle.upload_rules.specs.Store.{Store};
 ghost use Rattle.upload_rules.specs.World.{at_rest};
 ghost use Rattle.upload_rules.specs.Answers.{Counts};
@@ -27,7 +27,7 @@ pub fn run_over<U: Uploads, R: CountedRead, W: CountedWrite>(
 ) -> Result<U, (U, ScriptFault)>
     // What is written is the script's output, with a mark for each call that was out of memory. Images show the
     // uploads of its history.
-    ensures output { (m : Store) (blocks : Option ℕ) → U.stands store (at_rest m blocks)
+    ensures output { (m : Store) (blocks : Option ℕ) → U.stands store true (at_rest m blocks)
         → (script : List ℕ) × IsScript (R.remaining reader.old) script
         × HasRun U.Uploads store result (W.contents writer.new) (W.contents writer.old) (beginning m blocks) script }
     ensures counts { Counts (HasFailed result) (U.failures store) (U.failures (store_of result)) }

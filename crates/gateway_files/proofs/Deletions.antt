@@ -93,7 +93,7 @@ and_true false = refl
 pub record Halfway {U B : Type 0} (u : Ghosts U B) (w : World) (before now : U) (numbers rest : List ℕ)
     (front held : Option (List ℕ)) (all : Bool) : Type 0 where
   pub store : Store
-  pub stands : u.stands now (record w { store = store })
+  pub stands : u.stands now true (record w { store = store })
   pub remains : left store rest ≡ left w.store numbers
   pub out : List ℕ
   pub wrote : Appends front held out
@@ -104,7 +104,7 @@ pub record Halfway {U B : Type 0} (u : Ghosts U B) (w : World) (before now : U) 
       (stages w.store numbers)
 
 module _ {U B : Type 0} (u : Ghosts U B) (w : World) (numbers : List ℕ) where
-  pub begun : (now : U) (front : Option (List ℕ)) → u.stands now w
+  pub begun : (now : U) (front : Option (List ℕ)) → u.stands now true w
       → Halfway u w now now numbers numbers front front true
   begun now front stands = record {
     store = w.store;
@@ -135,7 +135,7 @@ module _ {U B : Type 0} (u : Ghosts U B) (w : World) (numbers : List ℕ) where
     }
 
     pub further : (on : Option (List ℕ)) (there : Bool)
-        → u.stands next (terminated (record w { store = is.store }) n)
+        → u.stands next true (terminated (record w { store = is.store }) n)
         → there ≡ is_there (upload_of is.store n) → Appends held on (deletion_line there n)
         → Halfway u w before next numbers rest front on (all && there)
     further on there stands same line = record {
@@ -155,8 +155,8 @@ module _ {U B : Type 0} (u : Ghosts U B) (w : World) (numbers : List ℕ) where
 
   module _ (before now : U) (front held : Option (List ℕ)) (all : Bool)
       (is : Halfway u w before now numbers [] front held all) where
-    pub done_stands : u.stands now (record w { store = left w.store numbers })
-    done_stands = subst (λ s. u.stands now (record w { store = s })) (sym (left_all is.store) ∙ is.remains) is.stands
+    pub done_stands : u.stands now true (record w { store = left w.store numbers })
+    done_stands = subst (λ s. u.stands now true (record w { store = s })) (sym (left_all is.store) ∙ is.remains) is.stands
 
     pub done_lines : Appends front held (deletion_lines w.store numbers)
     done_lines = subst (λ (x : List ℕ). Appends front held x) (sym (append-nil is.out) ∙ is.lines) is.wrote

@@ -1,5 +1,5 @@
 //! Texts of uploads, copied to writers.
-ghost use Rattle.std.specs.Prelude.{◌≡◌, ◌<◌, ◌≤◌, ◌+◌, ◌-◌, IfErr, IfOk, IsErrOf, OnOk, drop, length, min, take};
+ghost use Rattle.std.specs.Prelude.{◌≡◌, ◌<◌, ◌≤◌, ◌+◌, ◌-◌, IfErr, IfOk, IsErrOf, OnOk, drop, length, min, take, true};
 ghost use Rattle.std.specs.Io.KnownBytes.{Appends};
 ghost use Rattle.upload_rules.specs.Answers.{Counts as Fails, Quiet};
 ghost use Rattle.upload_rules.specs.Reading.{text_at};
@@ -22,11 +22,11 @@ pub fn copy_text<W: Write, U: Uploads>(
     number: u64,
 ) -> Result<(), Fault>
     // What was written is exactly the text.
-    ensures copied { (w : World) → U.stands uploads.old w → OnOk result (Appends (W.contents writer.old)
+    ensures copied { (w : World) → U.stands uploads.old true w → OnOk result (Appends (W.contents writer.old)
         (W.contents writer.new) (text_at w.store (upload_of w.store number))) }
 
     // The uploads stay as they are, and whatever a crash may leave.
-    ensures stands { (w : World) → U.stands uploads.old w → OnOk result (U.stands uploads.new w) }
+    ensures stands { (w : World) → U.stands uploads.old true w → OnOk result (U.stands uploads.new true w) }
     ensures crash { Quiet (U.moment uploads.old) (U.moment uploads.new) (U.left_only uploads.old)
         (U.left_only uploads.new) }
     ensures refused { IfErr result IsChangeFault }
@@ -46,10 +46,10 @@ fn copy_bytes<W: Write, U: Uploads>(
     number: u64,
     len: u64,
 ) -> Result<(), Fault>
-    ensures copied { (w : World) → U.stands uploads.old w → len ≡ length (text_at w.store (upload_of w.store number))
+    ensures copied { (w : World) → U.stands uploads.old true w → len ≡ length (text_at w.store (upload_of w.store number))
         → OnOk result (Appends (W.contents writer.old) (W.contents writer.new)
         (text_at w.store (upload_of w.store number))) }
-    ensures stands { (w : World) → U.stands uploads.old w → OnOk result (U.stands uploads.new w) }
+    ensures stands { (w : World) → U.stands uploads.old true w → OnOk result (U.stands uploads.new true w) }
     ensures crash { Quiet (U.moment uploads.old) (U.moment uploads.new) (U.left_only uploads.old)
         (U.left_only uploads.new) }
     ensures refused { IfErr result IsChangeFault }
@@ -72,10 +72,10 @@ fn copy_piece<W: Write, U: Uploads>(
 ) -> Result<u64, Fault>
     requires { at < len }
     ensures next { IfOk result (λ next. next ≡ at + min (len - at) 4096) }
-    ensures copied { (w : World) → U.stands uploads.old w → len ≡ length (text_at w.store (upload_of w.store number))
+    ensures copied { (w : World) → U.stands uploads.old true w → len ≡ length (text_at w.store (upload_of w.store number))
         → IfOk result (λ next. Appends (W.contents writer.old) (W.contents writer.new)
         (take (next - at) (drop at (text_at w.store (upload_of w.store number))))) }
-    ensures stands { (w : World) → U.stands uploads.old w → OnOk result (U.stands uploads.new w) }
+    ensures stands { (w : World) → U.stands uploads.old true w → OnOk result (U.stands uploads.new true w) }
     ensures crash { Quiet (U.moment uploads.old) (U.moment uploads.new) (U.left_only uploads.old)
         (U.left_only uploads.new) }
     ensures refused { IfErr result IsChangeFault }
@@ -91,10 +91,10 @@ fn copy_piece<W: Write, U: Uploads>(
 
 // Reads as many bytes of a text as the piece has, where there are so many.
 fn read_at<U: Uploads>(uploads: &mut U, number: u64, at: u64, piece: &mut [u8]) -> Result<(), Fault>
-    ensures read { (w : World) → U.stands uploads.old w
+    ensures read { (w : World) → U.stands uploads.old true w
         → at + length piece.old ≤ length (text_at w.store (upload_of w.store number))
         → OnOk result (piece.new ≡ take (length piece.old) (drop at (text_at w.store (upload_of w.store number)))) }
-    ensures stands { (w : World) → U.stands uploads.old w → OnOk result (U.stands uploads.new w) }
+    ensures stands { (w : World) → U.stands uploads.old true w → OnOk result (U.stands uploads.new true w) }
     ensures crash { Quiet (U.moment uploads.old) (U.moment uploads.new) (U.left_only uploads.old)
         (U.left_only uploads.new) }
     ensures refused { IfErr result IsChangeFault }

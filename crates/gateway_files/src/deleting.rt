@@ -1,5 +1,5 @@
 //! Uploads of a spool, deleted by their numbers.
-ghost use Rattle.std.specs.Prelude.{◌≡◌, ℕ, Err, IfErr, IfOk, IsErrOf, IsOk, OnOk};
+ghost use Rattle.std.specs.Prelude.{◌≡◌, ℕ, Err, IfErr, IfOk, IsErrOf, IsOk, OnOk, true};
 ghost use Rattle.std.specs.Io.KnownBytes.{Appends};
 ghost use Rattle.spool_disk.specs.Disk.{Counts};
 ghost use Rattle.spool_load.specs.Refusals.{HasOtherVersion, IsDamaged, IsNoSpool};
@@ -89,14 +89,14 @@ fn delete_uploads<W: Write, U: Uploads>(
     uploads: &mut U,
     numbers: &[u64],
 ) -> Result<bool, Fault>
-    ensures stands { (w : World) → U.stands uploads.old w
-        → OnOk result (U.stands uploads.new (record w { store = left w.store numbers.now })) }
-    ensures lines { (w : World) → U.stands uploads.old w
+    ensures stands { (w : World) → U.stands uploads.old true w
+        → OnOk result (U.stands uploads.new true (record w { store = left w.store numbers.now })) }
+    ensures lines { (w : World) → U.stands uploads.old true w
         → OnOk result (Appends (W.contents writer.old) (W.contents writer.new)
         (deletion_lines w.store numbers.now)) }
-    ensures all { (w : World) → U.stands uploads.old w
+    ensures all { (w : World) → U.stands uploads.old true w
         → IfOk result (λ all. all ≡ all_there w.store numbers.now) }
-    ensures crash { (w : World) → U.stands uploads.old w
+    ensures crash { (w : World) → U.stands uploads.old true w
         → LimitsTo (U.moment uploads.old) (U.moment uploads.new) (U.left_only uploads.old) (U.left_only uploads.new)
         (stages w.store numbers.now) }
     ensures refused { IfErr result IsChangeFault }
@@ -116,13 +116,13 @@ fn delete_one<W: Write, U: Uploads>(
     uploads: &mut U,
     number: u64,
 ) -> Result<bool, Fault>
-    ensures stands { (w : World) → U.stands uploads.old w
-        → OnOk result (U.stands uploads.new (terminated w number)) }
-    ensures there { (w : World) → U.stands uploads.old w
+    ensures stands { (w : World) → U.stands uploads.old true w
+        → OnOk result (U.stands uploads.new true (terminated w number)) }
+    ensures there { (w : World) → U.stands uploads.old true w
         → IfOk result (λ there. there ≡ is_there (upload_of w.store number)) }
     ensures line { IfOk result (λ there. Appends (W.contents writer.old) (W.contents writer.new)
         (deletion_line there number)) }
-    ensures crash { (w : World) → U.stands uploads.old w
+    ensures crash { (w : World) → U.stands uploads.old true w
         → Limits (U.moment uploads.old) (U.moment uploads.new) (U.left_only uploads.old) (U.left_only uploads.new)
         w.store (deleted_store w.store number) }
     ensures refused { IfErr result IsChangeFault }
@@ -135,11 +135,11 @@ fn delete_one<W: Write, U: Uploads>(
 
 // Deletes the upload of a number: whether there was one.
 fn terminate<U: Uploads>(uploads: &mut U, number: u64) -> Result<bool, Fault>
-    ensures stands { (w : World) → U.stands uploads.old w
-        → OnOk result (U.stands uploads.new (terminated w number)) }
-    ensures there { (w : World) → U.stands uploads.old w
+    ensures stands { (w : World) → U.stands uploads.old true w
+        → OnOk result (U.stands uploads.new true (terminated w number)) }
+    ensures there { (w : World) → U.stands uploads.old true w
         → IfOk result (λ there. there ≡ is_there (upload_of w.store number)) }
-    ensures crash { (w : World) → U.stands uploads.old w
+    ensures crash { (w : World) → U.stands uploads.old true w
         → Limits (U.moment uploads.old) (U.moment uploads.new) (U.left_only uploads.old) (U.left_only uploads.new)
         w.store (deleted_store w.store number) }
     ensures refused { IfErr result IsChangeFault }

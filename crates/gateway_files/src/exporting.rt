@@ -1,5 +1,5 @@
 //! The texts of a spool's uploads, written into files.
-ghost use Rattle.std.specs.Prelude.{◌≡◌, [], ◌∷◌, ℕ, List, Err, IfErr, IsErrOf, IsOk, OnOk, Some, map};
+ghost use Rattle.std.specs.Prelude.{◌≡◌, [], ◌∷◌, ℕ, List, Err, IfErr, IsErrOf, IsOk, OnOk, Some, map, true};
 ghost use Rattle.std.specs.Io.KnownBytes.{Appends};
 ghost use Rattle.spool_disk.specs.Disk.{Counts};
 ghost use Rattle.spool_load.specs.Refusals.{HasOtherVersion, IsDamaged, IsNoSpool};
@@ -105,10 +105,10 @@ fn export_uploads<W: Write, F: Folder, U: Uploads>(
     uploads: &mut U,
     all: bool,
 ) -> Result<bool, Fault>
-    ensures files { (w : World) → U.stands uploads.old w → IsInOrder w.store → (files : Files)
+    ensures files { (w : World) → U.stands uploads.old true w → IsInOrder w.store → (files : Files)
         → F.holds folder.old files → OnOk result (F.holds folder.new (exported w.store files (jobs_of all w.store))) }
     ensures keeps { (files : Files) → F.holds folder.old files → HoldsAll (F.holds folder.new) files }
-    ensures stands { (w : World) → U.stands uploads.old w → OnOk result (U.stands uploads.new w) }
+    ensures stands { (w : World) → U.stands uploads.old true w → OnOk result (U.stands uploads.new true w) }
     ensures crash { Quiet (U.moment uploads.old) (U.moment uploads.new) (U.left_only uploads.old)
         (U.left_only uploads.new) }
     ensures refused { IfErr result IsChangeFault }
@@ -134,10 +134,10 @@ fn do_jobs<W: Write, F: Folder, U: Uploads>(
     uploads: &mut U,
     jobs: &[Job],
 ) -> Result<Done, Fault>
-    ensures files { (w : World) → U.stands uploads.old w → (files : Files) → F.holds folder.old files
+    ensures files { (w : World) → U.stands uploads.old true w → (files : Files) → F.holds folder.old files
         → OnOk result (F.holds folder.new (exported w.store files (map job_shown jobs.now))) }
     ensures keeps { (files : Files) → F.holds folder.old files → HoldsAll (F.holds folder.new) files }
-    ensures stands { (w : World) → U.stands uploads.old w → OnOk result (U.stands uploads.new w) }
+    ensures stands { (w : World) → U.stands uploads.old true w → OnOk result (U.stands uploads.new true w) }
     ensures crash { Quiet (U.moment uploads.old) (U.moment uploads.new) (U.left_only uploads.old)
         (U.left_only uploads.new) }
     ensures refused { IfErr result IsChangeFault }
@@ -175,10 +175,10 @@ fn do_job<'j, W: Write, F: Folder, U: Uploads>(
     uploads: &mut U,
     job: &'j Job,
 ) -> Result<Outcome<'j>, Fault>
-    ensures files { (w : World) → U.stands uploads.old w → (files : Files) → F.holds folder.old files
+    ensures files { (w : World) → U.stands uploads.old true w → (files : Files) → F.holds folder.old files
         → OnOk result (F.holds folder.new (exported_one w.store files (job_shown job.now))) }
     ensures keeps { (files : Files) → F.holds folder.old files → HoldsAll (F.holds folder.new) files }
-    ensures stands { (w : World) → U.stands uploads.old w → OnOk result (U.stands uploads.new w) }
+    ensures stands { (w : World) → U.stands uploads.old true w → OnOk result (U.stands uploads.new true w) }
     ensures crash { Quiet (U.moment uploads.old) (U.moment uploads.new) (U.left_only uploads.old)
         (U.left_only uploads.new) }
     ensures refused { IfErr result IsChangeFault }
@@ -195,10 +195,10 @@ fn export_job<'j, F: Folder, U: Uploads>(
     uploads: &mut U,
     job: &'j Job,
 ) -> Result<Outcome<'j>, Fault>
-    ensures files { (w : World) → U.stands uploads.old w → (files : Files) → F.holds folder.old files
+    ensures files { (w : World) → U.stands uploads.old true w → (files : Files) → F.holds folder.old files
         → OnOk result (F.holds folder.new (exported_one w.store files (job_shown job.now))) }
     ensures keeps { (files : Files) → F.holds folder.old files → HoldsAll (F.holds folder.new) files }
-    ensures stands { (w : World) → U.stands uploads.old w → OnOk result (U.stands uploads.new w) }
+    ensures stands { (w : World) → U.stands uploads.old true w → OnOk result (U.stands uploads.new true w) }
     ensures crash { Quiet (U.moment uploads.old) (U.moment uploads.new) (U.left_only uploads.old)
         (U.left_only uploads.new) }
     ensures refused { IfErr result IsChangeFault }
@@ -221,12 +221,12 @@ fn write_text<F: Folder, U: Uploads>(
     uploads: &mut U,
     number: u64,
 ) -> Result<(), Fault>
-    ensures files { (w : World) → U.stands uploads.old w → (files : Files) (name : List ℕ)
+    ensures files { (w : World) → U.stands uploads.old true w → (files : Files) (name : List ℕ)
         → F.makes folder.old files name → F.File.contents file ≡ Some []
         → OnOk result (F.holds folder.new (with_file files name (text_at w.store (upload_of w.store number)))) }
     ensures keeps { (files : Files) (name : List ℕ) → F.makes folder.old files name
         → HoldsAll (F.holds folder.new) files }
-    ensures stands { (w : World) → U.stands uploads.old w → OnOk result (U.stands uploads.new w) }
+    ensures stands { (w : World) → U.stands uploads.old true w → OnOk result (U.stands uploads.new true w) }
     ensures crash { Quiet (U.moment uploads.old) (U.moment uploads.new) (U.left_only uploads.old)
         (U.left_only uploads.new) }
     ensures refused { IfErr result IsChangeFault }

@@ -1,5 +1,5 @@
 //! The uploads of a spool, line by line.
-ghost use Rattle.std.specs.Prelude.{◌≡◌, ◌++◌, ℕ, Err, IfErr, IfOk, IsOk, OnOk, Some, string_bytes};
+ghost use Rattle.std.specs.Prelude.{◌≡◌, ◌++◌, ℕ, Err, IfErr, IfOk, IsOk, OnOk, Some, string_bytes, true};
 ghost use Rattle.std.specs.Io.KnownBytes.{Appends};
 ghost use Rattle.spool_disk.specs.Disk.{Counts, IsImage};
 ghost use Rattle.spool_disk.specs.Views.{Lasts};
@@ -92,7 +92,7 @@ fn write_uploads<W: Write, U: Uploads>(
     uploads: &U,
     long: bool,
 ) -> Result<(), Fault>
-    ensures lines { (w : World) → U.stands uploads.now w → IsInOrder w.store
+    ensures lines { (w : World) → U.stands uploads.now true w → IsInOrder w.store
         → OnOk result (Appends (W.contents writer.old) (W.contents writer.new) (lines_of long w.store)) }
     ensures refused { IfErr result IsWriteFault }
 {
@@ -103,7 +103,7 @@ fn write_uploads<W: Write, U: Uploads>(
 
 // The lines of the uploads, by number.
 fn lines_of<U: Uploads>(alloc: Global, uploads: &U, long: bool) -> Result<String, AllocError>
-    ensures lines { (w : World) → U.stands uploads.now w → IsInOrder w.store
+    ensures lines { (w : World) → U.stands uploads.now true w → IsInOrder w.store
         → IfOk result (λ lines. string_bytes lines ≡ lines_of long w.store) }
 {
     let mut lines = String::new(alloc);

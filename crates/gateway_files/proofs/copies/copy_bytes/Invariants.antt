@@ -1,4 +1,4 @@
-use Rattle.std.proofs.Common.{◌≡◌, ◌≤◌, ◌-◌, length, take}
+use Rattle.std.proofs.Common.{◌≡◌, ◌≤◌, ◌-◌, length, take, true}
 use Rattle.std.specs.Io.KnownBytes.{Appends}
 use Rattle.upload_rules.specs.Answers.{Quiet}
 use Rattle.upload_rules.specs.Reading.{text_at}
@@ -12,7 +12,7 @@ invariant-loop-at g l =
     × (g.U.Uploads.failures l.uploads ≡ g.U.Uploads.failures l.fn.uploads)
     × Quiet (g.U.Uploads.moment l.fn.uploads) (g.U.Uploads.moment l.uploads) (g.U.Uploads.left_only l.fn.uploads)
     (g.U.Uploads.left_only l.uploads)
-    × ((w : World) → g.U.Uploads.stands l.fn.uploads w → g.U.Uploads.stands l.uploads w
+    × ((w : World) → g.U.Uploads.stands l.fn.uploads true w → g.U.Uploads.stands l.uploads true w
     × (l.len ≡ length (text_at w.store (upload_of w.store l.number))
     → Appends (g.W.Write.contents l.fn.writer) (g.W.Write.contents l.writer)
     (take l.at (text_at w.store (upload_of w.store l.number)))))

@@ -1,7 +1,8 @@
+use Rattle.std.proofs.Common.{true}
 use Rattle.gateway_files.proofs.Deletions.{refused_stays}
 use Rattle.gateway_files.proofs.deleting.terminate.Goals as goal
 
 pub returns-in-Err-Refused-clause-stands : goal.returns-in-Err-Refused-clause-stands
 returns-in-Err-Refused-clause-stands g c w stands =
-    refused_stays (λ v. g.U.Uploads.stands c.terminate.new.self v) w c.args.number _ c.in-Err-Refused.field-0
-    c.in-Err-Refused.field-0-0 c.in-Err-Refused.field-0-is (c.in-Err-Refused.ensures.answer w stands)
+    refused_stays (λ v. g.U.Uploads.stands c.terminate.new.self true v) w c.args.number _ c.in-Err-Refused.field-0
+    c.in-Err-Refused.field-0-0 c.in-Err-Refused.field-0-is (c.in-Err-Refused.ensures.answer true w stands)

@@ -1,3 +1,4 @@
+use Rattle.std.proofs.Common.{true}
 use Rattle.std.specs.Prelude.{string_bytes}
 use Rattle.gateway_files.specs.Lines.{upload_line, lines_of}
 use Rattle.gateway_files.proofs.Above.{told_first, told_none, told_next}
@@ -13,12 +14,12 @@ returns-in_default g c = record {
   lines = λ w stands order.
       told_none c.args.long w.store.indexes (lines_of c.args.long w.store) (string_bytes c.loop.lines)
       w.store.uploads c.loop.number _
-      c.in_default.is (c.record_after.ensures w stands) (c.loop.invariant w stands order);
+      c.in_default.is (c.record_after.ensures true w stands) (c.loop.invariant w stands order);
 }
 
 pub loop-preserved : goal.loop-preserved
 loop-preserved g c w stands order =
     told_next c.args.long w.store.indexes (lines_of c.args.long w.store) (string_bytes c.loop.lines)
     (string_bytes c.push_line.new.lines)
-    w.store.uploads c.loop.number _ c.in-Some.record order.rising c.in-Some.is (c.record_after.ensures w stands)
+    w.store.uploads c.loop.number _ c.in-Some.record order.rising c.in-Some.is (c.record_after.ensures true w stands)
     (c.loop.invariant w stands order) c.in_ok-push_line.ensures

@@ -1,4 +1,4 @@
-use Rattle.std.proofs.Common.{◌≡◌, ◌∙◌, Some}
+use Rattle.std.proofs.Common.{◌≡◌, ◌∙◌, Some, true}
 use Rattle.spool_journal.specs.Image.{journal_pages, overlaid}
 use Rattle.spool_image.proofs.Opens.{view_room}
 use Rattle.spool_image.specs.Spool.{Keeps, SpoolStands, disk_of}
@@ -31,7 +31,7 @@ pub returns-in-Err-open-clause-stands : goal.returns-in-Err-open-clause-stands
 returns-in-Err-open-clause-stands g c n m is =
     let again = read_shows g.D.Disk n m c.find_whole.new.disk (c.in-Ok.ensures.shows n m is) in
     loads_err c.in-Err-open.refused.1 (λ s. Keeps s again.shows.view)
-    (λ opened. SpoolStands opened.0 (at_rest m (Some n)))
+    (λ opened. SpoolStands opened.0 true (at_rest m (Some n)))
     (c.in-Err-open.ensures.opened again.honest again.shows.view again.shows.shows.sound again.shows.is
     (view_room g.D.Disk c.find_whole.new.disk n m again))
 
@@ -44,7 +44,7 @@ returns-in-Err-open-clause-lasts g c n m is =
 
 pub returns-in-Err-clause-stands : goal.returns-in-Err-clause-stands
 returns-in-Err-clause-stands g c n m is =
-    loads_err c.in-Err.fault (λ found. found.layout ≡ n) (λ opened. SpoolStands opened.0 (at_rest m (Some n)))
+    loads_err c.in-Err.fault (λ found. found.layout ≡ n) (λ opened. SpoolStands opened.0 true (at_rest m (Some n)))
     (c.in-Err.ensures.found n m is)
 
 pub returns-in-Ok-open-clause-sound : goal.returns-in-Ok-open-clause-sound

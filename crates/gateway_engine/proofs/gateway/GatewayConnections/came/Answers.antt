@@ -7,7 +7,7 @@ returns-clause-gives g c = λ st stands.
     told_gives g.U.Uploads _ st (Came c.args.conn c.args.bytes.now) c.came-answer.result c.args.out.now.items
     c.came-answer.new.out.items
     c.failed-self.ensures (came_refused st c.args.conn c.args.bytes.now)
-    (c.came-answer.ensures.answer st stands.session)
+    (c.came-answer.ensures.answer true st stands.session)
 
 pub returns-clause-crash : goal.returns-clause-crash
 returns-clause-crash g c = λ st stands.

@@ -5,7 +5,7 @@ use Rattle.gateway_engine.proofs.gateway.GatewayConnections.ended.Goals as goal
 pub returns-clause-does : goal.returns-clause-does
 returns-clause-does g c = λ st stands.
     ends_does g.U.Uploads _ st (Ended c.args.conn) c.ended-answer.result
-    c.failed-self.ensures (ended_refused st c.args.conn) (c.ended-answer.ensures.answer st stands.session)
+    c.failed-self.ensures (ended_refused st c.args.conn) (c.ended-answer.ensures.answer true st stands.session)
 
 pub returns-clause-crash : goal.returns-clause-crash
 returns-clause-crash g c = λ st stands.

@@ -5,4 +5,4 @@ use Rattle.gateway_engine.proofs.gateway.GatewayConnections.opened.Goals as goal
 pub returns-clause-does : goal.returns-clause-does
 returns-clause-does g c = λ st stands.
     opens_does g.U.Uploads _ st (Opened c.args.conn) c.opened.result stands.up
-    (opened_refused st c.args.conn) (c.opened.ensures.answer _ st stands.session)
+    (opened_refused st c.args.conn) (c.opened.ensures.answer true _ st stands.session)
