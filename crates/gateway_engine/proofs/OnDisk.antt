@@ -79,7 +79,7 @@ first_among st [] ms all = all.0
 first_among st (e ∷ past) ms all = first_among st past ms all.1
 
 -- UPLOADS ON A DISK
-module _ {D U B : Type 0} (disk : Ghosts D) (disk_of : U → D) (size_of : U → ℕ) (stands : U → World → Type 0)
+module _ {D U B : Type 0} (disk : Ghosts D) (disk_of : U → D) (size_of : U → ℕ) (stands : U → Bool → World → Type 0)
     (number_of : B → ℕ)
     (holds : B → Patch → Type 0) where
   abbrev u : uploads.Ghosts U B

@@ -6,7 +6,6 @@ use Rattle.std.proofs.lemmas.Bool.{false_from_ne_true}
 use Rattle.upload_rules.specs.declared.uploads.Uploads.{Ghosts}
 use Rattle.upload_rules.specs.Store.{Store}
 use Rattle.upload_rules.specs.Answers.{Limits}
-use Rattle.tus_action.proofs.Pieces.{all_appended}
 use Rattle.tus_session.specs.Turns.{Conn, fresh}
 use Rattle.tus_session.specs.History.{State, Event, Opened, Came, More, Ended, Served, Done, Refused, Step, step, put}
 use Rattle.tus_session.specs.History.{most_open, opened_if}
@@ -20,6 +19,7 @@ use Rattle.tus_session.specs.declared.conns.Link.{Link}
 use Rattle.tus_session.specs.declared.errors.SessionError.{SessionError}
 use Rattle.tus_session.specs.declared.errors.SessionError.TheVariants.{NoMemory, DiskFault, TooMany, Closed, Down}
 use Rattle.tus_session.proofs.Limiting.{still_limits}
+use Rattle.tus_session.proofs.Tolds.{told_bytes}
 use Rattle.tus_session.specs.Connections.{Gives, Does, mark_of}
 use Rattle.tus_session.specs.Images.{shown_by}
 use Rattle.gateway_engine.specs.Gateways.{GatewayStands, is_down}
@@ -100,11 +100,8 @@ module _ {U B : Type 0} (u : Ghosts U B) (g : Gateway U B) (st : State) (e : Eve
       → Gives stands result old new st e
   told_gives (Ok a) old new falls stays t =
       let up = still_up (Ok a) falls (λ f. absurd (cc)) in
-      (
-        t.0,
-        record { answer = t.1.outcome; keeps = at _ t.1.stands up },
-        all_appended old new t.0 (step st e Served).text t.2,
-      )
+      let gave = told_bytes u places g.store a old new st e t in
+      (gave.0, record { answer = gave.1.outcome; keeps = at _ gave.1.stands up }, gave.2)
   told_gives (Err NoMemory) old new falls stays t =
       let up = still_up {T = Answer} (Err NoMemory) falls (λ f. absurd (cc)) in
       ([], record { answer = t.0.outcome; keeps = at _ t.0.stands up }, t.1)

@@ -156,7 +156,8 @@ module _ {U B : Type 0} (u : Ghosts U B) (w : World) (numbers : List ℕ) where
   module _ (before now : U) (front held : Option (List ℕ)) (all : Bool)
       (is : Halfway u w before now numbers [] front held all) where
     pub done_stands : u.stands now true (record w { store = left w.store numbers })
-    done_stands = subst (λ s. u.stands now true (record w { store = s })) (sym (left_all is.store) ∙ is.remains) is.stands
+    done_stands = subst (λ s. u.stands now true (record w { store = s })) (sym (left_all is.store) ∙ is.remains)
+        is.stands
 
     pub done_lines : Appends front held (deletion_lines w.store numbers)
     done_lines = subst (λ (x : List ℕ). Appends front held x) (sym (append-nil is.out) ∙ is.lines) is.wrote

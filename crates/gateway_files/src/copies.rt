@@ -46,7 +46,8 @@ fn copy_bytes<W: Write, U: Uploads>(
     number: u64,
     len: u64,
 ) -> Result<(), Fault>
-    ensures copied { (w : World) → U.stands uploads.old true w → len ≡ length (text_at w.store (upload_of w.store number))
+    ensures copied { (w : World) → U.stands uploads.old true w
+        → len ≡ length (text_at w.store (upload_of w.store number))
         → OnOk result (Appends (W.contents writer.old) (W.contents writer.new)
         (text_at w.store (upload_of w.store number))) }
     ensures stands { (w : World) → U.stands uploads.old true w → OnOk result (U.stands uploads.new true w) }
@@ -72,7 +73,8 @@ fn copy_piece<W: Write, U: Uploads>(
 ) -> Result<u64, Fault>
     requires { at < len }
     ensures next { IfOk result (λ next. next ≡ at + min (len - at) 4096) }
-    ensures copied { (w : World) → U.stands uploads.old true w → len ≡ length (text_at w.store (upload_of w.store number))
+    ensures copied { (w : World) → U.stands uploads.old true w
+        → len ≡ length (text_at w.store (upload_of w.store number))
         → IfOk result (λ next. Appends (W.contents writer.old) (W.contents writer.new)
         (take (next - at) (drop at (text_at w.store (upload_of w.store number))))) }
     ensures stands { (w : World) → U.stands uploads.old true w → OnOk result (U.stands uploads.new true w) }

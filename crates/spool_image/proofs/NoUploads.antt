@@ -10,7 +10,8 @@ use Rattle.enc_index.specs.Sets.{IsIndexSet}
 use Rattle.spool_journal.specs.Image.{journal_pages, all_pages, byte_of, overlaid}
 use Rattle.spool_journal.proofs.Gate.{shut_view}
 use Rattle.upload_rules.specs.Store.{no_uploads}
-use Rattle.spool_pages.specs.View.{SlotRecord, View, IsViewOf, Says, Stands, slot_bytes, row_bytes, index_place, state_place}
+use Rattle.spool_pages.specs.View.{SlotRecord, View, IsViewOf, Says, Stands, slot_bytes, row_bytes, index_place}
+use Rattle.spool_pages.specs.View.{state_place}
 use Rattle.spool_pages.specs.declared.version.Version.TheVariants.{Two}
 use Rattle.spool_pages.specs.View.{slot_place, row_place, state_page, first_page}
 use Rattle.spool_kept.specs.Shows.{IsSound, ImageShows}

@@ -82,7 +82,8 @@ none_reserved n b = elim (cases_lt b n) [
   | inr from ↦ get_or-eq_default (replicate n false) false (omega (arith, length-replicate n false, from))
 ]
 
-none_stands : {sure : Type 0} (x : IndexSet) (seen : ℕ → ℕ) (first : ℕ) (h : Holding) (m : Store) (v : View) → KeepsAlone h v
+none_stands : {sure : Type 0} (x : IndexSet) (seen : ℕ → ℕ) (first : ℕ) (h : Holding) (m : Store) (v : View)
+    → KeepsAlone h v
     → Shows v m → DraftsStand sure x seen first h.slots h.blocks (at_rest m (Some v.blocks)) []
 none_stands x seen first h m v keeps shows = record {
   each = λ d. tt;
@@ -151,7 +152,8 @@ module _ {sure : Type 0} (seen seen' : ℕ → ℕ) (first : ℕ) (slots slots' 
     all = stand.all;
   }
 
-pub stands_created : {D : Type 0} {sure : Bool} (disk : Ghosts D) (d d' : D) (h h' : Holding) (drafts : List (Option SpoolDraft))
+pub stands_created : {D : Type 0} {sure : Bool} (disk : Ghosts D) (d d' : D) (h h' : Holding)
+    (drafts : List (Option SpoolDraft))
     (w : World) (new : New)
     → StandsFor sure disk d h drafts w → h'.layout ≡ h.layout → h'.blocks ≡ h.blocks
     → ((s n : ℕ) → IsUsedBy h.slots s n → IsUsedBy h'.slots s n)
@@ -161,14 +163,16 @@ stands_created {sure = sure} disk d d' h h' drafts w new s layout blocks used te
   stored = stored;
   stands =
       let S : ℕ → Held → Type 0 =
-      λ n held. DraftsStand (sure ≡ true) w.store.indexes (disk.seen d') (text_page n) h'.slots held (created w new) drafts in
+      λ n held. DraftsStand (sure ≡ true) w.store.indexes (disk.seen d') (text_page n) h'.slots held (created w new)
+      drafts in
       subst (λ (n : ℕ). S n h'.blocks) (sym layout) (subst (S h.layout) (sym blocks)
       (drafts_still (disk.seen d) (disk.seen d') (text_page h.layout) h.slots h'.slots w new texts used h.blocks drafts
       s.stands));
 }
 
 -- nothing has changed
-pub stands_same : {D : Type 0} {sure : Bool} (disk : Ghosts D) (d d' : D) (h h' : Holding) (drafts : List (Option SpoolDraft))
+pub stands_same : {D : Type 0} {sure : Bool} (disk : Ghosts D) (d d' : D) (h h' : Holding)
+    (drafts : List (Option SpoolDraft))
     (w : World) → StandsFor sure disk d h drafts w → (d' ≡ d) × (h' ≡ h) → StandsFor sure disk d' h' drafts w
 stands_same {D = D} {sure = sure} disk d d' h h' drafts w s same =
     subst (λ (x : D). StandsFor sure disk x h' drafts w) (sym same.0)

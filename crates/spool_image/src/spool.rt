@@ -148,7 +148,8 @@ impl<D: Disk> Uploads for Spool<D> {
 
     ghost failures = { λ s. D.failures s.disk };
 
-    ghost below = { λ s sure w number u stands there. upload_below s.disk s.kept s.drafts.items w number u stands there };
+    ghost below = { λ s sure w number u stands there.
+        upload_below s.disk s.kept s.drafts.items w number u stands there };
 
     ghost durable = { λ s w ms stands among.
         durable_left s.disk s.kept s.drafts.items w ms s.room (D.only_now s.disk) stands among };

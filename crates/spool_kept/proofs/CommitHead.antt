@@ -113,7 +113,8 @@ may_declare slots o found finds stays new =
       incomplete = ap (is_length found.declared) finds.same.count ∙ left.1 new;
     }
 
-module _ {D : Type 0} {sure : Bool} (disk : Ghosts D) (d : D) (h : Holding) (drafts : List (Option SpoolDraft)) (number : ℕ)
+module _ {D : Type 0} {sure : Bool} (disk : Ghosts D) (d : D) (h : Holding) (drafts : List (Option SpoolDraft))
+    (number : ℕ)
     (o : SpoolDraft) (w : World) (p : Patch)
     (s : StandsFor sure disk d h drafts w) (patch : find number w.patches ≡ Some p)
     (here : draft_at drafts number ≡ Some o) where
@@ -275,7 +276,8 @@ module _ {D : Type 0} {sure : Bool} (disk : Ghosts D) (d : D) (h : Holding) (dra
 
       -- nothing is brought
       pub idle_stands : found.declares ≡ false → (h' : Holding) (drafts' : List (Option SpoolDraft))
-          → StandsFor sure disk d h' drafts' (dropped w number) → StandsFor sure disk d h' drafts' (committed w number p)
+          → StandsFor sure disk d h' drafts' (dropped w number)
+          → StandsFor sure disk d h' drafts' (committed w number p)
       idle_stands old h' drafts' stands = subst (StandsFor sure disk d h' drafts')
           (sym (nothing_committed w number p (idle_patch w.store p (declares_is ∙ old) no_body))) stands
 

@@ -91,7 +91,8 @@ alone refusal none (Err (Refused e)) a k P P' Q is count same then_so = absurd (
 
 -- WHAT IT STANDS FOR
 
-pub on_disk : {D : Type 0} {sure : Bool} (disk : Ghosts D) (d d' : D) (h : Holding) (drafts : List (Option SpoolDraft)) (w : World)
+pub on_disk : {D : Type 0} {sure : Bool} (disk : Ghosts D) (d d' : D) (h : Holding) (drafts : List (Option SpoolDraft))
+    (w : World)
     → d' ≡ d → StandsFor sure disk d h drafts w → StandsFor sure disk d' h drafts w
 on_disk {sure = sure} disk d d' h drafts w same stands = subst (λ e. StandsFor sure disk e h drafts w) (sym same) stands
 
@@ -117,7 +118,8 @@ module _ {D : Type 0} {sure : Bool} (disk : Ghosts D) (d d' : D) (h h' : Holding
   others =
       other_stands w.store.indexes (disk.seen d) (disk.seen d') (text_page h.layout) h.layout h.slots
       h.blocks h'.blocks w drafts (set drafts number (Some o')) is.stands.stands is.fits number o o' is.here
-      effect.own effect.grasp changed_mid only.rows (λ known. (effect.writes (is.stands.stored.honest known)).writes.outside)
+      effect.own effect.grasp changed_mid only.rows (λ known.
+      (effect.writes (is.stands.stored.honest known)).writes.outside)
 
   -- its blocks are given back
   pub stands_dropped : (h'' : Holding) → OnlyReserves h' h'' → GivesBack h'.blocks h''.blocks (list_of o')
@@ -228,7 +230,8 @@ module _ {D : Type 0} {sure : Bool} (disk : Ghosts D) (d d' : D) (h h' : Holding
 -- ITS LENGTH ALONE
 
 -- an upload gets its length, while all drafts stay
-module _ {D : Type 0} {sure : Bool} (disk : Ghosts D) (d d' d'' : D) (h h' : Holding) (drafts : List (Option SpoolDraft)) (w : World)
+module _ {D : Type 0} {sure : Bool} (disk : Ghosts D) (d d' d'' : D) (h h' : Holding)
+    (drafts : List (Option SpoolDraft)) (w : World)
     (stands : StandsFor sure disk d h drafts w) (longer : Longer) (used : SlotRecord) (n : ℕ)
     (there : get_or h.slots longer.slot None ≡ Some used) (declare : Option ℕ)
     (append : IsAppend sure disk d' h w.store n declare [] longer []) (unknown : append.upload.declared ≡ None)
@@ -245,7 +248,8 @@ module _ {D : Type 0} {sure : Bool} (disk : Ghosts D) (d d' d'' : D) (h h' : Hol
   seen_same : sure ≡ true → (q : ℕ) → 4096 * text_page h.layout ≤ q → disk.seen d'' q ≡ disk.seen d q
   seen_same known q from = texts known q from ∙ (only known).writes.outside q (λ i. absurd (omega arith))
 
-  each_named : (e : ℕ) → DraftOf (DraftStands (sure ≡ true) w.store.indexes (disk.seen d'') (text_page h.layout) h'.slots
+  each_named : (e : ℕ) → DraftOf (DraftStands (sure ≡ true) w.store.indexes (disk.seen d'') (text_page h.layout)
+      h'.slots
       h'.blocks.rows named) (find e w.patches) (draft_at drafts e)
   each_named e = held_both
       (DraftStands (sure ≡ true) w.store.indexes (disk.seen d) (text_page h.layout) h.slots h.blocks.rows w.store)
@@ -262,15 +266,17 @@ module _ {D : Type 0} {sure : Bool} (disk : Ghosts D) (d d' d'' : D) (h h' : Hol
       }) (stands.stands.each e)
 
   pub stands_declared : StandsFor sure disk d'' h' drafts (with_length_at w n declare)
-  stands_declared = subst (λ (m : Store). StandsFor sure disk d'' h' drafts (record w { store = m })) (sym named_is) record {
-    stored = subst (Stored sure disk d'' h') named_is stored;
-    stands = subst (λ (k : ℕ). DraftsStand (sure ≡ true) w.store.indexes (disk.seen d'') (text_page k) h'.slots h'.blocks
-        (record w { store = named }) drafts) (sym is_longer.layout) record {
-          each = each_named;
-          apart = stands.stands.apart;
-          grown = grown_put w stands.stands.grown n append.upload declare [] append.there;
-          limit = stands.stands.limit ∙ ap (λ (b : Held). Some (length b.rows)) (sym (is_longer.same refl));
-          all = subst (λ (b : Held). (k : ℕ) → get_or b.reserved k false ≡ true → IsInSome (lists_at drafts) k)
-              (sym (is_longer.same refl)) stands.stands.all;
-        };
-  }
+  stands_declared = subst (λ (m : Store). StandsFor sure disk d'' h' drafts (record w { store = m })) (sym named_is)
+      record {
+        stored = subst (Stored sure disk d'' h') named_is stored;
+        stands = subst (λ (k : ℕ). DraftsStand (sure ≡ true) w.store.indexes (disk.seen d'') (text_page k) h'.slots
+            h'.blocks
+            (record w { store = named }) drafts) (sym is_longer.layout) record {
+              each = each_named;
+              apart = stands.stands.apart;
+              grown = grown_put w stands.stands.grown n append.upload declare [] append.there;
+              limit = stands.stands.limit ∙ ap (λ (b : Held). Some (length b.rows)) (sym (is_longer.same refl));
+              all = subst (λ (b : Held). (k : ℕ) → get_or b.reserved k false ≡ true → IsInSome (lists_at drafts) k)
+                  (sym (is_longer.same refl)) stands.stands.all;
+            };
+      }

@@ -122,7 +122,8 @@ module _ {D : Type 0} {sure : Bool} (disk : Ghosts D) (d : D) (h : Holding) (old
     begins (Some u) there opens = (
       number_free,
       subst (λ q. StandsFor sure disk d h new (begun_at w n count declare q)) (sym there)
-          (subst (λ k. StandsFor sure disk d h new (record w { patches = (k, first_patch n count declare u) ∷ w.patches }))
+          (subst (λ k. StandsFor sure disk d h new (record w
+          { patches = (k, first_patch n count declare u) ∷ w.patches }))
           number_free
           (record { stored = s.stored; stands = stand_begun u there opens })),
     )

@@ -178,7 +178,8 @@ owned_apart slots rows number tail own is unowned i k lt lt' e = let owned = (is
     ap (λ (b : ℕ). get_or rows b None) e ∙ unowned k lt' in cc
 
 pub still_stands : {sure : Type 0} (x : IndexSet) (seen seen' : ℕ → ℕ) (first : ℕ) (records : List (Option SlotRecord))
-    (rows : List Row) (m : Store) (own : List ℕ) (p : Patch) (a : SpoolDraft) → (sure → SameOutside first own seen seen')
+    (rows : List Row) (m : Store) (own : List ℕ) (p : Patch) (a : SpoolDraft)
+    → (sure → SameOutside first own seen seen')
     → NoneOf (list_of a) own → Unowned rows own
     → DraftStands sure x seen first records rows m p a → DraftStands sure x seen' first records rows m p a
 still_stands x seen seen' first records rows m own p a same apart unowned is = record {
@@ -246,7 +247,8 @@ changed_back old mid new d o o' there out back = record {
     inside = omega (arith, within, ap length out, length-set old d None)
 
 module _ {sure : Type 0} (x : IndexSet) (seen seen' : ℕ → ℕ) (first n : ℕ) (records : List (Option SlotRecord))
-    (h h' : Held) (w : World) (old new : List (Option SpoolDraft)) (stand : DraftsStand sure x seen first records h w old)
+    (h h' : Held) (w : World) (old new : List (Option SpoolDraft))
+    (stand : DraftsStand sure x seen first records h w old)
     (fit : DraftsHold n h old)
     (d : ℕ) (o o' : SpoolDraft) (here : draft_at old d ≡ Some o) (own : List ℕ)
     (grasp : Regrasps h h' (list_of o) (list_of o') own) (changed : IsChanged old d (Some o') new)
@@ -256,7 +258,8 @@ module _ {sure : Type 0} (x : IndexSet) (seen seen' : ℕ → ℕ) (first n : �
       ∙ grasp.reserved.no_owner i lt
 
   pub other_stands : (e : ℕ) → d ≢ e → (r : Patch) (a : SpoolDraft) → draft_at old e ≡ Some a
-      → DraftStands sure x seen first records h.rows w.store r a → DraftStands sure x seen' first records h'.rows w.store r a
+      → DraftStands sure x seen first records h.rows w.store r a
+      → DraftStands sure x seen' first records h'.rows w.store r a
   other_stands e other r a there is =
       subst (λ (z : List Row). DraftStands sure x seen' first records z w.store r a) (sym rows)
       (still_stands x seen seen' first records h.rows w.store own r a same
@@ -277,7 +280,8 @@ module _ {sure : Type 0} (x : IndexSet) (seen seen' : ℕ → ℕ) (first n : �
   }
 
 module _ {sure : Type 0} (w : World) (seen seen' : ℕ → ℕ) (first n : ℕ) (records : List (Option SlotRecord))
-    (h h' : Held) (old new : List (Option SpoolDraft)) (stand : DraftsStand sure w.store.indexes seen first records h w old)
+    (h h' : Held) (old new : List (Option SpoolDraft)) (stand : DraftsStand sure w.store.indexes seen first records h w
+    old)
     (fit : DraftsHold n h old)
     (d : ℕ) (o o' : SpoolDraft) (here : draft_at old d ≡ Some o) (own : List ℕ)
     (grasp : Regrasps h h' (list_of o) (list_of o') own) (changed : IsChanged old d (Some o') new)
@@ -352,7 +356,8 @@ module _ {sure : Type 0} (w : World) (seen seen' : ℕ → ℕ) (first n : ℕ) 
 
 -- THE DISK AND THE ANSWER
 
-pub moved : {D : Type 0} {sure : Bool} (disk : Ghosts D) (d d' : D) (old new : Holding) (m : Store) (n : ℕ) (s : Stored sure disk d old m)
+pub moved : {D : Type 0} {sure : Bool} (disk : Ghosts D) (d d' : D) (old new : Holding) (m : Store) (n : ℕ)
+    (s : Stored sure disk d old m)
     → OnlyReserves old new → (disk.honest d → disk.honest d') → (own : List ℕ) → Unowned s.view.rows own
     → n ≡ old.layout → (sure ≡ true → WritesIn (text_page n) own (disk.seen d) (disk.seen d') (disk.loose d)
     (disk.loose d')) → Stored sure disk d' new m
@@ -375,7 +380,8 @@ answered X Y (Err NoMemory) done same refused = (tt, same refl)
 answered X Y (Err DiskFault) done same refused = tt
 answered X Y (Err (Refused e)) done same refused = absurd (refused e refl)
 
-pub longer_world : {D : Type 0} {sure : Bool} (disk : Ghosts D) (d : D) (h : Holding) (drafts : List (Option SpoolDraft)) (w : World)
+pub longer_world : {D : Type 0} {sure : Bool} (disk : Ghosts D) (d : D) (h : Holding)
+    (drafts : List (Option SpoolDraft)) (w : World)
     (number : ℕ) (piece : List ℕ) (p : Patch) (a : Option Patch) → a ≡ Some p → Stored sure disk d h w.store
     → DraftsStand (sure ≡ true) w.store.indexes (disk.seen d) (text_page h.layout) h.slots h.blocks
     (record w { patches = replaced number (longer w number p piece) w.patches }) drafts

@@ -104,7 +104,8 @@ keeps_on old new v same keeps = record {
       (sym (ap (λ (h : Holding). h.lists) same.same)) (keeps.sizes s r e);
 }
 
-pub stored_on : {D : Type 0} {sure : Bool} (disk : Ghosts D) (d : D) (old new : Holding) (m : Store) → OnlyReserves old new
+pub stored_on : {D : Type 0} {sure : Bool} (disk : Ghosts D) (d : D) (old new : Holding) (m : Store)
+    → OnlyReserves old new
     → Stored sure disk d old m → Stored sure disk d new m
 stored_on disk d old new m same stored = record {
   honest = stored.honest;
@@ -125,7 +126,8 @@ module _ (n : ℕ) (h h' : Held) (old new : List (Option SpoolDraft)) (d : ℕ) 
       (λ e other. given_keeps (lists_at old e) gives (fit.reserved e) (fit.distinct d e other)) (λ a e. absurd cc)
       (λ e other. none_in_nothing [] (lists_at old e) refl)
 
-  pub stand_dropped : {sure : Type 0} (x : IndexSet) (seen : ℕ → ℕ) (first : ℕ) (records : List (Option SlotRecord)) (w : World)
+  pub stand_dropped : {sure : Type 0} (x : IndexSet) (seen : ℕ → ℕ) (first : ℕ) (records : List (Option SlotRecord))
+      (w : World)
       → GivesBack h h' (lists_at old d) → DraftsStand sure x seen first records h w old
       → DraftsStand sure x seen first records h' (dropped w d) new
   stand_dropped {sure = sure} x seen first records w gives stand = record {
@@ -157,7 +159,8 @@ reserves_only old inside new is same rows = record {
   rows = rows ∙ ap (λ (h : Holding). h.blocks.rows) is;
 }
 
-pub drops : {D : Type 0} {sure : Bool} (disk : Ghosts D) (d : D) (old new : Holding) (drafts drafts' : List (Option SpoolDraft))
+pub drops : {D : Type 0} {sure : Bool} (disk : Ghosts D) (d : D) (old new : Holding)
+    (drafts drafts' : List (Option SpoolDraft))
     (number : ℕ) (w : World) → OnlyReserves old new
     → drafts' ≡ set drafts number None → GivesBack old.blocks new.blocks (lists_at drafts number)
     → StandsFor sure disk d old drafts w → StandsFor sure disk d new drafts' (dropped w number)

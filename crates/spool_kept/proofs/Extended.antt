@@ -196,7 +196,8 @@ module _ (h new : Holding) (v : View) (m : Store) (keeps : KeepsView h v) (shows
           subst P (sym told.text_len) (subst Q (sym told.text)
           (subst (λ (k : ℕ). text_on seen (text_page k) more
           (longer.text_len - full_bytes (length (text_of m.indexes u))) ≡ drop
-          (full_bytes (length (text_of m.indexes u))) (text_of m.indexes u) ++ added) keeps.blocks (ext.content known some)))
+          (full_bytes (length (text_of m.indexes u))) (text_of m.indexes u) ++ added) keeps.blocks
+          (ext.content known some)))
 
       shows_some : Shows (appended_view v longer.slot (longer_record may.used longer) new.blocks.rows
           (v.texts longer.slot ++ added)) (patched_store m may.used.number declare bytes)
@@ -273,7 +274,8 @@ module _ (h new : Holding) (v : View) (m : Store) (keeps : KeepsView h v) (shows
 
 -- AS THE DISK HOLDS IT
 
-module _ {D : Type 0} {sure : Bool} (disk : Ghosts D) (old : D) (h new : Holding) (fits' : FitsTogether new) (longer : Longer)
+module _ {D : Type 0} {sure : Bool} (disk : Ghosts D) (old : D) (h new : Holding) (fits' : FitsTogether new)
+    (longer : Longer)
     (more : List ℕ) (may : MayExtend h longer more) (reserved : IsReserved h.blocks more)
     (is : (r : SlotRecord) → get_or h.slots longer.slot None ≡ Some r → IsLonger h r longer more new)
     (state_size : length longer.state ≡ 32)

@@ -52,10 +52,12 @@ module _ (number : ℕ) (old new : List (Option SpoolDraft)) (forgets : EachForg
         (subst (NoneOf (lists_at old d)) (sym (lists_same e)) (hold.distinct d e apart));
   }
 
-  module _ (sure : Type 0) (x : IndexSet) (seen : ℕ → ℕ) (first : ℕ) (slots : List (Option SlotRecord)) (h : Held) (w : World)
+  module _ (sure : Type 0) (x : IndexSet) (seen : ℕ → ℕ) (first : ℕ) (slots : List (Option SlotRecord)) (h : Held)
+      (w : World)
       (gone : upload_of w.store number ≡ None) where
     stands_of : (p : Patch) (o o' : SpoolDraft) → ForgetsTail number o o'
-        → DraftStands sure x seen first slots h.rows w.store p o → DraftStands sure x seen first slots h.rows w.store p o'
+        → DraftStands sure x seen first slots h.rows w.store p o
+        → DraftStands sure x seen first slots h.rows w.store p o'
     stands_of p o o' forgot s = elim (cases_eq (number_of o) number) [
       | inl same ↦
           let none : upload_of w.store p.number ≡ None =

@@ -128,7 +128,8 @@ module _ (h h' : Holding) (number slot : ℕ) (used : IsUsedBy h.slots slot numb
       all = λ b is. stand.all b (ap (λ (xs : List Bool). get_or xs b false) (sym out.reserved) ∙ is);
     }
 
-  pub stands_after : {D : Type 0} {sure : Bool} (disk : Ghosts D) (d d' : D) (drafts : List (Option SpoolDraft)) (w : World)
+  pub stands_after : {D : Type 0} {sure : Bool} (disk : Ghosts D) (d d' : D) (drafts : List (Option SpoolDraft))
+      (w : World)
       → StandsFor sure disk d h drafts w → Stored sure disk d' h' (deleted_store w.store number)
       → (sure ≡ true → (p : ℕ) → 4096 * text_page h.layout ≤ p → disk.seen d' p ≡ disk.seen d p)
       → StandsFor sure disk d' h' drafts (terminated w number)

@@ -86,7 +86,8 @@ pub record IsExtension (sure : Type 0) (x : IndexSet) (u : Upload) (declare : Op
       (full_bytes (length (text_of x u))) (text_of x u) ++ added
 
 -- the disk and what is kept stand for the store, and this is what a patch makes of the slot's upload
-pub record IsAppend {D : Type 0} (sure : Bool) (disk : Ghosts D) (d : D) (h : Holding) (m : Store) (n : ℕ) (declare : Option ℕ)
+pub record IsAppend {D : Type 0} (sure : Bool) (disk : Ghosts D) (d : D) (h : Holding) (m : Store) (n : ℕ)
+    (declare : Option ℕ)
     (bytes : List ℕ) (longer : Longer) (more : List ℕ) : Type 0 where
   pub stored : Stored sure disk d h m
   pub used : IsUsedBy h.slots longer.slot n
@@ -97,7 +98,8 @@ pub record IsAppend {D : Type 0} (sure : Bool) (disk : Ghosts D) (d : D) (h : Ho
       (text_page h.layout)
 
 -- one whose last bytes are still to be written: with its text on its blocks it is one
-pub record IsPending {D : Type 0} (sure : Bool) (disk : Ghosts D) (d : D) (h : Holding) (m : Store) (n : ℕ) (declare : Option ℕ)
+pub record IsPending {D : Type 0} (sure : Bool) (disk : Ghosts D) (d : D) (h : Holding) (m : Store) (n : ℕ)
+    (declare : Option ℕ)
     (bytes : List ℕ) (longer : Longer) (more last : List ℕ) : Type 0 where
   pub stored : Stored sure disk d h m
   pub text : List ℕ

@@ -9,7 +9,8 @@ use Rattle.spool_kept.specs.Holding.{Holding}
 use Rattle.spool_kept.specs.Kept.{KeepsView}
 use Rattle.spool_kept.specs.Shows.{Shows, ImageShows}
 
--- This is kept of a view that shows the uploads. Where that is sure, the disk is honest, and at rest with the view; where
+-- This is kept of a view that shows the uploads. Where that is sure, the disk is honest, and at rest with the view;
+-- where
 -- it isn't, nothing is said of the disk.
 pub record Stored {D : Type 0} (sure : Bool) (disk : Ghosts D) (d : D) (h : Holding) (m : Store) : Type 0 where
   pub honest : sure ≡ true → disk.honest d

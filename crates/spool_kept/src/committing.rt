@@ -225,7 +225,8 @@ fn set_length<D: Disk>(
     ensures no_refusal { (e : Refusal) → IsErrOf result (UploadError.Refused e) → ⊥ }
     ensures fits { (drafts : List (Option Draft)) → DraftsFit kept.old drafts → DraftsFit kept.new drafts }
     ensures answer { (sure : Bool) (drafts : List (Option Draft)) (w : World) (n : ℕ)
-        → StandsFor sure D.Disk disk.old kept.old drafts w → IsUsedBy kept.old.slots slot n → is_too_large declared ≡ false
+        → StandsFor sure D.Disk disk.old kept.old drafts w → IsUsedBy kept.old.slots slot n
+        → is_too_large declared ≡ false
         → Answers None result
         (λ count. StandsFor sure D.Disk disk.new kept.new drafts (with_length_at w n declared))
         (StandsFor sure D.Disk disk.new kept.new drafts w) }

@@ -76,14 +76,18 @@ some_items b list is not_empty none = let e : true ≡ false =
     ap (λ l. length l == 0) (sym none) ∙ (sym is ∙ not_empty) in absurd (cc)
 
 -- bytes that were not taken: the draft is dropped
-pub fed_gone : {U B : Type 0} {sure : Bool} (u : Ghosts U B) (store next : U) (w : World) (e : UploadError) (d d' : ℕ) (w' : World)
+pub fed_gone : {U B : Type 0} {sure : Bool} (u : Ghosts U B) (store next : U) (w : World) (e : UploadError) (d d' : ℕ)
+    (w' : World)
     (p : Patch) (done : Unit {0} → Type 0)
     → Answers {T = Unit {0}} None (Err e) done (u.stands store sure w)
-    → (u.stands store sure w → u.stands next sure (dropped w d')) → d' ≡ d → FeedsDraft u sure next (Err (stop_of e)) (dropped w d) w'
+    → (u.stands store sure w → u.stands next sure (dropped w d')) → d' ≡ d
+    → FeedsDraft u sure next (Err (stop_of e)) (dropped w d) w'
     d p
-fed_gone {sure = sure} u store next w NoMemory d d' w' p done a drops same = subst (λ x. u.stands next sure (dropped w x)) same (drops a.1)
+fed_gone {sure = sure} u store next w NoMemory d d' w' p done a drops same = subst
+    (λ x. u.stands next sure (dropped w x)) same (drops a.1)
 fed_gone {sure = sure} u store next w DiskFault d d' w' p done a drops same = tt {0}
-fed_gone {sure = sure} u store next w (Refused f) d d' w' p done a drops same = let e : None ≡ Some f = a.0 in absurd (cc)
+fed_gone {sure = sure} u store next w (Refused f) d d' w' p done a drops same = let e : None ≡ Some f = a.0 in absurd
+    (cc)
 
 -- a draft that is gone, or a disk fault, is the patch's
 pub feeds_stops : {U B : Type 0} (u : Ghosts U B) (sure : Bool) (store : U) (e : Stop) (gone w : World) (d : ℕ)
@@ -96,55 +100,69 @@ pub taken_back : {A : Type 0} (old more new : List A) (n : ℕ) → n ≡ length
 taken_back old more new n is e = e ∙ (ap (λ k. take k (old ++ more)) is ∙ take-append_seam old more)
 
 -- a call on the uploads that gave no answer, where its refusal changes nothing but what is gone
-pub refused_finishes : {U B : Type 0} (u : Ghosts U B) (sure : Bool) (store : U) (gone : World) (m : Option UploadRefusal → Acted)
+pub refused_finishes : {U B : Type 0} (u : Ghosts U B) (sure : Bool) (store : U) (gone : World)
+    (m : Option UploadRefusal → Acted)
     (refusal : Option UploadRefusal) (e : UploadError)
     (result : Result (Unit {0}) Stop) (on_files bare closes : Bool) (old new : List ℕ) {T : Type 0}
     (done : T → Type 0)
     → ((f : UploadRefusal) → m (Some f) ≡ replied gone (reply_refused (fault_of f) on_files bare closes) closes)
     → Answers {T = T} refusal (Err e) done (u.stands store sure gone) → RepliesTo result e on_files bare closes old new
     → Finishes u sure store result old new gone (m refusal)
-refused_finishes u sure store gone m refusal (Refused f) (Ok a) on_files bare closes old new done replies_to answered replies
+refused_finishes u sure store gone m refusal (Refused f) (Ok a) on_files bare closes old new done replies_to answered
+    replies
     =
     subst (λ x. Finishes u sure store (Ok a) old new gone (m x)) (sym answered.0)
     (subst (λ x. Finishes u sure store (Ok a) old new gone x) (sym (replies_to f)) (answered.1, replies))
-refused_finishes u sure store gone m refusal (Refused f) (Err Stops.NoMemory) on_files bare closes old new done replies_to
+refused_finishes u sure store gone m refusal (Refused f) (Err Stops.NoMemory) on_files bare closes old new done
+    replies_to
     answered replies = (answered.1, replies)
-refused_finishes u sure store gone m refusal (Refused f) (Err Stops.DiskFault) on_files bare closes old new done replies_to
+refused_finishes u sure store gone m refusal (Refused f) (Err Stops.DiskFault) on_files bare closes old new done
+    replies_to
     answered replies = absurd replies
 refused_finishes u sure store gone m refusal NoMemory (Err Stops.NoMemory) on_files bare closes old new done replies_to
     answered replies = (answered.1, replies)
 refused_finishes u sure store gone m refusal NoMemory (Err Stops.DiskFault) on_files bare closes old new done replies_to
     answered replies = absurd replies
-refused_finishes u sure store gone m refusal NoMemory (Ok a) on_files bare closes old new done replies_to answered replies =
+refused_finishes u sure store gone m refusal NoMemory (Ok a) on_files bare closes old new done replies_to answered
+    replies =
     absurd replies
 refused_finishes u sure store gone m refusal DiskFault (Err Stops.NoMemory) on_files bare closes old new done replies_to
     answered replies = absurd replies
-refused_finishes u sure store gone m refusal DiskFault (Err Stops.DiskFault) on_files bare closes old new done replies_to
+refused_finishes u sure store gone m refusal DiskFault (Err Stops.DiskFault) on_files bare closes old new done
+    replies_to
     answered replies = replies
-refused_finishes u sure store gone m refusal DiskFault (Ok a) on_files bare closes old new done replies_to answered replies =
+refused_finishes u sure store gone m refusal DiskFault (Ok a) on_files bare closes old new done replies_to answered
+    replies =
     absurd replies
 
 -- the same at a request's head
-pub refused_serves : {U B : Type 0} (u : Ghosts U B) (sure : Bool) (store : U) (gone : World) (m : Option UploadRefusal → Acted)
+pub refused_serves : {U B : Type 0} (u : Ghosts U B) (sure : Bool) (store : U) (gone : World)
+    (m : Option UploadRefusal → Acted)
     (refusal : Option UploadRefusal) (e : UploadError)
     (result : Result (code.Done B) Stop) (on_files bare closes : Bool) (old new : List ℕ) {T : Type 0}
     (done : T → Type 0)
     → ((f : UploadRefusal) → m (Some f) ≡ replied gone (reply_refused (fault_of f) on_files bare closes) closes)
-    → Answers {T = T} refusal (Err e) done (u.stands store sure gone) → RepliesOnly result e on_files bare closes old new
+    → Answers {T = T} refusal (Err e) done (u.stands store sure gone)
+    → RepliesOnly result e on_files bare closes old new
     → Serves u sure store result old new gone (m refusal)
-refused_serves u sure store gone m refusal (Refused f) (Ok a) on_files bare closes old new done replies_to answered refuses =
+refused_serves u sure store gone m refusal (Refused f) (Ok a) on_files bare closes old new done replies_to answered
+    refuses =
     subst (λ x. Serves u sure store (Ok a) old new gone (m x)) (sym answered.0)
     (subst (λ x. Serves u sure store (Ok a) old new gone x) (sym (replies_to f))
     (subst (λ x. Serves u sure store (Ok x) old new gone
     (replied gone (reply_refused (fault_of f) on_files bare closes) closes)) (sym refuses.nothing)
     (record { stands = answered.1; draft = tt {0}; giving = tt {0}; closes = refl; bytes = refuses.replies })))
-refused_serves u sure store gone m refusal NoMemory (Ok a) on_files bare closes old new done replies_to answered refuses =
+refused_serves u sure store gone m refusal NoMemory (Ok a) on_files bare closes old new done replies_to answered
+    refuses =
     absurd refuses.replies
-refused_serves u sure store gone m refusal DiskFault (Ok a) on_files bare closes old new done replies_to answered refuses =
+refused_serves u sure store gone m refusal DiskFault (Ok a) on_files bare closes old new done replies_to answered
+    refuses =
     absurd refuses.replies
-refused_serves {B = B} u sure store gone m refusal e (Err stop) on_files bare closes old new done replies_to answered refuses
+refused_serves {B = B} u sure store gone m refusal e (Err stop) on_files bare closes old new done replies_to answered
+    refuses
     =
-    stops_as stop (refused_finishes u sure store gone m refusal e (Err stop) on_files bare closes old new done replies_to
+    stops_as stop (refused_finishes u sure store gone m refusal e (Err stop) on_files bare closes old new done
+    replies_to
     answered (replies_as e stop refuses.replies))
   where
     stops_as : (s : Stop) → Finishes u sure store (Err s) old new gone (m refusal)

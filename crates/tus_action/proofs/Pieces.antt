@@ -12,7 +12,8 @@ use Rattle.upload_rules.specs.Records.{TellsOf, with_number}
 use Rattle.upload_rules.specs.declared.records.Record.{Record}
 use Rattle.upload_rules.specs.declared.uploads.Uploads.{Ghosts}
 use Rattle.tus_action.specs.Acts.{Giving, piece_of, pending_of, pending_after}
-use Rattle.tus_action.specs.Serves.{Appends, AppendsPiece, AppendsText, GivesAs, IsGiving, GivingIs, GivesPiece, IsGiven, Gives}
+use Rattle.tus_action.specs.Serves.{Appends, AppendsPiece, AppendsText, GivesAs, IsGiving, GivingIs, GivesPiece}
+use Rattle.tus_action.specs.Serves.{IsGiven, Gives}
 use Rattle.tus_action.specs.Serves.{giving_after}
 use Rattle.tus_action.specs.declared.acts.Giving as given
 use Rattle.tus_action.specs.declared.acts.Given.TheVariants.{Piece, Last}
@@ -88,7 +89,8 @@ appends old new bytes [] is =
 appends old new bytes (b ∷ text) is = is
 
 -- a piece alone
-pub piece_appends : {sure : Bool} (old new text : List ℕ) → AppendsPiece sure old new text → Appends sure old new text text
+pub piece_appends : {sure : Bool} (old new text : List ℕ) → AppendsPiece sure old new text
+    → Appends sure old new text text
 piece_appends old new text is = appends old new text text (record {
   reply = [];
   piece = is.0;

@@ -70,7 +70,8 @@ no_draft u w None closes = tt {0}
 no_draft u w (Some g) closes = tt {0}
 
 -- the reply's head and the first piece
-pub get_acts : {U B : Type 0} {sure : Bool} (u : Ghosts U B) (store : U) (w : World) (r : Request) (n : ℕ) (rec : Record)
+pub get_acts : {U B : Type 0} {sure : Bool} (u : Ghosts U B) (store : U) (w : World) (r : Request) (n : ℕ)
+    (rec : Record)
     (left : Option given.Giving) (old mid new : List ℕ)
     (o : Option Upload) → ((v : Upload) → upload_of w.store n ≡ Some v → n < w.store.next) → upload_of w.store n ≡ o
     → TellsOf w.store.indexes (with_number n o) (Some rec) → r.bare ≡ false
@@ -115,7 +116,8 @@ get_acts {B = B} {sure = sure} u store w r n rec left old mid new (Some up) belo
     }
 
 -- the first piece wasn't given: the head is taken back
-pub get_stops : {U B : Type 0} (u : Ghosts U B) (sure : Bool) (store : U) (w : World) (closes : Bool) (n : ℕ) (rec : Record)
+pub get_stops : {U B : Type 0} (u : Ghosts U B) (sure : Bool) (store : U) (w : World) (closes : Bool) (n : ℕ)
+    (rec : Record)
     (stop : Stop) (old more mid out new : List ℕ) (k : ℕ) (m : Acted)
     (o : Option Upload) → ((v : Upload) → upload_of w.store n ≡ Some v → n < w.store.next) → upload_of w.store n ≡ o
     → TellsOf w.store.indexes (with_number n o) (Some rec)
@@ -123,18 +125,22 @@ pub get_stops : {U B : Type 0} (u : Ghosts U B) (sure : Bool) (store : U) (w : W
     → ((h : Giving) (up : Upload) → IsGiving w.store (at_start n rec.text_len closes) h
     → upload_of w.store h.number ≡ Some up → GivesPiece u sure store (Err stop) mid out w h)
     → Serves {B = B} u sure store (Err stop) old new w m
-get_stops u sure store w closes n rec stop old more mid out new k m None below e tells head size cut gives = absurd tells
-get_stops u sure store w closes n rec Stops.NoMemory old more mid out new k m (Some up) below e tells head size cut gives =
+get_stops u sure store w closes n rec stop old more mid out new k m None below e tells head size cut gives = absurd
+    tells
+get_stops u sure store w closes n rec Stops.NoMemory old more mid out new k m (Some up) below e tells head size cut
+    gives =
     let g = gives (whole_text n (text_of w.store.indexes up) closes) up
     (starts w.store n rec up closes (below up e) e tells) e in
     (g.0, taken_back old more new k size (cut ∙ ap (take k) (g.1 ∙ head)))
-get_stops u sure store w closes n rec Stops.DiskFault old more mid out new k m (Some up) below e tells head size cut gives =
+get_stops u sure store w closes n rec Stops.DiskFault old more mid out new k m (Some up) below e tells head size cut
+    gives =
     let g = gives (whole_text n (text_of w.store.indexes up) closes) up
     (starts w.store n rec up closes (below up e) e tells) e in
     taken_back old more new k size (cut ∙ ap (take k) (g ∙ head))
 
 -- the same with the flags that the code was given
-pub get_acts_as : {U B : Type 0} {sure : Bool} (u : Ghosts U B) (store : U) (w : World) (r : Request) (n : ℕ) (rec : Record)
+pub get_acts_as : {U B : Type 0} {sure : Bool} (u : Ghosts U B) (store : U) (w : World) (r : Request) (n : ℕ)
+    (rec : Record)
     (left : Option given.Giving) (old mid new : List ℕ)
     (bare closes : Bool) (o : Option Upload) → ((v : Upload) → upload_of w.store n ≡ Some v → n < w.store.next)
     → upload_of w.store n ≡ o → TellsOf w.store.indexes (with_number n o) (Some rec) → bare ≡ r.bare → bare ≡ false
@@ -143,7 +149,8 @@ pub get_acts_as : {U B : Type 0} {sure : Bool} (u : Ghosts U B) (store : U) (w :
     → ((h : Giving) (up : Upload) → IsGiving w.store (at_start n rec.text_len closes) h
     → upload_of w.store h.number ≡ Some up → GivesPiece u sure store (Ok left) mid new w h)
     → ActedAs u sure store (replied_giving left closes) old new (get w r n o)
-get_acts_as {sure = sure} u store w r n rec left old mid new bare closes o below e tells bare_is not_bare closes_is head gives =
+get_acts_as {sure = sure} u store w r n rec left old mid new bare closes o below e tells bare_is not_bare closes_is
+    head gives =
     subst (λ c. ActedAs u sure store (replied_giving left c) old new (get w r n o)) (sym closes_is)
     (get_acts u store w r n rec left old mid new o below e tells (sym bare_is ∙ not_bare)
     (head ∙ (ap (λ b. old ++ reply_text rec.to rec.text_len b closes) not_bare
@@ -155,7 +162,8 @@ abbrev q_of : Request → Bool → Bool → Request
 q_of r bare closes = record r { bare = bare; closes = closes }
 
 -- the reply's head alone
-pub get_bare : {U B : Type 0} (u : Ghosts U B) (sure : Bool) (store : U) (w : World) (r : Request) (n : ℕ) (rec : Record)
+pub get_bare : {U B : Type 0} (u : Ghosts U B) (sure : Bool) (store : U) (w : World) (r : Request) (n : ℕ)
+    (rec : Record)
     (old new : List ℕ) (bare closes : Bool) (o : Option Upload) → TellsOf w.store.indexes (with_number n o) (Some rec)
     → bare ≡ r.bare → bare ≡ true → closes ≡ r.closes → new ≡ old ++ reply_text rec.to rec.text_len bare closes
     → u.stands store sure w → ActedAs u sure store (done.Replied closes) old new (get w r n o)

@@ -33,12 +33,14 @@ pub fn feed<U: Uploads>(
     patch: OpenPatch<U::Draft>,
     piece: &[u8],
 ) -> Result<OpenPatch<U::Draft>, Stop>
-    ensures answer { (sure : Bool) (w : World) (p : Patch) → U.stands store.old sure w → find (U.number_of patch.draft) w.patches ≡ Some p
+    ensures answer { (sure : Bool) (w : World) (p : Patch) → U.stands store.old sure w
+        → find (U.number_of patch.draft) w.patches ≡ Some p
         → U.holds patch.draft p
         → length p.body + length piece.now ≤ p.count
         → Feeds U.Uploads sure store.new result (dropped w (U.number_of patch.draft))
         (fed w (U.number_of patch.draft) piece.now) patch (fed_patch w (U.number_of patch.draft) p piece.now) }
-    ensures crash { (w : World) (p : Patch) → U.stands store.old true w → find (U.number_of patch.draft) w.patches ≡ Some p
+    ensures crash { (w : World) (p : Patch) → U.stands store.old true w
+        → find (U.number_of patch.draft) w.patches ≡ Some p
         → U.holds patch.draft p
         → Quiet (U.moment store.old) (U.moment store.new) (U.left_only store.old) (U.left_only store.new) }
     ensures counts { Counts (IsErrOf result Stop.DiskFault) (U.failures store.old) (U.failures store.new) }
@@ -60,10 +62,12 @@ pub fn feed<U: Uploads>(
 
 // The same of the draft alone.
 fn feed_draft<U: Uploads>(store: &mut U, draft: U::Draft, piece: &[u8]) -> Result<U::Draft, Stop>
-    ensures answer { (sure : Bool) (w : World) (p : Patch) → U.stands store.old sure w → find (U.number_of draft) w.patches ≡ Some p
+    ensures answer { (sure : Bool) (w : World) (p : Patch) → U.stands store.old sure w
+        → find (U.number_of draft) w.patches ≡ Some p
         → U.holds draft p
         → length p.body + length piece.now ≤ p.count
-        → FeedsDraft U.Uploads sure store.new result (dropped w (U.number_of draft)) (fed w (U.number_of draft) piece.now)
+        → FeedsDraft U.Uploads sure store.new result (dropped w (U.number_of draft))
+        (fed w (U.number_of draft) piece.now)
         (U.number_of draft) (fed_patch w (U.number_of draft) p piece.now) }
     ensures crash { (w : World) (p : Patch) → U.stands store.old true w → find (U.number_of draft) w.patches ≡ Some p
         → U.holds draft p
@@ -96,11 +100,13 @@ pub fn finish<U: Uploads>(
         → patch.reached ≡ reached p → patch.bare ≡ r.bare → patch.closes ≡ r.closes
         → Finishes U.Uploads sure store.new result out.old.items out.new.items (dropped w (U.number_of patch.draft))
         (committed_as w (U.number_of patch.draft) p r (commit_refusal w (U.number_of patch.draft) p)) }
-    ensures crash { (w : World) (p : Patch) → U.stands store.old true w → find (U.number_of patch.draft) w.patches ≡ Some p
+    ensures crash { (w : World) (p : Patch) → U.stands store.old true w
+        → find (U.number_of patch.draft) w.patches ≡ Some p
         → U.holds patch.draft p
         → Limits (U.moment store.old) (U.moment store.new) (U.left_only store.old) (U.left_only store.new) w.store
         (commit_outcome w (U.number_of patch.draft) p) }
-    ensures unmade { (w : World) (p : Patch) → U.stands store.old true w → find (U.number_of patch.draft) w.patches ≡ Some p
+    ensures unmade { (w : World) (p : Patch) → U.stands store.old true w
+        → find (U.number_of patch.draft) w.patches ≡ Some p
         → U.holds patch.draft p → IsErrOf result Stop.NoMemory
         → Limits (U.moment store.old) (U.moment store.new) (U.left_only store.old)
         (U.left_only store.new) w.store w.store }
@@ -129,15 +135,18 @@ pub fn finish<U: Uploads>(
 
 /// The body was cut by the end of its connection: what came of it is committed, without a reply.
 pub fn cut<U: Uploads>(store: &mut U, patch: OpenPatch<U::Draft>) -> Result<(), Stop>
-    ensures answer { (sure : Bool) (w : World) (p : Patch) → U.stands store.old sure w → find (U.number_of patch.draft) w.patches ≡ Some p
+    ensures answer { (sure : Bool) (w : World) (p : Patch) → U.stands store.old sure w
+        → find (U.number_of patch.draft) w.patches ≡ Some p
         → U.holds patch.draft p
         → Ends U.Uploads sure store.new result (dropped w (U.number_of patch.draft))
         (spent w (U.number_of patch.draft) p (commit_refusal w (U.number_of patch.draft) p)) }
-    ensures crash { (w : World) (p : Patch) → U.stands store.old true w → find (U.number_of patch.draft) w.patches ≡ Some p
+    ensures crash { (w : World) (p : Patch) → U.stands store.old true w
+        → find (U.number_of patch.draft) w.patches ≡ Some p
         → U.holds patch.draft p
         → Limits (U.moment store.old) (U.moment store.new) (U.left_only store.old) (U.left_only store.new) w.store
         (commit_outcome w (U.number_of patch.draft) p) }
-    ensures unmade { (w : World) (p : Patch) → U.stands store.old true w → find (U.number_of patch.draft) w.patches ≡ Some p
+    ensures unmade { (w : World) (p : Patch) → U.stands store.old true w
+        → find (U.number_of patch.draft) w.patches ≡ Some p
         → U.holds patch.draft p → IsErrOf result Stop.NoMemory
         → Limits (U.moment store.old) (U.moment store.new) (U.left_only store.old)
         (U.left_only store.new) w.store w.store }

@@ -30,7 +30,8 @@ pub(crate) fn show<U: Uploads>(
     closes: bool,
     out: &mut Vec<u8>,
 ) -> Result<Done<U::Draft>, Stop>
-    ensures answer { (sure : Bool) (w : World) (r : Request) → U.stands store.old sure w → bare ≡ r.bare → closes ≡ r.closes
+    ensures answer { (sure : Bool) (w : World) (r : Request) → U.stands store.old sure w → bare ≡ r.bare
+        → closes ≡ r.closes
         → Serves U.Uploads sure store.new result out.old.items out.new.items w (head w r (upload_of w.store number)) }
     ensures same { store.new ≡ store.old }
     ensures no_device { IsErrOf result Stop.DiskFault → ⊥ }
@@ -68,7 +69,8 @@ fn next_piece<U: Uploads>(
     buffer: &mut PieceBuffer,
     out: &mut Vec<u8>,
 ) -> Result<Option<Giving>, Stop>
-    ensures answer { (sure : Bool) (w : World) (h : Pending) (up : Upload) → U.stands store.old sure w → IsGiving w.store giving h
+    ensures answer { (sure : Bool) (w : World) (h : Pending) (up : Upload) → U.stands store.old sure w
+        → IsGiving w.store giving h
         → upload_of w.store h.number ≡ Some up
         → GivesPiece U.Uploads sure store.new result out.old.items out.new.items w h }
     ensures crash { Quiet (U.moment store.old) (U.moment store.new) (U.left_only store.old) (U.left_only store.new) }
@@ -122,8 +124,10 @@ pub(crate) fn give_text<U: Uploads>(
     buffer: &mut PieceBuffer,
     out: &mut Vec<u8>,
 ) -> Result<Done<U::Draft>, Stop>
-    ensures answer { (sure : Bool) (w : World) (r : Request) → U.stands store.old sure w → bare ≡ r.bare → closes ≡ r.closes
-        → Serves U.Uploads sure store.new result out.old.items out.new.items w (get w r number (upload_of w.store number)) }
+    ensures answer { (sure : Bool) (w : World) (r : Request) → U.stands store.old sure w → bare ≡ r.bare
+        → closes ≡ r.closes
+        → Serves U.Uploads sure store.new result out.old.items out.new.items w
+        (get w r number (upload_of w.store number)) }
     ensures crash { Quiet (U.moment store.old) (U.moment store.new) (U.left_only store.old) (U.left_only store.new) }
     ensures counts { Counts (IsErrOf result Stop.DiskFault) (U.failures store.old) (U.failures store.new) }
     ensures few { GrowsBy (longest_reply + piece_size) out.old.items out.new.items }

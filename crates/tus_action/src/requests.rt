@@ -27,9 +27,11 @@ pub fn act<U: Uploads>(
     out: &mut Vec<u8>,
 ) -> Result<Done<U::Draft>, Stop>
     requires well_formed { CanBeMade (request_shown request).action }
-    requires offered { (sure : Bool) (w : World) → U.stands store.old sure w → CanBeRead w (request_shown request).action }
+    requires offered { (sure : Bool) (w : World) → U.stands store.old sure w
+        → CanBeRead w (request_shown request).action }
     ensures answer { (sure : Bool) (w : World) → U.stands store.old sure w
-        → Serves U.Uploads sure store.new result out.old.items out.new.items w (acted w (Asks (request_shown request))) }
+        → Serves U.Uploads sure store.new result out.old.items out.new.items w
+        (acted w (Asks (request_shown request))) }
     ensures crash { (w : World) → U.stands store.old true w
         → Limits (U.moment store.old) (U.moment store.new) (U.left_only store.old) (U.left_only store.new) w.store
         (acted w (Asks (request_shown request))).world.store }

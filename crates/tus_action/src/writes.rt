@@ -28,7 +28,8 @@ pub(crate) fn create<U: Uploads>(
 ) -> Result<Done<U::Draft>, Stop>
     requires well_formed { IsWellFormed new }
     requires offered { (sure : Bool) (w : World) → U.stands store.old sure w → IsOffered w.store.indexes new }
-    ensures answer { (sure : Bool) (w : World) (r : Request) → U.stands store.old sure w → bare ≡ r.bare → closes ≡ r.closes
+    ensures answer { (sure : Bool) (w : World) (r : Request) → U.stands store.old sure w → bare ≡ r.bare
+        → closes ≡ r.closes
         → Serves U.Uploads sure store.new result out.old.items out.new.items w (post w r new (create_refusal w new)) }
     ensures crash { (w : World) → U.stands store.old true w
         → Limits (U.moment store.old) (U.moment store.new) (U.left_only store.old) (U.left_only store.new) w.store
@@ -62,7 +63,8 @@ pub(crate) fn delete<U: Uploads>(
     closes: bool,
     out: &mut Vec<u8>,
 ) -> Result<Done<U::Draft>, Stop>
-    ensures answer { (sure : Bool) (w : World) (r : Request) → U.stands store.old sure w → bare ≡ r.bare → closes ≡ r.closes
+    ensures answer { (sure : Bool) (w : World) (r : Request) → U.stands store.old sure w → bare ≡ r.bare
+        → closes ≡ r.closes
         → Serves U.Uploads sure store.new result out.old.items out.new.items w
         (deleted w r number (terminate_refusal w number)) }
     ensures crash { (w : World) → U.stands store.old true w
@@ -112,7 +114,8 @@ pub(crate) fn begin<U: Uploads>(
     closes: bool,
     out: &mut Vec<u8>,
 ) -> Result<Done<U::Draft>, Stop>
-    ensures answer { (sure : Bool) (w : World) (r : Request) → U.stands store.old sure w → length ≡ r.length → bare ≡ r.bare
+    ensures answer { (sure : Bool) (w : World) (r : Request) → U.stands store.old sure w → length ≡ r.length
+        → bare ≡ r.bare
         → expects ≡ r.expects → closes ≡ r.closes
         → Serves U.Uploads sure store.new result out.old.items out.new.items w
         (patch w r number declare (begin_refusal w number offset length declare)) }

@@ -51,7 +51,8 @@ at_again w k u piece n m = let a = at_head w k.draft m.head in with_again k u pi
 on_again : (w : World) (k : Conn) (piece : List ℕ) → IsSteady (reader w) → (g : Option Giving)
     → came_on w k piece g ≡ restreamed k.stream piece (came_on w (with_stream (left (reader w) k.stream) k) piece g)
 on_again w k piece _ (Some g) =
-    ap (λ x. record { world = w; conn = Some (with_stream x k); bytes = []; text = []; taken = 0 }) (sym (append-nil k.stream))
+    ap (λ x. record { world = w; conn = Some (with_stream x k); bytes = []; text = []; taken = 0 })
+    (sym (append-nil k.stream))
 on_again w k piece steady None =
     let answer = reader w in
     let u = left answer k.stream in

@@ -91,7 +91,8 @@ module _ {U B : Type 0} (u : Ghosts U B) (sure : Bool) where
         more = ap (λ x. x.more) is;
         bytes = given;
       }
-  answered_here store link a old new bytes text w w' own head left taken false s' rest shown moves e kept here is given =
+  answered_here store link a old new bytes text w w' own head left taken false s' rest shown moves e kept here is
+      given =
       record {
         shown = shown;
         here = subst (λ k. PlaceIs u w' k (Some (plain s' None))) (sym e)
@@ -213,7 +214,14 @@ module _ (w : World) (s : List ℕ) (d : ℕ) (asked : Asked) (inside : (cut (re
   part_is bytes few =
       let t : take (length bytes) bytes ≡ bytes = take_all (length bytes) bytes (omega arith) in
       part_turn w (plain s (Some d)) asked inside bytes refl few
-      ∙ ap (λ q. record { world = fed w d q; conn = Some (plain (s ++ q) (Some d)); bytes = []; text = []; taken = length bytes })
+      ∙ ap (λ q. record {
+        world = fed w d q;
+        conn = Some (plain (s ++ q) (Some d));
+        bytes = [];
+        text = [];
+        taken =
+            length bytes;
+      })
       t
 
   abbrev pub rest_turned : Patch → List ℕ → Request → ℕ → Turn
@@ -287,7 +295,8 @@ module _ {U B : Type 0} (u : Ghosts U B) (sure : Bool) (store' : U) (old new : L
   rest_told q (Ok (link, a)) ends x =
       let m = ended_by w own p q r in
       let t : 0 + left ≡ left = omega arith in
-      answered_here u sure store' link a old new m.bytes [] w m.world (Some own) head 0 left m.closes (s ++ q) (InHead [])
+      answered_here u sure store' link a old new m.bytes [] w m.world (Some own) head 0 left m.closes (s ++ q)
+      (InHead [])
       x.shown (rest_moves u sure w b asked r p is q) x.link_is (none, refl) ends
       (x.answer_is ∙ ap (λ i. took i m.closes) t) x.bytes
   rest_told q (Err stops.NoMemory) ends x = x
@@ -315,7 +324,8 @@ module _ {U B : Type 0} (u : Ghosts U B) (sure : Bool) (store' : U) (old new : L
             (rest_told (take left bytes) a ends (rest enough))
       ]
 
-module _ {U B : Type 0} (u : Ghosts U B) (sure : Bool) (w : World) (conn : Conn) (head : HeadBuffer) (b : OpenPatch B) (left : ℕ)
+module _ {U B : Type 0} (u : Ghosts U B) (sure : Bool) (w : World) (conn : Conn) (head : HeadBuffer) (b : OpenPatch B)
+    (left : ℕ)
     (is : IsPatching u w conn (bytes_of head) b left) where
   abbrev pub own_of : ℕ
   own_of = u.number_of b.draft
@@ -363,7 +373,8 @@ abbrev dropped_turn : World → List ℕ → ℕ → Turn
 dropped_turn w s n = record { world = w; conn = Some (plain s None); bytes = []; text = []; taken = n }
 
 -- a body that is dropped
-module _ {U B : Type 0} (u : Ghosts U B) (sure : Bool) (store : U) (w : World) (conn : Conn) (head : HeadBuffer) (left : ℕ)
+module _ {U B : Type 0} (u : Ghosts U B) (sure : Bool) (store : U) (w : World) (conn : Conn) (head : HeadBuffer)
+    (left : ℕ)
     (stands : u.stands store sure w) (is : IsSkipping w conn (bytes_of head) left) where
   dropped_told : (link : Option (Link B)) (a : Answer) (out bytes : List ℕ)
       → link ≡ link_after head (left - min left (length bytes)) false

@@ -22,7 +22,8 @@ use Rattle.tus_session.proofs.InPlace.{beyond}
 use Rattle.tus_session.proofs.Moved.{apart_without}
 
 -- a world with the uploads of the history, in which only the drafts of the first places are open
-pub record IsClosing {U B : Type 0} (u : Ghosts U B) (sure : Bool) (st : State) (left : ℕ) (store : U) (v : World) : Type 0 where
+pub record IsClosing {U B : Type 0} (u : Ghosts U B) (sure : Bool) (st : State) (left : ℕ) (store : U)
+    (v : World) : Type 0 where
   pub shown : u.stands store sure v
   pub uploads : v.store ≡ st.world.store
   pub blocks : v.blocks ≡ st.world.blocks
@@ -30,7 +31,8 @@ pub record IsClosing {U B : Type 0} (u : Ghosts U B) (sure : Bool) (st : State) 
   pub owned : (d : ℕ) (p : Patch) → find d v.patches ≡ Some p → (c : ℕ) × (c < left) × (draft_at (st.conns c) ≡ Some d)
 
 module _ {U B : Type 0} (u : Ghosts U B) (sure : Bool) where
-  conn_below : (places : List (Option (Link B))) (store : U) (st : State) (c d : ℕ) → SessionStands u sure places store st
+  conn_below : (places : List (Option (Link B))) (store : U) (st : State) (c d : ℕ)
+      → SessionStands u sure places store st
       → draft_at (st.conns c) ≡ Some d → c < length places
   conn_below places store st c d stands e = elim (cases_lt c (length places)) [
     | inl lt ↦ lt
@@ -63,7 +65,8 @@ module _ {U B : Type 0} (u : Ghosts U B) (sure : Bool) where
   }
 
   -- a place whose draft is dropped
-  pub draft_closing : (st : State) (left : ℕ) (store store' : U) (v : World) (d : ℕ) → IsClosing u sure st (suc left) store v
+  pub draft_closing : (st : State) (left : ℕ) (store store' : U) (v : World) (d : ℕ)
+      → IsClosing u sure st (suc left) store v
       → draft_at (st.conns left) ≡ Some d
       → u.stands store' sure (dropped v d) → IsClosing u sure st left store' (dropped v d)
   draft_closing st left store store' v d is own shown = record {
@@ -143,7 +146,8 @@ module _ {U B : Type 0} (u : Ghosts U B) (sure : Bool) where
         store = v.store;
         patches = [];
         blocks = v.blocks;
-      }) = subst (λ ps. u.stands store sure (record { store = v.store; patches = ps; blocks = v.blocks })) none is.shown in
+      }) = subst (λ ps. u.stands store sure (record { store = v.store; patches = ps; blocks = v.blocks })) none
+      is.shown in
       let b : u.stands store sure (record {
         store = st.world.store;
         patches = [];
@@ -181,7 +185,8 @@ module _ {U B : Type 0} (u : Ghosts U B) (sure : Bool) (all old new : List (Opti
   place_there : (x : Option (Link B)) → Popped all old new x → PlaceIs u st.world x (st.conns (length new))
   place_there x is = subst (λ p. PlaceIs u st.world p (st.conns (length new))) is.here (stands.each (length new))
 
-  one_less : (store : U) (v : World) (x : Option (Link B)) → Popped all old new x → IsClosing u sure st (length old) store v
+  one_less : (store : U) (v : World) (x : Option (Link B)) → Popped all old new x
+      → IsClosing u sure st (length old) store v
       → IsClosing u sure st (suc (length new)) store v
   one_less store v x is closing = subst (λ n. IsClosing u sure st n store v) is.count closing
 

@@ -78,10 +78,12 @@ module _ {U B : Type 0} (u : Ghosts U B) (sure : Bool) where
       let turn : came_turn w conn bytes ≡ answered_turn a (conn.stream ++ bytes) (length bytes) =
       more_turn_is w conn h inside bytes more ∙ ap (λ q. answered_turn a (conn.stream ++ q) (length bytes)) t in
       let here = head_more_rest (reader w) (is_steady w) conn.stream h inside.rest bytes more in
-      let now = answered_here u sure store (link_after head 0 false) x out out [] [] w w None head 0 (length bytes) false
+      let now = answered_here u sure store (link_after head 0 false) x out out [] [] w w None head 0 (length bytes)
+      false
       (conn.stream ++ bytes) (InHead (h ++ bytes)) stands (still w None) refl (head_is, refl) here answer_is
       (sym (append-nil out)) in
-      subst (λ d. TurnedAs u sure store (link_after head 0 false) x out out w d (came_turn w conn bytes)) (sym inside.draft)
+      subst (λ d. TurnedAs u sure store (link_after head 0 false) x out out w d (came_turn w conn bytes))
+      (sym inside.draft)
       (subst (TurnedAs u sure store (link_after head 0 false) x out out w None) (sym turn) now)
 
   module _ (store' : U) (w : World) (conn : Conn) (h bytes : List ℕ) (n before : ℕ) (v : Verdict)
@@ -105,7 +107,8 @@ module _ {U B : Type 0} (u : Ghosts U B) (sure : Bool) where
         let within = head_within w conn h is.inside bytes n before v is.judged is.before_is in
         let l : length after ≡ length bytes - before = length-drop before bytes in
         subst (λ d. TurnedAs u sure store' link x old new w d (came_turn w conn bytes)) (sym is.inside.draft)
-        (elim (cases_lt (length after) m) as (λ _. TurnedAs u sure store' link x old new w None (came_turn w conn bytes)) [
+        (elim (cases_lt (length after) m) as (λ _. TurnedAs u sure store' link x old new w None
+        (came_turn w conn bytes)) [
           | inl few ↦
               let t : take (length bytes) bytes ≡ bytes = take_all (length bytes) bytes (omega arith) in
               let turn : came_turn w conn bytes ≡ answered_turn a (conn.stream ++ bytes) (length bytes) =
@@ -120,7 +123,8 @@ module _ {U B : Type 0} (u : Ghosts U B) (sure : Bool) where
               (omega arith) in
               let left_is : left ≡ m - length (drop n (h ++ bytes)) = omega arith in
               let count : before + min m (length after) ≡ length bytes = omega arith in
-              let now = answered_here u sure store' link x old new a.bytes a.text w a.world None head left (length bytes) a.closes
+              let now = answered_here u sure store' link x old new a.bytes a.text w a.world None head left
+              (length bytes) a.closes
               (conn.stream ++ bytes) (InBody (judged_as (h ++ bytes) n v)) shown moves link_is (head_is, left_is) here
               (answer_is ∙ ap (λ i. took i a.closes) count) bytes_are in
               subst (TurnedAs u sure store' link x old new w None) (sym turn) now
@@ -141,7 +145,8 @@ module _ {U B : Type 0} (u : Ghosts U B) (sure : Bool) where
               (front_judged w conn h is.inside bytes n before v is.judged is.before_is m) all in
               let left_is : left ≡ 0 = omega arith in
               let count : before + min m (length after) ≡ before + m = omega arith in
-              let now = answered_here u sure store' link x old new a.bytes a.text w a.world None head left (before + m) a.closes
+              let now = answered_here u sure store' link x old new a.bytes a.text w a.world None head left (before + m)
+              a.closes
               (conn.stream ++ q) (InHead []) shown moves link_is (head_is, left_is) here
               (answer_is ∙ ap (λ i. took i a.closes) count) bytes_are in
               subst (TurnedAs u sure store' link x old new w None) (sym turn) now
@@ -170,7 +175,8 @@ slice_rest before bytes =
     let l : length (drop before bytes) ≡ length bytes - before = length-drop before bytes in
     ap length (take_all (length bytes - before) (drop before bytes) (omega arith))
 
-module _ {U B : Type 0} (u : Ghosts U B) (sure : Bool) (store' : U) (w : World) (conn : Conn) (h bytes : List ℕ) (n before : ℕ)
+module _ {U B : Type 0} (u : Ghosts U B) (sure : Bool) (store' : U) (w : World) (conn : Conn) (h bytes : List ℕ)
+    (n before : ℕ)
     (v : Verdict) (is : IsWhole w conn h bytes n before v) where
   pub no_patch_len : (link : Option (Link B)) (x : code.Answer) (old new : List ℕ) (head : HeadBuffer) (len : ℕ)
       → len ≡ length (drop before bytes)

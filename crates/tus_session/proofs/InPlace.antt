@@ -38,7 +38,8 @@ module _ {U B : Type 0} (u : Ghosts U B) (sure : Bool) where
           subst P (sym is) b
       | inr ne ↦
           let a : PlaceIs u w' (get_or places c None) (st.conns c) =
-          place_moved u sure st.world w' (draft_at (st.conns k)) (draft_at conn') (get_or places c None) (st.conns c) moves
+          place_moved u sure st.world w' (draft_at (st.conns k)) (draft_at conn') (get_or places c None) (st.conns c)
+          moves
           (λ e f g. ne (stands.apart c k e f g)) (stands.each c) in
           let b : PlaceIs u w' (get_or all c None) (st.conns c) =
           subst (λ x. PlaceIs u w' x (st.conns c)) (sym (is_put.others c ne)) a in

@@ -107,7 +107,13 @@ module _ {U B : Type 0} (u : Ghosts U B) (sure : Bool) where
     some_turned : (old new : List ℕ) (rest : given.Giving) (pending : Option Giving)
         → GivingIs w.store (Some rest) pending → Appends sure old new (piece_of is.h) (piece_of is.h)
         → TurnedAs u sure store (text_link rest) (gave false true) old new w conn.draft
-        (record { world = w; conn = given_up conn is.h.closes pending; bytes = piece_of is.h; text = piece_of is.h; taken = 0 })
+        (record {
+          world = w;
+          conn = given_up conn is.h.closes pending;
+          bytes = piece_of is.h;
+          text = piece_of is.h;
+          taken = 0;
+        })
     some_turned old new rest None given e = absurd given
     some_turned old new rest (Some h) given e = record {
       shown = stands;
@@ -130,7 +136,14 @@ module _ {U B : Type 0} (u : Ghosts U B) (sure : Bool) where
     none_turned : (old new : List ℕ) (closes : Bool) (pending : Option Giving) → GivingIs w.store None pending
         → Appends sure old new (piece_of is.h) (piece_of is.h)
         → TurnedAs u sure store (link_after head left closes) (gave closes false) old new w conn.draft
-        (record { world = w; conn = given_up conn closes pending; bytes = piece_of is.h; text = piece_of is.h; taken = 0 })
+        (record {
+          world = w;
+          conn = given_up conn closes pending;
+          bytes = piece_of is.h;
+          text = piece_of is.h;
+          taken =
+              0;
+        })
     none_turned old new closes (Some h) given e = absurd given
     none_turned old new closes None given e =
         subst (λ d. TurnedAs u sure store (link_after head left closes) (gave closes false) old new w d
@@ -142,16 +155,25 @@ module _ {U B : Type 0} (u : Ghosts U B) (sure : Bool) where
           taken = 0;
         }))
         (sym is.draft)
-        (answered_here u sure store (link_after head left closes) (gave closes false) old new (piece_of is.h) (piece_of is.h) w w None head
+        (answered_here u sure store (link_after head left closes) (gave closes false) old new (piece_of is.h)
+        (piece_of is.h) w w None head
         left 0 closes conn.stream (cut (reader w) conn.stream).rest stands (still w None) refl is.rest refl refl e)
 
     -- the text is given
     pub more_done : (old new : List ℕ) (up : Upload) → upload_of w.store is.h.number ≡ Some up
         → pending_after is.h ≡ None → Appends sure old new (piece_of is.h) (piece_of is.h)
-        → TurnedAs u sure store (link_after head left g.closes) (gave g.closes false) old new w conn.draft (more_turn w conn)
+        → TurnedAs u sure store (link_after head left g.closes) (gave g.closes false) old new w conn.draft
+        (more_turn w conn)
     more_done old new up there last e =
         subst (TurnedAs u sure store (link_after head left g.closes) (gave g.closes false) old new w conn.draft)
-        (ap (λ c. record { world = w; conn = given_up conn c (pending_after is.h); bytes = piece_of is.h; text = piece_of is.h; taken = 0 })
+        (ap (λ c. record {
+          world = w;
+          conn = given_up conn c (pending_after is.h);
+          bytes = piece_of is.h;
+          text =
+              piece_of is.h;
+          taken = 0;
+        })
         is.gives.closes ∙ more_some_is w conn is.h up is.pending there)
         (none_turned old new g.closes (pending_after is.h) (subst (GivingIs w.store None) (sym last) tt) e)
 

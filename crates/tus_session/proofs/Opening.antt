@@ -93,7 +93,8 @@ module _ {U B : Type 0} (u : Ghosts U B) (sure : Bool) where
   opened places store st c head stands lt none e =
       opened_step places store st c head stands lt (st.conns c) refl none e
 
-  pub not_below : (places : List (Option (Link B))) (store : U) (st : State) (c : ℕ) → SessionStands u sure places store st
+  pub not_below : (places : List (Option (Link B))) (store : U) (st : State) (c : ℕ)
+      → SessionStands u sure places store st
       → length places ≤ c
       → Follows u sure places store st (step st (Opened c) Served).outcome (Refused TooMany)
   unfolding step

@@ -42,14 +42,15 @@ use Rattle.tus_session.proofs.RequestLeaves.{Opened, Leaves, Nothing, Text, Patc
 use Rattle.tus_session.proofs.Unfinished.{judged_as}
 
 -- a patch that a head opened: the history's, and the code's
-pub record Begun {U B : Type 0} (u : Ghosts U B) (sure : Bool) (w : World) (r : Request) (b : OpenPatch B) : Type 0 where
-  pub x : Opened w r (acted w (Asks r))
-  pub number : u.number_of b.draft ≡ x.d
-  pub holds : u.holds b.draft (first_patch x.number r.length x.declare x.up)
-  pub reached : ReachedIs r.action r.length b.reached
-  pub bare : b.bare ≡ r.bare
-  pub closes : b.closes ≡ r.closes
-  pub below : x.number < w.store.next
+pub record Begun {U B : Type 0} (u : Ghosts U B) (sure : Bool) (w : World) (r : Request) (b : OpenPatch B) : Type 0
+  where
+    pub x : Opened w r (acted w (Asks r))
+    pub number : u.number_of b.draft ≡ x.d
+    pub holds : u.holds b.draft (first_patch x.number r.length x.declare x.up)
+    pub reached : ReachedIs r.action r.length b.reached
+    pub bare : b.bare ≡ r.bare
+    pub closes : b.closes ≡ r.closes
+    pub below : x.number < w.store.next
 
 module _ (w : World) (conn : Conn) (h bytes : List ℕ) (n before : ℕ) (r : Request) (is : IsWhole w conn h bytes n before
     (Asks r)) (x : Opened w r (acted w (Asks r))) where
@@ -72,7 +73,8 @@ module _ (w : World) (conn : Conn) (h bytes : List ℕ) (n before : ℕ) (r : Re
       ∙ (ap (λ d. record a { world = w1; draft = d }) x.draft_is
       ∙ (ap (λ t. record a { world = w1; draft = Some x.d; text = t }) x.no_text
       ∙ (ap (λ p. record a { world = w1; draft = Some x.d; text = []; pending = p }) x.idle
-      ∙ ap (λ c. record { world = w1; draft = Some x.d; bytes = reply; text = []; pending = None; closes = c }) x.stays)))
+      ∙ ap (λ c. record { world = w1; draft = Some x.d; bytes = reply; text = []; pending = None; closes = c })
+      x.stays)))
 
   first_found : find x.d w1.patches ≡ Some first
   first_found = grind (arith, nat_tests)
@@ -151,10 +153,12 @@ module _ (w : World) (conn : Conn) (h bytes : List ℕ) (n before : ℕ) (r : Re
       (at.0, subst (u.holds b) e at.1.2)
 
 -- a draft that is open is a patch's
-opens_case : {U B : Type 0} (u : Ghosts U B) (sure : Bool) (w : World) (r : Request) (b : B) → Leaves w r (acted w (Asks r))
+opens_case : {U B : Type 0} (u : Ghosts U B) (sure : Bool) (w : World) (r : Request) (b : B)
+    → Leaves w r (acted w (Asks r))
     → DraftIs u (acted w (Asks r)).world (Some b) (acted w (Asks r)).draft
     → Opened w r (acted w (Asks r))
-opens_case u sure w r b (Nothing moves none idle) is = absurd (subst (DraftIs u (acted w (Asks r)).world (Some b)) none is)
+opens_case u sure w r b (Nothing moves none idle) is = absurd
+    (subst (DraftIs u (acted w (Asks r)).world (Some b)) none is)
 opens_case u sure w r b (Text g same none some stays) is =
     absurd (subst (DraftIs u (acted w (Asks r)).world (Some b)) none is)
 opens_case u sure w r b (AsPatch x) is = x
@@ -163,7 +167,8 @@ opens : {U B : Type 0} (u : Ghosts U B) (sure : Bool) (w : World) (r : Request) 
     → DraftIs u (acted w (Asks r)).world (Some b) (acted w (Asks r)).draft → Opened w r (acted w (Asks r))
 opens u sure w r b is = opens_case u sure w r b (leaves w r) is
 
-pub begun : {U B : Type 0} (u : Ghosts U B) (sure : Bool) (w : World) (conn : Conn) (h bytes : List ℕ) (n before : ℕ) (r : Request)
+pub begun : {U B : Type 0} (u : Ghosts U B) (sure : Bool) (w : World) (conn : Conn) (h bytes : List ℕ) (n before : ℕ)
+    (r : Request)
     → IsWhole w conn h bytes n before (Asks r) → (store : U) (old new : List ℕ) (b : OpenPatch B)
     → ActedAs u sure store (Done.Opened b.draft) old new (acted w (Asks r)) → ReachedIs r.action r.length b.reached
     → b.bare ≡ r.bare → b.closes ≡ r.closes
@@ -202,7 +207,8 @@ own_opened w r a x own e = record {
   stays = x.stays;
 }
 
-module _ {U B : Type 0} (u : Ghosts U B) (sure : Bool) (w : World) (conn : Conn) (h bytes : List ℕ) (n before : ℕ) (r : Request)
+module _ {U B : Type 0} (u : Ghosts U B) (sure : Bool) (w : World) (conn : Conn) (h bytes : List ℕ) (n before : ℕ)
+    (r : Request)
     (is : IsWhole w conn h bytes n before (Asks r))
     (b : OpenPatch B) (begins : Begun u sure w r b) where
   abbrev pub own : ℕ
@@ -283,7 +289,8 @@ module _ {U B : Type 0} (u : Ghosts U B) (sure : Bool) (w : World) (conn : Conn)
         let count : before + length q ≡ length bytes = omega arith in
         let now : TurnedAs u sure store' link a old new w None (part_opened w conn h bytes n before r is x) = record {
           shown = goes.shown;
-          here = part_here u sure v b asked r p0 patches store' link a head b' (r.length - length q) (before + length q) q
+          here = part_here u sure v b asked r p0 patches store' link a head b' (r.length - length q)
+              (before + length q) q
               (conn.stream ++ bytes) goes cleared (omega arith) refl here;
           moves = both_moves w v (fed v own q) None (Some own) (Some own) (open_moves w own p0 x.free)
               (feed_moves v own p0 q first_as);

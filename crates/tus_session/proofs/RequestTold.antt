@@ -104,7 +104,8 @@ module _ (w : World) (conn : Conn) (h bytes : List ℕ) (n before : ℕ) (r : Re
         → TurnedAs u sure store' link x old new w conn.draft (came_turn w conn bytes)
     nothing_case store' link x c old new head len (Nothing moves none idle) as_is no_draft no_text len_is link_is
         head_is answer_is =
-        no_patch_len u sure store' w conn h bytes n before (Asks r) is link x old new head len len_is as_is.stands moves none
+        no_patch_len u sure store' w conn h bytes n before (Asks r) is link x old new head len len_is as_is.stands
+        moves none
         idle (link_is ∙ ap (link_after head (r.length - min r.length len)) as_is.closes)
         head_is (answer_is ∙ ap (took (before + min r.length len)) as_is.closes) as_is.bytes
     nothing_case store' link x c old new head len (Text g same none some stays) as_is no_draft no_text len_is link_is
@@ -265,7 +266,8 @@ module _ (w : World) (conn : Conn) (h bytes : List ℕ) (n before : ℕ) (r : Re
         } in
         subst (λ d. TurnedAs u sure store' (text_link head g) text_answer old new w d (came_turn w conn bytes))
         (sym is.inside.draft)
-        (subst (TurnedAs u sure store' (text_link head g) text_answer old new w None) (sym (text_is h' some none stays)) now)
+        (subst (TurnedAs u sure store' (text_link head g) text_answer old new w None)
+        (sym (text_is h' some none stays)) now)
 
     pub text_told : (store' : U) (c : Done B) (g : given.Giving) (old new : List ℕ) (head : HeadBuffer)
         → ActedAs u sure store' c old new (acted w (Asks r)) → draft_in c ≡ None → giving_in c ≡ Some g

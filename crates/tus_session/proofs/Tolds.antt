@@ -18,6 +18,7 @@ use Rattle.tus_session.specs.Told.{Follows, Told, Ends}
 use Rattle.tus_session.specs.declared.answers.Answer.{Answer}
 use Rattle.tus_session.specs.declared.conns.Link.{Link}
 use Rattle.tus_session.specs.declared.errors.SessionError.TheVariants as errors
+use Rattle.tus_action.proofs.Pieces.{all_appended}
 use Rattle.tus_session.proofs.Moved.{left_moves}
 use Rattle.tus_session.specs.Places.{IsPut}
 use Rattle.tus_session.proofs.InPlace.{in_place}
@@ -79,7 +80,8 @@ module _ {U B : Type 0} (u : Ghosts U B) (sure : Bool) where
 
     -- the connection is gone, with its draft
     lost : IsPut places all (conn_in e) None → u.stands store' sure (left_world st.world conn.draft)
-        → Follows u sure all store' (step st e OutOfMemory).state (step st e OutOfMemory).outcome (Refused errors.NoMemory)
+        → Follows u sure all store' (step st e OutOfMemory).state (step st e OutOfMemory).outcome
+        (Refused errors.NoMemory)
     lost is_put shown =
         let w' = left_world st.world conn.draft in
         let s : SessionStands u sure all store' (put st w' (conn_in e) None) =
@@ -115,7 +117,11 @@ module _ {U B : Type 0} (u : Ghosts U B) (sure : Bool) where
     stopped t stops.DiskFault old new is_put same = (failed_is st e conn on is, same)
 
     pub ends : IsPut places all (conn_in e) None
-        → step st e Served ≡ record { state = put st (ended_world st.world conn) (conn_in e) None; outcome = Done; text = [] }
+        → step st e Served ≡ record {
+          state = put st (ended_world st.world conn) (conn_in e) None;
+          outcome = Done;
+          text = [];
+        }
         → EndedAs u sure store' st.world conn.draft (ended_world st.world conn) → Ends u sure all store' (Ok tt) st e
     ends is_put done turn =
         let w' = ended_world st.world conn in
@@ -140,14 +146,16 @@ module _ {U B : Type 0} (u : Ghosts U B) (sure : Bool) where
   none_came places store st c bytes stands none =
       record { stands = stands; outcome = ap (λ o. (came_at st c bytes o).outcome) none }
 
-  pub none_more : (places : List (Option (Link B))) (store : U) (st : State) (c : ℕ) → SessionStands u sure places store st
+  pub none_more : (places : List (Option (Link B))) (store : U) (st : State) (c : ℕ)
+      → SessionStands u sure places store st
       → st.conns c ≡ None
       → Follows u sure places store st (step st (More c) Served).outcome (Refused errors.Closed)
   unfolding step
   none_more places store st c stands none =
       record { stands = stands; outcome = ap (λ o. (more_at st c o).outcome) none }
 
-  pub none_ended : (places : List (Option (Link B))) (store : U) (st : State) (c : ℕ) → SessionStands u sure places store st
+  pub none_ended : (places : List (Option (Link B))) (store : U) (st : State) (c : ℕ)
+      → SessionStands u sure places store st
       → st.conns c ≡ None
       → Follows u sure places store st (step st (Ended c) Served).outcome (Refused errors.Closed)
   unfolding step
@@ -160,3 +168,10 @@ pub ended_step : (st : State) (c : ℕ) (conn : Conn) → st.conns c ≡ Some co
     → step st (Ended c) Served ≡ record { state = put st (ended_world st.world conn) c None; outcome = Done; text = [] }
 unfolding step
 ended_step st c conn e = ap (ended_at st c) e
+
+-- where the disk is known to be honest the bytes that are given are the history's
+pub told_bytes : {U B : Type 0} (u : Ghosts U B) (places : List (Option (Link B))) (store : U) (a : Answer)
+    (old new : List ℕ) (st : State) (e : Event) → Told u true places store (Ok a) old new st e
+    → (bytes : List ℕ) × Follows u true places store (step st e Served).state (step st e Served).outcome
+    (Gave bytes a.taken a.closes a.more) × (new ≡ old ++ bytes)
+told_bytes u places store a old new st e t = (t.0, t.1, all_appended old new t.0 (step st e Served).text t.2)

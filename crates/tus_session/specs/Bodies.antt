@@ -30,7 +30,8 @@ abbrev pub link_after : {B : Type 0} → HeadBuffer → ℕ → Bool → Option 
 link_after head left closes = if closes then None else Some (record { head = head; awaiting = dropping left })
 
 -- the patch goes on: the same but for its draft
-pub record GoesOn {U B : Type 0} (u : Ghosts U B) (sure : Bool) (store : U) (link : Option (Link B)) (a : Answer) (head : HeadBuffer)
+pub record GoesOn {U B : Type 0} (u : Ghosts U B) (sure : Bool) (store : U) (link : Option (Link B)) (a : Answer)
+    (head : HeadBuffer)
     (b b' : OpenPatch B) (left taken : ℕ) (w : World) (p : Patch) : Type 0 where
   pub link_is : link ≡ Some (record { head = head; awaiting = awaits.Patch b' left })
   pub answer_is : a ≡ took taken false
@@ -42,12 +43,14 @@ pub record GoesOn {U B : Type 0} (u : Ghosts U B) (sure : Bool) (store : U) (lin
   pub bare : b'.bare ≡ b.bare
   pub closes : b'.closes ≡ b.closes
 
-abbrev pub GoesOnSome : {U B : Type 0} → Ghosts U B → Bool → U → Option (Link B) → Answer → HeadBuffer → OpenPatch B → ℕ → ℕ
+abbrev pub GoesOnSome : {U B : Type 0} → Ghosts U B → Bool → U → Option (Link B) → Answer → HeadBuffer → OpenPatch B
+    → ℕ → ℕ
     → World → Patch → Type 0
 GoesOnSome {U} {B} u sure store link a head b left taken w p =
     (b' : OpenPatch B) × GoesOn u sure store link a head b b' left taken w p
 
-abbrev pub Parts : {U B : Type 0} → Ghosts U B → Bool → U → Result (Option (Link B) × Answer) Stop → HeadBuffer → OpenPatch B
+abbrev pub Parts : {U B : Type 0} → Ghosts U B → Bool → U → Result (Option (Link B) × Answer) Stop → HeadBuffer
+    → OpenPatch B
     → ℕ → ℕ → World → Patch → World → Type 0
 Parts u sure store (Ok (link, a)) head b left taken w p gone = GoesOnSome u sure store link a head b left taken w p
 Parts u sure store (Err NoMemory) head b left taken w p gone = u.stands store sure gone

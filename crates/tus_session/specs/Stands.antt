@@ -93,7 +93,8 @@ draft_at None = None
 draft_at (Some conn) = conn.draft
 
 -- the store shows the history's world, each place is the history's, and no two connections have one draft
-pub record SessionStands {U B : Type 0} (u : Ghosts U B) (sure : Bool) (places : List (Option (Link B))) (store : U) (st : State) :
+pub record SessionStands {U B : Type 0} (u : Ghosts U B) (sure : Bool) (places : List (Option (Link B))) (store : U)
+    (st : State) :
     Type 0
   where
     pub count : length places ≡ most_open

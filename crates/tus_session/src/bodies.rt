@@ -50,13 +50,15 @@ fn go_on<U: Uploads>(
 ) -> Result<(Option<Link<U::Draft>>, Answer), Stop>
     requires few { length bytes.now < left }
     requires fits { before + length bytes.now < 2 ^ 64 }
-    ensures answer { (sure : Bool) (w : World) (p : Patch) → U.stands store.old sure w → find (U.number_of patch.draft) w.patches ≡ Some p
+    ensures answer { (sure : Bool) (w : World) (p : Patch) → U.stands store.old sure w
+        → find (U.number_of patch.draft) w.patches ≡ Some p
         → U.holds patch.draft p
         → length p.body + length bytes.now ≤ p.count
         → Parts U.Uploads sure store.new result head patch (left - length bytes.now) (before + length bytes.now)
         (fed w (U.number_of patch.draft) bytes.now) (fed_patch w (U.number_of patch.draft) p bytes.now)
         (dropped w (U.number_of patch.draft)) }
-    ensures crash { (w : World) (p : Patch) → U.stands store.old true w → find (U.number_of patch.draft) w.patches ≡ Some p
+    ensures crash { (w : World) (p : Patch) → U.stands store.old true w
+        → find (U.number_of patch.draft) w.patches ≡ Some p
         → U.holds patch.draft p
         → Limits (U.moment store.old) (U.moment store.new) (U.left_only store.old)
         (U.left_only store.new) w.store w.store }
@@ -93,7 +95,8 @@ fn last_of<U: Uploads>(
         → length p.body + length bytes.now ≤ p.count
         → Limits (U.moment store.old) (U.moment store.new) (U.left_only store.old) (U.left_only store.new) w.store
         (ended_by w (U.number_of patch.draft) p bytes.now r).world.store }
-    ensures unmade { (w : World) (p : Patch) → U.stands store.old true w → find (U.number_of patch.draft) w.patches ≡ Some p
+    ensures unmade { (w : World) (p : Patch) → U.stands store.old true w
+        → find (U.number_of patch.draft) w.patches ≡ Some p
         → U.holds patch.draft p
         → length p.body + length bytes.now ≤ p.count → IsErrOf result Stop.NoMemory
         → Limits (U.moment store.old) (U.moment store.new) (U.left_only store.old)
@@ -135,7 +138,8 @@ pub(crate) fn body_of<U: Uploads>(
         → find (U.number_of patch.draft) w.patches ≡ Some p → U.holds patch.draft p
         → Limits (U.moment store.old) (U.moment store.new) (U.left_only store.old)
         (U.left_only store.new) w.store w.store }
-    ensures rest { left ≤ length bytes.now → (sure : Bool) (w : World) (p : Patch) (r : Request) → U.stands store.old sure w
+    ensures rest { left ≤ length bytes.now → (sure : Bool) (w : World) (p : Patch) (r : Request)
+        → U.stands store.old sure w
         → find (U.number_of patch.draft) w.patches ≡ Some p → U.holds patch.draft p
         → length p.body + left ≡ p.count → patch.reached ≡ length p.began.accepted + p.count → patch.bare ≡ r.bare
         → patch.closes ≡ r.closes
@@ -146,7 +150,8 @@ pub(crate) fn body_of<U: Uploads>(
         → length p.body + left ≤ p.count
         → Limits (U.moment store.old) (U.moment store.new) (U.left_only store.old) (U.left_only store.new) w.store
         (ended_by w (U.number_of patch.draft) p (take left bytes.now) r).world.store }
-    ensures unmade { (w : World) (p : Patch) → U.stands store.old true w → find (U.number_of patch.draft) w.patches ≡ Some p
+    ensures unmade { (w : World) (p : Patch) → U.stands store.old true w
+        → find (U.number_of patch.draft) w.patches ≡ Some p
         → U.holds patch.draft p
         → length p.body + left ≤ p.count → IsErrOf result Stop.NoMemory
         → Limits (U.moment store.old) (U.moment store.new) (U.left_only store.old)

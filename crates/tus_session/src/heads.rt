@@ -47,7 +47,8 @@ fn request_of<U: Uploads>(
     out: &mut Vec<u8>,
 ) -> Result<(Option<Link<U::Draft>>, Answer), Stop>
     requires makeable { CanBeMade (request_shown request).action }
-    requires usable { (sure : Bool) (w : World) → U.stands store.old sure w → CanBeRead w (request_shown request).action }
+    requires usable { (sure : Bool) (w : World) → U.stands store.old sure w
+        → CanBeRead w (request_shown request).action }
     requires small { IsSmall (request_shown request) }
     requires within { before ≤ length bytes.now }
     requires cleared { (bytes_of head) ≡ [] }
@@ -116,7 +117,8 @@ fn head_of<U: Uploads>(
     buffer: &mut PieceBuffer,
     out: &mut Vec<u8>,
 ) -> Result<(Option<Link<U::Draft>>, Answer), Stop>
-    ensures answer { (sure : Bool) (w : World) (conn : Conn) → U.stands store.old sure w → InsideHead w conn (bytes_of head)
+    ensures answer { (sure : Bool) (w : World) (conn : Conn) → U.stands store.old sure w
+        → InsideHead w conn (bytes_of head)
         → Turned U.Uploads sure store.new result out.old.items out.new.items w conn.draft
         (came_turn w conn bytes.now) }
     ensures crash { (w : World) (conn : Conn) → U.stands store.old true w → InsideHead w conn (bytes_of head)

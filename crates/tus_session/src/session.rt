@@ -53,7 +53,8 @@ impl<U: Uploads> Session<U> {
 
     /// Opens a connection. It needs no memory.
     pub fn opened(&mut self, conn: usize) -> Result<(), SessionError>
-        ensures answer { (sure : Bool) (store : U) (st : State) → SessionStands U.Uploads sure (places_of self.old) store st
+        ensures answer { (sure : Bool) (store : U) (st : State)
+            → SessionStands U.Uploads sure (places_of self.old) store st
             → Opens U.Uploads sure (places_of self.new) store result st (Opened conn) }
         ensures no_device { IsErrOf result SessionError.DiskFault → ⊥ }
         ensures no_down { IsErrOf result SessionError.Down → ⊥ }
@@ -157,11 +158,13 @@ impl<U: Uploads> Session<U> {
 
     // Takes an open connection out of its place, which is closed then. Refused with `Closed` where none is open.
     fn take(&mut self, conn: usize) -> Result<Link<U::Draft>, SessionError>
-        ensures open { (sure : Bool) (store : U) (st : State) → SessionStands U.Uploads sure (places_of self.old) store st
+        ensures open { (sure : Bool) (store : U) (st : State)
+            → SessionStands U.Uploads sure (places_of self.old) store st
             → IfOk result (IsOpen U.Uploads st conn) }
         ensures taken { OnOk result (IsPut (places_of self.old) (places_of self.new) conn None) }
         ensures within { OnOk result (conn < length (places_of self.new)) }
-        ensures closed { (sure : Bool) (store : U) (st : State) → SessionStands U.Uploads sure (places_of self.old) store st
+        ensures closed { (sure : Bool) (store : U) (st : State)
+            → SessionStands U.Uploads sure (places_of self.old) store st
             → OnErr result ((st.conns conn ≡ None) × SessionStands U.Uploads sure (places_of self.new) store st) }
         ensures refusal { IfErr result (λ e. e ≡ SessionError.Closed) }
     {

@@ -95,7 +95,8 @@ pub(crate) fn end_of<U: Uploads>(store: &mut U, link: Link<U::Draft>) -> Result<
 
 // The session ends: an open patch is dropped.
 pub(crate) fn drop_link<U: Uploads>(store: &mut U, link: Link<U::Draft>)
-    ensures kept { (sure : Bool) (w : World) → U.stands store.old sure w → U.stands store.new sure (dropped_by U.Uploads w link.awaiting) }
+    ensures kept { (sure : Bool) (w : World) → U.stands store.old sure w
+        → U.stands store.new sure (dropped_by U.Uploads w link.awaiting) }
     ensures crash { Quiet (U.moment store.old) (U.moment store.new) (U.left_only store.old) (U.left_only store.new) }
     ensures counts { U.failures store.new ≡ U.failures store.old }
 {

@@ -101,7 +101,8 @@ returns-in-Err-DiskFault-clause-counts g c =
 
 -- WHAT A CRASH MAY LEAVE
 
-pending_on : {D : Type 0} {sure : Bool} (disk : Ghosts D) (d : D) (h : Holding) (m : Store) (p : Patch) (longer : Longer)
+pending_on : {D : Type 0} {sure : Bool} (disk : Ghosts D) (d : D) (h : Holding) (m : Store) (p : Patch)
+    (longer : Longer)
     {more more' last last' : List ℕ} → more' ≡ more → last' ≡ last
     → IsPending sure disk d h m p.number p.declare p.body longer more last
     → IsPending sure disk d h m p.number p.declare p.body longer more' last'
@@ -193,7 +194,8 @@ returns-in-Ok-extend-clause-answer g c sure drafts number w p is =
     let may = c.in-Ok.ensures.may in
     let pending = pending_on g.D.Disk c.ended.new.disk c.ended.new.kept w.store p c.in-Ok.end.0
     c.list.ensures.blocks c.deref.ensures.value answer.1.1 in
-    let wrote = subst (λ (more : List ℕ). IsWritten sure g.D.Disk c.ended.new.disk c.extend.new.disk c.ended.new.kept w.store
+    let wrote = subst (λ (more : List ℕ). IsWritten sure g.D.Disk c.ended.new.disk c.extend.new.disk c.ended.new.kept
+    w.store
     p.number p.declare p.body c.in-Ok.end.0 more) c.list.ensures.blocks
     (c.in-Ok-extend.ensures.written sure w.store p.number p.declare p.body pending) in
     let effect = c.ended.ensures.effect in

@@ -60,6 +60,7 @@ returns-in-Ok-clause-answer g c sure drafts w n stands used small =
           stands (declared.named k.used c.args.slot c.args.declared) k.used n k.there c.args.declared wrote.append
           (declared.unknown_of g.D.Disk c.args.disk.now c.args.kept.now w.store n c.args.slot c.args.declared
           stands.stored k used small wrote.append.upload wrote.append.there)
-          (c.in-Ok.ensures.longer (λ e. cc) k.used k.there) (λ known. wrote.only (stands.stored.honest known)) wrote.texts
+          (c.in-Ok.ensures.longer (λ e. cc) k.used k.there) (λ known. wrote.only (stands.stored.honest known))
+          wrote.texts
           (c.in-Ok.ensures.answer sure w.store n c.args.declared [] pending),
     )

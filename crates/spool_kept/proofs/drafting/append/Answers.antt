@@ -95,7 +95,8 @@ returns-clause-answer g c sure w p s there fits =
     let fit' = (returns-clause-fits g c).blocks in
     let changed = changed_back before c.taken.new.drafts.items after number o new here c.taken.ensures.after
     c.put_back.ensures in
-    let at = draft_of (DraftStands (sure ≡ true) w.store.indexes seen first records h.rows w.store) p (find number w.patches)
+    let at = draft_of (DraftStands (sure ≡ true) w.store.indexes seen first records h.rows w.store) p
+    (find number w.patches)
     (draft_at before number) there (s'.stands.each number) in
     let is = subst (DraftStands (sure ≡ true) w.store.indexes seen first records h.rows w.store p)
     (some_draft at.0 o (sym at.1 ∙ here)) at.2 in
@@ -129,7 +130,8 @@ returns-clause-answer g c sure w p s there fits =
           here effect.own effect.grasp changed rows v shows s'.stored.keeps.rows c.rows-rows.ensures.reserved fit' p
           piece is_longer;
       below = is.below;
-      carries = λ known still. longer_carries w seen seen' first c.kept.inside.layout records h h' before after s'.stands fit
+      carries = λ known still. longer_carries w seen seen' first c.kept.inside.layout records h h' before after
+          s'.stands fit
           number o new here effect.own effect.grasp changed rows v shows s'.stored.keeps.rows
           c.rows-rows.ensures.reserved fit' p piece is_longer
           (subst (λ (x : IndexSet). Carries x seen' first (with_piece p piece) new) ix (carries (known, still)));
@@ -139,7 +141,8 @@ returns-clause-answer g c sure w p s there fits =
       stored = stored;
       stands = subst (λ ps. DraftsStand (sure ≡ true) w.store.indexes seen' first records h'
           (record w { patches = ps }) after) same_patches
-          (longer_stands p p there (subst (λ ps. IsGrown (record w { patches = ps })) (sym same_patches) s'.stands.grown)
+          (longer_stands p p there (subst (λ ps. IsGrown (record w { patches = ps })) (sym same_patches)
+          s'.stands.grown)
           record {
             holds = subst (λ (x : IndexSet). Holds x p new) ix (c.append-answer.ensures.holds_on p held e);
             below = is.below;

@@ -11,7 +11,8 @@ returns-in-Err-Refused-clause-answer g c = λ sure w p stands found holds.
 
 pub returns-in-Err-NoMemory-clause-answer : goal.returns-in-Err-NoMemory-clause-answer
 returns-in-Err-NoMemory-clause-answer g c = λ sure w p stands found holds.
-    (memory_answer _ _ _ _ c.in-Err-NoMemory.field-0-is (c.in-Err-NoMemory.ensures.answer sure w p stands found holds)).1
+    (memory_answer _ _ _ _ c.in-Err-NoMemory.field-0-is
+    (c.in-Err-NoMemory.ensures.answer sure w p stands found holds)).1
 
 pub returns-in-Ok-clause-answer : goal.returns-in-Ok-clause-answer
 returns-in-Ok-clause-answer g c = λ sure w p stands found holds.

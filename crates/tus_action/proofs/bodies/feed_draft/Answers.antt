@@ -26,4 +26,5 @@ returns-in-Err-clause-answer g c = λ sure w p stands found holds fits.
     subst (λ s. FeedsDraft g.U.Uploads sure c.drop_open.new.self (Err s) (dropped w d) (fed w d c.args.piece.now) d
     (fed_patch w d p c.args.piece.now)) (sym c.from.ensures)
     (fed_gone g.U.Uploads c.append.new.self c.drop_open.new.self w c.in-Err.error d _ _ _ _
-    (c.in-Err.ensures.answer sure w p stands found holds fits) (c.drop_open.ensures.stands sure w) c.append.ensures.same)
+    (c.in-Err.ensures.answer sure w p stands found holds fits) (c.drop_open.ensures.stands sure w)
+    c.append.ensures.same)

@@ -17,7 +17,8 @@ returns-in-Ok-next_piece-clause-answer g c = λ sure w r stands bare closes.
     (get w r n (upload_of w.store n))) (sym c.giving.ensures)
     (get_acts_as g.U.Uploads c.next_piece.new.store w r n rec c.in-Ok-next_piece.left old c.reply_text.new.out.items
     c.next_piece.new.out.items
-    c.args.bare c.args.closes (upload_of w.store n) (λ v is. g.met.U.Uploads.below c.args.store.now sure w n v stands is)
+    c.args.bare c.args.closes (upload_of w.store n) (λ v is. g.met.U.Uploads.below c.args.store.now sure w n v stands
+    is)
     refl tells bare c.if-bare.false closes c.in-Ok.ensures.ok
     (λ h up is there. c.in-Ok-next_piece.ensures.answer sure w h up stands is there))
 
@@ -28,7 +29,8 @@ returns-in-Err-clause-answer g c = λ sure w r stands bare closes.
     let old = c.args.out.now.items in
     let tells : TellsOf w.store.indexes (with_number n (upload_of w.store n)) (Some rec) =
     c.in-Some.ensures.told sure w stands in
-    get_stops g.U.Uploads sure c.next_piece.new.store w c.args.closes n rec c.in-Err.stop old _ c.reply_text.new.out.items
+    get_stops g.U.Uploads sure c.next_piece.new.store w c.args.closes n rec c.in-Err.stop old _
+    c.reply_text.new.out.items
     c.next_piece.new.out.items c.truncate.new.self.items
     (length c.as_slice-before.result.now) _ (upload_of w.store n)
     (λ v is. g.met.U.Uploads.below c.args.store.now sure w n v stands is) refl tells c.in-Ok.ensures.ok
@@ -38,6 +40,7 @@ returns-in-Err-clause-answer g c = λ sure w r stands bare closes.
 pub returns-then-bare-clause-answer : goal.returns-then-bare-clause-answer
 returns-then-bare-clause-answer g c = λ sure w r stands bare closes.
     let n = c.args.number in
-    get_bare g.U.Uploads sure c.args.store.now w r n c.in-Some.record.now c.args.out.now.items c.reply_text.new.out.items
+    get_bare g.U.Uploads sure c.args.store.now w r n c.in-Some.record.now c.args.out.now.items
+    c.reply_text.new.out.items
     c.args.bare c.args.closes (upload_of w.store n) (c.in-Some.ensures.told sure w stands) bare c.if-bare.true closes
     c.in-Ok.ensures.ok stands

@@ -14,7 +14,13 @@ returns-in-Ok-extend_from_slice-clause-answer g c = λ sure w h up stands gives 
     let room : length (take n c.args.buffer.now) ≡ n =
     length-take-le n c.args.buffer.now (omega (arith, count, c.told-buffer)) in
     let size : length c.read_text.new.buf ≡ length (piece_of h) =
-    omega (arith, c.read_text.auto.buf, room, piece_size_is w.store c.args.giving h up (gives.there up there) n count) in (
+    omega (
+      arith,
+      c.read_text.auto.buf,
+      room,
+      piece_size_is w.store c.args.giving h up (gives.there up there) n
+          count,
+    ) in (
       a.1.1,
       subst (λ x. GivingIs w.store x (pending_after h)) (sym c.after.ensures)
           (gives_on w.store c.args.giving h up (gives.there up there) gives n count),

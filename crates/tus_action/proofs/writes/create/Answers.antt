@@ -14,7 +14,8 @@ returns-in-Err-clause-answer g c = λ sure w r stands bare closes.
     let back : c.truncate.new.self.items ≡ old =
     taken_back old _ c.truncate.new.self.items before (ap length c.as_slice-before.ensures.value)
     (c.truncate.ensures.items ∙ ap (λ l. take before l) c.in-Ok.ensures.ok) in
-    refused_serves g.U.Uploads sure c.create.new.self w (post w r c.args.new) (create_refusal w c.args.new) c.in-Err.error
+    refused_serves g.U.Uploads sure c.create.new.self w (post w r c.args.new) (create_refusal w c.args.new)
+    c.in-Err.error
     c.refused.result true c.args.bare c.args.closes
     old c.refused.new.out.items _
     (λ f. sym (ap (λ b. replied w (reply_refused (fault_of f) true c.args.bare b) b) closes

@@ -14,7 +14,8 @@ returns-in-Err-clause-answer g c = λ sure w r stands bare closes.
     let back : c.truncate.new.self.items ≡ old =
     taken_back old _ c.truncate.new.self.items before (ap length c.as_slice-before.ensures.value)
     (c.truncate.ensures.items ∙ ap (λ l. take before l) c.in-Ok.ensures.ok) in
-    refused_serves g.U.Uploads sure c.terminate.new.self w (delete w r c.args.number) (terminate_refusal w c.args.number)
+    refused_serves g.U.Uploads sure c.terminate.new.self w (delete w r c.args.number)
+    (terminate_refusal w c.args.number)
     c.in-Err.error c.refused.result false c.args.bare c.args.closes
     old c.refused.new.out.items _
     (λ f. sym (ap (λ b. replied w (reply_refused (fault_of f) false c.args.bare b) b) closes

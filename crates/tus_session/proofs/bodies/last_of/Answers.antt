@@ -16,7 +16,8 @@ returns-in_err-finish-clause-answer g c sure w p r stands found holds all reache
     let fed_is = c.in_ok-fed.ensures.answer sure w p stands found holds few in
     let w1 = fed w d c.args.bytes.now in
     let p1 = fed_patch w d p c.args.bytes.now in
-    let found1 = fed_found_as g.U.Uploads sure w d p c.args.bytes.now c.in_ok-fed.fed.draft fed_is.number fed_is.found in
+    let found1 = fed_found_as g.U.Uploads sure w d p c.args.bytes.now c.in_ok-fed.fed.draft fed_is.number
+    fed_is.found in
     let after = reached_fed w d p c.args.bytes.now c.args.patch.reached all reached in
     let stopped = err_from_is_err_and c.from_residual-in_err-finish.result c.from_residual-in_err-finish.ensures.1 in
     let a = rw fed_is.number at (c.in_err-finish.ensures.answer sure w1 p1 r fed_is.shown found1 fed_is.holds
@@ -38,7 +39,8 @@ returns-clause-answer g c sure w p r stands found holds all reached bare closes 
     let fed_is = c.in_ok-fed.ensures.answer sure w p stands found holds few in
     let w1 = fed w d c.args.bytes.now in
     let p1 = fed_patch w d p c.args.bytes.now in
-    let found1 = fed_found_as g.U.Uploads sure w d p c.args.bytes.now c.in_ok-fed.fed.draft fed_is.number fed_is.found in
+    let found1 = fed_found_as g.U.Uploads sure w d p c.args.bytes.now c.in_ok-fed.fed.draft fed_is.number
+    fed_is.found in
     let after = reached_fed w d p c.args.bytes.now c.args.patch.reached all reached in
     let a = rw fed_is.number at (c.in_ok-finish.ensures.answer sure w1 p1 r fed_is.shown found1 fed_is.holds
     (fed_is.reached ∙ after) (fed_is.bare ∙ bare) (fed_is.closes ∙ closes)) in
@@ -48,7 +50,8 @@ pub returns-in_err-finish-clause-crash : goal.returns-in_err-finish-clause-crash
 returns-in_err-finish-clause-crash g c w p r stands found holds few =
     let d = g.U.Uploads.number_of c.args.patch.draft in
     let fed_is = c.in_ok-fed.ensures.answer true w p stands found holds few in
-    let found1 = fed_found_as g.U.Uploads true w d p c.args.bytes.now c.in_ok-fed.fed.draft fed_is.number fed_is.found in
+    let found1 = fed_found_as g.U.Uploads true w d p c.args.bytes.now c.in_ok-fed.fed.draft fed_is.number
+    fed_is.found in
     let l = limits_from (fed_store w d c.args.bytes.now)
     (rw fed_is.number at (c.finish.ensures.crash _ _ fed_is.shown found1 fed_is.holds)) in
     limits_to (ended_store w d p c.args.bytes.now r) (quiet_then (c.feed.ensures.crash w p stands found holds) l)
@@ -57,7 +60,8 @@ pub returns-clause-crash : goal.returns-clause-crash
 returns-clause-crash g c w p r stands found holds few =
     let d = g.U.Uploads.number_of c.args.patch.draft in
     let fed_is = c.in_ok-fed.ensures.answer true w p stands found holds few in
-    let found1 = fed_found_as g.U.Uploads true w d p c.args.bytes.now c.in_ok-fed.fed.draft fed_is.number fed_is.found in
+    let found1 = fed_found_as g.U.Uploads true w d p c.args.bytes.now c.in_ok-fed.fed.draft fed_is.number
+    fed_is.found in
     let l = limits_from (fed_store w d c.args.bytes.now)
     (rw fed_is.number at (c.finish.ensures.crash _ _ fed_is.shown found1 fed_is.holds)) in
     limits_to (ended_store w d p c.args.bytes.now r) (quiet_then (c.feed.ensures.crash w p stands found holds) l)
@@ -66,7 +70,8 @@ pub returns-in_err-finish-clause-unmade : goal.returns-in_err-finish-clause-unma
 returns-in_err-finish-clause-unmade g c w p stands found holds few none_left =
     let d = g.U.Uploads.number_of c.args.patch.draft in
     let fed_is = c.in_ok-fed.ensures.answer true w p stands found holds few in
-    let found1 = fed_found_as g.U.Uploads true w d p c.args.bytes.now c.in_ok-fed.fed.draft fed_is.number fed_is.found in
+    let found1 = fed_found_as g.U.Uploads true w d p c.args.bytes.now c.in_ok-fed.fed.draft fed_is.number
+    fed_is.found in
     let stopped = err_from_is_err_and c.from_residual-in_err-finish.result c.from_residual-in_err-finish.ensures.1 in
     let l = limits_both (fed_store w d c.args.bytes.now)
     (c.in_err-finish.ensures.unmade _ _ fed_is.shown found1 fed_is.holds

@@ -59,7 +59,8 @@ returns-in-Opened-clause-answer g c sure w conn h n stands is =
     } in
     let done : ActedAs U sure c.act.new.store (Opened c.in-Opened.draft) c.args.out.now.items c.act.new.out.items
     (acted w (Asks r)) = rw c.in-Opened.is at (c.in_ok-done.ensures.answer sure w stands) in
-    let x = begun U sure w conn h bytes n c.args.before r is _ _ _ b done (c.reached_by-reached.ensures c.requires.small)
+    let x = begun U sure w conn h bytes n c.args.before r is _ _ _ b done
+    (c.reached_by-reached.ensures c.requires.small)
     refl refl (λ n up there. g.met.U.Uploads.below c.args.store.now sure w n up stands there) in
     let v0 = v U sure w conn h bytes n c.args.before r is b x in
     let p = p0 U sure w conn h bytes n c.args.before r is b x in
@@ -70,7 +71,8 @@ returns-in-Opened-clause-answer g c sure w conn h n stands is =
     rw c.back_to.ensures.same
     (patch_opened U sure w conn h bytes n c.args.before r is b x c.body_of-turned.new.store
     c.args.out.now.items c.act.new.out.items c.body_of-turned.new.out.items
-    c.back_to.new.out.items c.args.head c.requires.cleared (subst (Appends sure c.args.out.now.items c.act.new.out.items (acted w (Asks r)).bytes) x.x.no_text done.bytes)
+    c.back_to.new.out.items c.args.head c.requires.cleared
+    (subst (Appends sure c.args.out.now.items c.act.new.out.items (acted w (Asks r)).bytes) x.x.no_text done.bytes)
     c.len-start.result
     (omega (arith, c.len-start.ensures, c.args.out.now.ok.0)) c.body_of-turned.result _
     (slice_is c.args.before bytes)
@@ -92,7 +94,8 @@ returns-in-Opened-clause-crash g c w conn h n stands is =
     } in
     let done : ActedAs U true c.act.new.store (Opened c.in-Opened.draft) c.args.out.now.items c.act.new.out.items
     (acted w (Asks r)) = rw c.in-Opened.is at (c.in_ok-done.ensures.answer true w stands) in
-    let x = begun U true w conn h bytes n c.args.before r is _ _ _ b done (c.reached_by-reached.ensures c.requires.small)
+    let x = begun U true w conn h bytes n c.args.before r is _ _ _ b done
+    (c.reached_by-reached.ensures c.requires.small)
     refl refl (λ n up there. g.met.U.Uploads.below c.args.store.now true w n up stands there) in
     let v0 = v U true w conn h bytes n c.args.before r is b x in
     let p = p0 U true w conn h bytes n c.args.before r is b x in

@@ -17,7 +17,8 @@ returns-in-Piece-clause-answer g c sure w conn stands link =
     let a = rw c.in-Piece.is at (c.in_ok-given.ensures.answer sure w is.h stands is.gives) in
     let x = piece_of_upload sure w.store c.in-Piece.giving _ _ is.h (upload_of w.store is.h.number) a.1 in
     rw c.waits-in-Piece.ensures
-    (more_some g.U.Uploads sure _ w c.args.link.head conn c.in-Text.giving _ a.0 is _ _ c.in-Piece.giving x.0 x.1 x.2 x.3)
+    (more_some g.U.Uploads sure _ w c.args.link.head conn c.in-Text.giving _ a.0 is _ _ c.in-Piece.giving x.0 x.1 x.2
+    x.3)
 
 pub returns-in-Last-clause-answer : goal.returns-in-Last-clause-answer
 returns-in-Last-clause-answer g c sure w conn stands link =
@@ -34,7 +35,8 @@ returns-in-Gone-clause-answer g c sure w conn stands link =
     rw c.in-Text.is at link in
     let a = rw c.in-Gone.is at (c.in_ok-given.ensures.answer sure w is.h stands is.gives) in
     let x = gone_with_upload sure w.store _ _ is.h (upload_of w.store is.h.number) a.1 in
-    rw c.gave-in-Gone.ensures (more_gone g.U.Uploads sure _ w c.args.link.head conn c.in-Text.giving _ a.0 is _ _ x.0 x.1)
+    rw c.gave-in-Gone.ensures (more_gone g.U.Uploads sure _ w c.args.link.head conn c.in-Text.giving _ a.0 is _ _ x.0
+    x.1)
 
 pub returns-in_err-given-clause-answer : goal.returns-in_err-given-clause-answer
 returns-in_err-given-clause-answer g c sure w conn stands link =

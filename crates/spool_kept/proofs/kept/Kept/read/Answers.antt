@@ -12,7 +12,8 @@ use Rattle.spool_kept.proofs.kept.Kept.read.Goals as goal
 pub returns-in-Ok-clause-count : goal.returns-in-Ok-clause-count
 returns-in-Ok-clause-count g c m v kept shows =
     let told = c.in-Some.ensures.told v m kept shows in
-    let there = text_there m (upload_of m c.args.number) told.upload (text_of m.indexes told.upload) told.there refl in (
+    let text = text_of m.indexes told.upload in
+    let there = text_there m (upload_of m c.args.number) told.upload text told.there refl in (
       there.0,
       c.in-Ok.ensures.count
           ∙ ap (λ (n : ℕ). min (n - c.args.at) (length c.args.buf.now)) (told.keeps.tells.text_len ∙ ap length

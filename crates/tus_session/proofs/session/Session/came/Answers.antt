@@ -41,7 +41,8 @@ returns-clause-answer g c sure st stands =
     rw c.put_back.ensures
     (told g.U.Uploads sure _ _ _ _ st (Came c.args.conn c.args.bytes.now) o.0 stands tt o.1 c.in_ok-next.next
     (came_turn st.world o.0 c.args.bytes.now) c.in_ok-next.answer _ _
-    (is_put_back g.U.Uploads sure _ _ c.args.conn c.in_ok-next.next c.in_ok-link.ensures.taken c.in_ok-link.ensures.within)
+    (is_put_back g.U.Uploads sure _ _ c.args.conn c.in_ok-next.next c.in_ok-link.ensures.taken
+    c.in_ok-link.ensures.within)
     (came_is st c.args.conn c.args.bytes.now o.0 o.1) (c.in_ok-next.ensures.answer sure st.world o.0 stands.shown o.2))
 
 pub returns-in_err-next-clause-crash : goal.returns-in_err-next-clause-crash

@@ -5,7 +5,11 @@ use Rattle.tus_session.proofs.session.Session.close.Goals as goal
 
 pub loop-place-init : goal.loop-place-init
 loop-place-init g c = record {
-  kept = λ sure st stands. (st.world, begins_closing g.U.Uploads sure c.args.self.links.items c.args.store.now st stands);
+  kept = λ sure st stands. (
+    st.world,
+    begins_closing g.U.Uploads sure c.args.self.links.items c.args.store.now st
+        stands,
+  );
   front = sym (take_all (length c.args.self.links.items) c.args.self.links.items (omega arith));
   below = omega arith;
   counts = refl;

@@ -39,5 +39,6 @@ returns-clause-answer g c sure st stands =
     rw c.put_back.ensures
     (told g.U.Uploads sure _ _ _ _ st (More c.args.conn) o.0 stands tt o.1 c.in_ok-next.next
     (more_turn st.world o.0) c.in_ok-next.answer _ _
-    (is_put_back g.U.Uploads sure _ _ c.args.conn c.in_ok-next.next c.in_ok-link.ensures.taken c.in_ok-link.ensures.within)
+    (is_put_back g.U.Uploads sure _ _ c.args.conn c.in_ok-next.next c.in_ok-link.ensures.taken
+    c.in_ok-link.ensures.within)
     (more_is st c.args.conn o.0 o.1) (c.in_ok-next.ensures.answer sure st.world o.0 stands.shown o.2))

@@ -7,6 +7,7 @@ use Rattle.upload_rules.proofs.Makes.{many, spent_numbers, creatable, not_create
 use Rattle.upload_rules.proofs.Worlds.{creates}
 use Rattle.upload_rules.proofs.table.TableUploads.create.Goals as goal
 use Rattle.upload_rules.proofs.table.TableUploads.create.Goals.{then-len-ge-SLOT_COUNT-via-then-len-ge-SLOT_COUNT}
+use Rattle.upload_rules.proofs.table.TableUploads.create.Goals.{}
 use Rattle.upload_rules.proofs.table.TableUploads.create.Goals.{then-len-ge-SLOT_COUNT-via-else-len-ge-SLOT_COUNT+then-self-ge-NUMBERS_END}
 
 pub returns-then-len-ge-SLOT_COUNT-clause-answer : goal.returns-then-len-ge-SLOT_COUNT-clause-answer
