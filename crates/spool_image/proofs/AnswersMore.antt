@@ -15,9 +15,8 @@ answers_more refusal (Err (Refused e)) ok err a = (a.0, err a.1)
 
 -- the same, where more is said of what was done under a premise
 pub answers_known : {T K : Type 0} (refusal : Option UploadRefusal) (r : Result T UploadError)
-    {done more done' : T → Type 0} {same same' : Type 0} → ((t : T) → done t → (K → more t) → done' t)
-    → (same → same') → Answers refusal r done same → (K → Answers refusal r more (Unit {0}))
-    → Answers refusal r done' same'
+    {done more done' : T → Type 0} {same same' : Type 0} → ((t : T) → done t → (K → more t) → done' t) → (same → same')
+    → Answers refusal r done same → (K → Answers refusal r more (Unit {0})) → Answers refusal r done' same'
 answers_known refusal (Ok t) ok err a b = (a.0, ok t a.1 (λ k. (b k).1))
 answers_known refusal (Err NoMemory) ok err a b = (a.0, err a.1)
 answers_known refusal (Err DiskFault) ok err a b = a

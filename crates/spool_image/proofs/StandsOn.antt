@@ -83,8 +83,7 @@ none_reserved n b = elim (cases_lt b n) [
 ]
 
 none_stands : {sure : Type 0} (x : IndexSet) (seen : ℕ → ℕ) (first : ℕ) (h : Holding) (m : Store) (v : View)
-    → KeepsAlone h v
-    → Shows v m → DraftsStand sure x seen first h.slots h.blocks (at_rest m (Some v.blocks)) []
+    → KeepsAlone h v → Shows v m → DraftsStand sure x seen first h.slots h.blocks (at_rest m (Some v.blocks)) []
 none_stands x seen first h m v keeps shows = record {
   each = λ d. tt;
   apart = tt;
@@ -119,9 +118,8 @@ stands_opened {sure = sure} disk d' was h drafts m v none honest is keeps shows 
 module _ {sure : Type 0} (seen seen' : ℕ → ℕ) (first : ℕ) (slots slots' : List (Option SlotRecord)) (w : World)
     (new : New) (same : sure → (p : ℕ) → 4096 * first ≤ p → seen' p ≡ seen p)
     (used : (s n : ℕ) → IsUsedBy slots s n → IsUsedBy slots' s n) where
-  draft_still : (rows : List Row) (p : Patch) (o : SpoolDraft)
-      → DraftStands sure w.store.indexes seen first slots rows w.store p o
-      → DraftStands sure w.store.indexes seen' first slots' rows (created_store w.store new) p o
+  draft_still : (rows : List Row) (p : Patch) (o : SpoolDraft) → DraftStands sure w.store.indexes seen first slots rows
+      w.store p o → DraftStands sure w.store.indexes seen' first slots' rows (created_store w.store new) p o
   draft_still rows p o is =
       let found : upload_of (created_store w.store new) p.number ≡ upload_of w.store p.number =
       find_push_other p.number w.store.next (new_upload new) w.store.uploads (λ e. omega (arith, e, is.below)) in
@@ -153,10 +151,8 @@ module _ {sure : Type 0} (seen seen' : ℕ → ℕ) (first : ℕ) (slots slots' 
   }
 
 pub stands_created : {D : Type 0} {sure : Bool} (disk : Ghosts D) (d d' : D) (h h' : Holding)
-    (drafts : List (Option SpoolDraft))
-    (w : World) (new : New)
-    → StandsFor sure disk d h drafts w → h'.layout ≡ h.layout → h'.blocks ≡ h.blocks
-    → ((s n : ℕ) → IsUsedBy h.slots s n → IsUsedBy h'.slots s n)
+    (drafts : List (Option SpoolDraft)) (w : World) (new : New) → StandsFor sure disk d h drafts w
+    → h'.layout ≡ h.layout → h'.blocks ≡ h.blocks → ((s n : ℕ) → IsUsedBy h.slots s n → IsUsedBy h'.slots s n)
     → (sure ≡ true → (p : ℕ) → 4096 * text_page h.layout ≤ p → disk.seen d' p ≡ disk.seen d p)
     → Stored sure disk d' h' (created_store w.store new) → StandsFor sure disk d' h' drafts (created w new)
 stands_created {sure = sure} disk d d' h h' drafts w new s layout blocks used texts stored = record {
@@ -172,8 +168,8 @@ stands_created {sure = sure} disk d d' h h' drafts w new s layout blocks used te
 
 -- nothing has changed
 pub stands_same : {D : Type 0} {sure : Bool} (disk : Ghosts D) (d d' : D) (h h' : Holding)
-    (drafts : List (Option SpoolDraft))
-    (w : World) → StandsFor sure disk d h drafts w → (d' ≡ d) × (h' ≡ h) → StandsFor sure disk d' h' drafts w
+    (drafts : List (Option SpoolDraft)) (w : World) → StandsFor sure disk d h drafts w → (d' ≡ d) × (h' ≡ h)
+    → StandsFor sure disk d' h' drafts w
 stands_same {D = D} {sure = sure} disk d d' h h' drafts w s same =
     subst (λ (x : D). StandsFor sure disk x h' drafts w) (sym same.0)
     (subst (λ (k : Holding). StandsFor sure disk d k drafts w) (sym same.1) s)

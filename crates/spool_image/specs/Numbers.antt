@@ -9,9 +9,8 @@ use Rattle.upload_rules.specs.Store.{Upload, upload_of}
 use Rattle.upload_rules.specs.World.{World}
 
 pub upload_below : {D : Type 0} {disk : Ghosts D} {sure : Bool} (d : D) (h : Holding)
-    (drafts : List (Option SpoolDraft)) (w : World)
-    (number : ℕ) (u : Upload) → StandsFor sure disk d h drafts w → upload_of w.store number ≡ Some u
-    → number < w.store.next
+    (drafts : List (Option SpoolDraft)) (w : World) (number : ℕ) (u : Upload) → StandsFor sure disk d h drafts w
+    → upload_of w.store number ≡ Some u → number < w.store.next
 upload_below d h drafts w number u stands there =
     let shows = stands.stored.shows in
     let slot = shows.all number u there in

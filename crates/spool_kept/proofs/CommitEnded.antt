@@ -183,10 +183,10 @@ module _ {D : Type 0} {sure : Bool} (disk : Ghosts D) (d d' : D) (h h' : Holding
         -- and the bytes on its blocks
         pub ends_on : ((q' : Patch) → disk.honest d → Holds h.indexes q' o → is_complete q'.began ≡ false
             → Carries h.indexes (disk.seen d) (text_page h.layout) q' o
-            → IfOk result (λ e. 1 ≤ length (list_of o') → bytes_with (disk.seen d') (text_page h.layout)
-            (list_of o') e.last.items ≡ open_text h.indexes q' done))
-            → sure ≡ true → IfOk result (λ e. 1 ≤ length (list_of o') → bytes_with (disk.seen d') (text_page h.layout)
-            (list_of o') e.last.items ≡ open_text w.store.indexes p (completes w.store p))
+            → IfOk result (λ e. 1 ≤ length (list_of o') → bytes_with (disk.seen d') (text_page h.layout) (list_of o')
+            e.last.items ≡ open_text h.indexes q' done)) → sure ≡ true
+            → IfOk result (λ e. 1 ≤ length (list_of o') → bytes_with (disk.seen d') (text_page h.layout) (list_of o')
+            e.last.items ≡ open_text w.store.indexes p (completes w.store p))
         ends_on content known =
             let P : IndexSet → Bool → Type 0 =
             λ y b. IfOk result (λ e. 1 ≤ length (list_of o') → bytes_with (disk.seen d')
@@ -275,8 +275,8 @@ module _ {D : Type 0} {sure : Bool} (disk : Ghosts D) (d d' : D) (h h' : Holding
       there_after = ap (λ (k : Holding). get_or k.slots found.slot None) only.same ∙ finds.same.there
 
       pub pending : (longer : Longer) → longer.slot ≡ found.slot → longer.declared ≡ found.declared
-          → longer.accepted ≡ reached p
-          → longer.text_len ≡ end.text_len → longer.state ≡ end.state → Stored sure disk d' h' w.store
+          → longer.accepted ≡ reached p → longer.text_len ≡ end.text_len → longer.state ≡ end.state
+          → Stored sure disk d' h' w.store
           → (1 ≤ length (list_of o') → (length end.last.items + 4095) / 4096 ≤ length (list_of o'))
           → (sure ≡ true → 1 ≤ length (list_of o') → bytes_with (disk.seen d') (text_page h.layout) (list_of o')
           end.last.items ≡ open_text w.store.indexes p (completes w.store p))

@@ -114,10 +114,8 @@ may_declare slots o found finds stays new =
     }
 
 module _ {D : Type 0} {sure : Bool} (disk : Ghosts D) (d : D) (h : Holding) (drafts : List (Option SpoolDraft))
-    (number : ℕ)
-    (o : SpoolDraft) (w : World) (p : Patch)
-    (s : StandsFor sure disk d h drafts w) (patch : find number w.patches ≡ Some p)
-    (here : draft_at drafts number ≡ Some o) where
+    (number : ℕ) (o : SpoolDraft) (w : World) (p : Patch) (s : StandsFor sure disk d h drafts w)
+    (patch : find number w.patches ≡ Some p) (here : draft_at drafts number ≡ Some o) where
   held : Holds w.store.indexes p o
   held =
       let R = DraftStands (sure ≡ true) w.store.indexes (disk.seen d)

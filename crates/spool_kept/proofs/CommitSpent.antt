@@ -92,8 +92,7 @@ alone refusal none (Err (Refused e)) a k P P' Q is count same then_so = absurd (
 -- WHAT IT STANDS FOR
 
 pub on_disk : {D : Type 0} {sure : Bool} (disk : Ghosts D) (d d' : D) (h : Holding) (drafts : List (Option SpoolDraft))
-    (w : World)
-    → d' ≡ d → StandsFor sure disk d h drafts w → StandsFor sure disk d' h drafts w
+    (w : World) → d' ≡ d → StandsFor sure disk d h drafts w → StandsFor sure disk d' h drafts w
 on_disk {sure = sure} disk d d' h drafts w same stands = subst (λ e. StandsFor sure disk e h drafts w) (sym same) stands
 
 module _ {D : Type 0} {sure : Bool} (disk : Ghosts D) (d d' : D) (h h' : Holding) (only : OnlyReserves h h')
@@ -112,9 +111,8 @@ module _ {D : Type 0} {sure : Bool} (disk : Ghosts D) (d d' : D) (h h' : Holding
 
   -- the other drafts after the call
   others : (e : ℕ) → number ≢ e → (r : Patch) (a : SpoolDraft) → draft_at drafts e ≡ Some a
-      → DraftStands (sure ≡ true) w.store.indexes (disk.seen d) (text_page h.layout) h.slots h.blocks.rows w.store r
-      a → DraftStands (sure ≡ true) w.store.indexes (disk.seen d') (text_page h.layout) h.slots h'.blocks.rows
-      w.store r a
+      → DraftStands (sure ≡ true) w.store.indexes (disk.seen d) (text_page h.layout) h.slots h.blocks.rows w.store r a
+      → DraftStands (sure ≡ true) w.store.indexes (disk.seen d') (text_page h.layout) h.slots h'.blocks.rows w.store r a
   others =
       other_stands w.store.indexes (disk.seen d) (disk.seen d') (text_page h.layout) h.layout h.slots
       h.blocks h'.blocks w drafts (set drafts number (Some o')) is.stands.stands is.fits number o o' is.here
@@ -182,10 +180,9 @@ module _ {D : Type 0} {sure : Bool} (disk : Ghosts D) (d d' : D) (h h' : Holding
         (with_length p.began is.still.0) p.declare p.body is.still.1
 
     put_stands : (e : ℕ) → number ≢ e → (r : Patch) (a : SpoolDraft) → find e w.patches ≡ Some r
-        → draft_at drafts e ≡ Some a
-        → DraftStands (sure ≡ true) w.store.indexes (disk.seen d) (text_page h.layout) h.slots h.blocks.rows w.store r a
-        → DraftStands (sure ≡ true) w.store.indexes (disk.seen d'') (text_page h.layout) h''.slots h''.blocks.rows after
-        r a
+        → draft_at drafts e ≡ Some a → DraftStands (sure ≡ true) w.store.indexes (disk.seen d) (text_page h.layout)
+        h.slots h.blocks.rows w.store r a → DraftStands (sure ≡ true) w.store.indexes (disk.seen d'')
+        (text_page h.layout) h''.slots h''.blocks.rows after r a
     put_stands e other r a found there s =
         let mid = others e other r a there s in
         let other_number = other_upload w is.stands.stands.grown p.number (with_length p.began is.still.0) is.still.1
@@ -231,12 +228,10 @@ module _ {D : Type 0} {sure : Bool} (disk : Ghosts D) (d d' : D) (h h' : Holding
 
 -- an upload gets its length, while all drafts stay
 module _ {D : Type 0} {sure : Bool} (disk : Ghosts D) (d d' d'' : D) (h h' : Holding)
-    (drafts : List (Option SpoolDraft)) (w : World)
-    (stands : StandsFor sure disk d h drafts w) (longer : Longer) (used : SlotRecord) (n : ℕ)
-    (there : get_or h.slots longer.slot None ≡ Some used) (declare : Option ℕ)
+    (drafts : List (Option SpoolDraft)) (w : World) (stands : StandsFor sure disk d h drafts w) (longer : Longer)
+    (used : SlotRecord) (n : ℕ) (there : get_or h.slots longer.slot None ≡ Some used) (declare : Option ℕ)
     (append : IsAppend sure disk d' h w.store n declare [] longer []) (unknown : append.upload.declared ≡ None)
-    (is_longer : IsLonger h used longer [] h')
-    (only : sure ≡ true → OnlyWrites disk (journal_pages h.layout) [] d d')
+    (is_longer : IsLonger h used longer [] h') (only : sure ≡ true → OnlyWrites disk (journal_pages h.layout) [] d d')
     (texts : sure ≡ true → (q : ℕ) → 4096 * text_page h.layout ≤ q → disk.seen d'' q ≡ disk.seen d' q)
     (stored : Stored sure disk d'' h' (patched_store w.store n declare [])) where
   abbrev named : Store
@@ -248,9 +243,9 @@ module _ {D : Type 0} {sure : Bool} (disk : Ghosts D) (d d' d'' : D) (h h' : Hol
   seen_same : sure ≡ true → (q : ℕ) → 4096 * text_page h.layout ≤ q → disk.seen d'' q ≡ disk.seen d q
   seen_same known q from = texts known q from ∙ (only known).writes.outside q (λ i. absurd (omega arith))
 
-  each_named : (e : ℕ) → DraftOf (DraftStands (sure ≡ true) w.store.indexes (disk.seen d'') (text_page h.layout)
-      h'.slots
-      h'.blocks.rows named) (find e w.patches) (draft_at drafts e)
+  each_named : (e : ℕ) → DraftOf
+      (DraftStands (sure ≡ true) w.store.indexes (disk.seen d'') (text_page h.layout) h'.slots h'.blocks.rows named)
+      (find e w.patches) (draft_at drafts e)
   each_named e = held_both
       (DraftStands (sure ≡ true) w.store.indexes (disk.seen d) (text_page h.layout) h.slots h.blocks.rows w.store)
       (DraftStands (sure ≡ true) w.store.indexes (disk.seen d'') (text_page h.layout) h'.slots h'.blocks.rows named)

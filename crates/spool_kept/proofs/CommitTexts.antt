@@ -106,8 +106,7 @@ module _ (x : IndexSet) (p : Patch) (since : Option ℕ) (o : SpoolDraft) (end :
       → longer.declared ≡ known_or (known_or p.began.declared since) p.declare → longer.accepted ≡ reached p
       → longer.text_len ≡ end.text_len → longer.state ≡ end.state
       → (sure → 1 ≤ length (list_of o) → text_on seen first (list_of o) (length (open_text x p done)) ≡ open_text x p
-      done)
-      → IsExtension sure x (with_length p.began since) p.declare p.body more longer (list_of o) seen first
+      done) → IsExtension sure x (with_length p.began since) p.declare p.body more longer (list_of o) seen first
   unfolding state_with
   extension longer seen first declared accepted len is content =
       let t = length (text_of x p.began) in

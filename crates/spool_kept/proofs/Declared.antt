@@ -47,9 +47,8 @@ only_declares slots slot declared may =
     record { unknown = may.unknown; accepted = refl; text_len = refl; state = refl }
 
 module _ {D : Type 0} {sure : Bool} (disk : Ghosts D) (d : D) (h : Holding) (m : Store) (n slot : ℕ)
-    (declared : Option ℕ)
-    (stored : Stored sure disk d h m) (may : MayDeclare h.slots slot declared) (used : IsUsedBy h.slots slot n)
-    (small : is_too_large declared ≡ false) where
+    (declared : Option ℕ) (stored : Stored sure disk d h m) (may : MayDeclare h.slots slot declared)
+    (used : IsUsedBy h.slots slot n) (small : is_too_large declared ≡ false) where
   pub told : IsTold m may.used (stored.view.texts slot)
   told = stored.shows.told slot may.used
       (ap (λ (xs : List (Option SlotRecord)). get_or xs slot None) (sym stored.keeps.slots) ∙ may.there)

@@ -116,8 +116,8 @@ module _ {D : Type 0} {sure : Bool} (disk : Ghosts D) (d : D) (h : Holding) (old
           (λ i lt e. omega (arith, lt, ap length (free_list old new place o placed)));
     }
 
-    pub begins : (u : Option Upload) → upload_of w.store n ≡ u → Opens u (Ok o)
-        → (place ≡ free_number w) × StandsFor sure disk d h new (begun w n count declare)
+    pub begins : (u : Option Upload) → upload_of w.store n ≡ u → Opens u (Ok o) → (place ≡ free_number w)
+        × StandsFor sure disk d h new (begun w n count declare)
     begins None there opens = absurd opens
     begins (Some u) there opens = (
       number_free,

@@ -119,9 +119,8 @@ module _ (n : ℕ) (h : Held) (old : List (Option SpoolDraft)) (fit : DraftsHold
 -- THE RULE OF ROOM
 
 module _ {sure : Type 0} (w : World) (x : IndexSet) (seen : ℕ → ℕ) (first : ℕ) (records : List (Option SlotRecord))
-    (h : Held) (old : List (Option SpoolDraft))
-    (stand : DraftsStand sure w.store.indexes seen first records h w old) (v : View)
-    (shows : Shows v w.store) where
+    (h : Held) (old : List (Option SpoolDraft)) (stand : DraftsStand sure w.store.indexes seen first records h w old)
+    (v : View) (shows : Shows v w.store) where
   abbrev slots : ℕ → ℕ
   slots n = slot_of n v.slots
 
@@ -147,8 +146,8 @@ module _ {sure : Type 0} (w : World) (x : IndexSet) (seen : ℕ → ℕ) (first 
   no_list : (e : ℕ) → find e w.patches ≡ None → lists_at old e ≡ []
   no_list e none = go (find e w.patches) (draft_at old e) none (stand.each e)
     where
-      go : (q : Option Patch) (a : Option SpoolDraft) → q ≡ None → DraftOf
-          (DraftStands sure w.store.indexes seen first records h.rows w.store) q a → list_in a ≡ []
+      go : (q : Option Patch) (a : Option SpoolDraft) → q ≡ None
+          → DraftOf (DraftStands sure w.store.indexes seen first records h.rows w.store) q a → list_in a ≡ []
       go None None e is = refl
       go None (Some a) e is = absurd is
       go (Some p) a e is = absurd cc
@@ -179,8 +178,7 @@ owned_apart slots rows number tail own is unowned i k lt lt' e = let owned = (is
 
 pub still_stands : {sure : Type 0} (x : IndexSet) (seen seen' : ℕ → ℕ) (first : ℕ) (records : List (Option SlotRecord))
     (rows : List Row) (m : Store) (own : List ℕ) (p : Patch) (a : SpoolDraft)
-    → (sure → SameOutside first own seen seen')
-    → NoneOf (list_of a) own → Unowned rows own
+    → (sure → SameOutside first own seen seen') → NoneOf (list_of a) own → Unowned rows own
     → DraftStands sure x seen first records rows m p a → DraftStands sure x seen' first records rows m p a
 still_stands x seen seen' first records rows m own p a same apart unowned is = record {
   holds = is.holds;
@@ -248,11 +246,10 @@ changed_back old mid new d o o' there out back = record {
 
 module _ {sure : Type 0} (x : IndexSet) (seen seen' : ℕ → ℕ) (first n : ℕ) (records : List (Option SlotRecord))
     (h h' : Held) (w : World) (old new : List (Option SpoolDraft))
-    (stand : DraftsStand sure x seen first records h w old)
-    (fit : DraftsHold n h old)
-    (d : ℕ) (o o' : SpoolDraft) (here : draft_at old d ≡ Some o) (own : List ℕ)
-    (grasp : Regrasps h h' (list_of o) (list_of o') own) (changed : IsChanged old d (Some o') new)
-    (rows : h'.rows ≡ h.rows) (same : sure → SameOutside first own seen seen') where
+    (stand : DraftsStand sure x seen first records h w old) (fit : DraftsHold n h old) (d : ℕ) (o o' : SpoolDraft)
+    (here : draft_at old d ≡ Some o) (own : List ℕ) (grasp : Regrasps h h' (list_of o) (list_of o') own)
+    (changed : IsChanged old d (Some o') new) (rows : h'.rows ≡ h.rows)
+    (same : sure → SameOutside first own seen seen') where
   unowned : Unowned h.rows own
   unowned i lt = ap (λ (r : List Row). get_or r (get_or own i 0) None) (sym grasp.takes.rows)
       ∙ grasp.reserved.no_owner i lt
@@ -280,14 +277,12 @@ module _ {sure : Type 0} (x : IndexSet) (seen seen' : ℕ → ℕ) (first n : �
   }
 
 module _ {sure : Type 0} (w : World) (seen seen' : ℕ → ℕ) (first n : ℕ) (records : List (Option SlotRecord))
-    (h h' : Held) (old new : List (Option SpoolDraft)) (stand : DraftsStand sure w.store.indexes seen first records h w
-    old)
-    (fit : DraftsHold n h old)
-    (d : ℕ) (o o' : SpoolDraft) (here : draft_at old d ≡ Some o) (own : List ℕ)
+    (h h' : Held) (old new : List (Option SpoolDraft))
+    (stand : DraftsStand sure w.store.indexes seen first records h w old) (fit : DraftsHold n h old) (d : ℕ)
+    (o o' : SpoolDraft) (here : draft_at old d ≡ Some o) (own : List ℕ)
     (grasp : Regrasps h h' (list_of o) (list_of o') own) (changed : IsChanged old d (Some o') new)
     (rows : h'.rows ≡ h.rows) (v : View) (shows : Shows v w.store) (known : h.rows ≡ v.rows)
-    (size : length h.reserved ≡ length h.rows)
-    (after : DraftsHold n h' new) where
+    (size : length h.reserved ≡ length h.rows) (after : DraftsHold n h' new) where
   size_after : length h'.reserved ≡ length h'.rows
   size_after = elim grasp.holds [
     | inl holds ↦ subst (λ (k : Held). length k.reserved ≡ length k.rows) holds.0
@@ -357,10 +352,10 @@ module _ {sure : Type 0} (w : World) (seen seen' : ℕ → ℕ) (first n : ℕ) 
 -- THE DISK AND THE ANSWER
 
 pub moved : {D : Type 0} {sure : Bool} (disk : Ghosts D) (d d' : D) (old new : Holding) (m : Store) (n : ℕ)
-    (s : Stored sure disk d old m)
-    → OnlyReserves old new → (disk.honest d → disk.honest d') → (own : List ℕ) → Unowned s.view.rows own
-    → n ≡ old.layout → (sure ≡ true → WritesIn (text_page n) own (disk.seen d) (disk.seen d') (disk.loose d)
-    (disk.loose d')) → Stored sure disk d' new m
+    (s : Stored sure disk d old m) → OnlyReserves old new → (disk.honest d → disk.honest d') → (own : List ℕ)
+    → Unowned s.view.rows own → n ≡ old.layout
+    → (sure ≡ true → WritesIn (text_page n) own (disk.seen d) (disk.seen d') (disk.loose d) (disk.loose d'))
+    → Stored sure disk d' new m
 moved disk d d' old new m n s same honest own unowned size writes = record {
   honest = λ known. honest (s.honest known);
   view = s.view;
@@ -381,11 +376,10 @@ answered X Y (Err DiskFault) done same refused = tt
 answered X Y (Err (Refused e)) done same refused = absurd (refused e refl)
 
 pub longer_world : {D : Type 0} {sure : Bool} (disk : Ghosts D) (d : D) (h : Holding)
-    (drafts : List (Option SpoolDraft)) (w : World)
-    (number : ℕ) (piece : List ℕ) (p : Patch) (a : Option Patch) → a ≡ Some p → Stored sure disk d h w.store
-    → DraftsStand (sure ≡ true) w.store.indexes (disk.seen d) (text_page h.layout) h.slots h.blocks
-    (record w { patches = replaced number (longer w number p piece) w.patches }) drafts
-    → StandsFor sure disk d h drafts (appended_at w number piece a)
+    (drafts : List (Option SpoolDraft)) (w : World) (number : ℕ) (piece : List ℕ) (p : Patch) (a : Option Patch)
+    → a ≡ Some p → Stored sure disk d h w.store → DraftsStand (sure ≡ true) w.store.indexes (disk.seen d)
+    (text_page h.layout) h.slots h.blocks (record w { patches = replaced number (longer w number p piece) w.patches })
+    drafts → StandsFor sure disk d h drafts (appended_at w number piece a)
 longer_world {sure = sure} disk d h drafts w number piece p a e stored stands =
     subst (λ q. StandsFor sure disk d h drafts (appended_at w number piece q)) (sym e)
     (record { stored = stored; stands = stands })

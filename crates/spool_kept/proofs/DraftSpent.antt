@@ -147,9 +147,8 @@ each_spent R S ps old d none all weaker e =
     ]
 
 pub stand_spent : {sure : Type 0} (x : IndexSet) (seen seen' : ℕ → ℕ) (first : ℕ)
-    (records records' : List (Option SlotRecord))
-    (h h' : Held) (w : World) (m : Store) (old : List (Option SpoolDraft)) (d : ℕ)
-    → DraftsStand sure x seen first records h w old
+    (records records' : List (Option SlotRecord)) (h h' : Held) (w : World) (m : Store) (old : List (Option SpoolDraft))
+    (d : ℕ) → DraftsStand sure x seen first records h w old
     → ((e : ℕ) → d ≢ e → (r : Patch) (a : SpoolDraft) → find e w.patches ≡ Some r → draft_at old e ≡ Some a
     → DraftStands sure x seen first records h.rows w.store r a → DraftStands sure x seen' first records' h'.rows m r a)
     → IsGrown (record w { store = m; patches = without d w.patches }) → length h'.rows ≡ length h.rows

@@ -105,8 +105,7 @@ keeps_on old new v same keeps = record {
 }
 
 pub stored_on : {D : Type 0} {sure : Bool} (disk : Ghosts D) (d : D) (old new : Holding) (m : Store)
-    → OnlyReserves old new
-    → Stored sure disk d old m → Stored sure disk d new m
+    → OnlyReserves old new → Stored sure disk d old m → Stored sure disk d new m
 stored_on disk d old new m same stored = record {
   honest = stored.honest;
   view = stored.view;
@@ -127,8 +126,7 @@ module _ (n : ℕ) (h h' : Held) (old new : List (Option SpoolDraft)) (d : ℕ) 
       (λ e other. none_in_nothing [] (lists_at old e) refl)
 
   pub stand_dropped : {sure : Type 0} (x : IndexSet) (seen : ℕ → ℕ) (first : ℕ) (records : List (Option SlotRecord))
-      (w : World)
-      → GivesBack h h' (lists_at old d) → DraftsStand sure x seen first records h w old
+      (w : World) → GivesBack h h' (lists_at old d) → DraftsStand sure x seen first records h w old
       → DraftsStand sure x seen first records h' (dropped w d) new
   stand_dropped {sure = sure} x seen first records w gives stand = record {
     each = dropped_stand (DraftStands sure x seen first records h'.rows w.store) w.patches old new
@@ -160,8 +158,7 @@ reserves_only old inside new is same rows = record {
 }
 
 pub drops : {D : Type 0} {sure : Bool} (disk : Ghosts D) (d : D) (old new : Holding)
-    (drafts drafts' : List (Option SpoolDraft))
-    (number : ℕ) (w : World) → OnlyReserves old new
+    (drafts drafts' : List (Option SpoolDraft)) (number : ℕ) (w : World) → OnlyReserves old new
     → drafts' ≡ set drafts number None → GivesBack old.blocks new.blocks (lists_at drafts number)
     → StandsFor sure disk d old drafts w → StandsFor sure disk d new drafts' (dropped w number)
 drops {sure = sure} disk d old new drafts drafts' number w same is gives s = record {

@@ -275,11 +275,9 @@ module _ (h new : Holding) (v : View) (m : Store) (keeps : KeepsView h v) (shows
 -- AS THE DISK HOLDS IT
 
 module _ {D : Type 0} {sure : Bool} (disk : Ghosts D) (old : D) (h new : Holding) (fits' : FitsTogether new)
-    (longer : Longer)
-    (more : List ℕ) (may : MayExtend h longer more) (reserved : IsReserved h.blocks more)
+    (longer : Longer) (more : List ℕ) (may : MayExtend h longer more) (reserved : IsReserved h.blocks more)
     (is : (r : SlotRecord) → get_or h.slots longer.slot None ≡ Some r → IsLonger h r longer more new)
-    (state_size : length longer.state ≡ 32)
-    (m : Store) (n : ℕ) (declare : Option ℕ) (bytes : List ℕ)
+    (state_size : length longer.state ≡ 32) (m : Store) (n : ℕ) (declare : Option ℕ) (bytes : List ℕ)
     (append : IsAppend sure disk old h m n declare bytes longer more) where
   abbrev pub before : View
   before = append.stored.view

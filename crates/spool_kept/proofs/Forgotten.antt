@@ -53,8 +53,7 @@ module _ (number : ℕ) (old new : List (Option SpoolDraft)) (forgets : EachForg
   }
 
   module _ (sure : Type 0) (x : IndexSet) (seen : ℕ → ℕ) (first : ℕ) (slots : List (Option SlotRecord)) (h : Held)
-      (w : World)
-      (gone : upload_of w.store number ≡ None) where
+      (w : World) (gone : upload_of w.store number ≡ None) where
     stands_of : (p : Patch) (o o' : SpoolDraft) → ForgetsTail number o o'
         → DraftStands sure x seen first slots h.rows w.store p o
         → DraftStands sure x seen first slots h.rows w.store p o'

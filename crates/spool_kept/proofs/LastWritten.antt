@@ -40,9 +40,8 @@ module _ {D : Type 0} {sure : Bool} (disk : Ghosts D) (d mid : D) (h : Holding) 
   pub appended : (disk.honest d → disk.honest mid)
       → (sure ≡ true → (length last + 4095) / 4096 ≤ length more
       → text_on (disk.seen mid) (text_page h.layout) more
-      (length (bytes_with (disk.seen d) (text_page h.layout) more last)) ≡ bytes_with (disk.seen d)
-      (text_page h.layout) more last)
-      → IsAppend sure disk mid h m n declare bytes longer more
+      (length (bytes_with (disk.seen d) (text_page h.layout) more last)) ≡ bytes_with (disk.seen d) (text_page h.layout)
+      more last) → IsAppend sure disk mid h m n declare bytes longer more
   appended honest written =
       pending.append mid
       (moved disk d mid h h m h.layout s record {

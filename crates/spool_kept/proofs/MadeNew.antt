@@ -97,7 +97,8 @@ module _ (h : Holding) (v : View) (m : Store) (new : New) (slot : ℕ) (r : Slot
       (rests : sure ≡ true → Rests v (disk.seen before) (disk.loose before))
       (changes : Changes pages v (record (with_record v slot r) { next = h.next + 1 })) where
     -- a crash leaves the old store or the new one
-    pub crash_new : sure ≡ true → ((v' : View) → Changes pages v v' → HasTexts (disk.seen before) v'
+    pub crash_new : sure ≡ true
+        → ((v' : View) → Changes pages v v' → HasTexts (disk.seen before) v'
         → Lasts disk before after (λ image. IsViewOf image v ⊎ IsViewOf image v'))
         → Lasts disk before after
         (ShowsEither h.layout m (outcome (create_refusal (at_rest m None) new) m (created_store m new)))
@@ -109,8 +110,7 @@ module _ (h : Holding) (v : View) (m : Store) (new : New) (slot : ℕ) (r : Slot
     -- and the new one stands after the change
     pub stored_new : (h' : Holding) → IsTakenIn h slot r h' → (sure ≡ true → disk.honest after)
         → (sure ≡ true → (v' : View) → Changes pages v v' → HasTexts (disk.seen before) v'
-        → Rests v' (disk.seen after) (disk.loose after))
-        → Stored sure disk after h' (created_store m new)
+        → Rests v' (disk.seen after) (disk.loose after)) → Stored sure disk after h' (created_store m new)
     stored_new h' taken honest done = record {
       honest = honest;
       view = created_view v slot r;

@@ -101,9 +101,9 @@ module _ (h h' : Holding) (number slot : ℕ) (used : IsUsedBy h.slots slot numb
 
   module _ {sure : Type 0} (w : World) (seen seen' : ℕ → ℕ) (first : ℕ)
       (same : sure → (p : ℕ) → 4096 * first ≤ p → seen' p ≡ seen p) where
-    stands_still : (p : Patch) (o : SpoolDraft)
-        → DraftStands sure w.store.indexes seen first h.slots h.blocks.rows w.store p o
-        → DraftStands sure w.store.indexes seen' first h'.slots h'.blocks.rows (deleted_store w.store number) p o
+    stands_still : (p : Patch) (o : SpoolDraft) → DraftStands sure w.store.indexes seen first h.slots h.blocks.rows
+        w.store p o → DraftStands sure w.store.indexes seen' first h'.slots h'.blocks.rows
+        (deleted_store w.store number) p o
     stands_still p o s = record {
       holds = s.holds;
       below = s.below;
@@ -115,9 +115,8 @@ module _ (h h' : Holding) (number slot : ℕ) (used : IsUsedBy h.slots slot numb
           owned_still p.number (tail_of o) was.0 (s.tail was.1);
     }
 
-    pub drafts_still : (drafts : List (Option SpoolDraft))
-        → DraftsStand sure w.store.indexes seen first h.slots h.blocks w drafts
-        → DraftsStand sure w.store.indexes seen' first h'.slots h'.blocks (terminated w number) drafts
+    pub drafts_still : (drafts : List (Option SpoolDraft)) → DraftsStand sure w.store.indexes seen first h.slots
+        h.blocks w drafts → DraftsStand sure w.store.indexes seen' first h'.slots h'.blocks (terminated w number) drafts
     drafts_still drafts stand = record {
       each = λ d. held_both (DraftStands sure w.store.indexes seen first h.slots h.blocks.rows w.store)
           (DraftStands sure w.store.indexes seen' first h'.slots h'.blocks.rows (deleted_store w.store number))
@@ -129,8 +128,7 @@ module _ (h h' : Holding) (number slot : ℕ) (used : IsUsedBy h.slots slot numb
     }
 
   pub stands_after : {D : Type 0} {sure : Bool} (disk : Ghosts D) (d d' : D) (drafts : List (Option SpoolDraft))
-      (w : World)
-      → StandsFor sure disk d h drafts w → Stored sure disk d' h' (deleted_store w.store number)
+      (w : World) → StandsFor sure disk d h drafts w → Stored sure disk d' h' (deleted_store w.store number)
       → (sure ≡ true → (p : ℕ) → 4096 * text_page h.layout ≤ p → disk.seen d' p ≡ disk.seen d p)
       → StandsFor sure disk d' h' drafts (terminated w number)
   stands_after {sure = sure} disk d d' drafts w stands stored same = record {

@@ -82,8 +82,8 @@ module _ {D : Type 0} {sure : Bool} (disk : Ghosts D) (d : D) (h h' : Holding) (
     (stored : Stored sure disk d h m) (used : IsUsedBy h.slots slot number) (out : IsTakenOut h slot h')
     (blank filled : List (ℕ × List ℕ))
     (but : (v : View) → v.blocks ≡ h.layout → v.version ≡ h.version → v.slots ≡ h.slots → (rows : List Row)
-    → SameRowsBut (get_or h.lists slot []) v.rows rows
-    → ChangesButRows blank v (record (with_slot v slot None) { rows = rows }))
+    → SameRowsBut (get_or h.lists slot []) v.rows rows → ChangesButRows blank v
+    (record (with_slot v slot None) { rows = rows }))
     (fill : (v v' : View) → v.blocks ≡ h'.layout → ChangesButRows blank v v' → v'.rows ≡ h'.blocks.rows
     → Changes filled v v') where
   abbrev old : View
@@ -113,8 +113,8 @@ module _ {D : Type 0} {sure : Bool} (disk : Ghosts D) (d : D) (h h' : Holding) (
       → Changes filled v v' → HasTexts (disk.seen d) v' → Made v v'
 
   -- a crash leaves the upload or its deletion
-  pub crash_after : sure ≡ true → (d' : D)
-      → Makes (λ v v'. Lasts disk d d' (λ image. IsViewOf image v ⊎ IsViewOf image v'))
+  pub crash_after : sure ≡ true → (d' : D) → Makes
+      (λ v v'. Lasts disk d d' (λ image. IsViewOf image v ⊎ IsViewOf image v'))
       → Lasts disk d d' (ShowsEither h.layout m (outcome (no_such (upload_of m number)) m (deleted_store m number)))
   crash_after known d' lasts =
       subst (λ (f : Option UploadRefusal).

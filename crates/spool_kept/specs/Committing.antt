@@ -81,8 +81,7 @@ with_length_at w n declared = record w { store = patched_store w.store n declare
 
 -- The draft of a number stands for a patch that goes with its upload, and changes the text.
 pub record IsCommit {D : Type 0} (sure : Bool) (disk : Ghosts D) (d : D) (h : Holding)
-    (drafts : List (Option SpoolDraft))
-    (number : ℕ) (o : SpoolDraft) (w : World) (p : Patch) : Type 0 where
+    (drafts : List (Option SpoolDraft)) (number : ℕ) (o : SpoolDraft) (w : World) (p : Patch) : Type 0 where
   pub stands : StandsFor sure disk d h drafts w
   pub fits : DraftsHold h.layout h.blocks drafts
   pub here : draft_at drafts number ≡ Some o

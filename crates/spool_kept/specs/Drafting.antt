@@ -111,11 +111,9 @@ pub record DraftsStand (sure : Type 0) (x : IndexSet) (seen : ℕ → ℕ) (firs
 -- What is kept and the drafts stand for the world. Where that is sure, the disk does too: it is honest, and holds the
 -- texts; where it isn't, nothing is said of the disk.
 pub record StandsFor {D : Type 0} (sure : Bool) (disk : Ghosts D) (d : D) (h : Holding)
-    (drafts : List (Option SpoolDraft))
-    (w : World) : Type 0 where
+    (drafts : List (Option SpoolDraft)) (w : World) : Type 0 where
   pub stored : Stored sure disk d h w.store
-  pub stands : DraftsStand (sure ≡ true) w.store.indexes (disk.seen d) (text_page h.layout) h.slots h.blocks w
-      drafts
+  pub stands : DraftsStand (sure ≡ true) w.store.indexes (disk.seen d) (text_page h.layout) h.slots h.blocks w drafts
 
 -- WHAT A DRAFT BEGINS AFTER
 

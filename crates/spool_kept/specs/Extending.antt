@@ -81,14 +81,12 @@ pub record IsExtension (sure : Type 0) (x : IndexSet) (u : Upload) (declare : Op
   pub text : text_of x (patched u declare bytes) ≡ text_of x u ++ added
   pub text_len : longer.text_len ≡ length (text_of x (patched u declare bytes))
   pub nothing : length more ≡ 0 → added ≡ []
-  pub content : sure → 0 < length more
-      → text_on seen first more (longer.text_len - full_bytes (length (text_of x u))) ≡ drop
-      (full_bytes (length (text_of x u))) (text_of x u) ++ added
+  pub content : sure → 0 < length more → text_on seen first more (longer.text_len - full_bytes (length (text_of x u))) ≡
+      drop (full_bytes (length (text_of x u))) (text_of x u) ++ added
 
 -- the disk and what is kept stand for the store, and this is what a patch makes of the slot's upload
 pub record IsAppend {D : Type 0} (sure : Bool) (disk : Ghosts D) (d : D) (h : Holding) (m : Store) (n : ℕ)
-    (declare : Option ℕ)
-    (bytes : List ℕ) (longer : Longer) (more : List ℕ) : Type 0 where
+    (declare : Option ℕ) (bytes : List ℕ) (longer : Longer) (more : List ℕ) : Type 0 where
   pub stored : Stored sure disk d h m
   pub used : IsUsedBy h.slots longer.slot n
   pub upload : Upload
@@ -99,8 +97,7 @@ pub record IsAppend {D : Type 0} (sure : Bool) (disk : Ghosts D) (d : D) (h : Ho
 
 -- one whose last bytes are still to be written: with its text on its blocks it is one
 pub record IsPending {D : Type 0} (sure : Bool) (disk : Ghosts D) (d : D) (h : Holding) (m : Store) (n : ℕ)
-    (declare : Option ℕ)
-    (bytes : List ℕ) (longer : Longer) (more last : List ℕ) : Type 0 where
+    (declare : Option ℕ) (bytes : List ℕ) (longer : Longer) (more last : List ℕ) : Type 0 where
   pub stored : Stored sure disk d h m
   pub text : List ℕ
   pub fits : 1 ≤ length more → (length last + 4095) / 4096 ≤ length more

@@ -77,12 +77,9 @@ some_items b list is not_empty none = let e : true ≡ false =
 
 -- bytes that were not taken: the draft is dropped
 pub fed_gone : {U B : Type 0} {sure : Bool} (u : Ghosts U B) (store next : U) (w : World) (e : UploadError) (d d' : ℕ)
-    (w' : World)
-    (p : Patch) (done : Unit {0} → Type 0)
-    → Answers {T = Unit {0}} None (Err e) done (u.stands store sure w)
-    → (u.stands store sure w → u.stands next sure (dropped w d')) → d' ≡ d
-    → FeedsDraft u sure next (Err (stop_of e)) (dropped w d) w'
-    d p
+    (w' : World) (p : Patch) (done : Unit {0} → Type 0) → Answers {T = Unit {0}} None (Err e) done
+    (u.stands store sure w) → (u.stands store sure w → u.stands next sure (dropped w d')) → d' ≡ d
+    → FeedsDraft u sure next (Err (stop_of e)) (dropped w d) w' d p
 fed_gone {sure = sure} u store next w NoMemory d d' w' p done a drops same = subst
     (λ x. u.stands next sure (dropped w x)) same (drops a.1)
 fed_gone {sure = sure} u store next w DiskFault d d' w' p done a drops same = tt {0}
@@ -101,10 +98,8 @@ taken_back old more new n is e = e ∙ (ap (λ k. take k (old ++ more)) is ∙ t
 
 -- a call on the uploads that gave no answer, where its refusal changes nothing but what is gone
 pub refused_finishes : {U B : Type 0} (u : Ghosts U B) (sure : Bool) (store : U) (gone : World)
-    (m : Option UploadRefusal → Acted)
-    (refusal : Option UploadRefusal) (e : UploadError)
-    (result : Result (Unit {0}) Stop) (on_files bare closes : Bool) (old new : List ℕ) {T : Type 0}
-    (done : T → Type 0)
+    (m : Option UploadRefusal → Acted) (refusal : Option UploadRefusal) (e : UploadError)
+    (result : Result (Unit {0}) Stop) (on_files bare closes : Bool) (old new : List ℕ) {T : Type 0} (done : T → Type 0)
     → ((f : UploadRefusal) → m (Some f) ≡ replied gone (reply_refused (fault_of f) on_files bare closes) closes)
     → Answers {T = T} refusal (Err e) done (u.stands store sure gone) → RepliesTo result e on_files bare closes old new
     → Finishes u sure store result old new gone (m refusal)
@@ -137,13 +132,11 @@ refused_finishes u sure store gone m refusal DiskFault (Ok a) on_files bare clos
 
 -- the same at a request's head
 pub refused_serves : {U B : Type 0} (u : Ghosts U B) (sure : Bool) (store : U) (gone : World)
-    (m : Option UploadRefusal → Acted)
-    (refusal : Option UploadRefusal) (e : UploadError)
+    (m : Option UploadRefusal → Acted) (refusal : Option UploadRefusal) (e : UploadError)
     (result : Result (code.Done B) Stop) (on_files bare closes : Bool) (old new : List ℕ) {T : Type 0}
-    (done : T → Type 0)
-    → ((f : UploadRefusal) → m (Some f) ≡ replied gone (reply_refused (fault_of f) on_files bare closes) closes)
-    → Answers {T = T} refusal (Err e) done (u.stands store sure gone)
-    → RepliesOnly result e on_files bare closes old new
+    (done : T → Type 0) → ((f : UploadRefusal) → m (Some f) ≡ replied gone
+    (reply_refused (fault_of f) on_files bare closes) closes) → Answers {T = T} refusal (Err e) done
+    (u.stands store sure gone) → RepliesOnly result e on_files bare closes old new
     → Serves u sure store result old new gone (m refusal)
 refused_serves u sure store gone m refusal (Refused f) (Ok a) on_files bare closes old new done replies_to answered
     refuses =

@@ -179,17 +179,15 @@ told_there m n k r same told = subst (λ i. (up : Upload) × (upload_of m i ≡ 
 
 -- the piece that was given
 pub piece_given : {U B : Type 0} {sure : Bool} (u : Ghosts U B) (store : U) (w : World) (h : Giving) (up : Upload)
-    (left : Option given.Giving) (g : given.Giving) (old new : List ℕ)
-    → upload_of w.store h.number ≡ Some up → left ≡ Some g → GivesPiece u sure store (Ok left) old new w h
-    → Gives u sure store (Ok (Piece g)) old new w h
+    (left : Option given.Giving) (g : given.Giving) (old new : List ℕ) → upload_of w.store h.number ≡ Some up
+    → left ≡ Some g → GivesPiece u sure store (Ok left) old new w h → Gives u sure store (Ok (Piece g)) old new w h
 piece_given {sure = sure} u store w h up left g old new there is gave =
     let rest = subst (λ l. GivingIs w.store l (pending_after h)) is gave.1 in
     (gave.0, subst (IsGiven sure w.store (Piece g) old new h) (sym there) (rest, gave.2))
 
 pub last_given : {U B : Type 0} {sure : Bool} (u : Ghosts U B) (store : U) (w : World) (h : Giving) (up : Upload)
-    (left : Option given.Giving) (old new : List ℕ)
-    → upload_of w.store h.number ≡ Some up → left ≡ None → GivesPiece u sure store (Ok left) old new w h
-    → Gives u sure store (Ok Last) old new w h
+    (left : Option given.Giving) (old new : List ℕ) → upload_of w.store h.number ≡ Some up → left ≡ None
+    → GivesPiece u sure store (Ok left) old new w h → Gives u sure store (Ok Last) old new w h
 last_given {sure = sure} u store w h up left old new there is gave =
     let none = none_is w.store (pending_after h) (subst (λ l. GivingIs w.store l (pending_after h)) is gave.1) in
     (gave.0, subst (IsGiven sure w.store Last old new h) (sym there) (none, gave.2))

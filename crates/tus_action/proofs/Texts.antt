@@ -71,9 +71,8 @@ no_draft u w (Some g) closes = tt {0}
 
 -- the reply's head and the first piece
 pub get_acts : {U B : Type 0} {sure : Bool} (u : Ghosts U B) (store : U) (w : World) (r : Request) (n : ℕ)
-    (rec : Record)
-    (left : Option given.Giving) (old mid new : List ℕ)
-    (o : Option Upload) → ((v : Upload) → upload_of w.store n ≡ Some v → n < w.store.next) → upload_of w.store n ≡ o
+    (rec : Record) (left : Option given.Giving) (old mid new : List ℕ) (o : Option Upload)
+    → ((v : Upload) → upload_of w.store n ≡ Some v → n < w.store.next) → upload_of w.store n ≡ o
     → TellsOf w.store.indexes (with_number n o) (Some rec) → r.bare ≡ false
     → mid ≡ old ++ reply_text rec.to rec.text_len false r.closes
     → ((h : Giving) (up : Upload) → IsGiving w.store (at_start n rec.text_len r.closes) h
@@ -117,11 +116,9 @@ get_acts {B = B} {sure = sure} u store w r n rec left old mid new (Some up) belo
 
 -- the first piece wasn't given: the head is taken back
 pub get_stops : {U B : Type 0} (u : Ghosts U B) (sure : Bool) (store : U) (w : World) (closes : Bool) (n : ℕ)
-    (rec : Record)
-    (stop : Stop) (old more mid out new : List ℕ) (k : ℕ) (m : Acted)
-    (o : Option Upload) → ((v : Upload) → upload_of w.store n ≡ Some v → n < w.store.next) → upload_of w.store n ≡ o
-    → TellsOf w.store.indexes (with_number n o) (Some rec)
-    → mid ≡ old ++ more → k ≡ length old → new ≡ take k out
+    (rec : Record) (stop : Stop) (old more mid out new : List ℕ) (k : ℕ) (m : Acted) (o : Option Upload)
+    → ((v : Upload) → upload_of w.store n ≡ Some v → n < w.store.next) → upload_of w.store n ≡ o
+    → TellsOf w.store.indexes (with_number n o) (Some rec) → mid ≡ old ++ more → k ≡ length old → new ≡ take k out
     → ((h : Giving) (up : Upload) → IsGiving w.store (at_start n rec.text_len closes) h
     → upload_of w.store h.number ≡ Some up → GivesPiece u sure store (Err stop) mid out w h)
     → Serves {B = B} u sure store (Err stop) old new w m
@@ -140,11 +137,9 @@ get_stops u sure store w closes n rec Stops.DiskFault old more mid out new k m (
 
 -- the same with the flags that the code was given
 pub get_acts_as : {U B : Type 0} {sure : Bool} (u : Ghosts U B) (store : U) (w : World) (r : Request) (n : ℕ)
-    (rec : Record)
-    (left : Option given.Giving) (old mid new : List ℕ)
-    (bare closes : Bool) (o : Option Upload) → ((v : Upload) → upload_of w.store n ≡ Some v → n < w.store.next)
-    → upload_of w.store n ≡ o → TellsOf w.store.indexes (with_number n o) (Some rec) → bare ≡ r.bare → bare ≡ false
-    → closes ≡ r.closes
+    (rec : Record) (left : Option given.Giving) (old mid new : List ℕ) (bare closes : Bool) (o : Option Upload)
+    → ((v : Upload) → upload_of w.store n ≡ Some v → n < w.store.next) → upload_of w.store n ≡ o
+    → TellsOf w.store.indexes (with_number n o) (Some rec) → bare ≡ r.bare → bare ≡ false → closes ≡ r.closes
     → mid ≡ old ++ reply_text rec.to rec.text_len bare closes
     → ((h : Giving) (up : Upload) → IsGiving w.store (at_start n rec.text_len closes) h
     → upload_of w.store h.number ≡ Some up → GivesPiece u sure store (Ok left) mid new w h)
@@ -163,10 +158,10 @@ q_of r bare closes = record r { bare = bare; closes = closes }
 
 -- the reply's head alone
 pub get_bare : {U B : Type 0} (u : Ghosts U B) (sure : Bool) (store : U) (w : World) (r : Request) (n : ℕ)
-    (rec : Record)
-    (old new : List ℕ) (bare closes : Bool) (o : Option Upload) → TellsOf w.store.indexes (with_number n o) (Some rec)
-    → bare ≡ r.bare → bare ≡ true → closes ≡ r.closes → new ≡ old ++ reply_text rec.to rec.text_len bare closes
-    → u.stands store sure w → ActedAs u sure store (done.Replied closes) old new (get w r n o)
+    (rec : Record) (old new : List ℕ) (bare closes : Bool) (o : Option Upload)
+    → TellsOf w.store.indexes (with_number n o) (Some rec) → bare ≡ r.bare → bare ≡ true → closes ≡ r.closes
+    → new ≡ old ++ reply_text rec.to rec.text_len bare closes → u.stands store sure w
+    → ActedAs u sure store (done.Replied closes) old new (get w r n o)
 get_bare u sure store w r n rec old new bare closes None tells bare_is is_bare closes_is head stands = absurd tells
 get_bare {B = B} u sure store w r n rec old new bare closes (Some up) tells bare_is is_bare closes_is head stands =
     let text : List ℕ = text_of w.store.indexes up in
@@ -181,8 +176,8 @@ get_bare {B = B} u sure store w r n rec old new bare closes (Some up) tells bare
     same : (r : Request) (bare closes : Bool) → bare ≡ r.bare → closes ≡ r.closes → q_of r bare closes ≡ r
     same r bare closes e f = ap (λ b. record r { bare = b; closes = closes }) e ∙ ap (λ b. record r { closes = b }) f
 
-    by_bare : (b : Bool) → b ≡ true
-        → new ≡ old ++ (reply_text up.to (length (text_of w.store.indexes up)) b closes ++ [])
+    by_bare : (b : Bool) → b ≡ true → new ≡ old ++
+        (reply_text up.to (length (text_of w.store.indexes up)) b closes ++ [])
         → ActedAs u sure store (done.Replied closes) old new (get w (q_of r b closes) n (Some up))
     by_bare true is bytes = record { stands = stands; draft = tt {0}; giving = tt {0}; closes = refl; bytes = bytes }
     by_bare false is bytes = absurd cc

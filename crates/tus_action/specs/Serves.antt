@@ -83,13 +83,12 @@ Appends sure old new bytes (b ∷ text) = AppendsText sure old new bytes (b ∷ 
 
 -- what was done is what the rules say
 pub record ActedAs {U B : Type 0} (u : Ghosts U B) (sure : Bool) (store : U) (a : code.Done B) (old new : List ℕ)
-    (m : Acted) : Type 0
-  where
-    pub stands : u.stands store sure m.world
-    pub draft : DraftIs u m.world (draft_in a) m.draft
-    pub giving : GivingIs m.world.store (giving_in a) m.pending
-    pub closes : closes_in a ≡ m.closes
-    pub bytes : Appends sure old new m.bytes m.text
+    (m : Acted) : Type 0 where
+  pub stands : u.stands store sure m.world
+  pub draft : DraftIs u m.world (draft_in a) m.draft
+  pub giving : GivingIs m.world.store (giving_in a) m.pending
+  pub closes : closes_in a ≡ m.closes
+  pub bytes : Appends sure old new m.bytes m.text
 
 -- It is done as the rules say. Or it was out of memory, and the store stands for the world without what was begun, and
 -- nothing was written.
@@ -109,28 +108,25 @@ FeedsDraft u sure store (Err DiskFault) gone w d p = Unit {0}
 
 -- the patch goes on: the same but for its draft, which has the number that it had
 pub record Fed {U B : Type 0} (u : Ghosts U B) (sure : Bool) (store : U) (b b' : OpenPatch B) (w : World)
-    (p : Patch) : Type 0
-  where
-    pub number : u.number_of b'.draft ≡ u.number_of b.draft
-    pub holds : u.holds b'.draft p
-    pub found : find (u.number_of b.draft) w.patches ≡ Some p
-    pub shown : u.stands store sure w
-    pub reached : b'.reached ≡ b.reached
-    pub bare : b'.bare ≡ b.bare
-    pub closes : b'.closes ≡ b.closes
+    (p : Patch) : Type 0 where
+  pub number : u.number_of b'.draft ≡ u.number_of b.draft
+  pub holds : u.holds b'.draft p
+  pub found : find (u.number_of b.draft) w.patches ≡ Some p
+  pub shown : u.stands store sure w
+  pub reached : b'.reached ≡ b.reached
+  pub bare : b'.bare ≡ b.bare
+  pub closes : b'.closes ≡ b.closes
 
 -- or it was out of memory and the draft is gone, or the disk failed
 abbrev pub Feeds : {U B : Type 0} → Ghosts U B → Bool → U → Result (OpenPatch B) Stop → World → World → OpenPatch B
-    → Patch
-    → Type 0
+    → Patch → Type 0
 Feeds u sure store (Ok b') gone w b p = Fed u sure store b b' w p
 Feeds u sure store (Err NoMemory) gone w b p = u.stands store sure gone
 Feeds u sure store (Err DiskFault) gone w b p = Unit {0}
 
 -- a body's end is answered: committed or refused; or it was out of memory, and the patch is gone; or the disk failed
 abbrev pub Finishes : {U : Type 0} {B : Type 0} → Ghosts U B → Bool → U → Result (Unit {0}) Stop → List ℕ → List ℕ
-    → World
-    → Acted → Type 0
+    → World → Acted → Type 0
 Finishes u sure store (Ok x) old new gone m = u.stands store sure m.world × (new ≡ old ++ m.bytes)
 Finishes u sure store (Err NoMemory) old new gone m = u.stands store sure gone × (new ≡ old)
 Finishes u sure store (Err DiskFault) old new gone m = new ≡ old
@@ -147,8 +143,7 @@ AppendsPiece sure old new text = (piece : List ℕ) × (new ≡ old ++ piece) ×
 
 -- the next piece is written; or the disk failed, or it was out of memory, and nothing was written
 abbrev pub GivesPiece : {U B : Type 0} → Ghosts U B → Bool → U → Result (Option given.Giving) Stop → List ℕ → List ℕ
-    → World
-    → Giving → Type 0
+    → World → Giving → Type 0
 GivesPiece u sure store (Ok g) old new w h =
     u.stands store sure w × GivingIs w.store g (pending_after h) × AppendsPiece sure old new (piece_of h)
 GivesPiece u sure store (Err NoMemory) old new w h = u.stands store sure w × (new ≡ old)

@@ -73,13 +73,14 @@ module _ {U B : Type 0} (u : Ghosts U B) (sure : Bool) where
       (own : Option ℕ) (head : HeadBuffer) (left taken : ℕ) (closes : Bool) (s' : List ℕ) (rest : Rest)
       → u.stands store sure w' → Moves w w' own None → link ≡ link_after head left closes
       → RestIs (bytes_of head) left rest → (cut (reader w) s').rest ≡ rest → a ≡ took taken closes
-      → Appends sure old new bytes text
-      → TurnedAs u sure store link a old new w own (record {
+      → Appends sure old new bytes text → TurnedAs u sure store link a old new w own
+      (record {
         world = w';
         conn = if closes then None else Some (plain s' None);
         bytes = bytes;
         text = text;
-        taken = taken;
+        taken =
+            taken;
       })
   answered_here store link a old new bytes text w w' own head left taken true s' rest shown moves e kept here is given =
       record {
@@ -164,10 +165,10 @@ module _ {U B : Type 0} (u : Ghosts U B) (sure : Bool) where
 
     -- the body goes on
     pub part_here : (store : U) (link : Option (Link B)) (a : Answer) (head : HeadBuffer) (b' : OpenPatch B)
-        (left taken : ℕ) (q s' : List ℕ)
-        → GoesOn u sure store link a head b b' left taken (fed w d q) (fed_patch w d p q)
-        → (bytes_of head) ≡ [] → 0 < left → left ≡ body_length asked.verdict - length (asked.body ++ q)
-        → (cut (reader w) s').rest ≡ InBody (longer asked q) → PlaceIs u (fed w d q) link (Some (plain s' (Some d)))
+        (left taken : ℕ) (q s' : List ℕ) → GoesOn u sure store link a head b b' left taken (fed w d q)
+        (fed_patch w d p q) → (bytes_of head) ≡ [] → 0 < left → left ≡ body_length asked.verdict - length
+        (asked.body ++ q) → (cut (reader w) s').rest ≡ InBody (longer asked q)
+        → PlaceIs u (fed w d q) link (Some (plain s' (Some d)))
     part_here store link a head b' left taken q s' goes cleared some wanted here =
         let w' = fed w d q in
         let same = (feed_moves w d p q is.found).grows.indexes in
@@ -260,17 +261,16 @@ module _ (w : World) (s : List ℕ) (d : ℕ) (asked : Asked) (inside : (cut (re
       ∙ ap (λ o. with_acted q n (commit_with (fed w d q) d (Asks r) o)) f))
 
 module _ {U B : Type 0} (u : Ghosts U B) (sure : Bool) (store' : U) (old new : List ℕ) (w : World) (s : List ℕ)
-    (b : OpenPatch B) (asked : Asked) (r : Request) (p : Patch)
-    (is : PatchesAs u w b (u.number_of b.draft) asked r p) (inside : (cut (reader w) s).rest ≡ InBody asked)
-    (head : HeadBuffer) (left : ℕ)
-    (none : (bytes_of head) ≡ []) (left_is : left ≡ body_length asked.verdict - length asked.body) where
+    (b : OpenPatch B) (asked : Asked) (r : Request) (p : Patch) (is : PatchesAs u w b (u.number_of b.draft) asked r p)
+    (inside : (cut (reader w) s).rest ≡ InBody asked) (head : HeadBuffer) (left : ℕ) (none : (bytes_of head) ≡ [])
+    (left_is : left ≡ body_length asked.verdict - length asked.body) where
   abbrev own : ℕ
   own = u.number_of b.draft
 
   part_told : (bytes : List ℕ) (a : Result (Option (Link B) × Answer) Stop) → length bytes < left
-      → Parts u sure store' a head b (left - length bytes) (0 + length bytes)
-      (fed w own bytes) (fed_patch w own p bytes) (dropped w own)
-      → new ≡ old → Turned u sure store' a old new w (Some own) (part_turned w s own asked inside bytes)
+      → Parts u sure store' a head b (left - length bytes) (0 + length bytes) (fed w own bytes)
+      (fed_patch w own p bytes) (dropped w own) → new ≡ old → Turned u sure store' a old new w (Some own)
+      (part_turned w s own asked inside bytes)
   part_told bytes (Ok (link, a)) few (b', goes) same =
       let l : length (asked.body ++ bytes) ≡ length asked.body + length bytes = length-append asked.body bytes in
       let wants = body_wants w s asked inside in
@@ -288,8 +288,7 @@ module _ {U B : Type 0} (u : Ghosts U B) (sure : Bool) (store' : U) (old new : L
   part_told bytes (Err stops.NoMemory) few shown same = (shown, same)
   part_told bytes (Err stops.DiskFault) few x same = same
 
-  rest_told : (q : List ℕ) (a : Result (Option (Link B) × Answer) Stop)
-      → (cut (reader w) (s ++ q)).rest ≡ InHead []
+  rest_told : (q : List ℕ) (a : Result (Option (Link B) × Answer) Stop) → (cut (reader w) (s ++ q)).rest ≡ InHead []
       → Replies u sure store' a old new head (0 + left) (ended_by w own p q r) (dropped w own)
       → Turned u sure store' a old new w (Some own) (rest_turned w s own asked inside p q r left)
   rest_told q (Ok (link, a)) ends x =
@@ -303,12 +302,10 @@ module _ {U B : Type 0} (u : Ghosts U B) (sure : Bool) (store' : U) (old new : L
   rest_told q (Err stops.DiskFault) ends x = x
 
   pub body_told : (bytes : List ℕ) (a : Result (Option (Link B) × Answer) Stop)
-      → (length bytes < left → Parts u sure store' a head b (left - length bytes)
-      (0 + length bytes) (fed w own bytes) (fed_patch w own p bytes) (dropped w own))
-      → (length bytes < left → new ≡ old)
-      → (left ≤ length bytes → Replies u sure store' a old new head (0 + left)
-      (ended_by w own p (take left bytes) r) (dropped w own))
-      → Turned u sure store' a old new w (Some own) (came_turn w (plain s (Some own)) bytes)
+      → (length bytes < left → Parts u sure store' a head b (left - length bytes) (0 + length bytes) (fed w own bytes)
+      (fed_patch w own p bytes) (dropped w own)) → (length bytes < left → new ≡ old)
+      → (left ≤ length bytes → Replies u sure store' a old new head (0 + left) (ended_by w own p (take left bytes) r)
+      (dropped w own)) → Turned u sure store' a old new w (Some own) (came_turn w (plain s (Some own)) bytes)
   body_told bytes a part same rest =
       let wants = body_wants w s asked inside in
       elim (cases_lt (length bytes) left) [
@@ -325,8 +322,7 @@ module _ {U B : Type 0} (u : Ghosts U B) (sure : Bool) (store' : U) (old new : L
       ]
 
 module _ {U B : Type 0} (u : Ghosts U B) (sure : Bool) (w : World) (conn : Conn) (head : HeadBuffer) (b : OpenPatch B)
-    (left : ℕ)
-    (is : IsPatching u w conn (bytes_of head) b left) where
+    (left : ℕ) (is : IsPatching u w conn (bytes_of head) b left) where
   abbrev pub own_of : ℕ
   own_of = u.number_of b.draft
 
@@ -348,9 +344,8 @@ module _ {U B : Type 0} (u : Ghosts U B) (sure : Bool) (w : World) (conn : Conn)
       omega arith
 
   pub patch_told : (store' : U) (old new bytes : List ℕ) (a : Result (Option (Link B) × Answer) Stop)
-      → (length bytes < left → Parts u sure store' a head b (left - length bytes)
-      (0 + length bytes) (fed w own_of bytes) (fed_patch w own_of is.p bytes) (dropped w own_of))
-      → (length bytes < left → new ≡ old)
+      → (length bytes < left → Parts u sure store' a head b (left - length bytes) (0 + length bytes)
+      (fed w own_of bytes) (fed_patch w own_of is.p bytes) (dropped w own_of)) → (length bytes < left → new ≡ old)
       → (left ≤ length bytes → Replies u sure store' a old new head (0 + left)
       (ended_by w own_of is.p (take left bytes) is.r) (dropped w own_of))
       → Turned u sure store' a old new w conn.draft (came_turn w conn bytes)
@@ -374,11 +369,9 @@ dropped_turn w s n = record { world = w; conn = Some (plain s None); bytes = [];
 
 -- a body that is dropped
 module _ {U B : Type 0} (u : Ghosts U B) (sure : Bool) (store : U) (w : World) (conn : Conn) (head : HeadBuffer)
-    (left : ℕ)
-    (stands : u.stands store sure w) (is : IsSkipping w conn (bytes_of head) left) where
+    (left : ℕ) (stands : u.stands store sure w) (is : IsSkipping w conn (bytes_of head) left) where
   dropped_told : (link : Option (Link B)) (a : Answer) (out bytes : List ℕ)
-      → link ≡ link_after head (left - min left (length bytes)) false
-      → a ≡ took (0 + min left (length bytes)) false
+      → link ≡ link_after head (left - min left (length bytes)) false → a ≡ took (0 + min left (length bytes)) false
       → TurnedAs u sure store link a out out w None (came_turn w (plain conn.stream None) bytes)
   dropped_told link a out bytes link_is answer_is =
       let s = conn.stream in
@@ -414,8 +407,7 @@ module _ {U B : Type 0} (u : Ghosts U B) (sure : Bool) (store : U) (w : World) (
       ]
 
   pub skip_told : (link : Option (Link B)) (a : Answer) (out bytes : List ℕ)
-      → link ≡ link_after head (left - min left (length bytes)) false
-      → a ≡ took (0 + min left (length bytes)) false
+      → link ≡ link_after head (left - min left (length bytes)) false → a ≡ took (0 + min left (length bytes)) false
       → TurnedAs u sure store link a out out w conn.draft (came_turn w conn bytes)
   skip_told link a out bytes e f =
       subst (λ x. TurnedAs u sure store link a out out w x.draft (came_turn w x bytes)) (conn_is conn None is.draft

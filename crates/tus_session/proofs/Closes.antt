@@ -32,8 +32,7 @@ pub record IsClosing {U B : Type 0} (u : Ghosts U B) (sure : Bool) (st : State) 
 
 module _ {U B : Type 0} (u : Ghosts U B) (sure : Bool) where
   conn_below : (places : List (Option (Link B))) (store : U) (st : State) (c d : ℕ)
-      → SessionStands u sure places store st
-      → draft_at (st.conns c) ≡ Some d → c < length places
+      → SessionStands u sure places store st → draft_at (st.conns c) ≡ Some d → c < length places
   conn_below places store st c d stands e = elim (cases_lt c (length places)) [
     | inl lt ↦ lt
     | inr le ↦ let x : Some d ≡ None = sym e ∙ ap draft_at (beyond u sure places store st c stands le) in absurd (cc)
@@ -66,9 +65,8 @@ module _ {U B : Type 0} (u : Ghosts U B) (sure : Bool) where
 
   -- a place whose draft is dropped
   pub draft_closing : (st : State) (left : ℕ) (store store' : U) (v : World) (d : ℕ)
-      → IsClosing u sure st (suc left) store v
-      → draft_at (st.conns left) ≡ Some d
-      → u.stands store' sure (dropped v d) → IsClosing u sure st left store' (dropped v d)
+      → IsClosing u sure st (suc left) store v → draft_at (st.conns left) ≡ Some d → u.stands store' sure (dropped v d)
+      → IsClosing u sure st left store' (dropped v d)
   draft_closing st left store store' v d is own shown = record {
     shown = shown;
     uploads = is.uploads;
@@ -104,8 +102,8 @@ module _ {U B : Type 0} (u : Ghosts U B) (sure : Bool) where
 
   awaiting_closing : (st : State) (left : ℕ) (store store' : U) (v : World) (head : List ℕ) (awaiting : Awaiting B)
       (conn : Conn) → IsClosing u sure st (suc left) store v → st.conns left ≡ Some conn
-      → LinkIs u st.world head awaiting conn → u.stands store' sure (dropped_by u v awaiting)
-      → (v' : World) × IsClosing u sure st left store' v'
+      → LinkIs u st.world head awaiting conn → u.stands store' sure (dropped_by u v awaiting) → (v' : World)
+      × IsClosing u sure st left store' v'
   awaiting_closing st left store store' v head awaits.Head conn is e link shown =
       idle_closing st left store store' v conn is e link.draft shown
   awaiting_closing st left store store' v head (awaits.Skip wanted) conn is e link shown =
@@ -118,16 +116,15 @@ module _ {U B : Type 0} (u : Ghosts U B) (sure : Bool) where
       (dropped v link.d, draft_closing st left store store' v link.d is (ap draft_at e ∙ link.draft) stands)
 
   pub link_closing : (st : State) (left : ℕ) (store store' : U) (v : World) (k : Link B) (o : Option Conn)
-      → IsClosing u sure st (suc left) store v → st.conns left ≡ o
-      → PlaceIs u st.world (Some k) o → u.stands store' sure (dropped_by u v k.awaiting)
-      → (v' : World) × IsClosing u sure st left store' v'
+      → IsClosing u sure st (suc left) store v → st.conns left ≡ o → PlaceIs u st.world (Some k) o
+      → u.stands store' sure (dropped_by u v k.awaiting) → (v' : World) × IsClosing u sure st left store' v'
   link_closing st left store store' v k None is e place shown = absurd place
   link_closing st left store store' v k (Some conn) is e place shown =
       awaiting_closing st left store store' v (bytes_of k.head) k.awaiting conn is e place shown
 
   pub closed_closing : (st : State) (left : ℕ) (store : U) (v : World) (o : Option Conn)
-      → IsClosing u sure st (suc left) store v → st.conns left ≡ o
-      → PlaceIs u st.world None o → (v' : World) × IsClosing u sure st left store v'
+      → IsClosing u sure st (suc left) store v → st.conns left ≡ o → PlaceIs u st.world None o → (v' : World)
+      × IsClosing u sure st left store v'
   closed_closing st left store v None is e place = (v, none_closing st left store v is (ap draft_at e))
   closed_closing st left store v (Some conn) is e place = absurd place
 
@@ -186,20 +183,18 @@ module _ {U B : Type 0} (u : Ghosts U B) (sure : Bool) (all old new : List (Opti
   place_there x is = subst (λ p. PlaceIs u st.world p (st.conns (length new))) is.here (stands.each (length new))
 
   one_less : (store : U) (v : World) (x : Option (Link B)) → Popped all old new x
-      → IsClosing u sure st (length old) store v
-      → IsClosing u sure st (suc (length new)) store v
+      → IsClosing u sure st (length old) store v → IsClosing u sure st (suc (length new)) store v
   one_less store v x is closing = subst (λ n. IsClosing u sure st n store v) is.count closing
 
   pub after_closed : (store : U) (v : World) (x : Option (Link B)) → x ≡ None → Popped all old new x
-      → IsClosing u sure st (length old) store v
-      → (v' : World) × IsClosing u sure st (length new) store v'
+      → IsClosing u sure st (length old) store v → (v' : World) × IsClosing u sure st (length new) store v'
   after_closed store v x e is closing =
       closed_closing u sure st (length new) store v (st.conns (length new)) (one_less store v x is closing) refl
       (subst (λ p. PlaceIs u st.world p (st.conns (length new))) e (place_there x is))
 
   pub after_open : (store store' : U) (v : World) (x : Option (Link B)) (k : Link B) → x ≡ Some k → Popped all old new x
-      → IsClosing u sure st (length old) store v
-      → u.stands store' sure (dropped_by u v k.awaiting) → (v' : World) × IsClosing u sure st (length new) store' v'
+      → IsClosing u sure st (length old) store v → u.stands store' sure (dropped_by u v k.awaiting) → (v' : World)
+      × IsClosing u sure st (length new) store' v'
   after_open store store' v x k e is closing shown =
       link_closing u sure st (length new) store store' v k (st.conns (length new)) (one_less store v x is closing) refl
       (subst (λ p. PlaceIs u st.world p (st.conns (length new))) e (place_there x is)) shown

@@ -89,9 +89,8 @@ ended_store w d p piece r =
 module _ {U B : Type 0} (u : Ghosts U B) (sure : Bool) where
   -- a reply was given, and nothing is open
   pub answered_as : (store : U) (link : Option (Link B)) (old new : List ℕ) (head : HeadBuffer) (taken : ℕ) (m : Acted)
-      (closes : Bool) → u.stands store sure m.world → closes ≡ m.closes
-      → link ≡ link_after head 0 closes → new ≡ old ++ m.bytes
-      → Answered u sure store link (took taken closes) old new head taken m
+      (closes : Bool) → u.stands store sure m.world → closes ≡ m.closes → link ≡ link_after head 0 closes
+      → new ≡ old ++ m.bytes → Answered u sure store link (took taken closes) old new head taken m
   answered_as store link old new head taken m closes stands same at bytes = record {
     shown = stands;
     link_is = at ∙ ap (link_after head 0) same;

@@ -68,9 +68,9 @@ turn_plain k piece n a idle none =
 
 module _ {U B : Type 0} (u : Ghosts U B) (sure : Bool) where
   -- the head isn't whole yet
-  pub more_told : (store : U) (x : code.Answer) (out : List ℕ) (w : World) (conn : Conn)
-      (h bytes : List ℕ) (head : HeadBuffer) → u.stands store sure w → InsideHead w conn h
-      → reader w (h ++ bytes) ≡ More → (bytes_of head) ≡ h ++ bytes → x ≡ took (length bytes) false
+  pub more_told : (store : U) (x : code.Answer) (out : List ℕ) (w : World) (conn : Conn) (h bytes : List ℕ)
+      (head : HeadBuffer) → u.stands store sure w → InsideHead w conn h → reader w (h ++ bytes) ≡ More
+      → (bytes_of head) ≡ h ++ bytes → x ≡ took (length bytes) false
       → TurnedAs u sure store (link_after head 0 false) x out out w conn.draft (came_turn w conn bytes)
   more_told store x out w conn h bytes head stands inside more head_is answer_is =
       let a : Acted = record { world = w; draft = None; bytes = []; text = []; pending = None; closes = false } in
@@ -93,12 +93,10 @@ module _ {U B : Type 0} (u : Ghosts U B) (sure : Bool) where
 
     -- what the head did is all: the rest of the body is dropped
     pub no_patch_told : (link : Option (Link B)) (x : code.Answer) (old new : List ℕ) (head : HeadBuffer)
-        → u.stands store' sure (acted w v).world → Moves w (acted w v).world None None
-        → (acted w v).draft ≡ None → (acted w v).pending ≡ None
-        → link ≡ link_after head (body_length v - min (body_length v) (length after)) (acted w v).closes
-        → (bytes_of head) ≡ []
-        → x ≡ took (before + min (body_length v) (length after)) (acted w v).closes
-        → Appends sure old new (acted w v).bytes (acted w v).text
+        → u.stands store' sure (acted w v).world → Moves w (acted w v).world None None → (acted w v).draft ≡ None
+        → (acted w v).pending ≡ None → link ≡ link_after head (body_length v - min (body_length v) (length after))
+        (acted w v).closes → (bytes_of head) ≡ [] → x ≡ took (before + min (body_length v) (length after))
+        (acted w v).closes → Appends sure old new (acted w v).bytes (acted w v).text
         → TurnedAs u sure store' link x old new w conn.draft (came_turn w conn bytes)
     no_patch_told link x old new head shown moves none idle link_is head_is answer_is bytes_are =
         let a = acted w v in
@@ -176,14 +174,11 @@ slice_rest before bytes =
     ap length (take_all (length bytes - before) (drop before bytes) (omega arith))
 
 module _ {U B : Type 0} (u : Ghosts U B) (sure : Bool) (store' : U) (w : World) (conn : Conn) (h bytes : List ℕ)
-    (n before : ℕ)
-    (v : Verdict) (is : IsWhole w conn h bytes n before v) where
+    (n before : ℕ) (v : Verdict) (is : IsWhole w conn h bytes n before v) where
   pub no_patch_len : (link : Option (Link B)) (x : code.Answer) (old new : List ℕ) (head : HeadBuffer) (len : ℕ)
-      → len ≡ length (drop before bytes)
-      → u.stands store' sure (acted w v).world → Moves w (acted w v).world None None → (acted w v).draft ≡ None
-      → (acted w v).pending ≡ None
-      → link ≡ link_after head (body_length v - min (body_length v) len) (acted w v).closes
-      → (bytes_of head) ≡ []
+      → len ≡ length (drop before bytes) → u.stands store' sure (acted w v).world → Moves w (acted w v).world None None
+      → (acted w v).draft ≡ None → (acted w v).pending ≡ None → link ≡ link_after head
+      (body_length v - min (body_length v) len) (acted w v).closes → (bytes_of head) ≡ []
       → x ≡ took (before + min (body_length v) len) (acted w v).closes
       → Appends sure old new (acted w v).bytes (acted w v).text
       → TurnedAs u sure store' link x old new w conn.draft (came_turn w conn bytes)

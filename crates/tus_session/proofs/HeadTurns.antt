@@ -48,14 +48,8 @@ module _ (w : World) (conn : Conn) (h : List ℕ) (inside : InsideHead w conn h)
 
   -- the head isn't whole yet
   pub more_turn_is : (piece : List ℕ) → reader w (h ++ piece) ≡ More
-      → came_turn w conn piece ≡ turn_of conn piece (length piece) (record {
-        world = w;
-        draft = None;
-        bytes = [];
-        text = [];
-        pending = None;
-        closes = false;
-      })
+      → came_turn w conn piece ≡ turn_of conn piece (length piece)
+      (record { world = w; draft = None; bytes = []; text = []; pending = None; closes = false })
   more_turn_is piece e =
       let only = head_only (reader w) is_steady conn.stream h inside.rest in
       let p = head_part (reader w) is_steady h piece only e in

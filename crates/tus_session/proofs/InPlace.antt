@@ -23,12 +23,10 @@ pub conns_else : (conns : ℕ → Option Conn) (k j : ℕ) (conn : Option Conn) 
 conns_else conns k j conn ne = grind (arith, nat_tests)
 
 module _ {U B : Type 0} (u : Ghosts U B) (sure : Bool) where
-  module _ (places all : List (Option (Link B))) (store store' : U) (st : State) (w' : World) (k : ℕ) (next : Option
-      (Link B))
-      (conn' : Option Conn)
-      (stands : SessionStands u sure places store st) (is_put : IsPut places all k next)
-      (moves : Moves st.world w' (draft_at (st.conns k)) (draft_at conn')) (shown : u.stands store' sure w')
-      (here : PlaceIs u w' next conn') where
+  module _ (places all : List (Option (Link B))) (store store' : U) (st : State) (w' : World) (k : ℕ)
+      (next : Option (Link B)) (conn' : Option Conn) (stands : SessionStands u sure places store st)
+      (is_put : IsPut places all k next) (moves : Moves st.world w' (draft_at (st.conns k)) (draft_at conn'))
+      (shown : u.stands store' sure w') (here : PlaceIs u w' next conn') where
     each_there : (c : ℕ) → PlaceIs u w' (get_or all c None) (with_conn st.conns k conn' c)
     each_there c = elim (cases_eq c k) [
       | inl is ↦
@@ -116,8 +114,8 @@ module _ {U B : Type 0} (u : Ghosts U B) (sure : Bool) where
 
   -- what a connection's place tells
   pub place_at : (places : List (Option (Link B))) (store : U) (st : State) (k : ℕ) (x : Option (Link B))
-      → SessionStands u sure places store st → k < length places
-      → x ≡ get_or places k x → PlaceIs u st.world x (st.conns k)
+      → SessionStands u sure places store st → k < length places → x ≡ get_or places k x
+      → PlaceIs u st.world x (st.conns k)
   place_at places store st k x stands lt e =
       subst (λ y. PlaceIs u st.world y (st.conns k)) (sym (e ∙ get_or-any places k x None lt)) (stands.each k)
     where
@@ -140,8 +138,7 @@ module _ {U B : Type 0} (u : Ghosts U B) (sure : Bool) where
       (subst (λ y. PlaceIs u st.world y (st.conns k)) (past places k le) (stands.each k))
 
   pub closed_at : (places : List (Option (Link B))) (store : U) (st : State) (k : ℕ) (x : Option (Link B))
-      → SessionStands u sure places store st → k < length places
-      → x ≡ get_or places k x → x ≡ None → st.conns k ≡ None
+      → SessionStands u sure places store st → k < length places → x ≡ get_or places k x → x ≡ None → st.conns k ≡ None
   closed_at places store st k x stands lt e is =
       closed_none st.world (st.conns k)
       (subst (λ y. PlaceIs u st.world y (st.conns k)) is (place_at places store st k x stands lt e))
@@ -151,8 +148,7 @@ module _ {U B : Type 0} (u : Ghosts U B) (sure : Bool) where
   some_conn w k (Some c) is = (c, refl)
 
   pub open_at : (places : List (Option (Link B))) (store : U) (st : State) (c : ℕ) (x : Option (Link B)) (k : Link B)
-      → SessionStands u sure places store st → c < length places
-      → x ≡ get_or places c x → x ≡ Some k → IsOpen u st c k
+      → SessionStands u sure places store st → c < length places → x ≡ get_or places c x → x ≡ Some k → IsOpen u st c k
   open_at places store st c x k stands lt e is =
       let at : PlaceIs u st.world (Some k) (st.conns c) =
       subst (λ y. PlaceIs u st.world y (st.conns c)) is (place_at places store st c x stands lt e) in

@@ -58,12 +58,9 @@ more_gone_is w conn h e none = sym (ap (more_on w conn) e ∙ ap (give_on w conn
 module _ {U B : Type 0} (u : Ghosts U B) (sure : Bool) where
   -- a connection stays as it is, and nothing is given
   pub stays : (store : U) (w : World) (k : Link B) (conn : Conn) (more : Bool) (out : List ℕ) → u.stands store sure w
-      → LinkIs u w (bytes_of k.head) k.awaiting conn
-      → more ≡ is_pending conn.pending → TurnedAs u sure store (Some k) (record {
-        taken = 0;
-        closes = false;
-        more = more;
-      }) out out w conn.draft (unmoved_turn w conn)
+      → LinkIs u w (bytes_of k.head) k.awaiting conn → more ≡ is_pending conn.pending
+      → TurnedAs u sure store (Some k) (record { taken = 0; closes = false; more = more }) out out w conn.draft
+      (unmoved_turn w conn)
   stays store w k conn more out stands link e = record {
     shown = stands;
     here = link;
@@ -85,11 +82,8 @@ module _ {U B : Type 0} (u : Ghosts U B) (sure : Bool) where
   pub more_nothing : (store : U) (w : World) (k : Link B) (conn : Conn) (out : List ℕ) → u.stands store sure w
       → LinkIs u w (bytes_of k.head) k.awaiting conn
       → ((g : given.Giving) (left : ℕ) → k.awaiting ≡ awaits.Text g left → ⊥)
-      → TurnedAs u sure store (Some k) (record {
-        taken = 0;
-        closes = false;
-        more = false;
-      }) out out w conn.draft (more_turn w conn)
+      → TurnedAs u sure store (Some k) (record { taken = 0; closes = false; more = false }) out out w conn.draft
+      (more_turn w conn)
   more_nothing store w k conn out stands link not =
       let none = no_text w (bytes_of k.head) k.awaiting conn link not in
       subst (TurnedAs u sure store (Some k) (record { taken = 0; closes = false; more = false }) out out w conn.draft)
@@ -134,8 +128,8 @@ module _ {U B : Type 0} (u : Ghosts U B) (sure : Bool) where
         (more_some_is w conn is.h up is.pending there) (some_turned old new rest (pending_after is.h) given e)
 
     none_turned : (old new : List ℕ) (closes : Bool) (pending : Option Giving) → GivingIs w.store None pending
-        → Appends sure old new (piece_of is.h) (piece_of is.h)
-        → TurnedAs u sure store (link_after head left closes) (gave closes false) old new w conn.draft
+        → Appends sure old new (piece_of is.h) (piece_of is.h) → TurnedAs u sure store (link_after head left closes)
+        (gave closes false) old new w conn.draft
         (record {
           world = w;
           conn = given_up conn closes pending;
@@ -205,22 +199,19 @@ module _ {U B : Type 0} (u : Ghosts U B) (sure : Bool) where
 
 -- a piece is given of an upload that is there
 pub piece_of_upload : (sure : Bool) (m : Store) (g : given.Giving) (old new : List ℕ) (h : Giving) (o : Option Upload)
-    → IsGiven sure m (Piece g) old new h o
-    → (up : Upload) × (o ≡ Some up) × GivingIs m (Some g) (pending_after h)
+    → IsGiven sure m (Piece g) old new h o → (up : Upload) × (o ≡ Some up) × GivingIs m (Some g) (pending_after h)
     × Appends sure old new (piece_of h) (piece_of h)
 piece_of_upload sure m g old new h None is = absurd is
 piece_of_upload sure m g old new h (Some up) is = (up, refl, is.0, piece_appends old new (piece_of h) is.1)
 
 pub last_of_upload : (sure : Bool) (m : Store) (old new : List ℕ) (h : Giving) (o : Option Upload)
-    → IsGiven sure m Last old new h o
-    → (up : Upload) × (o ≡ Some up) × (pending_after h ≡ None)
+    → IsGiven sure m Last old new h o → (up : Upload) × (o ≡ Some up) × (pending_after h ≡ None)
     × Appends sure old new (piece_of h) (piece_of h)
 last_of_upload sure m old new h None is = absurd is
 last_of_upload sure m old new h (Some up) is = (up, refl, is.0, piece_appends old new (piece_of h) is.1)
 
 -- and nothing of one that is gone
 pub gone_with_upload : (sure : Bool) (m : Store) (old new : List ℕ) (h : Giving) (o : Option Upload)
-    → IsGiven sure m Gone old new h o
-    → (o ≡ None) × (new ≡ old)
+    → IsGiven sure m Gone old new h o → (o ≡ None) × (new ≡ old)
 gone_with_upload sure m old new h None is = (refl, is)
 gone_with_upload sure m old new h (Some up) is = absurd is

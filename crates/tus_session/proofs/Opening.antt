@@ -66,10 +66,10 @@ module _ {U B : Type 0} (u : Ghosts U B) (sure : Bool) where
   }
 
   opened_step : (places : List (Option (Link B))) (store : U) (st : State) (c : ℕ) (head : HeadBuffer)
-      → SessionStands u sure places store st → c < length places → (o : Option Conn)
-      → st.conns c ≡ o → o ≡ None → (bytes_of head) ≡ []
-      → Follows u sure (slice_set places c (Some (record { head = head; awaiting = awaits.Head }))) store
-      (opened_at st c o).state (opened_at st c o).outcome Done
+      → SessionStands u sure places store st → c < length places → (o : Option Conn) → st.conns c ≡ o → o ≡ None
+      → (bytes_of head) ≡ [] → Follows u sure
+      (slice_set places c (Some (record { head = head; awaiting = awaits.Head }))) store (opened_at st c o).state
+      (opened_at st c o).outcome Done
   opened_step places store st c head stands lt (Some conn) is none e = absurd (cc)
   opened_step places store st c head stands lt None is none e =
       let k : Link B = record { head = head; awaiting = awaits.Head } in
@@ -94,8 +94,7 @@ module _ {U B : Type 0} (u : Ghosts U B) (sure : Bool) where
       opened_step places store st c head stands lt (st.conns c) refl none e
 
   pub not_below : (places : List (Option (Link B))) (store : U) (st : State) (c : ℕ)
-      → SessionStands u sure places store st
-      → length places ≤ c
+      → SessionStands u sure places store st → length places ≤ c
       → Follows u sure places store st (step st (Opened c) Served).outcome (Refused TooMany)
   unfolding step
   not_below places store st c stands le =
@@ -109,9 +108,8 @@ module _ {U B : Type 0} (u : Ghosts U B) (sure : Bool) where
       subst Q (sym none) later
 
   pub is_open : (places : List (Option (Link B))) (store : U) (st : State) (c : ℕ) (x : Option (Link B))
-      → SessionStands u sure places store st → c < length places
-      → x ≡ get_or places c x → is_some x ≡ true → Follows u sure places store st (step st (Opened c) Served).outcome
-      (Refused TooMany)
+      → SessionStands u sure places store st → c < length places → x ≡ get_or places c x → is_some x ≡ true
+      → Follows u sure places store st (step st (Opened c) Served).outcome (Refused TooMany)
   unfolding step
   is_open places store st c None stands lt e is = absurd (cc)
   is_open places store st c (Some k) stands lt e is =
@@ -121,15 +119,15 @@ module _ {U B : Type 0} (u : Ghosts U B) (sure : Bool) where
       subst Q (sym o.1) now
 
   pub not_open : (places : List (Option (Link B))) (store : U) (st : State) (c : ℕ) (x : Option (Link B))
-      → SessionStands u sure places store st → c < length places
-      → x ≡ get_or places c x → is_some x ≡ false → st.conns c ≡ None
+      → SessionStands u sure places store st → c < length places → x ≡ get_or places c x → is_some x ≡ false
+      → st.conns c ≡ None
   not_open places store st c None stands lt e is = closed_at u sure places store st c None stands lt e refl
   not_open places store st c (Some k) stands lt e is = absurd (cc)
 
   -- no connection in any place
   pub begun : (places : List (Option (Link B))) (store : U) (m : Store) (blocks : Option ℕ)
-      → u.stands store sure (at_rest m blocks) → length places ≡ most_open
-      → ((c : ℕ) → get_or places c None ≡ None) → SessionStands u sure places store (beginning m blocks)
+      → u.stands store sure (at_rest m blocks) → length places ≡ most_open → ((c : ℕ) → get_or places c None ≡ None)
+      → SessionStands u sure places store (beginning m blocks)
   begun places store m blocks shown count all = record {
     count = count;
     shown = shown;

@@ -42,15 +42,15 @@ use Rattle.tus_session.proofs.RequestLeaves.{Opened, Leaves, Nothing, Text, Patc
 use Rattle.tus_session.proofs.Unfinished.{judged_as}
 
 -- a patch that a head opened: the history's, and the code's
-pub record Begun {U B : Type 0} (u : Ghosts U B) (sure : Bool) (w : World) (r : Request) (b : OpenPatch B) : Type 0
-  where
-    pub x : Opened w r (acted w (Asks r))
-    pub number : u.number_of b.draft ≡ x.d
-    pub holds : u.holds b.draft (first_patch x.number r.length x.declare x.up)
-    pub reached : ReachedIs r.action r.length b.reached
-    pub bare : b.bare ≡ r.bare
-    pub closes : b.closes ≡ r.closes
-    pub below : x.number < w.store.next
+pub record Begun {U B : Type 0} (u : Ghosts U B) (sure : Bool) (w : World) (r : Request) (b : OpenPatch B) : Type
+    0 where
+  pub x : Opened w r (acted w (Asks r))
+  pub number : u.number_of b.draft ≡ x.d
+  pub holds : u.holds b.draft (first_patch x.number r.length x.declare x.up)
+  pub reached : ReachedIs r.action r.length b.reached
+  pub bare : b.bare ≡ r.bare
+  pub closes : b.closes ≡ r.closes
+  pub below : x.number < w.store.next
 
 module _ (w : World) (conn : Conn) (h bytes : List ℕ) (n before : ℕ) (r : Request) (is : IsWhole w conn h bytes n before
     (Asks r)) (x : Opened w r (acted w (Asks r))) where
@@ -154,8 +154,7 @@ module _ (w : World) (conn : Conn) (h bytes : List ℕ) (n before : ℕ) (r : Re
 
 -- a draft that is open is a patch's
 opens_case : {U B : Type 0} (u : Ghosts U B) (sure : Bool) (w : World) (r : Request) (b : B)
-    → Leaves w r (acted w (Asks r))
-    → DraftIs u (acted w (Asks r)).world (Some b) (acted w (Asks r)).draft
+    → Leaves w r (acted w (Asks r)) → DraftIs u (acted w (Asks r)).world (Some b) (acted w (Asks r)).draft
     → Opened w r (acted w (Asks r))
 opens_case u sure w r b (Nothing moves none idle) is = absurd
     (subst (DraftIs u (acted w (Asks r)).world (Some b)) none is)
@@ -168,8 +167,7 @@ opens : {U B : Type 0} (u : Ghosts U B) (sure : Bool) (w : World) (r : Request) 
 opens u sure w r b is = opens_case u sure w r b (leaves w r) is
 
 pub begun : {U B : Type 0} (u : Ghosts U B) (sure : Bool) (w : World) (conn : Conn) (h bytes : List ℕ) (n before : ℕ)
-    (r : Request)
-    → IsWhole w conn h bytes n before (Asks r) → (store : U) (old new : List ℕ) (b : OpenPatch B)
+    (r : Request) → IsWhole w conn h bytes n before (Asks r) → (store : U) (old new : List ℕ) (b : OpenPatch B)
     → ActedAs u sure store (Done.Opened b.draft) old new (acted w (Asks r)) → ReachedIs r.action r.length b.reached
     → b.bare ≡ r.bare → b.closes ≡ r.closes
     → ((number : ℕ) (up : Upload) → upload_of w.store number ≡ Some up → number < w.store.next) → Begun u sure w r b
@@ -208,9 +206,7 @@ own_opened w r a x own e = record {
 }
 
 module _ {U B : Type 0} (u : Ghosts U B) (sure : Bool) (w : World) (conn : Conn) (h bytes : List ℕ) (n before : ℕ)
-    (r : Request)
-    (is : IsWhole w conn h bytes n before (Asks r))
-    (b : OpenPatch B) (begins : Begun u sure w r b) where
+    (r : Request) (is : IsWhole w conn h bytes n before (Asks r)) (b : OpenPatch B) (begins : Begun u sure w r b) where
   abbrev pub own : ℕ
   own = u.number_of b.draft
 
@@ -275,9 +271,9 @@ module _ {U B : Type 0} (u : Ghosts U B) (sure : Bool) (w : World) (conn : Conn)
         ∙ take-append_seam old (acted w (Asks r)).bytes))
 
     part_case : (a : Result (Option (Link B) × code.Answer) Stop) → length q < r.length
-        → Parts u sure store' a head b (r.length - length q) (before + length q)
-        (fed v own q) (fed_patch v own p0 q) (dropped v own)
-        → mid2 ≡ mid → BackTo a start mid2 new → Turned u sure store' a old new w None (came_turn w conn bytes)
+        → Parts u sure store' a head b (r.length - length q) (before + length q) (fed v own q) (fed_patch v own p0 q)
+        (dropped v own) → mid2 ≡ mid → BackTo a start mid2 new → Turned u sure store' a old new w None
+        (came_turn w conn bytes)
     part_case (Ok (link, a)) few (b', goes) same out =
         let within = head_within w conn h is.inside bytes n before (Asks r) is.judged is.before_is in
         let l : length q ≡ length bytes - before = length-drop before bytes in
@@ -305,9 +301,8 @@ module _ {U B : Type 0} (u : Ghosts U B) (sure : Bool) (w : World) (conn : Conn)
     part_case (Err stops.DiskFault) few z same out = taken_back same out
 
     rest_case : (a : Result (Option (Link B) × code.Answer) Stop) → r.length ≤ length q
-        → Replies u sure store' a mid mid2 head (before + r.length)
-        (ended_by v own p0 (take r.length q) r) (dropped v own)
-        → BackTo a start mid2 new → Turned u sure store' a old new w None (came_turn w conn bytes)
+        → Replies u sure store' a mid mid2 head (before + r.length) (ended_by v own p0 (take r.length q) r)
+        (dropped v own) → BackTo a start mid2 new → Turned u sure store' a old new w None (came_turn w conn bytes)
     rest_case (Ok (link, a)) enough answered out =
         let m = ended_by v own p0 (take r.length q) r in
         let t : length (take r.length q) ≡ r.length = length-take-le r.length q enough in
@@ -328,12 +323,11 @@ module _ {U B : Type 0} (u : Ghosts U B) (sure : Bool) (w : World) (conn : Conn)
     rest_case (Err stops.DiskFault) enough same out = taken_back same out
 
     pub patch_opened : (a : Result (Option (Link B) × code.Answer) Stop) (z : List ℕ) → z ≡ q
-        → (length z < r.length → Parts u sure store' a head b (r.length - length z)
-        (before + length z) (fed v own z) (fed_patch v own p0 z) (dropped v own))
-        → (length z < r.length → mid2 ≡ mid)
-        → (r.length ≤ length z → Replies u sure store' a mid mid2 head
-        (before + r.length) (ended_by v own p0 (take r.length z) r) (dropped v own))
-        → BackTo a start mid2 new → Turned u sure store' a old new w conn.draft (came_turn w conn bytes)
+        → (length z < r.length → Parts u sure store' a head b (r.length - length z) (before + length z) (fed v own z)
+        (fed_patch v own p0 z) (dropped v own)) → (length z < r.length → mid2 ≡ mid)
+        → (r.length ≤ length z → Replies u sure store' a mid mid2 head (before + r.length)
+        (ended_by v own p0 (take r.length z) r) (dropped v own)) → BackTo a start mid2 new
+        → Turned u sure store' a old new w conn.draft (came_turn w conn bytes)
     patch_opened a z e part same rest out =
         subst (λ d. Turned u sure store' a old new w d (came_turn w conn bytes)) (sym is.inside.draft)
         (elim (cases_lt (length z) r.length) [

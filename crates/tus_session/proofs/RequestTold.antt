@@ -98,9 +98,8 @@ module _ (w : World) (conn : Conn) (h bytes : List ℕ) (n before : ℕ) (r : Re
     nothing_case : (store' : U) (link : Option (Link B)) (x : code.Answer) (c : Done B) (old new : List ℕ)
         (head : HeadBuffer) (len : ℕ) → Leaves w r (acted w (Asks r))
         → ActedAs u sure store' c old new (acted w (Asks r)) → draft_in c ≡ None → giving_in c ≡ None
-        → len ≡ length (drop before bytes)
-        → link ≡ link_after head (r.length - min r.length len) (closes_in c) → (bytes_of head) ≡ []
-        → x ≡ took (before + min r.length len) (closes_in c)
+        → len ≡ length (drop before bytes) → link ≡ link_after head (r.length - min r.length len) (closes_in c)
+        → (bytes_of head) ≡ [] → x ≡ took (before + min r.length len) (closes_in c)
         → TurnedAs u sure store' link x old new w conn.draft (came_turn w conn bytes)
     nothing_case store' link x c old new head len (Nothing moves none idle) as_is no_draft no_text len_is link_is
         head_is answer_is =
@@ -117,12 +116,11 @@ module _ (w : World) (conn : Conn) (h bytes : List ℕ) (n before : ℕ) (r : Re
         (subst (λ o. DraftIs u (acted w (Asks r)).world o (acted w (Asks r)).draft) no_draft as_is.draft))
 
     pub nothing_told : (store' : U) (link : Option (Link B)) (x : code.Answer) (c : Done B) (old new : List ℕ)
-        (head : HeadBuffer) (len : ℕ)
-        → ActedAs u sure store' c old new (acted w (Asks r)) → draft_in c ≡ None → giving_in c ≡ None
-        → len ≡ length (drop before bytes)
+        (head : HeadBuffer) (len : ℕ) → ActedAs u sure store' c old new (acted w (Asks r)) → draft_in c ≡ None
+        → giving_in c ≡ None → len ≡ length (drop before bytes)
         → link ≡ link_after head (r.length - min r.length len) (closes_in c) → (bytes_of head) ≡ []
-        → x ≡ took (before + min r.length len) (closes_in c)
-        → TurnedAs u sure store' link x old new w conn.draft (came_turn w conn bytes)
+        → x ≡ took (before + min r.length len) (closes_in c) → TurnedAs u sure store' link x old new w conn.draft
+        (came_turn w conn bytes)
     nothing_told store' link x c old new head len as_is no_draft no_text len_is link_is head_is answer_is =
         nothing_case store' link x c old new head len (leaves w r) as_is no_draft no_text len_is link_is head_is
         answer_is
@@ -146,8 +144,7 @@ text_turn w s bytes text g n = record {
 }
 
 text_turn_of : (k : Conn) (piece : List ℕ) (n : ℕ) (a : Acted) (g : Giving) → a.pending ≡ Some g → a.draft ≡ None
-    → a.closes ≡ false
-    → turn_of k piece n a ≡ text_turn a.world (k.stream ++ take n piece) a.bytes a.text g n
+    → a.closes ≡ false → turn_of k piece n a ≡ text_turn a.world (k.stream ++ take n piece) a.bytes a.text g n
 text_turn_of k piece n a g some none stays =
     let s = k.stream ++ take n piece in
     let T : Bool → Option ℕ → Option Giving → Turn = λ c d p. record {
@@ -163,9 +160,8 @@ module _ (w : World) (conn : Conn) (h bytes : List ℕ) (n before : ℕ) (r : Re
     (is : IsWhole w conn h bytes n before (Asks r)) where
   -- the turn that stops there
   text_is : (g : Giving) → (acted w (Asks r)).pending ≡ Some g → (acted w (Asks r)).draft ≡ None
-      → (acted w (Asks r)).closes ≡ false
-      → came_turn w conn bytes ≡ text_turn (acted w (Asks r)).world (conn.stream ++ take before bytes)
-      (acted w (Asks r)).bytes (acted w (Asks r)).text g before
+      → (acted w (Asks r)).closes ≡ false → came_turn w conn bytes ≡ text_turn (acted w (Asks r)).world
+      (conn.stream ++ take before bytes) (acted w (Asks r)).bytes (acted w (Asks r)).text g before
   text_is g some none stays =
       let a = acted w (Asks r) in
       let within = head_within w conn h is.inside bytes n before (Asks r) is.judged is.before_is in
@@ -228,10 +224,9 @@ module _ (w : World) (conn : Conn) (h bytes : List ℕ) (n before : ℕ) (r : Re
     text_answer = record { taken = before; closes = false; more = true }
 
     text_case : (store' : U) (c : Done B) (g : given.Giving) (old new : List ℕ) (head : HeadBuffer)
-        → Leaves w r (acted w (Asks r))
-        → ActedAs u sure store' c old new (acted w (Asks r)) → draft_in c ≡ None → giving_in c ≡ Some g
-        → (bytes_of head) ≡ []
-        → TurnedAs u sure store' (text_link head g) text_answer old new w conn.draft (came_turn w conn bytes)
+        → Leaves w r (acted w (Asks r)) → ActedAs u sure store' c old new (acted w (Asks r)) → draft_in c ≡ None
+        → giving_in c ≡ Some g → (bytes_of head) ≡ [] → TurnedAs u sure store' (text_link head g) text_answer old new w
+        conn.draft (came_turn w conn bytes)
     text_case store' c g old new head (Nothing moves none idle) as_is no_draft text cleared =
         absurd (subst (λ o. GivingIs (acted w (Asks r)).world.store o None) text
         (subst (GivingIs (acted w (Asks r)).world.store (giving_in c)) idle as_is.giving))
@@ -271,7 +266,7 @@ module _ (w : World) (conn : Conn) (h bytes : List ℕ) (n before : ℕ) (r : Re
 
     pub text_told : (store' : U) (c : Done B) (g : given.Giving) (old new : List ℕ) (head : HeadBuffer)
         → ActedAs u sure store' c old new (acted w (Asks r)) → draft_in c ≡ None → giving_in c ≡ Some g
-        → (bytes_of head) ≡ []
-        → TurnedAs u sure store' (text_link head g) text_answer old new w conn.draft (came_turn w conn bytes)
+        → (bytes_of head) ≡ [] → TurnedAs u sure store' (text_link head g) text_answer old new w conn.draft
+        (came_turn w conn bytes)
     text_told store' c g old new head as_is no_draft text cleared =
         text_case store' c g old new head (leaves w r) as_is no_draft text cleared

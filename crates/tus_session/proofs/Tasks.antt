@@ -81,8 +81,8 @@ module _ {U B : Type 0} (u : Ghosts U B) (sure : Bool) where
     ended_as = ended_is w conn is.d is.p is.draft is.patches.found
 
     -- the patch is spent
-    ends_patch : (store : U) → u.stands store sure (spent w (u.number_of b.draft) is.p (commit_refusal w (u.number_of
-        b.draft) is.p))
+    ends_patch : (store : U) → u.stands store sure
+        (spent w (u.number_of b.draft) is.p (commit_refusal w (u.number_of b.draft) is.p))
         → EndedAs u sure store w conn.draft (ended_world w conn)
     ends_patch store stands =
         let done = spent w is.d is.p (commit_refusal w is.d is.p) in
@@ -95,15 +95,14 @@ module _ {U B : Type 0} (u : Ghosts U B) (sure : Bool) where
         subst (λ o. EndedAs u sure store w o (ended_world w conn)) (sym is.draft)
         (subst (EndedAs u sure store w (Some is.d)) (sym ended_as) now)
 
-    ends_left : (store : U) → u.stands store sure (dropped w (u.number_of b.draft)) → u.stands store sure (left_world w
-        conn.draft)
+    ends_left : (store : U) → u.stands store sure (dropped w (u.number_of b.draft))
+        → u.stands store sure (left_world w conn.draft)
     ends_left store stands =
         subst (λ o. u.stands store sure (left_world w o)) (sym is.draft)
         (subst (λ n. u.stands store sure (dropped w n)) is.patches.number stands)
 
     -- a cut body
-    pub ends_cut : (store : U) (r : Result (Unit {0}) Stop)
-        → Ends u sure store r (dropped w (u.number_of b.draft))
+    pub ends_cut : (store : U) (r : Result (Unit {0}) Stop) → Ends u sure store r (dropped w (u.number_of b.draft))
         (spent w (u.number_of b.draft) is.p (commit_refusal w (u.number_of b.draft) is.p))
         → Ended u sure store r w conn.draft (ended_world w conn)
     ends_cut store (Ok x) stands = ends_patch store stands

@@ -1,5 +1,5 @@
 -- From a turn to the session's answer.
-use Rattle.std.proofs.Common.{◌≡◌, ℕ, List, Option, Some, None, Ok, Err, refl, sym, ◌∙◌, ap, subst, [], Bool}
+use Rattle.std.proofs.Common.{◌≡◌, ◌++◌, ℕ, List, Option, Some, None, Ok, Err, refl, sym, ◌∙◌, ap, subst, [], Bool, true}
 use Rattle.upload_rules.specs.World.{World}
 use Rattle.upload_rules.specs.declared.uploads.Uploads.{Ghosts}
 use Rattle.tus_action.specs.Serves.{Appends}
@@ -46,11 +46,8 @@ IsOnOpen (More c) = Unit {0}
 IsOnOpen (Ended c) = Unit {0}
 
 memory_is : (st : State) (e : Event) (conn : Conn) → IsOnOpen e → st.conns (conn_in e) ≡ Some conn
-    → step st e OutOfMemory ≡ record {
-      state = put st (left_world st.world conn.draft) (conn_in e) None;
-      outcome = Refused errors.NoMemory;
-      text = [];
-    }
+    → step st e OutOfMemory ≡ record
+    { state = put st (left_world st.world conn.draft) (conn_in e) None; outcome = Refused errors.NoMemory; text = [] }
 unfolding step
 memory_is st (Opened c) conn on is = absurd on
 memory_is st (Came c piece) conn on is = ap (lost_at st c) is
@@ -116,12 +113,8 @@ module _ {U B : Type 0} (u : Ghosts U B) (sure : Bool) where
     stopped t stops.NoMemory old new is_put (shown, same) = (lost is_put shown, same)
     stopped t stops.DiskFault old new is_put same = (failed_is st e conn on is, same)
 
-    pub ends : IsPut places all (conn_in e) None
-        → step st e Served ≡ record {
-          state = put st (ended_world st.world conn) (conn_in e) None;
-          outcome = Done;
-          text = [];
-        }
+    pub ends : IsPut places all (conn_in e) None → step st e Served ≡ record
+        { state = put st (ended_world st.world conn) (conn_in e) None; outcome = Done; text = [] }
         → EndedAs u sure store' st.world conn.draft (ended_world st.world conn) → Ends u sure all store' (Ok tt) st e
     ends is_put done turn =
         let w' = ended_world st.world conn in
@@ -147,16 +140,14 @@ module _ {U B : Type 0} (u : Ghosts U B) (sure : Bool) where
       record { stands = stands; outcome = ap (λ o. (came_at st c bytes o).outcome) none }
 
   pub none_more : (places : List (Option (Link B))) (store : U) (st : State) (c : ℕ)
-      → SessionStands u sure places store st
-      → st.conns c ≡ None
+      → SessionStands u sure places store st → st.conns c ≡ None
       → Follows u sure places store st (step st (More c) Served).outcome (Refused errors.Closed)
   unfolding step
   none_more places store st c stands none =
       record { stands = stands; outcome = ap (λ o. (more_at st c o).outcome) none }
 
   pub none_ended : (places : List (Option (Link B))) (store : U) (st : State) (c : ℕ)
-      → SessionStands u sure places store st
-      → st.conns c ≡ None
+      → SessionStands u sure places store st → st.conns c ≡ None
       → Follows u sure places store st (step st (Ended c) Served).outcome (Refused errors.Closed)
   unfolding step
   none_ended places store st c stands none = record {
@@ -171,7 +162,7 @@ ended_step st c conn e = ap (ended_at st c) e
 
 -- where the disk is known to be honest the bytes that are given are the history's
 pub told_bytes : {U B : Type 0} (u : Ghosts U B) (places : List (Option (Link B))) (store : U) (a : Answer)
-    (old new : List ℕ) (st : State) (e : Event) → Told u true places store (Ok a) old new st e
-    → (bytes : List ℕ) × Follows u true places store (step st e Served).state (step st e Served).outcome
+    (old new : List ℕ) (st : State) (e : Event) → Told u true places store (Ok a) old new st e → (bytes : List ℕ)
+    × Follows u true places store (step st e Served).state (step st e Served).outcome
     (Gave bytes a.taken a.closes a.more) × (new ≡ old ++ bytes)
 told_bytes u places store a old new st e t = (t.0, t.1, all_appended old new t.0 (step st e Served).text t.2)

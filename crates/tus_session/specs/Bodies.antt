@@ -31,8 +31,7 @@ link_after head left closes = if closes then None else Some (record { head = hea
 
 -- the patch goes on: the same but for its draft
 pub record GoesOn {U B : Type 0} (u : Ghosts U B) (sure : Bool) (store : U) (link : Option (Link B)) (a : Answer)
-    (head : HeadBuffer)
-    (b b' : OpenPatch B) (left taken : ℕ) (w : World) (p : Patch) : Type 0 where
+    (head : HeadBuffer) (b b' : OpenPatch B) (left taken : ℕ) (w : World) (p : Patch) : Type 0 where
   pub link_is : link ≡ Some (record { head = head; awaiting = awaits.Patch b' left })
   pub answer_is : a ≡ took taken false
   pub number : u.number_of b'.draft ≡ u.number_of b.draft
@@ -43,15 +42,13 @@ pub record GoesOn {U B : Type 0} (u : Ghosts U B) (sure : Bool) (store : U) (lin
   pub bare : b'.bare ≡ b.bare
   pub closes : b'.closes ≡ b.closes
 
-abbrev pub GoesOnSome : {U B : Type 0} → Ghosts U B → Bool → U → Option (Link B) → Answer → HeadBuffer → OpenPatch B
-    → ℕ → ℕ
-    → World → Patch → Type 0
+abbrev pub GoesOnSome : {U B : Type 0} → Ghosts U B → Bool → U → Option (Link B) → Answer → HeadBuffer → OpenPatch B → ℕ
+    → ℕ → World → Patch → Type 0
 GoesOnSome {U} {B} u sure store link a head b left taken w p =
     (b' : OpenPatch B) × GoesOn u sure store link a head b b' left taken w p
 
 abbrev pub Parts : {U B : Type 0} → Ghosts U B → Bool → U → Result (Option (Link B) × Answer) Stop → HeadBuffer
-    → OpenPatch B
-    → ℕ → ℕ → World → Patch → World → Type 0
+    → OpenPatch B → ℕ → ℕ → World → Patch → World → Type 0
 Parts u sure store (Ok (link, a)) head b left taken w p gone = GoesOnSome u sure store link a head b left taken w p
 Parts u sure store (Err NoMemory) head b left taken w p gone = u.stands store sure gone
 Parts u sure store (Err DiskFault) head b left taken w p gone = Unit {0}

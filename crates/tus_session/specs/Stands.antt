@@ -94,16 +94,14 @@ draft_at (Some conn) = conn.draft
 
 -- the store shows the history's world, each place is the history's, and no two connections have one draft
 pub record SessionStands {U B : Type 0} (u : Ghosts U B) (sure : Bool) (places : List (Option (Link B))) (store : U)
-    (st : State) :
-    Type 0
-  where
-    pub count : length places ≡ most_open
-    pub shown : u.stands store sure st.world
-    pub each : (c : ℕ) → PlaceIs u st.world (get_or places c None) (st.conns c)
-    pub apart : (c e d : ℕ) → draft_at (st.conns c) ≡ Some d → draft_at (st.conns e) ≡ Some d → c ≡ e
-    pub unique : IsApart st.world.patches
-    -- over a spool: the open patches are those of the connections, so that the blocks that are reserved are the needs
-    pub owned : (d : ℕ) (p : Patch) → find d st.world.patches ≡ Some p → (c : ℕ) × (draft_at (st.conns c) ≡ Some d)
+    (st : State) : Type 0 where
+  pub count : length places ≡ most_open
+  pub shown : u.stands store sure st.world
+  pub each : (c : ℕ) → PlaceIs u st.world (get_or places c None) (st.conns c)
+  pub apart : (c e d : ℕ) → draft_at (st.conns c) ≡ Some d → draft_at (st.conns e) ≡ Some d → c ≡ e
+  pub unique : IsApart st.world.patches
+  -- over a spool: the open patches are those of the connections, so that the blocks that are reserved are the needs
+  pub owned : (d : ℕ) (p : Patch) → find d st.world.patches ≡ Some p → (c : ℕ) × (draft_at (st.conns c) ≡ Some d)
 
 -- the world without the draft that is open
 abbrev pub dropped_by : {U B : Type 0} → Ghosts U B → World → Awaiting B → World

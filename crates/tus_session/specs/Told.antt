@@ -11,17 +11,14 @@ use Rattle.tus_session.specs.declared.errors.SessionError.TheVariants.{NoMemory,
 
 -- the session is where the history is after the event, and the history answers so
 pub record Follows {U B : Type 0} (u : Ghosts U B) (sure : Bool) (places : List (Option (Link B))) (store : U)
-    (now : State)
-    (answered given : Outcome) : Type 0 where
+    (now : State) (answered given : Outcome) : Type 0 where
   pub stands : SessionStands u sure places store now
   pub outcome : answered ≡ given
 
 -- What became of an event that gives bytes: served; out of memory, and its connection closed; or refused, and
 -- nothing changed. After a disk fault only the bytes are as they were. The refusals of a connection go before both
 abbrev pub Told : {U B : Type 0} → Ghosts U B → Bool → List (Option (Link B)) → U → Result Answer SessionError → List ℕ
-    →
-    List ℕ
-    → State → Event → Type 0
+    → List ℕ → State → Event → Type 0
 Told u sure places store (Ok a) old new st e =
     (bytes : List ℕ) × Follows u sure places store (step st e Served).state (step st e Served).outcome
     (Gave bytes a.taken a.closes a.more) × Appends sure old new bytes (step st e Served).text
@@ -34,9 +31,7 @@ Told u sure places store (Err f) old new st e =
 
 -- the same of an event that gives none
 abbrev pub Ends : {U B : Type 0} → Ghosts U B → Bool → List (Option (Link B)) → U → Result (Unit {0}) SessionError
-    → State →
-    Event
-    → Type 0
+    → State → Event → Type 0
 Ends u sure places store (Ok x) st e = Follows u sure places store (step st e Served).state (step st e Served).outcome
     Done
 Ends u sure places store (Err NoMemory) st e =
@@ -46,9 +41,7 @@ Ends u sure places store (Err f) st e = Follows u sure places store st (step st 
 
 -- a connection is opened, or nothing changed
 abbrev pub Opens : {U B : Type 0} → Ghosts U B → Bool → List (Option (Link B)) → U → Result (Unit {0}) SessionError
-    → State →
-    Event
-    → Type 0
+    → State → Event → Type 0
 Opens u sure places store (Ok x) st e = Follows u sure places store (step st e Served).state (step st e Served).outcome
     Done
 Opens u sure places store (Err f) st e = Follows u sure places store st (step st e Served).outcome (Refused f)

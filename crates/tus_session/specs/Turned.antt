@@ -26,18 +26,16 @@ pub record TurnedAs {U B : Type 0} (u : Ghosts U B) (sure : Bool) (store : U) (l
 -- the turn is done, and this is the connection after it; or it was out of memory, and the draft is gone; or the
 -- disk failed. An error closes the connection
 abbrev pub Turned : {U B : Type 0} → Ghosts U B → Bool → U → Result (Option (Link B) × Answer) Stop → List ℕ → List ℕ
-    → World
-    → Option ℕ → Turn → Type 0
+    → World → Option ℕ → Turn → Type 0
 Turned u sure store (Ok (link, a)) old new w own t = TurnedAs u sure store link a old new w own t
 Turned u sure store (Err NoMemory) old new w own t = u.stands store sure (left_world w own) × (new ≡ old)
 Turned u sure store (Err DiskFault) old new w own t = new ≡ old
 
 -- a connection's end: its draft is spent
 pub record EndedAs {U B : Type 0} (u : Ghosts U B) (sure : Bool) (store : U) (w : World) (own : Option ℕ)
-    (done : World) : Type 0
-  where
-    pub shown : u.stands store sure done
-    pub moves : Moves w done own None
+    (done : World) : Type 0 where
+  pub shown : u.stands store sure done
+  pub moves : Moves w done own None
 
 abbrev pub Ended : {U B : Type 0} → Ghosts U B → Bool → U → Result (Unit {0}) Stop → World → Option ℕ → World → Type 0
 Ended u sure store (Ok x) w own done = EndedAs u sure store w own done

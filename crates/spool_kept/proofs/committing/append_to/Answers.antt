@@ -102,8 +102,7 @@ returns-in-Err-DiskFault-clause-counts g c =
 -- WHAT A CRASH MAY LEAVE
 
 pending_on : {D : Type 0} {sure : Bool} (disk : Ghosts D) (d : D) (h : Holding) (m : Store) (p : Patch)
-    (longer : Longer)
-    {more more' last last' : List ℕ} → more' ≡ more → last' ≡ last
+    (longer : Longer) {more more' last last' : List ℕ} → more' ≡ more → last' ≡ last
     → IsPending sure disk d h m p.number p.declare p.body longer more last
     → IsPending sure disk d h m p.number p.declare p.body longer more' last'
 pending_on {sure = sure} disk d h m p longer {more' = more'} {last = last} list bytes_last is =

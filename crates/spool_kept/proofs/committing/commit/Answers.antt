@@ -236,8 +236,8 @@ returns-then-found-clause-crash g c w p s there =
 
 is_commit : (g : Over) (c : After-append_to g) {sure : Bool} (w : World) (p : Patch)
     → StandsFor sure g.D.Disk c.args.disk.now c.args.kept.now c.args.drafts.now.items w
-    → find c.args.number w.patches ≡ Some p
-    → IsCommit sure g.D.Disk c.args.disk.now c.args.kept.now c.args.drafts.now.items c.args.number c.in-Some.draft w p
+    → find c.args.number w.patches ≡ Some p → IsCommit sure g.D.Disk c.args.disk.now c.args.kept.now
+    c.args.drafts.now.items c.args.number c.in-Some.draft w p
 is_commit g c w p s there =
     head.commits g.D.Disk c.args.disk.now c.args.kept.now c.args.drafts.now.items c.args.number c.in-Some.draft w p s
     there (sym c.in-Some.ensures.taken) c.in-Ok.found c.in-Ok.ensures

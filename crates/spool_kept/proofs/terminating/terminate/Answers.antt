@@ -34,9 +34,8 @@ returns-in_default-clause-answer g c sure w stands =
 
 -- A SLOT HAS IT, SO THE RULES ALLOW IT
 
-may : (g : Over) (c : In-Some g) {sure : Bool} (w : World)
-    → StandsFor sure g.D.Disk c.args.disk.now c.args.kept.now c.args.drafts.now.items w
-    → terminate_refusal w c.args.number ≡ None
+may : (g : Over) (c : In-Some g) {sure : Bool} (w : World) → StandsFor sure g.D.Disk c.args.disk.now c.args.kept.now
+    c.args.drafts.now.items w → terminate_refusal w c.args.number ≡ None
 may g c w stands =
     let stored = stands.stored in
     allowed c.args.kept.now stored.view w.store c.args.number c.in-Some.slot stored.keeps stored.shows
@@ -79,9 +78,8 @@ returns-clause-fits g c = fit g (goal.at.returns-clause-fits g c).After-forget_t
 
 -- A CRASH
 
-crash : (g : Over) (c : After-change g) (w : World)
-    → StandsFor true g.D.Disk c.args.disk.now c.args.kept.now c.args.drafts.now.items w
-    → Lasts g.D.Disk c.args.disk.now c.change.new.disk
+crash : (g : Over) (c : After-change g) (w : World) → StandsFor true g.D.Disk c.args.disk.now c.args.kept.now
+    c.args.drafts.now.items w → Lasts g.D.Disk c.args.disk.now c.change.new.disk
     (ShowsEither c.args.kept.now.layout w.store (terminate_outcome w c.args.number))
 crash g c w stands =
     let stored = stands.stored in

@@ -73,8 +73,8 @@ returns-clause-kept c =
     }
 
 -- what the record tells of
-abbrev told_of : (c : goal.After-record) (v : View) (m : Store) → KeepsView c.args.self.now v → Shows v m
-    → (u : Upload) × (upload_of m c.args.number ≡ Some u) × Keeps m.indexes c.args.number c.record.result.now u
+abbrev told_of : (c : goal.After-record) (v : View) (m : Store) → KeepsView c.args.self.now v → Shows v m → (u : Upload)
+    × (upload_of m c.args.number ≡ Some u) × Keeps m.indexes c.args.number c.record.result.now u
 told_of c v m kept shows =
     let h = c.args.self.now in
     let s = c.in_ok-slot.slot in
