@@ -440,9 +440,9 @@ where
     // Each connection's sockets are one for each time that these events opened it, in order. The session took what
     // came from the socket, but for at most 4,096 bytes at its end, and what went to it is the prefix of what the
     // session gave, but for at most 135,167 bytes at its end, since no more ever wait to be written; all of that,
-    // unless the session was told that the client is gone. Each connection is closed again. After a fault of the
-    // device the last two are not promised, but where the reason is that the session closed the connection, or that
-    // it was late between requests or in one, all of that went.
+    // unless the session was told that the client is gone. Each connection is closed again. After a disk fault the
+    // last two are not promised, but where the reason is that the session closed the connection, or that it was late
+    // between requests or in one, all of that went.
     ensures serves { (st : State) → C.stands gateway st
         → Serves C.Connections gateway result.gateway st result.served
         (AllServed result.ended.sockets st) (AllLeft result.ended.sockets st) }
