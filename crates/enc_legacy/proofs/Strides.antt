@@ -2,7 +2,7 @@
 use Rattle.std.proofs.Common.{Bool, true, false, ap, IfSome, OnSome, Option, None, ℕ, sym, subst, ◌+◌}
 use Rattle.std.proofs.Common.{◌-◌, ◌*◌, ◌<◌, ◌≤◌, ◌≡◌, List, [], ◌∷◌, Some, refl, ◌∙◌, arith, take, get_or, length, All}
 use Rattle.std.proofs.lemmas.Bool.Decides.{nat_tests}
-use Rattle.std.proofs.lemmas.List.{length-take, get_or-take, take-take}
+use Rattle.std.proofs.lemmas.List.{length-take, get_or-take}
 use Rattle.std.proofs.lemmas.List.Elements.{All-head, All-tail, All-from_get_or}
 use Rattle.std.proofs.lemmas.List.Sums.{prefix_len-le-length, prefix_len_passes}
 use Rattle.std.specs.List.{prefix_len}
@@ -20,7 +20,8 @@ use Rattle.enc_model.specs.Batches.{ArePairs, BatchTook}
 use Rattle.enc_model.specs.BatchLaws.{batch_sink}
 use Rattle.enc_model.proofs.Steps.{steps_none, steps_one, steps_bytes, steps_run, steps_append}
 use Rattle.enc_legacy.specs.ShiftJis.{IsShiftJisLead, IsShiftJisPair}
-use Rattle.enc_legacy.specs.EucJpState.{IsRow}
+use Rattle.enc_legacy.specs.EucJpState.{IsRow, IsEucJpPair}
+use Rattle.enc_legacy.specs.declared.pairs.TheConstants.{NO_PAIR}
 use Rattle.enc_legacy.specs.Iso2022State.{IsIso2022Row}
 use Rattle.std.proofs.Common.{slice_index_or}
 
@@ -145,7 +146,7 @@ sjis_two i s rest c e l lead pair =
     rw e (two_read (shift_jis i) (shift_jis_calm i) 0 a 0 rest c l (sjis_lead i a lead)
     (sjis_trail i a (get_or rest 1 0) c lead pair))
 
-pub sjis_pair_steps : (i : Index) (s : ℕ) (r : List (Option ℕ)) → s ≡ 0 → length r ≤ 0x8000
+pub sjis_pair_steps : (i : Index) (s : ℕ) (r : List (Option ℕ)) → s ≡ 0 → length r ≤ NO_PAIR
     → ((p : ℕ) → slice_index_or r p None ≡ code i p) → (a b c : ℕ) → IsShiftJisPair r a b c
     → steps (shift_jis i) false s (a ∷ b ∷ []) ≡ record { text = c ∷ []; state = s }
 sjis_pair_steps i s r e few codes a b c stands =
@@ -187,11 +188,11 @@ row_pair : (i j : Index) (a b : ℕ) → IsRow a → IsRow b → euc_jp_pair i j
     ((a - 0xA1) * 94 + (b - 0xA1))
 row_pair i j a b l m = grind (arith, nat_tests, l, m)
 
-pub euc_pair_steps : (i j : Index) (s : EucJp) (r : List (Option ℕ)) → s ≡ euc_jp_start
-    → ((p : ℕ) → slice_index_or r p None ≡ code i p) → (a b c : ℕ) →
-    IsRow a × IsRow b × (slice_index_or r ((a - 0xA1) * 94 + (b - 0xA1)) None ≡ Some c)
+pub euc_pair_steps : (i j : Index) (s : EucJp) (r : List (Option ℕ)) → s ≡ euc_jp_start → length r ≤ NO_PAIR
+    → ((p : ℕ) → slice_index_or r p None ≡ code i p) → (a b c : ℕ) → IsEucJpPair r a b c
     → steps (euc_jp i j) false s (a ∷ b ∷ []) ≡ record { text = c ∷ []; state = s }
-euc_pair_steps i j s r e codes a b c p =
+euc_pair_steps i j s r e few codes a b c read =
+    let p = read few in
     let stands = row_pair i j a b p.0 p.1 ∙ sym (codes ((a - 0xA1) * 94 + (b - 0xA1))) ∙ p.2 in
     euc_two i j s (a ∷ b ∷ []) c e (omega arith) p.0 stands ∙ ap (λ (z : EucJp). record {
       text = c ∷ [];
@@ -292,14 +293,3 @@ iso_front i output flag rest n e some =
     let long : 0 < length (take n rest) = let t = length-take n rest in let w =
     prefix_len-le-length is_plain_2022 rest in omega (arith, t, w, some, e) in
     (λ k d l. plain_ascii (get_or (take n rest) k d) (all k d l), iso_run i output flag (take n rest) long all)
-
--- pairs at the front of a front
-pub pairs_in_front : (P : ℕ → ℕ → ℕ → Type 0) (n : ℕ) (front rest : List ℕ) → front ≡ take (length front) rest
-    → n ≤ length front → (old new : List ℕ)
-    → (given : List ℕ) × ArePairs P (take n front) given × BatchTook old given new
-    → (given : List ℕ) × ArePairs P (take n rest) given × BatchTook old given new
-pairs_in_front P n front rest is within old new took = (
-  took.0,
-  subst (λ (bytes : List ℕ). ArePairs P bytes took.0) (ap (take n) is ∙ take-take n (length front) rest within) took.1,
-  took.2,
-)

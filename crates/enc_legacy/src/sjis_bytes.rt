@@ -1,8 +1,5 @@
 //! What the two bytes of a pair of Shift_JIS add to its pointer (Encoding Standard, section 12.3.1).
 
-/// More than any pointer of jis0208: what a byte adds that isn't of a pair.
-pub(crate) const NO_PAIR: usize = 0x8000;
-
 /// What a lead adds to the pointer: 188 for each lead before it, which are 81 to 9F and E0 to FC. `NO_PAIR` for other
 /// bytes, and for F0 to F9, whose pairs are for private use and stand in no index.
 #[rattlefmt::skip]

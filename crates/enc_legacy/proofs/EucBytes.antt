@@ -1,0 +1,45 @@
+-- The pointer of a pair of EUC-JP, by what its bytes add to it.
+use Rattle.std.proofs.Common.{ℕ, ◌+◌, ◌*◌, ◌-◌, ◌<◌, ◌≡◌, if◌then◌else◌, List, Option, Some, None}
+use Rattle.std.proofs.Common.{map, get_or, slice_index_or, refl, subst, arith}
+use Rattle.std.proofs.lemmas.Bool.Decides.{nat_tests}
+use Rattle.std.specs.List.{range_with_len}
+use Rattle.enc_model.specs.Index.{within}
+use Rattle.enc_legacy.specs.EucJpState.{IsRow, IsEucJpPair}
+use Rattle.enc_legacy.specs.declared.pairs.TheConstants.{NO_PAIR}
+use Rattle.enc_legacy.specs.declared.euc_bytes.TheConstants.{LEADS, TRAILS}
+use Rattle.enc_legacy.proofs.PairPointers.{added_at, pointer_within}
+
+abbrev of_lead : ℕ → ℕ
+of_lead b = if within 0xA1 0xFE b then (b - 0xA1) * 94 else NO_PAIR
+
+abbrev of_trail : ℕ → ℕ
+of_trail b = if within 0xA1 0xFE b then b - 0xA1 else NO_PAIR
+
+leads : LEADS ≡ map of_lead (range_with_len 0 256)
+leads = refl
+
+trails : TRAILS ≡ map of_trail (range_with_len 0 256)
+trails = refl
+
+pub rows_of : (a b : ℕ) → a < 256 → b < 256 → get_or LEADS a 0 + get_or TRAILS b 0 < NO_PAIR → IsRow a × IsRow b
+rows_of a b small below few =
+    let e = added_at LEADS of_lead leads a small in
+    let f = added_at TRAILS of_trail trails b below in
+    grind (arith, nat_tests, e, f, few)
+
+pub pointer_of : (a b : ℕ) → a < 256 → b < 256 → get_or LEADS a 0 + get_or TRAILS b 0 < NO_PAIR
+    → get_or LEADS a 0 + get_or TRAILS b 0 ≡ (a - 0xA1) * 94 + (b - 0xA1)
+pointer_of a b small below few =
+    let e = added_at LEADS of_lead leads a small in
+    let f = added_at TRAILS of_trail trails b below in
+    grind (arith, nat_tests, e, f, few)
+
+-- a character at a pair's pointer is what the pair stands for
+pub euc_read : (codes : List (Option ℕ)) (a b p c : ℕ) → (p < NO_PAIR → IsRow a × IsRow b)
+    → (p < NO_PAIR → p ≡ (a - 0xA1) * 94 + (b - 0xA1)) → slice_index_or codes p None ≡ Some c
+    → IsEucJpPair codes a b c
+euc_read codes a b p c rows at is few =
+    let l = pointer_within codes p c is in
+    let small : p < NO_PAIR = omega (arith, l, few) in
+    let both = rows small in
+    (both.0, both.1, subst (λ q. slice_index_or codes q None ≡ Some c) (at small) is)
