@@ -1,13 +1,12 @@
 -- The pointer of a pair of EUC-JP, by what its bytes add to it.
-use Rattle.std.proofs.Common.{ℕ, ◌+◌, ◌*◌, ◌-◌, ◌<◌, ◌≡◌, if◌then◌else◌, List, Option, Some, None}
-use Rattle.std.proofs.Common.{map, get_or, slice_index_or, refl, subst, arith}
+use Rattle.std.proofs.Common.{ℕ, ◌+◌, ◌*◌, ◌-◌, ◌^◌, ◌<◌, ◌≡◌, if◌then◌else◌, List, Option, Some, None}
+use Rattle.std.proofs.Common.{get_or, slice_index_or, refl, subst, arith}
 use Rattle.std.proofs.lemmas.Bool.Decides.{nat_tests}
-use Rattle.std.specs.List.{range_with_len}
 use Rattle.enc_model.specs.Index.{within}
 use Rattle.enc_legacy.specs.EucJpState.{IsRow, IsEucJpPair}
-use Rattle.enc_legacy.specs.declared.pairs.TheConstants.{NO_PAIR}
-use Rattle.enc_legacy.specs.declared.euc_bytes.TheConstants.{LEADS, TRAILS}
-use Rattle.enc_legacy.proofs.PairPointers.{added_at, pointer_within}
+use Rattle.enc_legacy.specs.declared.pairs.TheConstants.{NO_PAIR, TRAILS}
+use Rattle.enc_legacy.specs.declared.euc_bytes.TheConstants.{PAIRS}
+use Rattle.enc_legacy.proofs.PairPointers.{rows_of, lead_at, trail_at, pointer_within}
 
 abbrev of_lead : ℕ → ℕ
 of_lead b = if within 0xA1 0xFE b then (b - 0xA1) * 94 else NO_PAIR
@@ -15,31 +14,34 @@ of_lead b = if within 0xA1 0xFE b then (b - 0xA1) * 94 else NO_PAIR
 abbrev of_trail : ℕ → ℕ
 of_trail b = if within 0xA1 0xFE b then b - 0xA1 else NO_PAIR
 
-leads : LEADS ≡ map of_lead (range_with_len 0 256)
-leads = refl
+rows : PAIRS ≡ rows_of of_lead of_trail
+rows = refl
 
-trails : TRAILS ≡ map of_trail (range_with_len 0 256)
-trails = refl
+pub sum_fits : (a b : ℕ) → a < 256 → b < 256 → get_or PAIRS a 0 + get_or PAIRS (TRAILS + b) 0 < 2 ^ 32
+sum_fits a b small below =
+    let e = lead_at PAIRS of_lead of_trail rows a small in
+    let f = trail_at PAIRS of_lead of_trail rows b below in
+    grind (arith, nat_tests, e, f)
 
-pub rows_of : (a b : ℕ) → a < 256 → b < 256 → get_or LEADS a 0 + get_or TRAILS b 0 < NO_PAIR → IsRow a × IsRow b
-rows_of a b small below few =
-    let e = added_at LEADS of_lead leads a small in
-    let f = added_at TRAILS of_trail trails b below in
+pub are_rows : (a b : ℕ) → a < 256 → b < 256 → get_or PAIRS a 0 + get_or PAIRS (TRAILS + b) 0 < NO_PAIR → IsRow a × IsRow b
+are_rows a b small below few =
+    let e = lead_at PAIRS of_lead of_trail rows a small in
+    let f = trail_at PAIRS of_lead of_trail rows b below in
     grind (arith, nat_tests, e, f, few)
 
-pub pointer_of : (a b : ℕ) → a < 256 → b < 256 → get_or LEADS a 0 + get_or TRAILS b 0 < NO_PAIR
-    → get_or LEADS a 0 + get_or TRAILS b 0 ≡ (a - 0xA1) * 94 + (b - 0xA1)
+pub pointer_of : (a b : ℕ) → a < 256 → b < 256 → get_or PAIRS a 0 + get_or PAIRS (TRAILS + b) 0 < NO_PAIR
+    → get_or PAIRS a 0 + get_or PAIRS (TRAILS + b) 0 ≡ (a - 0xA1) * 94 + (b - 0xA1)
 pointer_of a b small below few =
-    let e = added_at LEADS of_lead leads a small in
-    let f = added_at TRAILS of_trail trails b below in
+    let e = lead_at PAIRS of_lead of_trail rows a small in
+    let f = trail_at PAIRS of_lead of_trail rows b below in
     grind (arith, nat_tests, e, f, few)
 
 -- a character at a pair's pointer is what the pair stands for
 pub euc_read : (codes : List (Option ℕ)) (a b p c : ℕ) → (p < NO_PAIR → IsRow a × IsRow b)
     → (p < NO_PAIR → p ≡ (a - 0xA1) * 94 + (b - 0xA1)) → slice_index_or codes p None ≡ Some c
     → IsEucJpPair codes a b c
-euc_read codes a b p c rows at is few =
+euc_read codes a b p c are at is few =
     let l = pointer_within codes p c is in
     let small : p < NO_PAIR = omega (arith, l, few) in
-    let both = rows small in
+    let both = are small in
     (both.0, both.1, subst (λ q. slice_index_or codes q None ≡ Some c) (at small) is)

@@ -1,14 +1,30 @@
 -- What the bytes of a pair add to its pointer, and the character there.
-use Rattle.std.proofs.Common.{ℕ, ◌<◌, ◌≡◌, List, [], ◌∷◌, Option, Some, None, IfSome, zero, suc}
-use Rattle.std.proofs.Common.{map, get_or, length, slice_index_or, ap, ◌∙◌, arith}
+use Rattle.std.proofs.Common.{ℕ, ◌+◌, ◌-◌, ◌<◌, ◌≡◌, if◌then◌else◌, nat_lt, List, [], ◌∷◌, Option, Some}
+use Rattle.std.proofs.Common.{None, IfSome, zero, suc, map, get_or, length, slice_index_or, ap, ◌∙◌, arith}
 use Rattle.std.proofs.lemmas.List.FromFn.{get_or-map-range_with_len}
+use Rattle.std.proofs.lemmas.Bool.Decides.{nat_tests}
 use Rattle.std.specs.List.{range_with_len}
+use Rattle.enc_legacy.specs.declared.pairs.TheConstants.{TRAILS}
 
--- a table of 256 rows that is what this adds has at each byte what it adds
-pub added_at : (table : List ℕ) (added : ℕ → ℕ) → table ≡ map added (range_with_len 0 256) → (b : ℕ) → b < 256
-    → get_or table b 0 ≡ added b
-added_at table added is b small =
-    ap (λ l. get_or l b 0) is ∙ get_or-map-range_with_len added 0 256 b b 0 small (omega arith)
+-- what stands in a table of what bytes add as leads and then as trails
+abbrev pub rows_of : (ℕ → ℕ) → (ℕ → ℕ) → List ℕ
+rows_of lead trail = map (λ n. if nat_lt n TRAILS then lead n else trail (n - TRAILS)) (range_with_len 0 512)
+
+pub lead_at : (table : List ℕ) (lead trail : ℕ → ℕ) → table ≡ rows_of lead trail → (b : ℕ) → b < 256
+    → get_or table b 0 ≡ lead b
+lead_at table lead trail is b small =
+    ap (λ l. get_or l b 0) is
+    ∙ get_or-map-range_with_len (λ n. if nat_lt n TRAILS then lead n else trail (n - TRAILS)) 0 512 b b 0
+    (omega (arith, small)) (omega arith)
+    ∙ grind (arith, nat_tests, small)
+
+pub trail_at : (table : List ℕ) (lead trail : ℕ → ℕ) → table ≡ rows_of lead trail → (b : ℕ) → b < 256
+    → get_or table (TRAILS + b) 0 ≡ trail b
+trail_at table lead trail is b small =
+    ap (λ l. get_or l (TRAILS + b) 0) is
+    ∙ get_or-map-range_with_len (λ n. if nat_lt n TRAILS then lead n else trail (n - TRAILS)) 0 512 (TRAILS + b)
+    (TRAILS + b) 0 (omega (arith, small)) (omega arith)
+    ∙ grind (arith, nat_tests, small)
 
 -- a pointer that has a character is one of the table's
 pub pointer_within : (codes : List (Option ℕ)) (p c : ℕ) → slice_index_or codes p None ≡ Some c → p < length codes

@@ -1,8 +1,9 @@
 //! What the two bytes of a pair of EUC-JP add to its pointer in jis0208 (Encoding Standard, section 12.1.1).
 
-/// What a lead adds to the pointer: 94 for each lead before it, which are A1 to FE. `NO_PAIR` for other bytes.
+/// What each byte adds as a lead, and from `TRAILS` on as a trail: a lead 94 for each lead before it, which are A1 to FE, and
+/// a trail 1 for each trail before it, which are the same. `NO_PAIR` for other bytes.
 #[rattlefmt::skip]
-pub(crate) static LEADS: [u16; 256] = [
+pub(crate) static PAIRS: [u32; 512] = [
     32768, 32768, 32768, 32768, 32768, 32768, 32768, 32768, 32768, 32768, 32768, 32768, 32768, 32768, 32768, 32768,
     32768, 32768, 32768, 32768, 32768, 32768, 32768, 32768, 32768, 32768, 32768, 32768, 32768, 32768, 32768, 32768,
     32768, 32768, 32768, 32768, 32768, 32768, 32768, 32768, 32768, 32768, 32768, 32768, 32768, 32768, 32768, 32768,
@@ -19,11 +20,6 @@ pub(crate) static LEADS: [u16; 256] = [
     4418, 4512, 4606, 4700, 4794, 4888, 4982, 5076, 5170, 5264, 5358, 5452, 5546, 5640, 5734, 5828,
     5922, 6016, 6110, 6204, 6298, 6392, 6486, 6580, 6674, 6768, 6862, 6956, 7050, 7144, 7238, 7332,
     7426, 7520, 7614, 7708, 7802, 7896, 7990, 8084, 8178, 8272, 8366, 8460, 8554, 8648, 8742, 32768,
-];
-
-/// What a trail adds to the pointer: 1 for each trail before it, which are A1 to FE. `NO_PAIR` for other bytes.
-#[rattlefmt::skip]
-pub(crate) static TRAILS: [u16; 256] = [
     32768, 32768, 32768, 32768, 32768, 32768, 32768, 32768, 32768, 32768, 32768, 32768, 32768, 32768, 32768, 32768,
     32768, 32768, 32768, 32768, 32768, 32768, 32768, 32768, 32768, 32768, 32768, 32768, 32768, 32768, 32768, 32768,
     32768, 32768, 32768, 32768, 32768, 32768, 32768, 32768, 32768, 32768, 32768, 32768, 32768, 32768, 32768, 32768,

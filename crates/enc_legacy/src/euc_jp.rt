@@ -8,9 +8,9 @@ ghost use Rattle.enc_model.specs.Japanese.{EucJp, euc_jp, euc_jp_start, euc_jp_p
 ghost use Rattle.enc_model.specs.Indexes.{tables};
 ghost use Rattle.enc_model.proofs.Calm.{euc_jp_calm};
 
-use crate::euc_bytes::{LEADS, TRAILS};
+use crate::euc_bytes::PAIRS;
 use crate::kana::{half_width, pair_answer};
-use crate::pairs::{NO_PAIR, ready_rows, row_char};
+use crate::pairs::{NO_PAIR, TRAILS, ready_rows, row_char};
 use crate::stride::{PairDecoder, Strider, decode_strides, read_run};
 use enc_index::{IndexSet, Kind};
 use enc_model::{
@@ -104,7 +104,7 @@ fn pair_pointer(lead: u8, b: u8) -> u32
     ensures rows { result < NO_PAIR → IsRow lead × IsRow b }
     ensures pointer { result < NO_PAIR → result ≡ (lead - 0xA1) * 94 + (b - 0xA1) }
 {
-    LEADS[lead as usize] as u32 + TRAILS[b as usize] as u32
+    PAIRS[lead as usize] + PAIRS[TRAILS + b as usize]
 }
 
 impl PairReader for EucJpState {

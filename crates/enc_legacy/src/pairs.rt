@@ -10,6 +10,9 @@ use enc_model::Utf8Char;
 /// More than any pointer of jis0208: what a byte adds that isn't of a pair.
 pub(crate) const NO_PAIR: usize = 0x8000;
 
+/// Where the rows of trails begin in a table of what bytes add: after those of leads, so that one address serves both.
+pub(crate) const TRAILS: usize = 256;
+
 /// The characters of jis0208 at their pointers, where they are ready and none is at `NO_PAIR` or after it.
 #[inline(always)]
 pub(crate) fn ready_rows(indexes: &IndexSet) -> Option<&[Option<Utf8Char>]>

@@ -10,8 +10,8 @@ ghost use Rattle.enc_model.specs.Indexes.{tables};
 ghost use Rattle.enc_model.proofs.Calm.{shift_jis_calm};
 
 use crate::kana::{half_width, pair_answer};
-use crate::pairs::{NO_PAIR, ready_rows, row_char};
-use crate::sjis_bytes::{LEADS, TRAILS};
+use crate::pairs::{NO_PAIR, TRAILS, ready_rows, row_char};
+use crate::sjis_bytes::PAIRS;
 use crate::stride::{PairDecoder, Strider, decode_strides, read_run};
 use enc_index::{IndexSet, Kind};
 use enc_model::{
@@ -100,7 +100,7 @@ fn pair_pointer(lead: u8, b: u8) -> u32
     ensures lead { result < NO_PAIR → IsShiftJisLead lead }
     ensures pair { result < NO_PAIR → (i : Index) → shift_jis_pair i lead b ≡ code i result }
 {
-    LEADS[lead as usize] as u32 + TRAILS[b as usize] as u32
+    PAIRS[lead as usize] + PAIRS[TRAILS + b as usize]
 }
 
 impl PairReader for ShiftJisState {
