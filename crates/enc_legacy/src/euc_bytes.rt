@@ -1,5 +1,19 @@
 //! What the two bytes of a pair of EUC-JP add to its pointer in jis0208 (Encoding Standard, section 12.1.1).
 
+ghost use Rattle.std.specs.Prelude.{◌≡◌, ◌<◌, ◌+◌, ◌-◌, ◌*◌};
+ghost use Rattle.enc_legacy.specs.EucJpState.{IsRow};
+
+use crate::pairs::{NO_PAIR, TRAILS};
+
+/// The pointer that two bytes stand for in jis0208, or a number from `NO_PAIR` on where they are not both of its rows.
+#[inline(always)]
+pub(crate) fn row_pointer(lead: u8, b: u8) -> u32
+    ensures rows { result < NO_PAIR → IsRow lead × IsRow b }
+    ensures pointer { result < NO_PAIR → result ≡ (lead - 0xA1) * 94 + (b - 0xA1) }
+{
+    PAIRS[lead as usize] + PAIRS[TRAILS + b as usize]
+}
+
 /// What each byte adds as a lead, and from `TRAILS` on as a trail: a lead 94 for each lead before it, which are A1 to FE, and
 /// a trail 1 for each trail before it, which are the same. `NO_PAIR` for other bytes.
 #[rattlefmt::skip]

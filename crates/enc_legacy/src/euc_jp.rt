@@ -1,16 +1,16 @@
 //! The decoder of EUC-JP.
 
-ghost use Rattle.std.specs.Prelude.{◌≡◌, OnOk, false, true, ◌<◌, ◌+◌, ◌-◌, ◌*◌, []};
-ghost use Rattle.enc_legacy.specs.EucJpState.{IsEucJpPair, IsEucJpState, IsRow};
+ghost use Rattle.std.specs.Prelude.{◌≡◌, OnOk, false, true, []};
+ghost use Rattle.enc_legacy.specs.EucJpState.{IsEucJpPair, IsEucJpState};
 ghost use Rattle.enc_model.specs.Stream.{steps};
 ghost use Rattle.enc_model.specs.Sink.{Given};
 ghost use Rattle.enc_model.specs.Japanese.{EucJp, euc_jp, euc_jp_start, euc_jp_pair};
 ghost use Rattle.enc_model.specs.Indexes.{tables};
 ghost use Rattle.enc_model.proofs.Calm.{euc_jp_calm};
 
-use crate::euc_bytes::PAIRS;
+use crate::euc_bytes::row_pointer;
 use crate::kana::{half_width, pair_answer};
-use crate::pairs::{NO_PAIR, TRAILS, ready_rows, row_char};
+use crate::pairs::{ready_rows, row_char};
 use crate::stride::{PairDecoder, Strider, decode_strides, read_run};
 use enc_index::{IndexSet, Kind};
 use enc_model::{
@@ -98,15 +98,6 @@ impl Decoder for EucJpState {
     ghost calm = { λ t. euc_jp_calm (tables t).jis0208 (tables t).jis0212 };
 }
 
-/// The pointer that two bytes stand for in jis0208, or a number from `NO_PAIR` on where they stand for none.
-#[inline(always)]
-fn pair_pointer(lead: u8, b: u8) -> u32
-    ensures rows { result < NO_PAIR → IsRow lead × IsRow b }
-    ensures pointer { result < NO_PAIR → result ≡ (lead - 0xA1) * 94 + (b - 0xA1) }
-{
-    PAIRS[lead as usize] + PAIRS[TRAILS + b as usize]
-}
-
 impl PairReader for EucJpState {
     ghost stand_for = { IsEucJpPair };
 
@@ -117,7 +108,7 @@ impl PairReader for EucJpState {
         first: u8,
         second: u8,
     ) -> Option<&'a Utf8Char> {
-        row_char(ready, pair_pointer(first, second))
+        row_char(ready, row_pointer(first, second))
     }
 }
 

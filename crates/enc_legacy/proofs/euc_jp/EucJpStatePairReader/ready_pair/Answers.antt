@@ -4,7 +4,7 @@ use Rattle.enc_legacy.proofs.euc_jp.EucJpStatePairReader.ready_pair.Goals as goa
 
 pub returns : goal.returns
 returns c =
-    let is = c.pair_pointer.ensures in
+    let is = c.row_pointer.ensures in
     some_then c.row_char.result _ _
-    (λ code. euc_read c.args.ready.now c.args.first c.args.second c.pair_pointer.result code.now is.rows is.pointer)
+    (λ code. euc_read c.args.ready.now c.args.first c.args.second c.row_pointer.result code.now is.rows is.pointer)
     c.row_char.ensures

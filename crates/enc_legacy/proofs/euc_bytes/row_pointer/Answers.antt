@@ -1,6 +1,6 @@
 use Rattle.std.proofs.Common.{arith}
 use Rattle.enc_legacy.proofs.EucBytes.{are_rows, pointer_of, sum_fits}
-use Rattle.enc_legacy.proofs.euc_jp.pair_pointer.Goals as goal
+use Rattle.enc_legacy.proofs.euc_bytes.row_pointer.Goals as goal
 
 pub overflow_add-result-2 : goal.overflow_add-result-2
 overflow_add-result-2 c =
