@@ -24,7 +24,8 @@ sum_fits a b small below =
     let f = trail_at PAIRS of_lead of_trail rows b below in
     grind (arith, nat_tests, e, f)
 
-pub are_rows : (a b : ℕ) → a < 256 → b < 256 → get_or PAIRS a 0 + get_or PAIRS (TRAILS + b) 0 < NO_PAIR → IsRow a × IsRow b
+pub are_rows : (a b : ℕ) → a < 256 → b < 256 → get_or PAIRS a 0 + get_or PAIRS (TRAILS + b) 0 < NO_PAIR
+    → IsRow a × IsRow b
 are_rows a b small below few =
     let e = lead_at PAIRS of_lead of_trail rows a small in
     let f = trail_at PAIRS of_lead of_trail rows b below in

@@ -6,25 +6,27 @@ use Rattle.std.proofs.lemmas.Bool.Decides.{nat_tests}
 use Rattle.std.specs.List.{range_with_len}
 use Rattle.enc_legacy.specs.declared.pairs.TheConstants.{TRAILS}
 
--- what stands in a table of what bytes add as leads and then as trails
+-- what stands at a row of a table of what bytes add, as leads and then as trails
+abbrev row_of : (ℕ → ℕ) → (ℕ → ℕ) → ℕ → ℕ
+row_of lead trail n = if nat_lt n TRAILS then lead n else trail (n - TRAILS)
+
 abbrev pub rows_of : (ℕ → ℕ) → (ℕ → ℕ) → List ℕ
-rows_of lead trail = map (λ n. if nat_lt n TRAILS then lead n else trail (n - TRAILS)) (range_with_len 0 512)
+rows_of lead trail = map (row_of lead trail) (range_with_len 0 512)
+
+row_at : (table : List ℕ) (lead trail : ℕ → ℕ) → table ≡ rows_of lead trail → (n : ℕ) → n < 512
+    → get_or table n 0 ≡ row_of lead trail n
+row_at table lead trail is n small =
+    ap (λ l. get_or l n 0) is ∙ get_or-map-range_with_len (row_of lead trail) 0 512 n n 0 small (omega arith)
 
 pub lead_at : (table : List ℕ) (lead trail : ℕ → ℕ) → table ≡ rows_of lead trail → (b : ℕ) → b < 256
     → get_or table b 0 ≡ lead b
 lead_at table lead trail is b small =
-    ap (λ l. get_or l b 0) is
-    ∙ get_or-map-range_with_len (λ n. if nat_lt n TRAILS then lead n else trail (n - TRAILS)) 0 512 b b 0
-    (omega (arith, small)) (omega arith)
-    ∙ grind (arith, nat_tests, small)
+    row_at table lead trail is b (omega (arith, small)) ∙ grind (arith, nat_tests, small)
 
 pub trail_at : (table : List ℕ) (lead trail : ℕ → ℕ) → table ≡ rows_of lead trail → (b : ℕ) → b < 256
     → get_or table (TRAILS + b) 0 ≡ trail b
 trail_at table lead trail is b small =
-    ap (λ l. get_or l (TRAILS + b) 0) is
-    ∙ get_or-map-range_with_len (λ n. if nat_lt n TRAILS then lead n else trail (n - TRAILS)) 0 512 (TRAILS + b)
-    (TRAILS + b) 0 (omega (arith, small)) (omega arith)
-    ∙ grind (arith, nat_tests, small)
+    row_at table lead trail is (TRAILS + b) (omega (arith, small)) ∙ grind (arith, nat_tests, small)
 
 -- a pointer that has a character is one of the table's
 pub pointer_within : (codes : List (Option ℕ)) (p c : ℕ) → slice_index_or codes p None ≡ Some c → p < length codes

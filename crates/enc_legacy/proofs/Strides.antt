@@ -222,7 +222,8 @@ iso_two i output flag r a b c few codes read =
 
 -- the state after pairs: the first of them clears the flag
 pub iso_pairs : (i : Index) (output : Charset) (flag : Bool) (r : List (Option ℕ)) (bytes given : List ℕ)
-    → length r ≤ NO_PAIR → ((p : ℕ) → slice_index_or r p None ≡ code i p) → 0 < length bytes → ArePairs (IsIso2022Pair r) bytes given →
+    → length r ≤ NO_PAIR → ((p : ℕ) → slice_index_or r p None ≡ code i p) → 0 < length bytes
+    → ArePairs (IsIso2022Pair r) bytes given →
     steps (iso2022 i) false (record { place = In Lead; output = output; flag = flag }) bytes
     ≡ record { text = given; state = record { place = In Lead; output = output; flag = false } }
 iso_pairs i output flag r [] given few codes some all = absurd (omega (arith, some))

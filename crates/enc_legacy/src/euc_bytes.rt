@@ -14,8 +14,8 @@ pub(crate) fn row_pointer(lead: u8, b: u8) -> u32
     PAIRS[lead as usize] + PAIRS[TRAILS + b as usize]
 }
 
-/// What each byte adds as a lead, and from `TRAILS` on as a trail: a lead 94 for each lead before it, which are A1 to FE, and
-/// a trail 1 for each trail before it, which are the same. `NO_PAIR` for other bytes.
+/// What each byte adds as a lead, and from `TRAILS` on as a trail: a lead 94 for each lead before it, and a trail 1 for
+/// each trail before it. Both are A1 to FE; other bytes add `NO_PAIR`.
 #[rattlefmt::skip]
 pub(crate) static PAIRS: [u32; 512] = [
     32768, 32768, 32768, 32768, 32768, 32768, 32768, 32768, 32768, 32768, 32768, 32768, 32768, 32768, 32768, 32768,
