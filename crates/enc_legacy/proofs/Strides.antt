@@ -1,8 +1,8 @@
 -- Steps over some bytes at once.
-use Rattle.std.proofs.Common.{Bool, true, false, ap, IfSome, OnSome, Option, None, ℕ, sym, subst, ◌+◌}
+use Rattle.std.proofs.Common.{Bool, true, false, ap, IfSome, Option, None, ℕ, sym, subst, ◌+◌}
 use Rattle.std.proofs.Common.{◌-◌, ◌*◌, ◌<◌, ◌≤◌, ◌≡◌, List, [], ◌∷◌, Some, refl, ◌∙◌, arith, take, get_or, length, All}
 use Rattle.std.proofs.lemmas.Bool.Decides.{nat_tests}
-use Rattle.std.proofs.lemmas.List.{length-take, get_or-take, take-take}
+use Rattle.std.proofs.lemmas.List.{length-take, get_or-take}
 use Rattle.std.proofs.lemmas.List.Elements.{All-head, All-tail, All-from_get_or}
 use Rattle.std.proofs.lemmas.List.Sums.{prefix_len-le-length, prefix_len_passes}
 use Rattle.std.specs.List.{prefix_len}
@@ -20,8 +20,9 @@ use Rattle.enc_model.specs.Batches.{ArePairs, BatchTook}
 use Rattle.enc_model.specs.BatchLaws.{batch_sink}
 use Rattle.enc_model.proofs.Steps.{steps_none, steps_one, steps_bytes, steps_run, steps_append}
 use Rattle.enc_legacy.specs.ShiftJis.{IsShiftJisLead, IsShiftJisPair}
-use Rattle.enc_legacy.specs.EucJpState.{IsRow}
-use Rattle.enc_legacy.specs.Iso2022State.{IsIso2022Row}
+use Rattle.enc_legacy.specs.EucJpState.{IsRow, IsEucJpPair}
+use Rattle.enc_legacy.specs.declared.pairs.TheConstants.{NO_PAIR}
+use Rattle.enc_legacy.specs.Iso2022State.{IsIso2022Pair}
 use Rattle.std.proofs.Common.{slice_index_or}
 
 take_one : (xs : List ℕ) → 0 < length xs → take 1 xs ≡ get_or xs 0 0 ∷ []
@@ -81,12 +82,6 @@ pub some_then : {A : Type 0} (o : Option A) (P Q : A → Type 0) → ((x : A) �
 some_then None P Q f p = tt
 some_then (Some x) P Q f p = f x p
 
--- all three that are said where there is one
-pub some_three : {A : Type 0} (o : Option A) (P Q : Type 0) (R : A → Type 0) → OnSome o P → OnSome o Q → IfSome o R
-    → IfSome o (λ c. P × Q × R c)
-some_three None P Q R p q r = tt
-some_three (Some c) P Q R p q r = (p, q, r)
-
 -- what is taken after nothing
 pub after_nothing : {S : Type 0} (h : Handler S) (s : S) (rest : List ℕ) (n : ℕ) (old mid : List ℕ) → n ≡ 0
     → BatchTook old (steps h false s (take n rest)).text mid → (length mid ≤ length old)
@@ -145,7 +140,7 @@ sjis_two i s rest c e l lead pair =
     rw e (two_read (shift_jis i) (shift_jis_calm i) 0 a 0 rest c l (sjis_lead i a lead)
     (sjis_trail i a (get_or rest 1 0) c lead pair))
 
-pub sjis_pair_steps : (i : Index) (s : ℕ) (r : List (Option ℕ)) → s ≡ 0 → length r ≤ 0x8000
+pub sjis_pair_steps : (i : Index) (s : ℕ) (r : List (Option ℕ)) → s ≡ 0 → length r ≤ NO_PAIR
     → ((p : ℕ) → slice_index_or r p None ≡ code i p) → (a b c : ℕ) → IsShiftJisPair r a b c
     → steps (shift_jis i) false s (a ∷ b ∷ []) ≡ record { text = c ∷ []; state = s }
 sjis_pair_steps i s r e few codes a b c stands =
@@ -187,11 +182,11 @@ row_pair : (i j : Index) (a b : ℕ) → IsRow a → IsRow b → euc_jp_pair i j
     ((a - 0xA1) * 94 + (b - 0xA1))
 row_pair i j a b l m = grind (arith, nat_tests, l, m)
 
-pub euc_pair_steps : (i j : Index) (s : EucJp) (r : List (Option ℕ)) → s ≡ euc_jp_start
-    → ((p : ℕ) → slice_index_or r p None ≡ code i p) → (a b c : ℕ) →
-    IsRow a × IsRow b × (slice_index_or r ((a - 0xA1) * 94 + (b - 0xA1)) None ≡ Some c)
+pub euc_pair_steps : (i j : Index) (s : EucJp) (r : List (Option ℕ)) → s ≡ euc_jp_start → length r ≤ NO_PAIR
+    → ((p : ℕ) → slice_index_or r p None ≡ code i p) → (a b c : ℕ) → IsEucJpPair r a b c
     → steps (euc_jp i j) false s (a ∷ b ∷ []) ≡ record { text = c ∷ []; state = s }
-euc_pair_steps i j s r e codes a b c p =
+euc_pair_steps i j s r e few codes a b c read =
+    let p = read few in
     let stands = row_pair i j a b p.0 p.1 ∙ sym (codes ((a - 0xA1) * 94 + (b - 0xA1))) ∙ p.2 in
     euc_two i j s (a ∷ b ∷ []) c e (omega arith) p.0 stands ∙ ap (λ (z : EucJp). record {
       text = c ∷ [];
@@ -213,16 +208,12 @@ iso_trail : (i : Index) (a b c : ℕ) (output : Charset) → 0x21 ≤ b → b �
 unfolding iso2022
 iso_trail i a b c output l h e = rw e (grind (arith, nat_tests))
 
--- what such a pair stands for by these codes
-abbrev pub IsIso2022Pair : List (Option ℕ) → ℕ → ℕ → ℕ → Type 0
-IsIso2022Pair r a b c =
-    IsIso2022Row a × IsIso2022Row b × (slice_index_or r ((a - 0x21) * 94 + (b - 0x21)) None ≡ Some c)
-
 iso_two : (i : Index) (output : Charset) (flag : Bool) (r : List (Option ℕ)) (a b c : ℕ)
-    → ((p : ℕ) → slice_index_or r p None ≡ code i p) → IsIso2022Pair r a b c →
+    → length r ≤ NO_PAIR → ((p : ℕ) → slice_index_or r p None ≡ code i p) → IsIso2022Pair r a b c →
     steps (iso2022 i) false (record { place = In Lead; output = output; flag = flag }) (a ∷ b ∷ [])
     ≡ record { text = c ∷ []; state = record { place = In Lead; output = output; flag = false } }
-iso_two i output flag r a b c codes p =
+iso_two i output flag r a b c few codes read =
+    let p = read few in
     let lead = p.0 in
     let trail = p.1 in
     two_read (iso2022 i) (iso2022_calm i) _ _ _ (a ∷ b ∷ []) c (omega arith)
@@ -231,20 +222,21 @@ iso_two i output flag r a b c codes p =
 
 -- the state after pairs: the first of them clears the flag
 pub iso_pairs : (i : Index) (output : Charset) (flag : Bool) (r : List (Option ℕ)) (bytes given : List ℕ)
-    → ((p : ℕ) → slice_index_or r p None ≡ code i p) → 0 < length bytes → ArePairs (IsIso2022Pair r) bytes given →
+    → length r ≤ NO_PAIR → ((p : ℕ) → slice_index_or r p None ≡ code i p) → 0 < length bytes
+    → ArePairs (IsIso2022Pair r) bytes given →
     steps (iso2022 i) false (record { place = In Lead; output = output; flag = flag }) bytes
     ≡ record { text = given; state = record { place = In Lead; output = output; flag = false } }
-iso_pairs i output flag r [] given codes some all = absurd (omega (arith, some))
-iso_pairs i output flag r (a ∷ []) [] codes some all = absurd all
-iso_pairs i output flag r (a ∷ []) (c ∷ given) codes some all = absurd all
-iso_pairs i output flag r (a ∷ b ∷ bytes) [] codes some all = absurd all
-iso_pairs i output flag r (a ∷ b ∷ bytes) (c ∷ given) codes some all =
+iso_pairs i output flag r [] given few codes some all = absurd (omega (arith, some))
+iso_pairs i output flag r (a ∷ []) [] few codes some all = absurd all
+iso_pairs i output flag r (a ∷ []) (c ∷ given) few codes some all = absurd all
+iso_pairs i output flag r (a ∷ b ∷ bytes) [] few codes some all = absurd all
+iso_pairs i output flag r (a ∷ b ∷ bytes) (c ∷ given) few codes some all =
     let h = iso2022 i in
     let s : Iso2022 = record { place = In Lead; output = output; flag = flag } in
     let next : Iso2022 = record { place = In Lead; output = output; flag = false } in
-    let first = iso_two i output flag r a b c codes all.0 in
+    let first = iso_two i output flag r a b c few codes all.0 in
     let rest = pairs_run h (iso2022_calm i) next (IsIso2022Pair r)
-    (λ x y z p. iso_two i output false r x y z codes p) bytes given all.1 in
+    (λ x y z p. iso_two i output false r x y z few codes p) bytes given all.1 in
     steps_append h (iso2022_calm i) false s (a ∷ b ∷ []) bytes ∙ (rw (first, rest) refl)
 
 iso_own : (i : Index) (output : Charset) (flag : Bool) (b : ℕ) → is_plain_2022 b ≡ true →
@@ -292,14 +284,3 @@ iso_front i output flag rest n e some =
     let long : 0 < length (take n rest) = let t = length-take n rest in let w =
     prefix_len-le-length is_plain_2022 rest in omega (arith, t, w, some, e) in
     (λ k d l. plain_ascii (get_or (take n rest) k d) (all k d l), iso_run i output flag (take n rest) long all)
-
--- pairs at the front of a front
-pub pairs_in_front : (P : ℕ → ℕ → ℕ → Type 0) (n : ℕ) (front rest : List ℕ) → front ≡ take (length front) rest
-    → n ≤ length front → (old new : List ℕ)
-    → (given : List ℕ) × ArePairs P (take n front) given × BatchTook old given new
-    → (given : List ℕ) × ArePairs P (take n rest) given × BatchTook old given new
-pairs_in_front P n front rest is within old new took = (
-  took.0,
-  subst (λ (bytes : List ℕ). ArePairs P bytes took.0) (ap (take n) is ∙ take-take n (length front) rest within) took.1,
-  took.2,
-)

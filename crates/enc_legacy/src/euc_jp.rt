@@ -1,21 +1,22 @@
 //! The decoder of EUC-JP.
 
-ghost use Rattle.std.specs.Prelude.{◌≡◌, OnOk, OnSome, IfSome, false, true, ◌+◌, ◌-◌, ◌*◌, [], Some, None};
-ghost use Rattle.std.specs.Prelude.{slice_index_or};
-ghost use Rattle.enc_legacy.specs.EucJpState.{IsEucJpState, IsRow};
+ghost use Rattle.std.specs.Prelude.{◌≡◌, OnOk, false, true, []};
+ghost use Rattle.enc_legacy.specs.EucJpState.{IsEucJpPair, IsEucJpState};
 ghost use Rattle.enc_model.specs.Stream.{steps};
 ghost use Rattle.enc_model.specs.Sink.{Given};
 ghost use Rattle.enc_model.specs.Japanese.{EucJp, euc_jp, euc_jp_start, euc_jp_pair};
 ghost use Rattle.enc_model.specs.Indexes.{tables};
 ghost use Rattle.enc_model.proofs.Calm.{euc_jp_calm};
 
+use crate::euc_bytes::row_pointer;
 use crate::kana::{half_width, pair_answer};
+use crate::pairs::{ready_rows, row_char};
 use crate::stride::{PairDecoder, Strider, decode_strides, read_run};
 use enc_index::{IndexSet, Kind};
 use enc_model::{
     Answer, Batch, BlockDecoder, Decoder, PairReader, Restored, Sink, Utf8Char, feed, finish,
 };
-use lane_kernels::{ascii_front, ascii_lanes, range_front};
+use lane_kernels::{ascii_front, ascii_lanes};
 use std::marker::Model;
 
 /// A decoder of EUC-JP (Encoding Standard, section 12.1.1): the lead that is kept, or 0, and whether it is one of
@@ -97,35 +98,8 @@ impl Decoder for EucJpState {
     ghost calm = { λ t. euc_jp_calm (tables t).jis0208 (tables t).jis0212 };
 }
 
-/// The pointer in jis0208 of two bytes, where they are of its rows.
-#[inline(always)]
-fn row_pointer(lead: u8, b: u8) -> Option<usize>
-    ensures lead { OnSome result (IsRow lead) }
-    ensures trail { OnSome result (IsRow b) }
-    ensures pointer { IfSome result (λ p. p ≡ (lead - 0xA1) * 94 + (b - 0xA1)) }
-{
-    if lead < 0xA1 || 0xFE < lead || b < 0xA1 || 0xFE < b {
-        None
-    } else {
-        Some((lead as usize - 0xA1) * 94 + (b as usize - 0xA1))
-    }
-}
-
-/// The character of jis0208 that two bytes of its rows stand for.
-#[inline(always)]
-fn row_char(ready: &[Option<Utf8Char>], lead: u8, b: u8) -> Option<&Utf8Char>
-    ensures lead { OnSome result (IsRow lead) }
-    ensures trail { OnSome result (IsRow b) }
-    ensures char { IfSome result
-        (λ c. slice_index_or ready.now ((lead - 0xA1) * 94 + (b - 0xA1)) None ≡ Some c.now) }
-{
-    let pointer = row_pointer(lead, b)?;
-    ready.get(pointer)?.as_ref()
-}
-
 impl PairReader for EucJpState {
-    ghost stand_for = { λ r a b c. IsRow a × IsRow b
-        × (slice_index_or r ((a - 0xA1) * 94 + (b - 0xA1)) None ≡ Some c) };
+    ghost stand_for = { IsEucJpPair };
 
     #[inline(always)]
     fn ready_pair<'a>(
@@ -134,7 +108,7 @@ impl PairReader for EucJpState {
         first: u8,
         second: u8,
     ) -> Option<&'a Utf8Char> {
-        row_char(ready, first, second)
+        row_char(ready, row_pointer(first, second))
     }
 }
 
@@ -164,12 +138,7 @@ impl PairDecoder for EucJpState {
         if self.lead != 0 {
             return None;
         }
-        indexes.ready(Kind::Jis0208)
-    }
-
-    #[inline(always)]
-    fn pair_front<'a>(&self, bytes: &'a [u8]) -> &'a [u8] {
-        &bytes[..range_front(bytes, 0xA1, 0xFE)]
+        ready_rows(indexes)
     }
 }
 

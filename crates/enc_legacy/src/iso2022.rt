@@ -1,8 +1,7 @@
 //! The decoder of ISO-2022-JP.
 
-ghost use Rattle.std.specs.Prelude.{◌≡◌, OnOk, OnSome, IfSome, ◌+◌, ◌-◌, ◌*◌, true, ◌≤◌, false, [], Some, None};
-ghost use Rattle.std.specs.Prelude.{length, take, slice_index_or};
-ghost use Rattle.enc_legacy.specs.Iso2022State.{IsStand, IsIso2022Row};
+ghost use Rattle.std.specs.Prelude.{◌≡◌, OnOk, ◌+◌, ◌*◌, true, ◌≤◌, false, [], length, take};
+ghost use Rattle.enc_legacy.specs.Iso2022State.{IsStand, IsIso2022Pair};
 ghost use Rattle.enc_model.specs.Batches.{BatchTook};
 ghost use Rattle.enc_model.specs.declared.Charset.TheVariants.{Ascii, Lead};
 ghost use Rattle.enc_model.specs.declared.Place.TheVariants.{In};
@@ -13,7 +12,9 @@ ghost use Rattle.enc_model.specs.Japanese.{iso2022_plain, escape_of, introducer_
 ghost use Rattle.enc_model.proofs.Calm.{iso2022_calm};
 ghost use Rattle.enc_model.specs.Indexes.{tables};
 
+use crate::euc_bytes::row_pointer;
 use crate::kana::{answer_for, half_width};
+use crate::pairs::{ready_rows, row_char};
 use crate::stride::{Strider, decode_strides};
 use enc_index::{IndexSet, Kind};
 use enc_model::{
@@ -234,35 +235,10 @@ impl Decoder for Iso2022State {
     ghost calm = { λ t. iso2022_calm (tables t).jis0208 };
 }
 
-/// The pointer in jis0208 of two bytes, where they are of its rows.
-#[inline(always)]
-fn row_pointer(lead: u8, b: u8) -> Option<usize>
-    ensures lead { OnSome result (IsIso2022Row lead) }
-    ensures trail { OnSome result (IsIso2022Row b) }
-    ensures pointer { IfSome result (λ p. p ≡ (lead - 0x21) * 94 + (b - 0x21)) }
-{
-    if lead < 0x21 || 0x7E < lead || b < 0x21 || 0x7E < b {
-        None
-    } else {
-        Some((lead as usize - 0x21) * 94 + (b as usize - 0x21))
-    }
-}
-
-/// The character of jis0208 that two bytes stand for.
-#[inline(always)]
-fn row_char(ready: &[Option<Utf8Char>], lead: u8, b: u8) -> Option<&Utf8Char>
-    ensures lead { OnSome result (IsIso2022Row lead) }
-    ensures trail { OnSome result (IsIso2022Row b) }
-    ensures char { IfSome result (λ c. slice_index_or ready.now ((lead - 0x21) * 94 + (b - 0x21)) None ≡ Some c.now) }
-{
-    let pointer = row_pointer(lead, b)?;
-    ready.get(pointer)?.as_ref()
-}
-
 impl PairReader for Iso2022State {
-    ghost stand_for = { λ r a b c. IsIso2022Row a × IsIso2022Row b
-        × (slice_index_or r ((a - 0x21) * 94 + (b - 0x21)) None ≡ Some c) };
+    ghost stand_for = { IsIso2022Pair };
 
+    // The bytes are those of EUC-JP without the top bit.
     #[inline(always)]
     fn ready_pair<'a>(
         &self,
@@ -270,7 +246,10 @@ impl PairReader for Iso2022State {
         first: u8,
         second: u8,
     ) -> Option<&'a Utf8Char> {
-        row_char(ready, first, second)
+        row_char(
+            ready,
+            row_pointer(first.wrapping_add(0x80), second.wrapping_add(0x80)),
+        )
     }
 }
 
@@ -306,7 +285,7 @@ impl Iso2022State {
         ensures state { self.new
             ≡ (steps (iso2022 (tables indexes.now).jis0208) false self.old (take result rest.now)).state }
     {
-        let Some(ready) = indexes.ready(Kind::Jis0208) else {
+        let Some(ready) = ready_rows(indexes) else {
             return 0;
         };
         let run = batch.push_pairs(self, ready, rest);

@@ -1,9 +1,11 @@
 //! The single-byte and the Japanese decoders.
 #![tactic(auto)]
 
+mod euc_bytes;
 mod euc_jp;
 mod iso2022;
 mod kana;
+mod pairs;
 mod shift_jis;
 mod single;
 mod sjis_bytes;

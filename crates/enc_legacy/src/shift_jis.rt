@@ -10,7 +10,8 @@ ghost use Rattle.enc_model.specs.Indexes.{tables};
 ghost use Rattle.enc_model.proofs.Calm.{shift_jis_calm};
 
 use crate::kana::{half_width, pair_answer};
-use crate::sjis_bytes::{LEADS, NO_PAIR, TRAILS};
+use crate::pairs::{NO_PAIR, TRAILS, ready_rows, row_char};
+use crate::sjis_bytes::PAIRS;
 use crate::stride::{PairDecoder, Strider, decode_strides, read_run};
 use enc_index::{IndexSet, Kind};
 use enc_model::{
@@ -96,19 +97,10 @@ impl Decoder for ShiftJisState {
 /// The pointer that two bytes stand for in jis0208, or a number from `NO_PAIR` on where they stand for none.
 #[inline(always)]
 fn pair_pointer(lead: u8, b: u8) -> u32
-    ensures lead { result < 0x8000 → IsShiftJisLead lead }
-    ensures pair { result < 0x8000 → (i : Index) → shift_jis_pair i lead b ≡ code i result }
+    ensures lead { result < NO_PAIR → IsShiftJisLead lead }
+    ensures pair { result < NO_PAIR → (i : Index) → shift_jis_pair i lead b ≡ code i result }
 {
-    LEADS[lead as usize] as u32 + TRAILS[b as usize] as u32
-}
-
-/// The character of jis0208 that two bytes stand for.
-#[inline(always)]
-fn row_char(ready: &[Option<Utf8Char>], lead: u8, b: u8) -> Option<&Utf8Char>
-    ensures { IfSome result (λ c. IsShiftJisPair ready.now lead b c.now) }
-{
-    let pointer = pair_pointer(lead, b);
-    ready.get(pointer as usize)?.as_ref()
+    PAIRS[lead as usize] + PAIRS[TRAILS + b as usize]
 }
 
 impl PairReader for ShiftJisState {
@@ -121,7 +113,7 @@ impl PairReader for ShiftJisState {
         first: u8,
         second: u8,
     ) -> Option<&'a Utf8Char> {
-        row_char(ready, first, second)
+        row_char(ready, pair_pointer(first, second))
     }
 }
 
@@ -151,12 +143,7 @@ impl PairDecoder for ShiftJisState {
         if self.lead != 0 {
             return None;
         }
-        let ready = indexes.ready(Kind::Jis0208)?;
-        if ready.len() <= NO_PAIR {
-            Some(ready)
-        } else {
-            None
-        }
+        ready_rows(indexes)
     }
 }
 

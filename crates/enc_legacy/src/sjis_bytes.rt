@@ -1,12 +1,10 @@
 //! What the two bytes of a pair of Shift_JIS add to its pointer (Encoding Standard, section 12.3.1).
 
-/// More than any pointer of jis0208: what a byte adds that isn't of a pair.
-pub(crate) const NO_PAIR: usize = 0x8000;
-
-/// What a lead adds to the pointer: 188 for each lead before it, which are 81 to 9F and E0 to FC. `NO_PAIR` for other
-/// bytes, and for F0 to F9, whose pairs are for private use and stand in no index.
+/// What each byte adds as a lead, and from `TRAILS` on as a trail: a lead 188 for each lead before it, and a trail 1
+/// for each trail before it. Leads are 81 to 9F and E0 to FC, and trails 40 to 7E and 80 to FC; other bytes add
+/// `NO_PAIR`, and so do F0 to F9 as leads, whose pairs are for private use and stand in no index.
 #[rattlefmt::skip]
-pub(crate) static LEADS: [u16; 256] = [
+pub(crate) static PAIRS: [u32; 512] = [
     32768, 32768, 32768, 32768, 32768, 32768, 32768, 32768, 32768, 32768, 32768, 32768, 32768, 32768, 32768, 32768,
     32768, 32768, 32768, 32768, 32768, 32768, 32768, 32768, 32768, 32768, 32768, 32768, 32768, 32768, 32768, 32768,
     32768, 32768, 32768, 32768, 32768, 32768, 32768, 32768, 32768, 32768, 32768, 32768, 32768, 32768, 32768, 32768,
@@ -23,12 +21,6 @@ pub(crate) static LEADS: [u16; 256] = [
     32768, 32768, 32768, 32768, 32768, 32768, 32768, 32768, 32768, 32768, 32768, 32768, 32768, 32768, 32768, 32768,
     5828, 6016, 6204, 6392, 6580, 6768, 6956, 7144, 7332, 7520, 7708, 7896, 8084, 8272, 8460, 8648,
     32768, 32768, 32768, 32768, 32768, 32768, 32768, 32768, 32768, 32768, 10716, 10904, 11092, 32768, 32768, 32768,
-];
-
-/// What a trail adds to the pointer: 1 for each trail before it, which are 40 to 7E and 80 to FC. `NO_PAIR` for other
-/// bytes.
-#[rattlefmt::skip]
-pub(crate) static TRAILS: [u16; 256] = [
     32768, 32768, 32768, 32768, 32768, 32768, 32768, 32768, 32768, 32768, 32768, 32768, 32768, 32768, 32768, 32768,
     32768, 32768, 32768, 32768, 32768, 32768, 32768, 32768, 32768, 32768, 32768, 32768, 32768, 32768, 32768, 32768,
     32768, 32768, 32768, 32768, 32768, 32768, 32768, 32768, 32768, 32768, 32768, 32768, 32768, 32768, 32768, 32768,

@@ -34,15 +34,6 @@ pub trait PairDecoder: Decoder + PairReader {
         ensures few { result ≤ LANES }
         ensures front { IsFront (Self.handler tables.now) self.now bytes.now result };
 
-    /// The bytes in front in which pairs are looked for.
-    #[inline(always)]
-    fn pair_front<'a>(&self, bytes: &'a [u8]) -> &'a [u8]
-        ensures within { length result.now ≤ length bytes.now }
-        ensures front { result.now ≡ take (length result.now) bytes.now }
-    {
-        bytes
-    }
-
     /// Characters by their pointers, where a table has them ready and pairs are read from here.
     fn ready<'a>(&self, tables: &'a Self::Tables) -> Option<&'a [Option<Utf8Char>]>
         ensures { IfSome result (λ r. (a b c : ℕ) → Self.stand_for r.now a b c
@@ -67,7 +58,7 @@ fn read_pairs<D: PairDecoder>(
     ensures state { state.now ≡ (steps (D.handler tables.now) false state.now (take result rest.now)).state }
 {
     match state.ready(tables) {
-        Some(ready) => batch.push_pairs(state, ready, state.pair_front(rest)),
+        Some(ready) => batch.push_pairs(state, ready, rest),
         None => 0,
     }
 }

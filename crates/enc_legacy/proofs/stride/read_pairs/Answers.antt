@@ -3,28 +3,22 @@ use Rattle.enc_model.specs.Batches.{BatchTook, BatchRefused}
 use Rattle.enc_model.specs.BatchLaws.{batch_sink}
 use Rattle.enc_model.proofs.Steps.{steps_none}
 use Rattle.enc_model.proofs.Feeding.{feed_begins}
-use Rattle.enc_legacy.proofs.Strides.{pairs_in_front, pairs_read}
+use Rattle.enc_legacy.proofs.Strides.{pairs_read}
 use Rattle.enc_legacy.proofs.stride.read_pairs.Goals as goal
 
 pub returns-in-Some-clause-text : goal.returns-in-Some-clause-text
 returns-in-Some-clause-text g c =
     let t = c.args.tables.now in
-    let s = c.args.state.now in
-    let stand_for = g.D.PairReader.stand_for c.in-Some.ready.now in
-    (pairs_read (g.D.Decoder.handler t) (g.met.D.Decoder.calm t) s stand_for c.in-Some.ensures
-    (take c.push_pairs.result c.args.rest.now) c.args.batch.now c.push_pairs.new.self
-    (pairs_in_front stand_for c.push_pairs.result c.pair_front.result.now c.args.rest.now c.pair_front.ensures.front
-    c.push_pairs.ensures.within c.args.batch.now c.push_pairs.new.self c.push_pairs.ensures.took)).0
+    (pairs_read (g.D.Decoder.handler t) (g.met.D.Decoder.calm t) c.args.state.now
+    (g.D.PairReader.stand_for c.in-Some.ready.now) c.in-Some.ensures (take c.push_pairs.result c.args.rest.now)
+    c.args.batch.now c.push_pairs.new.self c.push_pairs.ensures.took).0
 
 pub returns-in-Some-clause-state : goal.returns-in-Some-clause-state
 returns-in-Some-clause-state g c =
     let t = c.args.tables.now in
-    let s = c.args.state.now in
-    let stand_for = g.D.PairReader.stand_for c.in-Some.ready.now in
-    (pairs_read (g.D.Decoder.handler t) (g.met.D.Decoder.calm t) s stand_for c.in-Some.ensures
-    (take c.push_pairs.result c.args.rest.now) c.args.batch.now c.push_pairs.new.self
-    (pairs_in_front stand_for c.push_pairs.result c.pair_front.result.now c.args.rest.now c.pair_front.ensures.front
-    c.push_pairs.ensures.within c.args.batch.now c.push_pairs.new.self c.push_pairs.ensures.took)).1
+    (pairs_read (g.D.Decoder.handler t) (g.met.D.Decoder.calm t) c.args.state.now
+    (g.D.PairReader.stand_for c.in-Some.ready.now) c.in-Some.ensures (take c.push_pairs.result c.args.rest.now)
+    c.args.batch.now c.push_pairs.new.self c.push_pairs.ensures.took).1
 
 pub returns-in-None-clause-text : goal.returns-in-None-clause-text
 returns-in-None-clause-text g c =

@@ -1,5 +1,10 @@
-use Rattle.enc_legacy.proofs.Strides.{some_three}
+use Rattle.enc_legacy.proofs.Strides.{some_then}
+use Rattle.enc_legacy.proofs.EucBytes.{euc_read}
 use Rattle.enc_legacy.proofs.euc_jp.EucJpStatePairReader.ready_pair.Goals as goal
 
 pub returns : goal.returns
-returns c = let e = c.row_char.ensures in some_three c.row_char.result _ _ _ e.lead e.trail e.char
+returns c =
+    let is = c.row_pointer.ensures in
+    some_then c.row_char.result _ _
+    (λ code. euc_read c.args.ready.now c.args.first c.args.second c.row_pointer.result code.now is.rows is.pointer)
+    c.row_char.ensures

@@ -11,7 +11,8 @@ use Rattle.enc_model.specs.Stream.{Run, steps}
 use Rattle.enc_model.proofs.Calm.{iso2022_calm}
 use Rattle.enc_model.proofs.Steps.{steps_none}
 use Rattle.enc_model.proofs.Feeding.{feed_begins}
-use Rattle.enc_legacy.proofs.Strides.{IsIso2022Pair, iso_pairs, pairs_none}
+use Rattle.enc_legacy.specs.Iso2022State.{IsIso2022Pair}
+use Rattle.enc_legacy.proofs.Strides.{iso_pairs, pairs_none}
 use Rattle.enc_legacy.proofs.iso2022.Iso2022State.read_pairs.Goals as goal
 
 pub returns-in_default-clause-text : goal.returns-in_default-clause-text
@@ -45,7 +46,8 @@ returns-clause-text c =
     let place : i.place ≡ In Lead = ap (λ s. s.place) c.self.view_is ∙ c.requires.place in
     let some : 0 < length bytes = let l = length-take n c.args.rest.now in let w = e.within in
     omega (arith, none, l, w) in
-    let is = iso_pairs jis0208 i.output i.flag c.in-Some.ready.now bytes e.took.0 c.in-Some.ensures some e.took.1 in
+    let rows = c.in-Some.ensures in
+    let is = iso_pairs jis0208 i.output i.flag c.in-Some.ready.now bytes e.took.0 rows.few rows.codes some e.took.1 in
     let here : c.args.self.now ≡ record { place = In Lead; output = i.output; flag = i.flag } =
     sym c.self.view_is ∙ ap (λ (p : Place). record { place = p; output = i.output; flag = i.flag }) place in
     rw here (subst (λ z. BatchTook c.args.batch.now z c.push_pairs-run.new.self) (ap (λ run. run.text) (sym is))
@@ -62,7 +64,8 @@ returns-clause-state c =
     let place : i.place ≡ In Lead = ap (λ s. s.place) c.self.view_is ∙ c.requires.place in
     let some : 0 < length bytes = let l = length-take n c.args.rest.now in let w = e.within in
     omega (arith, none, l, w) in
-    let is = iso_pairs jis0208 i.output i.flag c.in-Some.ready.now bytes e.took.0 c.in-Some.ensures some e.took.1 in
+    let rows = c.in-Some.ensures in
+    let is = iso_pairs jis0208 i.output i.flag c.in-Some.ready.now bytes e.took.0 rows.few rows.codes some e.took.1 in
     let here : c.args.self.now ≡ record { place = In Lead; output = i.output; flag = i.flag } =
     sym c.self.view_is ∙ ap (λ (p : Place). record { place = p; output = i.output; flag = i.flag }) place in
     ap (λ (p : Place). record { place = p; output = i.output; flag = false }) place
