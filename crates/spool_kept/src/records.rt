@@ -38,8 +38,8 @@ impl KeptRecord {
     ///
     /// # Errors
     ///
-    /// `Damaged` where the state is none of a transcoder, or the metadata isn't printable ASCII; `NoMemory` where a
-    /// growth was refused.
+    /// `Damaged` where the state is none of a transcoder, or the metadata isn't printable ASCII; `NoMemory` where an
+    /// allocation was refused.
     pub fn of(alloc: Global, record: &SlotRecord<'_>) -> Result<KeptRecord, CheckError>
         requires { length «record».now.metadata ≤ 1536 }
         ensures passes { FitsKept (Some «record».now) → IsOkUnless result CheckError.NoMemory }

@@ -16,7 +16,7 @@ const SLOT_COUNT: usize = 512;
 /// After the last number: the greatest next number.
 pub const NUMBERS_END: u64 = 1_000_000_000_000_000_000;
 
-/// Uploads in memory: without a device, and without a limit of room.
+/// Uploads in memory: without a disk, and without a limit of room.
 #[derive(Drop)]
 pub struct Table {
     alloc: Global,
