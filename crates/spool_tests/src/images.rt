@@ -4,7 +4,7 @@ use crate::uploads::{fresh, opened};
 use enc_index::{Index, IndexSet, Kind};
 use enc_model::{Encoding, Mode};
 use enc_stream::Transcoder;
-use spool_disk::{Crash, Disk, FuseDisk, MemoryDisk};
+use spool_disk::{Disk, MemoryDisk};
 use spool_image::{FormatError, OpenFault, Spool, format, pages_of};
 use spool_pages::{SlotRecord, Version};
 use std::alloc::Global;
@@ -107,27 +107,6 @@ fn spool_is_not_formatted_again(rt: HostRuntime) {
             Err(FormatError::AlreadySpool)
         )
     );
-}
-
-#[test]
-fn fault_of_the_disk_leaves_no_spool(rt: HostRuntime) {
-    let indexes = IndexSet::new(rt.alloc()).expect(&rt, "memory for a set");
-    let mut passed = 0u64;
-    // at most a read, 557 pages and a sync after each
-    for _ in 0..1116 {
-        let mut fuse = FuseDisk::new(small_disk(&rt, rt.alloc()), passed);
-        let made = format(&mut fuse, 16, &indexes);
-        let mut left = fuse.into_inner().crash(Crash::Old);
-        let whole = made.is_ok();
-        assert!(rt; whole || made == Err(FormatError::DiskFault), "{passed}");
-        assert_eq!(rt; byte_at(&rt, &mut left, 0) == b'T', whole, "{passed}");
-        if whole {
-            break;
-        }
-        passed = passed.saturating_add(1);
-    }
-    // each page is written, and synced
-    assert!(rt; passed > 557);
 }
 
 /// What opening a disk answers where it is refused, and the disk.
@@ -262,31 +241,4 @@ fn damaged_spools_are_refused(rt: HostRuntime) {
     // after the closed gate a head with a page more than the journal has
     put(&rt, &mut disk, 8192, &[0, 0, 1, 3]);
     refuse_all(&rt, rt.alloc(), disk, &DAMAGED);
-}
-
-/// What opening a disk answers that stops after so many calls, and the disk.
-fn opened_within(alloc: Global, disk: MemoryDisk, passed: u64) -> (MemoryDisk, Option<OpenFault>) {
-    match Spool::open(alloc, FuseDisk::new(disk, passed)) {
-        Ok(spool) => (spool.into_disk().into_inner(), None),
-        Err((fuse, fault)) => (fuse.into_inner(), Some(fault)),
-    }
-}
-
-#[test]
-fn each_call_of_opening_may_fail(rt: HostRuntime) {
-    let mut disk = fresh(&rt, rt.alloc());
-    let mut passed = 0u64;
-    for _ in 0..4096 {
-        let (back, fault) = opened_within(rt.alloc(), disk, passed);
-        disk = back;
-        if fault.is_none() {
-            break;
-        }
-        assert_eq!(rt; fault, Some(OpenFault::DiskFault), "{passed}");
-        passed = passed.saturating_add(1);
-    }
-    // the state page, page 0, the index area's 22, 512 records and a page of rows are read
-    assert!(rt; passed >= 537);
-    let (_, fault) = opened_within(rt.alloc(), disk, passed);
-    assert_eq!(rt; fault, None);
 }
