@@ -160,6 +160,16 @@ fn with_uploads(rt: &impl Abort, alloc: Global) -> MemoryDisk {
     disk
 }
 
+/// The output and the length of an upload.
+fn told(spool: &Spool<MemoryDisk>, number: u64) -> Option<(Encoding, Option<u64>)> {
+    spool.record(number).map(|it| (it.to, it.declared))
+}
+
+/// The number of the first upload after one.
+fn after_it(spool: &Spool<MemoryDisk>, number: u64) -> Option<u64> {
+    spool.record_after(number).map(|it| it.number)
+}
+
 #[test]
 fn uploads_are_told_of_and_read(rt: HostRuntime) {
     let mut spool = opened(&rt, rt.alloc(), with_uploads(&rt, rt.alloc()));
@@ -171,10 +181,13 @@ fn uploads_are_told_of_and_read(rt: HostRuntime) {
         (8, false)
     );
     assert!(rt; spool.record(4).is_none());
-    assert_eq!(rt; spool.record(7).map(|r| r.to), Some(Encoding::ShiftJis));
-    assert_eq!(rt; spool.record(2).map(|r| r.declared), Some(None));
-    for (number, after) in [(2, Some(3)), (3, Some(7)), (7, None)] {
-        assert_eq!(rt; spool.record_after(number).map(|r| r.number), after);
+    for (number, declared, after) in [
+        (2, None, Some(3)),
+        (3, Some(5000), Some(7)),
+        (7, Some(5000), None),
+    ] {
+        assert_eq!(rt; told(&spool, number), Some((Encoding::ShiftJis, declared)));
+        assert_eq!(rt; after_it(&spool, number), after);
     }
     let mut buf = [0; 4];
     let read = spool.read_text(7, 4094, &mut buf);
