@@ -187,8 +187,16 @@ static STORIES: [Row; 8] = [
 /// Reads of a text that is given in two pieces.
 static PIECES: [Row; 1] = [(32, &[], LONG_TEXT)];
 
-/// In each story each call fails once, and leaves so many bytes of this value.
-fn fail_once(rt: &impl Abort, alloc: Global, rows: &[Row], fill: Option<u8>) {
+/// How a disk fails: each call once, leaving so many bytes of this value; or all calls from each one on, and a crash of
+/// this kind comes.
+#[derive(Clone, Copy)]
+enum Failing {
+    Once(Option<u8>),
+    Stays(Crash),
+}
+
+/// In each story the disk fails so.
+fn fail(rt: &impl Abort, alloc: Global, rows: &[Row], failing: Failing) {
     for &(blocks, files, steps) in rows {
         let talk = Talk::new(rt, alloc, steps);
         let story = Story {
@@ -197,40 +205,34 @@ fn fail_once(rt: &impl Abort, alloc: Global, rows: &[Row], fill: Option<u8>) {
             files,
             talk: &talk,
         };
-        story.fails_once(rt, fill);
+        match failing {
+            Failing::Once(fill) => story.fails_once(rt, fill),
+            Failing::Stays(kind) => story.stays_failed(rt, kind),
+        }
     }
 }
 
-/// In each story all calls fail from each one on, and a crash of this kind comes.
-fn stay_failed(rt: &impl Abort, alloc: Global, rows: &[Row], kind: Crash) {
-    for &(blocks, files, steps) in rows {
-        let talk = Talk::new(rt, alloc, steps);
-        let story = Story {
-            alloc,
-            blocks,
-            files,
-            talk: &talk,
-        };
-        story.stays_failed(rt, kind);
-    }
+/// The same in the stories over 16 blocks.
+fn fail_all(rt: &impl Abort, alloc: Global, failing: Failing) {
+    fail(rt, alloc, &STORIES, failing);
 }
 
 #[test]
 fn calls_that_fail_once(rt: HostRuntime) {
     for fill in [None, Some(0), Some(165)] {
-        fail_once(&rt, rt.alloc(), &STORIES, fill);
+        fail_all(&rt, rt.alloc(), Failing::Once(fill));
     }
 }
 
 #[test]
 fn reads_of_a_text_that_fail_once(rt: HostRuntime) {
-    fail_once(&rt, rt.alloc(), &PIECES, None);
+    fail(&rt, rt.alloc(), &PIECES, Failing::Once(None));
 }
 
 #[test]
 fn disks_that_stop_and_lose_keep_or_tear_bytes(rt: HostRuntime) {
     for kind in [Crash::Old, Crash::New, Crash::Torn(0), Crash::Torn(165)] {
-        stay_failed(&rt, rt.alloc(), &STORIES, kind);
+        fail_all(&rt, rt.alloc(), Failing::Stays(kind));
     }
 }
 
