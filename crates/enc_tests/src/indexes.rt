@@ -1,6 +1,6 @@
-//! Index files, look-ups and areas at worked examples.
+//! Index files and look-ups at worked examples.
 
-use enc_index::{AreaError, Index, IndexSet, Kind, ReadError};
+use enc_index::{Index, Kind, ReadError};
 use enc_model::Encoding;
 use std::alloc::Global;
 use std::process::Abort;
@@ -49,47 +49,4 @@ fn first_bad_line(rt: HostRuntime) {
     for (bytes, kind, error) in rows {
         assert!(rt; refusal(rt.alloc(), bytes, kind) == Some(error));
     }
-}
-
-fn area_of(rt: &impl Abort, alloc: Global, set: &IndexSet) -> Vec<u8> {
-    let mut area = Vec::new(alloc);
-    for page in 0..22usize {
-        area.extend_from_slice(&set.to_area(page))
-            .expect(rt, "memory");
-    }
-    area
-}
-
-/// The area of SMALL for jis0208 and of one entry for windows-1252.
-fn small_area(rt: &impl Abort, alloc: Global) -> Vec<u8> {
-    let windows = Kind::Single(Encoding::Windows1252);
-    let files = [(Kind::Jis0208, SMALL), (windows, b"0\t20AC\n".as_slice())];
-    let mut set = IndexSet::new(alloc).expect(rt, "memory");
-    for (kind, lines) in &files {
-        set.set(Index::read(alloc, *lines, *kind).expect(rt, "lines of an index file"));
-    }
-    area_of(rt, alloc, &set)
-}
-
-fn is_small(rt: &impl Abort, alloc: Global, set: &IndexSet, area: &[u8]) {
-    assert!(rt; set.pointer(Kind::Jis0208, '\u{FF0D}') == Some(60));
-    assert!(rt; set.code(Kind::Single(Encoding::Windows1252), 0) == Some('\u{20AC}'));
-    assert!(rt; !set.offers(Encoding::Koi8R));
-    let again = area_of(rt, alloc, set);
-    assert!(rt; again.as_slice() == area);
-}
-
-#[test]
-fn area_there_and_back(rt: HostRuntime) {
-    let area = small_area(&rt, rt.alloc());
-    assert!(rt; area.len() == 90112);
-    assert!(rt; area[0] == 1 && area[1] == 0);
-    // windows-1252 is the twelfth file, and the first pointer of its table
-    assert!(rt; area[11] == 1 && area[84846] == 0x20 && area[84847] == 0xAC);
-    let set = IndexSet::from_area(rt.alloc(), &area)
-        .ok()
-        .expect(&rt, "a set");
-    is_small(&rt, rt.alloc(), &set, &area);
-    let short = IndexSet::from_area(rt.alloc(), &area[1..]);
-    assert!(rt; matches!(&short, Err(AreaError::Damaged)));
 }

@@ -4,8 +4,6 @@
 #[cfg(test)]
 mod cases;
 #[cfg(test)]
-mod encoders;
-#[cfg(test)]
 mod index_files;
 #[cfg(test)]
 mod indexes;

@@ -7,7 +7,7 @@ use std::alloc::{AllocError, Global};
 use std::net::SocketAddr;
 
 /// What a command line asks for.
-#[derive(Debug, PartialEq, Eq, Drop)]
+#[derive(Debug, Drop)]
 pub enum Order<'a> {
     /// A new spool at this path, of so many text blocks, with the index files of this folder.
     Format {
@@ -60,7 +60,7 @@ pub enum Order<'a> {
 }
 
 /// What to serve: the spool in a file, at a port of 127.0.0.1.
-#[derive(Clone, Copy, Debug, PartialEq, Eq, Drop)]
+#[derive(Clone, Copy, Debug, Drop)]
 pub struct Service<'a> {
     /// The path of the file.
     pub spool: &'a str,

@@ -1,10 +1,13 @@
 //! Texts of uploads, written into files.
 
-use crate::spools::ran;
+use crate::spools::ends;
 use crate::talks::Step::{Added, Deferred, Made, Open};
 use crate::talks::{Step, Talk, fresh};
 use gateway_files::{FileFolder, export_on};
+use spool_disk::MemoryDisk;
+use std::alloc::Global;
 use std::fs;
+use std::process::Abort;
 
 /// Five uploads: one in part, three complete ones, of which two give the same name and one gives a name with a slash,
 /// and one of no known length.
@@ -50,13 +53,17 @@ static EXPORTS: [(&str, bool, bool, &[u8], &[(&str, &str)]); 3] = [
     ),
 ];
 
+/// A spool with five uploads.
+fn spool_with_five(rt: &impl Abort, alloc: Global) -> MemoryDisk {
+    let talk = Talk::new(rt, alloc, STEPS);
+    let disk = fresh(rt, alloc, 16, None);
+    ends(rt, alloc, "five uploads", &talk, disk, None)
+}
+
 #[test]
 fn texts_are_written_into_files(rt: HostRuntime) {
     let alloc = rt.alloc();
-    let talk = Talk::new(&rt, alloc, STEPS);
-    let (mut disk, fault, written) = ran(alloc, &talk, fresh(&rt, alloc, 16, None));
-    assert_eq!(rt; fault, None);
-    assert_eq!(rt; written, talk.wanted);
+    let mut disk = spool_with_five(&rt, alloc);
     for (folder, there, all, said, files) in EXPORTS.iter() {
         let _ = fs::remove_dir_all(&rt, *folder);
         fs::create_dir(&rt, *folder).expect(&rt, "a folder");

@@ -1,14 +1,8 @@
 //! Clients that keep all places, and one more that waits for one.
 
-use crate::slow_readers::Steps;
-use crate::spools::opened;
-use crate::talks::fresh;
-use gateway_serve::{Outcome, serve_on};
-use spool_disk::MemoryDisk;
+use crate::clients::{Clients, Steps, served};
 use std::alloc::Global;
 use std::cell::Cell;
-use std::io::{self, ErrorKind, Read, Write};
-use std::net::{Ipv4Addr, OpenListener, OpenStream, SocketAddr};
 use std::process::Abort;
 use tus_session::MOST_OPEN;
 
@@ -27,109 +21,26 @@ const EXPECTS: &[u8] =
 PATCH /files/1 HTTP/1.1\r\nTus-Resumable: 1.0.0\r\nContent-Type: application/offset+octet-stream\r\n\
 Upload-Offset: 0\r\nContent-Length: 200000\r\nExpect: 100-continue\r\n\r\n";
 
-/// A client: what it says at first, then at each second reading, and whether it reads what it is told.
-#[derive(Drop)]
-struct Guest<'a> {
-    says: &'a [u8],
-    goes_on: &'a [u8],
-    reads: bool,
-    told: &'a Cell<usize>,
-}
-
-impl Read for Guest<'_> {
-    fn read(&mut self, buf: &mut [u8]) -> io::Result<usize> {
-        let count = self.says.len().min(buf.len());
-        if count == 0 {
-            self.says = self.goes_on;
-            return Err(io::Error::from(ErrorKind::WouldBlock));
-        }
-        buf[..count].copy_from_slice(&self.says[..count]);
-        self.says = &self.says[count..];
-        Ok(count)
-    }
-}
-
-impl Write for Guest<'_> {
-    fn write(&mut self, buf: &[u8]) -> io::Result<usize> {
-        if !self.reads {
-            return Err(io::Error::from(ErrorKind::WouldBlock));
-        }
-        self.told.set(self.told.get().saturating_add(buf.len()));
-        Ok(buf.len())
-    }
-
-    fn flush(&mut self) -> io::Result<()> {
-        Ok(())
-    }
-}
-
-impl OpenStream for Guest<'_> {
-    fn set_nonblocking(&self, _nonblocking: bool) -> io::Result<()> {
-        Ok(())
-    }
-}
-
-/// The first client says this; others, who don't read their replies, take all other places; the last one asks once, and
-/// counts what it is told.
-#[derive(Drop)]
-struct Guests<'a> {
-    left: Cell<usize>,
-    first: First<'a>,
-    others: &'a Cell<usize>,
-    told: &'a Cell<usize>,
-}
-
-impl<'a> OpenListener for Guests<'a> {
-    type Stream = Guest<'a>;
-
-    fn accept(&self) -> io::Result<(Guest<'a>, SocketAddr)> {
-        let left = self.left.get();
-        if left == 0 {
-            return Err(io::Error::from(ErrorKind::WouldBlock));
-        }
-        self.left.set(left - 1);
-        let (says, goes_on, reads) = match left {
-            _ if left == MOST_OPEN + 1 => self.first,
-            1 => (OPTIONS, b"" as &[u8], true),
-            _ => (OPTIONS, b"" as &[u8], false),
-        };
-        let guest = Guest {
-            says,
-            goes_on,
-            reads,
-            told: if left == 1 { self.told } else { self.others },
-        };
-        Ok((guest, SocketAddr::from((Ipv4Addr::LOCALHOST, 1))))
-    }
-
-    fn set_nonblocking(&self, _nonblocking: bool) -> io::Result<()> {
-        Ok(())
-    }
-}
-
 /// What the first client says, goes on to say and whether it reads.
 type First<'a> = (&'a [u8], &'a [u8], bool);
 
-/// Whether the last client is told something in so many turns of so many microseconds.
+/// Whether the last client, who asks once, is told something in so many turns of so many microseconds, while the first
+/// one and others, who don't read their replies, have all places.
 fn is_told(rt: &impl Abort, alloc: Global, first: First, step: u64, turns: u64) -> bool {
     let told = Cell::new(0);
     let others = Cell::new(0);
-    let guests = Guests {
+    let (says, goes_on, reads) = first;
+    let clients = Clients {
         left: Cell::new(MOST_OPEN + 1),
-        first,
-        others: &others,
+        all: MOST_OPEN + 1,
+        first: (says, goes_on, 0, if reads { 0 } else { u32::MAX }),
+        others: (OPTIONS, b"", 0, u32::MAX),
+        last: (OPTIONS, b"", 0, 0),
+        watched: 1,
         told: &told,
+        rest: &others,
     };
-    let clock = Steps::new(step);
-    let gateway = opened(rt, alloc, fresh(rt, alloc, 64, None));
-    let Outcome {
-        gateway,
-        served,
-        connections: _,
-        ended: _,
-    } = serve_on(alloc, &clock, &guests, gateway, COMERS + 1, turns);
-    assert!(rt; served.is_ok());
-    drop(gateway.into_disk());
+    served(rt, alloc, &Steps::new(step), &clients, 64, turns);
     told.get() > 0
 }
 

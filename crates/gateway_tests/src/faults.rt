@@ -14,7 +14,7 @@ use std::alloc::Global;
 use std::process::Abort;
 use upload_rules::Uploads;
 
-/// So many calls of an opening, the last ones, fail in each story: they read rows. Where all of them fail is one test.
+/// So many calls of an opening, the last ones, fail in each story: they read rows. Where each fails is one test.
 const LAST_CALLS: u64 = 5;
 
 /// More calls than a run makes after these.
@@ -170,91 +170,91 @@ pub(crate) fn told(rt: &impl Abort, alloc: Global, disk: MemoryDisk) -> Vec<u8> 
 /// An index of one character.
 const JIS0208: Files = &[(Kind::Jis0208, b"283\t3042\n")];
 
-/// Index files and steps, for spools of 16 blocks.
-const STORIES: [(Files, &[Step]); 8] = [
-    (&[], HELLO),
-    (JIS0208, CUT_CHARACTER),
-    (JIS0208, DECLARED_LAST),
-    (&[], DECLARED_AND_CUT),
-    (&[], ONE_WINNER),
-    (&[], FULL_SPOOL),
-    (&[], DELETED),
-    (&[], PATCH_OF_A_DELETED),
+/// How many blocks a spool has, its index files, and steps.
+type Row<'a> = (u32, Files<'a>, &'a [Step<'a>]);
+
+static STORIES: [Row; 8] = [
+    (16, &[], HELLO),
+    (16, JIS0208, CUT_CHARACTER),
+    (16, JIS0208, DECLARED_LAST),
+    (16, &[], DECLARED_AND_CUT),
+    (16, &[], ONE_WINNER),
+    (16, &[], FULL_SPOOL),
+    (16, &[], DELETED),
+    (16, &[], PATCH_OF_A_DELETED),
 ];
 
-/// In each story each call fails once, and leaves so many bytes of this value.
-fn fail_once(rt: &impl Abort, alloc: Global, fill: Option<u8>) {
-    for (files, steps) in STORIES {
+/// Reads of a text that is given in two pieces.
+static PIECES: [Row; 1] = [(32, &[], LONG_TEXT)];
+
+/// How a disk fails: each call once, leaving so many bytes of this value; or all calls from each one on, and a crash of
+/// this kind comes.
+#[derive(Clone, Copy)]
+enum Failing {
+    Once(Option<u8>),
+    Stays(Crash),
+}
+
+/// In each story the disk fails so.
+fn fail(rt: &impl Abort, alloc: Global, rows: &[Row], failing: Failing) {
+    for &(blocks, files, steps) in rows {
         let talk = Talk::new(rt, alloc, steps);
         let story = Story {
             alloc,
-            blocks: 16,
+            blocks,
             files,
             talk: &talk,
         };
-        story.fails_once(rt, fill);
+        match failing {
+            Failing::Once(fill) => story.fails_once(rt, fill),
+            Failing::Stays(kind) => story.stays_failed(rt, kind),
+        }
     }
 }
 
-/// In each story all calls fail from each one on, and a crash of this kind comes.
-fn stay_failed(rt: &impl Abort, alloc: Global, kind: Crash) {
-    for (files, steps) in STORIES {
-        let talk = Talk::new(rt, alloc, steps);
-        let story = Story {
-            alloc,
-            blocks: 16,
-            files,
-            talk: &talk,
-        };
-        story.stays_failed(rt, kind);
-    }
+/// The same in the stories over 16 blocks.
+fn fail_all(rt: &impl Abort, alloc: Global, failing: Failing) {
+    fail(rt, alloc, &STORIES, failing);
 }
 
 #[test]
 fn calls_that_fail_once(rt: HostRuntime) {
     for fill in [None, Some(0), Some(165)] {
-        fail_once(&rt, rt.alloc(), fill);
-    }
-}
-
-#[test]
-fn disks_that_stop_and_lose_keep_or_tear_bytes(rt: HostRuntime) {
-    for kind in [Crash::Old, Crash::New, Crash::Torn(0), Crash::Torn(165)] {
-        stay_failed(&rt, rt.alloc(), kind);
+        fail_all(&rt, rt.alloc(), Failing::Once(fill));
     }
 }
 
 #[test]
 fn reads_of_a_text_that_fail_once(rt: HostRuntime) {
-    let talk = Talk::new(&rt, rt.alloc(), LONG_TEXT);
-    let story = Story {
-        alloc: rt.alloc(),
-        blocks: 32,
-        files: &[],
-        talk: &talk,
-    };
-    story.fails_once(&rt, None);
+    fail(&rt, rt.alloc(), &PIECES, Failing::Once(None));
 }
 
-/// Each call of an opening fails once, and a write leaves zeros: the run is refused, and nothing is written.
+#[test]
+fn disks_that_stop_and_lose_keep_or_tear_bytes(rt: HostRuntime) {
+    for kind in [Crash::Old, Crash::New, Crash::Torn(0), Crash::Torn(165)] {
+        fail_all(&rt, rt.alloc(), Failing::Stays(kind));
+    }
+}
+
+/// Each call of an opening fails once, and a write leaves zeros; or all fail from it on, and a crash of this kind comes.
+fn openings_fail(rt: &impl Abort, alloc: Global, kind: Option<Crash>) {
+    let talk = Talk::new(rt, alloc, HELLO);
+    let story = hello(alloc, &talk);
+    for call in 0..story.first(rt) {
+        let failed = match kind {
+            Some(kind) => story.stays_failed_at(rt, kind, call),
+            None => story.fails_at(rt, Some(0), call),
+        };
+        assert!(rt; failed, "at {call}");
+    }
+}
+
 #[test]
 fn calls_of_an_opening_that_fail_once(rt: HostRuntime) {
-    let talk = Talk::new(&rt, rt.alloc(), HELLO);
-    let story = hello(rt.alloc(), &talk);
-    for call in 0..story.first(&rt) {
-        assert!(rt; story.fails_at(&rt, Some(0), call), "at {call}");
-    }
+    openings_fail(&rt, rt.alloc(), None);
 }
 
-/// From each call of an opening on all fail, and a crash comes that tears bytes.
 #[test]
 fn disks_that_stop_in_an_opening(rt: HostRuntime) {
-    let talk = Talk::new(&rt, rt.alloc(), HELLO);
-    let story = hello(rt.alloc(), &talk);
-    for call in 0..story.first(&rt) {
-        assert!(rt;
-            story.stays_failed_at(&rt, Crash::Torn(165), call),
-            "at {call}"
-        );
-    }
+    openings_fail(&rt, rt.alloc(), Some(Crash::Torn(165)));
 }

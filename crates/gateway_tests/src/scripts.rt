@@ -180,6 +180,14 @@ const REFUSED: &[Step] = &[
         b"",
     ),
     Bytes(138),
+    Say(1, "delete /files/1 HTTP/1.1\nTus-Resumable: 1.0.0"),
+    Reply(
+        1,
+        "405 Method Not Allowed",
+        "Allow: OPTIONS, HEAD, PATCH, GET, DELETE\nX-Refusal: 24\nContent-Length: 0",
+        b"",
+    ),
+    Bytes(158),
     Made(1, 5, ""),
 ];
 

@@ -2,24 +2,15 @@
 
 use crate::spools::{calls_of_opening, opened};
 use crate::talks::fresh;
-use gateway_engine::Gateway;
 use gateway_serve::{Outcome, serve_on};
 use spool_disk::{Disk, FuseDisk, MemoryDisk};
 use std::alloc::Global;
-use std::cell::Cell;
-use std::io::{self, Read, Write};
+use std::io::{Read, Write};
 use std::net::{Ipv4Addr, Net, Shutdown, TcpListener, TcpStream};
 use std::process::Abort;
-use std::time::{Clock, Duration};
-use tus_session::MOST_OPEN;
+use std::time::Clock;
 
 const POST: &[u8] = b"POST /files HTTP/1.1\r\nTus-Resumable: 1.0.0\r\nUpload-Length: 5\r\n\r\n";
-
-const OPTIONS: &[u8] = b"OPTIONS /files HTTP/1.1\r\n\r\n";
-
-const OPTIONS_REPLY: &[u8] =
-    b"HTTP/1.1 204 No Content\r\nTus-Resumable: 1.0.0\r\nCache-Control: no-store\r\n\
-Tus-Version: 1.0.0\r\nTus-Extension: creation,creation-defer-length,termination\r\nTus-Max-Size: 1073741824\r\n\r\n";
 
 const MADE_FIRST: &[u8] =
     b"HTTP/1.1 201 Created\r\nTus-Resumable: 1.0.0\r\nCache-Control: no-store\r\n\
@@ -95,16 +86,14 @@ fn is_told(rt: &impl Abort, alloc: Global, client: &mut TcpStream, wanted: &[u8]
     assert_eq!(rt; bytes.as_slice(), wanted);
 }
 
-/// Serves so many connections over the spool on a disk, in at most so many turns. The disk after it, and whether it
-/// went well.
-fn served<D: Disk + Drop, T: Clock>(
-    rt: &impl Abort,
+/// Serves so many connections over the spool on a disk, in at most 1,000 turns. The disk after it, and whether it went
+/// well.
+fn served<R: Abort + Clock, D: Disk + Drop>(
+    rt: &R,
     alloc: Global,
-    clock: &T,
     listener: &TcpListener,
     disk: D,
     connections: u64,
-    turns: u64,
 ) -> (D, bool) {
     let gateway = opened(rt, alloc, disk);
     let Outcome {
@@ -112,18 +101,18 @@ fn served<D: Disk + Drop, T: Clock>(
         served,
         connections: _,
         ended: _,
-    } = serve_on(alloc, clock, listener, gateway, connections, turns);
+    } = serve_on(alloc, rt, listener, gateway, connections, 1000);
     (gateway.into_disk(), served.is_ok())
 }
 
-/// Serves a connection over the spool on a disk, in at most 1,000 turns.
+/// Serves a connection over the spool on a disk.
 fn serve<R: Abort + Clock>(
     rt: &R,
     alloc: Global,
     listener: &TcpListener,
     disk: MemoryDisk,
 ) -> MemoryDisk {
-    let (disk, well) = served(rt, alloc, rt, listener, disk, 1, 1000);
+    let (disk, well) = served(rt, alloc, listener, disk, 1);
     assert!(rt; well);
     disk
 }
@@ -135,7 +124,7 @@ fn two_clients_are_served(rt: HostRuntime) {
     let mut first = client(&rt, &listener, POST);
     let mut second = client(&rt, &listener, SECOND);
     let disk = fresh(&rt, alloc, 16, None);
-    let (_disk, well) = served(&rt, alloc, &rt, &listener, disk, 2, 1000);
+    let (_disk, well) = served(&rt, alloc, &listener, disk, 2);
     assert!(rt; well);
     is_told(&rt, alloc, &mut first, MADE_FIRST);
     is_told(&rt, alloc, &mut second, MADE_SECOND);
@@ -151,7 +140,7 @@ fn cut_body_counts_up_to_the_cut_and_a_close_is_told(rt: HostRuntime) {
     let mut later = client(&rt, &listener, HEAD);
     let disk = serve(&rt, alloc, &listener, disk);
     is_told(&rt, alloc, &mut later, FOUR_OF_TEN);
-    let mut lost = client(&rt, &listener, NOT_HTTP);
+    let mut lost = stays(&rt, &listener, NOT_HTTP);
     drop(serve(&rt, alloc, &listener, disk));
     is_told(&rt, alloc, &mut lost, MALFORMED);
 }
@@ -164,58 +153,7 @@ fn nothing_is_told_after_a_fault_of_the_device(rt: HostRuntime) {
     let mut client = client(&rt, &listener, POST);
     let calls = calls_of_opening(&rt, alloc, fresh(&rt, alloc, 16, None));
     let disk = FuseDisk::new(fresh(&rt, alloc, 16, None), calls);
-    let (_disk, well) = served(&rt, alloc, &rt, &listener, disk, 1, 1000);
+    let (_disk, well) = served(&rt, alloc, &listener, disk, 1);
     assert!(rt; !well);
     is_told(&rt, alloc, &mut client, b"");
-}
-
-/// A clock that goes on by a second at each reading.
-#[derive(Drop)]
-struct Seconds {
-    read: Cell<u64>,
-}
-
-impl Clock for Seconds {
-    fn monotonic(&self) -> io::Result<Duration> {
-        let read = self.read.get();
-        self.read.set(read.saturating_add(1));
-        Ok(Duration::from_secs(read))
-    }
-
-    fn since_1970(&self) -> io::Result<Duration> {
-        self.monotonic()
-    }
-}
-
-#[test]
-fn clients_that_stay_are_served_and_ended_after_a_minute(rt: HostRuntime) {
-    let alloc = rt.alloc();
-    let listener = listen(&rt);
-    let mut clients = Vec::new(alloc);
-    for _ in 0..MOST_OPEN + 1 {
-        clients
-            .push(stays(&rt, &listener, OPTIONS))
-            .expect(&rt, "memory for a client");
-    }
-    let clock = Seconds { read: Cell::new(0) };
-    let disk = fresh(&rt, alloc, 16, None);
-    let (disk, well) = served(
-        &rt,
-        alloc,
-        &clock,
-        &listener,
-        disk,
-        MOST_OPEN as u64 + 1,
-        30,
-    );
-    assert!(rt; well);
-    for client in clients.iter_mut() {
-        is_told(&rt, alloc, client, OPTIONS_REPLY);
-    }
-    let mut idle = stays(&rt, &listener, POST);
-    let clock = Seconds { read: Cell::new(0) };
-    let (_disk, well) = served(&rt, alloc, &clock, &listener, disk, 1, 70);
-    assert!(rt; well);
-    assert!(rt; clock.read.get() > 60 && clock.read.get() < 70);
-    is_told(&rt, alloc, &mut idle, MADE_FIRST);
 }

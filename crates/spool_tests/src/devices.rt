@@ -3,7 +3,9 @@
 ghost use Rattle.std.specs.Prelude.{◌≡◌, ◌≤◌};
 
 use spool_disk::{Crash, Disk, DiskFault, FileDisk, MemoryDisk};
-use std::{fs, io};
+use std::fs::{self, Files};
+use std::io;
+use std::process::Abort;
 
 const FOLDER: &str = "spool_disk_file_test";
 
@@ -40,51 +42,62 @@ fn crash_leaves_old_new_or_torn_bytes(rt: HostRuntime) {
     }
 }
 
+/// A file is so long and begins with these bytes.
+fn begins(rt: &impl Abort, mut disk: FileDisk, length: u64, bytes: [u8; 4]) {
+    assert!(rt; disk.len() == length && length >= 4);
+    assert_eq!(rt; front(&mut disk), Ok(bytes));
+}
+
+/// Whether there is no disk.
+fn is_refused(answer: Result<FileDisk, DiskFault>) -> bool {
+    matches!(answer, Err(DiskFault))
+}
+
+/// How long the file at a path is.
+fn length_of<R: Abort + Files>(rt: &R, path: &str) -> u64 {
+    fs::metadata(rt, path).expect(rt, "a file").len()
+}
+
 #[test]
 fn file_holds_its_bytes_when_opened_again(rt: HostRuntime) {
     let _ = fs::remove_dir_all(&rt, FOLDER);
-    assert!(rt; fs::create_dir(&rt, FOLDER).is_ok());
+    fs::create_dir(&rt, FOLDER).expect(&rt, "a new folder");
     let mut made = FileDisk::create(&rt, PATH, 4).expect(&rt, "a new file");
-    assert_eq!(rt; made.len(), 4);
     assert_eq!(rt; made.write_at(1, b"ab"), Ok(()));
     assert_eq!(rt; made.sync(), Ok(()));
-    assert_eq!(rt; front(&mut made), Ok(*b"\0ab\0"));
-    drop(made);
-    let mut found = FileDisk::open(&rt, PATH).expect(&rt, "the file is there");
-    assert!(rt; found.len() == 4);
-    assert_eq!(rt; front(&mut found), Ok(*b"\0ab\0"));
-    drop(found);
-    let mut longer = FileDisk::create(&rt, PATH, 9).expect(&rt, "the file is there");
-    assert_eq!(rt; front(&mut longer), Ok(*b"\0ab\0"));
-    assert!(rt; matches!(fs::metadata(&rt, PATH), Ok(file) if file.len() == 9));
-    drop(longer);
-    assert!(rt; fs::remove_dir_all(&rt, FOLDER).is_ok());
-    assert!(rt; matches!(FileDisk::open(&rt, PATH), Err(DiskFault)));
-    assert!(rt; matches!(FileDisk::create(&rt, PATH, 4), Err(DiskFault)));
+    begins(&rt, made, 4, *b"\0ab\0");
+    let found = FileDisk::open(&rt, PATH).expect(&rt, "the file is there");
+    begins(&rt, found, 4, *b"\0ab\0");
+    let longer = FileDisk::create(&rt, PATH, 9).expect(&rt, "the file is there");
+    begins(&rt, longer, 9, *b"\0ab\0");
+    assert_eq!(rt; length_of(&rt, PATH), 9);
+    fs::remove_dir_all(&rt, FOLDER).expect(&rt, "the folder");
+    assert!(rt; is_refused(FileDisk::open(&rt, PATH)));
+    assert!(rt; is_refused(FileDisk::create(&rt, PATH, 4)));
 }
 
 #[test]
 fn file_in_use_is_opened_once(rt: HostRuntime) {
     let made = FileDisk::create(&rt, SHARED, 4).expect(&rt, "a new file");
-    assert!(rt; matches!(FileDisk::open(&rt, SHARED), Err(DiskFault)));
-    assert!(rt; matches!(FileDisk::create(&rt, SHARED, 9), Err(DiskFault)));
-    assert!(rt; matches!(fs::metadata(&rt, SHARED), Ok(file) if file.len() == 4));
+    assert!(rt; is_refused(FileDisk::open(&rt, SHARED)));
+    assert!(rt; is_refused(FileDisk::create(&rt, SHARED, 9)));
+    assert_eq!(rt; length_of(&rt, SHARED), 4);
     match FileDisk::try_open(&rt, SHARED) {
         Ok(_disk) => panic!(rt; "opened twice"),
         Err(error) => assert_eq!(rt; error.kind(), io::ErrorKind::ResourceBusy),
     }
     drop(made);
     let found = FileDisk::open(&rt, SHARED).expect(&rt, "the file is there");
-    assert!(rt; matches!(FileDisk::try_create(&rt, SHARED, 4), Err(_)));
+    assert!(rt; FileDisk::try_create(&rt, SHARED, 4).is_err());
     drop(found);
-    assert!(rt; fs::remove_file(&rt, SHARED).is_ok());
+    fs::remove_file(&rt, SHARED).expect(&rt, "the file");
 }
 
 #[test]
 fn shortened_file_answers_faults(rt: HostRuntime) {
     let mut disk = FileDisk::create(&rt, SHORT, 4).expect(&rt, "a new file");
-    assert!(rt; fs::write(&rt, SHORT, b"abc".as_slice()).is_ok());
+    fs::write(&rt, SHORT, b"abc".as_slice()).expect(&rt, "the file");
     assert_eq!(rt; front(&mut disk), Err(DiskFault));
     drop(disk);
-    assert!(rt; fs::remove_file(&rt, SHORT).is_ok());
+    fs::remove_file(&rt, SHORT).expect(&rt, "the file");
 }

@@ -4,7 +4,7 @@ use crate::uploads::{fresh, opened};
 use enc_index::{Index, IndexSet, Kind};
 use enc_model::{Encoding, Mode};
 use enc_stream::Transcoder;
-use spool_disk::{Crash, Disk, FuseDisk, MemoryDisk};
+use spool_disk::{Disk, MemoryDisk};
 use spool_image::{FormatError, OpenFault, Spool, format, pages_of};
 use spool_pages::{SlotRecord, Version};
 use std::alloc::Global;
@@ -109,27 +109,6 @@ fn spool_is_not_formatted_again(rt: HostRuntime) {
     );
 }
 
-#[test]
-fn fault_of_the_disk_leaves_no_spool(rt: HostRuntime) {
-    let indexes = IndexSet::new(rt.alloc()).expect(&rt, "memory for a set");
-    let mut passed = 0u64;
-    // at most a read, 557 pages and a sync after each
-    for _ in 0..1116 {
-        let mut fuse = FuseDisk::new(small_disk(&rt, rt.alloc()), passed);
-        let made = format(&mut fuse, 16, &indexes);
-        let mut left = fuse.into_inner().crash(Crash::Old);
-        let whole = made.is_ok();
-        assert!(rt; whole || made == Err(FormatError::DiskFault), "{passed}");
-        assert_eq!(rt; byte_at(&rt, &mut left, 0) == b'T', whole, "{passed}");
-        if whole {
-            break;
-        }
-        passed = passed.saturating_add(1);
-    }
-    // each page is written, and synced
-    assert!(rt; passed > 557);
-}
-
 /// What opening a disk answers where it is refused, and the disk.
 pub(crate) fn refused(alloc: Global, disk: MemoryDisk) -> (MemoryDisk, Option<OpenFault>) {
     match Spool::open(alloc, disk) {
@@ -181,6 +160,16 @@ fn with_uploads(rt: &impl Abort, alloc: Global) -> MemoryDisk {
     disk
 }
 
+/// The output and the length of an upload.
+fn told(spool: &Spool<MemoryDisk>, number: u64) -> Option<(Encoding, Option<u64>)> {
+    spool.record(number).map(|it| (it.to, it.declared))
+}
+
+/// The number of the first upload after one.
+fn after_it(spool: &Spool<MemoryDisk>, number: u64) -> Option<u64> {
+    spool.record_after(number).map(|it| it.number)
+}
+
 #[test]
 fn uploads_are_told_of_and_read(rt: HostRuntime) {
     let mut spool = opened(&rt, rt.alloc(), with_uploads(&rt, rt.alloc()));
@@ -192,10 +181,13 @@ fn uploads_are_told_of_and_read(rt: HostRuntime) {
         (8, false)
     );
     assert!(rt; spool.record(4).is_none());
-    assert_eq!(rt; spool.record(7).map(|r| r.to), Some(Encoding::ShiftJis));
-    assert_eq!(rt; spool.record(2).map(|r| r.declared), Some(None));
-    for (number, after) in [(2, Some(3)), (3, Some(7)), (7, None)] {
-        assert_eq!(rt; spool.record_after(number).map(|r| r.number), after);
+    for (number, declared, after) in [
+        (2, None, Some(3)),
+        (3, Some(5000), Some(7)),
+        (7, Some(5000), None),
+    ] {
+        assert_eq!(rt; told(&spool, number), Some((Encoding::ShiftJis, declared)));
+        assert_eq!(rt; after_it(&spool, number), after);
     }
     let mut buf = [0; 4];
     let read = spool.read_text(7, 4094, &mut buf);
@@ -262,31 +254,4 @@ fn damaged_spools_are_refused(rt: HostRuntime) {
     // after the closed gate a head with a page more than the journal has
     put(&rt, &mut disk, 8192, &[0, 0, 1, 3]);
     refuse_all(&rt, rt.alloc(), disk, &DAMAGED);
-}
-
-/// What opening a disk answers that stops after so many calls, and the disk.
-fn opened_within(alloc: Global, disk: MemoryDisk, passed: u64) -> (MemoryDisk, Option<OpenFault>) {
-    match Spool::open(alloc, FuseDisk::new(disk, passed)) {
-        Ok(spool) => (spool.into_disk().into_inner(), None),
-        Err((fuse, fault)) => (fuse.into_inner(), Some(fault)),
-    }
-}
-
-#[test]
-fn each_call_of_opening_may_fail(rt: HostRuntime) {
-    let mut disk = fresh(&rt, rt.alloc());
-    let mut passed = 0u64;
-    for _ in 0..4096 {
-        let (back, fault) = opened_within(rt.alloc(), disk, passed);
-        disk = back;
-        if fault.is_none() {
-            break;
-        }
-        assert_eq!(rt; fault, Some(OpenFault::DiskFault), "{passed}");
-        passed = passed.saturating_add(1);
-    }
-    // the state page, page 0, the index area's 22, 512 records and a page of rows are read
-    assert!(rt; passed >= 537);
-    let (_, fault) = opened_within(rt.alloc(), disk, passed);
-    assert_eq!(rt; fault, None);
 }

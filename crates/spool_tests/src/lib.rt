@@ -1,17 +1,13 @@
-//! Tests of stores of uploads by their public calls: a table, and a spool on disks that stop and crash; of each kind of
-//! disk, and of records as bytes.
+//! Tests of stores of uploads by their public calls: a table, and a spool on disks that stop and crash; and of each kind
+//! of disk.
 #![tactic(auto)]
 
-#[cfg(test)]
-mod deletions;
 #[cfg(test)]
 mod devices;
 #[cfg(test)]
 mod images;
 #[cfg(test)]
 mod openings;
-#[cfg(test)]
-mod pages;
 #[cfg(test)]
 mod resumes;
 #[cfg(test)]

@@ -1,9 +1,8 @@
 //! Openings of a spool whose gate is open: they fail, are begun again, and bring the change home.
 
-use crate::deletions::has_text;
 use crate::images::{byte_at, put};
 use crate::resumes::stops;
-use crate::uploads::{calls_of_opening, fresh, opened, plain};
+use crate::uploads::{calls_of_opening, fresh, has_text, opened, plain};
 use spool_disk::{Crash, Disk, FuseDisk, HiccupDisk, MemoryDisk};
 use spool_image::{OpenFault, Spool};
 use std::alloc::Global;

@@ -1,8 +1,7 @@
 //! Going on after a crash: an upload is cut inside a character, its next append stops at any call of the disk, a crash
 //! comes, and what an opening finds goes on to the end as one uncut decoding does.
 
-use crate::deletions::has_text;
-use crate::uploads::{calls_of_opening, opened, patched};
+use crate::uploads::{calls_of_opening, has_text, opened, patched};
 use enc_index::{Index, IndexSet, Kind};
 use enc_model::{Encoding, Mode};
 use spool_disk::{Crash, FuseDisk, MemoryDisk};

@@ -1,8 +1,9 @@
 //! Spools of version 1, and upgrades of them.
 
-use crate::deletions::has_text;
 use crate::images::{byte_at, put, refused};
-use crate::uploads::{POWERS, calls_of_opening, declared, deferred, fresh, opened, patched, plain};
+use crate::uploads::{
+    POWERS, calls_of_opening, declared, deferred, fresh, has_text, opened, patched, plain,
+};
 use spool_disk::{Crash, Disk, FuseDisk, MemoryDisk};
 use spool_image::{OpenFault, Spool, UpgradeError, upgrade};
 use std::alloc::Global;

@@ -110,37 +110,11 @@ pub(crate) fn declared<U: Uploads>(
     }
 }
 
-/// An append that is given up.
-fn given_up(spool: &mut Spool<MemoryDisk>, number: u64, bytes: &[u8]) -> Result<(), UploadError> {
-    let mut draft = spool.begin(number, 0, bytes.len() as u64, None)?;
-    let answer = spool.append(&mut draft, bytes);
-    spool.drop_open(draft);
-    answer
-}
-
-#[test]
-fn text_goes_on_over_the_end_of_a_block(rt: HostRuntime) {
-    let mut spool = with_one(&rt, rt.alloc(), 4098);
-    assert_eq!(rt; patched(&mut spool, 1, 0, &[b'a'; 4095]), Ok(4095));
-    assert_eq!(rt; patched(&mut spool, 1, 4095, b"bcd"), Ok(4098));
-    let mut buf = [0; 6];
-    let read = spool.read_text(1, 4093, &mut buf);
-    assert_eq!(rt; (read, buf), (Ok(5), *b"aabcd\0"));
-    drop(spool.into_disk());
-}
-
-#[test]
-fn blocks_of_a_dropped_append_come_back(rt: HostRuntime) {
-    let text = vec![in rt.alloc(); b'a'; 65536].expect(&rt, "memory for a text");
-    let longer = vec![in rt.alloc(); b'a'; 65537].expect(&rt, "memory for a text");
-    let mut spool = with_one(&rt, rt.alloc(), 65537);
-    assert_eq!(rt; given_up(&mut spool, 1, &text), Ok(()));
-    assert_eq!(rt;
-        patched(&mut spool, 1, 0, &longer),
-        Err(UploadError::Refused(UploadRefusal::Full))
-    );
-    assert_eq!(rt; patched(&mut spool, 1, 0, &text), Ok(65536));
-    drop(spool.into_disk());
+/// Whether an upload's text is these bytes.
+pub(crate) fn has_text(spool: &mut Spool<MemoryDisk>, number: u64, want: &[u8]) -> bool {
+    let mut buf = [0; 65536];
+    let read = spool.read_text(number, 0, &mut buf);
+    read == Ok(want.len()) && buf.starts_with(want)
 }
 
 /// An upload's length but for its last byte, whether another upload takes a block before that byte comes, and what its

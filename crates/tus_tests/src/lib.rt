@@ -1,7 +1,5 @@
-//! Tests of requests and replies by their public calls.
+//! Tests of requests by their public calls.
 #![tactic(auto)]
 
-#[cfg(test)]
-mod replies;
 #[cfg(test)]
 mod requests;

@@ -3,7 +3,7 @@
 use enc_index::IndexSet;
 use std::alloc::Global;
 use std::process::Abort;
-use tus_request::{Fault, HeadBuffer, Parsed, parse};
+use tus_request::{Fault, Parsed, parse};
 
 /// What a head is answered where no index file was set.
 fn parsed(rt: &impl Abort, alloc: Global, head: &[u8]) -> Parsed {
@@ -284,36 +284,6 @@ fn requests_that_are_refused(rt: HostRuntime) {
 
 /// What a GET of the upload 1 asks for.
 const GET: &str = "Get(1), length: 0, bare: false, expects: false, closes: false";
-
-#[test]
-fn a_head_in_pieces(rt: HostRuntime) {
-    let set = IndexSet::new(rt.alloc()).expect(&rt, "memory for a set");
-    let mut buffer = HeadBuffer::new(rt.alloc());
-    let head = b"\r\nGET /files/1 HTTP/1.1\r\n\r\n";
-    for at in 0..head.len() - 1 {
-        assert_eq!(rt; buffer.len(), at);
-        let answer = buffer
-            .read(rt.alloc(), &head[at..at + 1], &set)
-            .expect(&rt, "memory");
-        assert_eq!(rt; answer, Parsed::More);
-    }
-    let whole = buffer
-        .read(rt.alloc(), b"\nGET", &set)
-        .expect(&rt, "memory");
-    assert_eq!(rt;
-        shown(&rt, rt.alloc(), &whole).as_str(),
-        accepted(&rt, rt.alloc(), head.len(), GET).as_str()
-    );
-    let letters = [b'a'; 8192];
-    let text = letters.as_slice();
-    let short = buffer
-        .read(rt.alloc(), &text[..8191], &set)
-        .expect(&rt, "memory");
-    assert_eq!(rt; short, Parsed::More);
-    let long = buffer.read(rt.alloc(), text, &set).expect(&rt, "memory");
-    assert_eq!(rt; long, refusal(8192, Fault::HeadTooLong, false, true));
-    assert_eq!(rt; buffer.len(), 0);
-}
 
 #[test]
 fn heads_that_are_not_whole(rt: HostRuntime) {

@@ -1,0 +1,179 @@
+//! Clients over sockets of the tests' own, and a clock of theirs.
+
+use crate::spools::opened;
+use crate::talks::fresh;
+use gateway_serve::{Outcome, serve_on};
+use std::alloc::Global;
+use std::cell::Cell;
+use std::io::{self, ErrorKind, Read, Write};
+use std::net::{Ipv4Addr, OpenListener, OpenStream, SocketAddr};
+use std::process::Abort;
+use std::time::{Clock, Duration};
+use tus_session::MOST_OPEN;
+
+/// What a client says at first, and then at each second reading; how many bytes it takes, for how many writes it takes
+/// none after them, before it takes all.
+pub(crate) type Manner<'a> = (&'a [u8], &'a [u8], usize, u32);
+
+/// A client as the server's socket shows it. How many bytes it took is counted.
+#[derive(Drop)]
+pub(crate) struct Client<'a> {
+    says: &'a [u8],
+    goes_on: &'a [u8],
+    takes: usize,
+    pauses: u32,
+    told: &'a Cell<usize>,
+}
+
+impl Read for Client<'_> {
+    fn read(&mut self, buf: &mut [u8]) -> io::Result<usize> {
+        let count = self.says.len().min(buf.len());
+        if count == 0 {
+            self.says = self.goes_on;
+            return Err(io::Error::from(ErrorKind::WouldBlock));
+        }
+        buf[..count].copy_from_slice(&self.says[..count]);
+        self.says = &self.says[count..];
+        Ok(count)
+    }
+}
+
+impl Write for Client<'_> {
+    fn write(&mut self, buf: &[u8]) -> io::Result<usize> {
+        if self.takes == 0 && self.pauses > 0 {
+            self.pauses -= 1;
+            return Err(io::Error::from(ErrorKind::WouldBlock));
+        }
+        let count = if self.pauses > 0 {
+            self.takes.min(buf.len())
+        } else {
+            buf.len()
+        };
+        self.takes = self.takes.saturating_sub(count);
+        self.told.set(self.told.get().saturating_add(count));
+        Ok(count)
+    }
+
+    fn flush(&mut self) -> io::Result<()> {
+        Ok(())
+    }
+}
+
+impl OpenStream for Client<'_> {
+    fn set_nonblocking(&self, _nonblocking: bool) -> io::Result<()> {
+        Ok(())
+    }
+}
+
+/// Clients that come one after the other, and how many are left of all: the first one, others, and the last one. Of the
+/// one that comes when so many are left is counted what it is told, and of the rest.
+#[derive(Drop)]
+pub(crate) struct Clients<'a> {
+    pub(crate) left: Cell<usize>,
+    pub(crate) all: usize,
+    pub(crate) first: Manner<'a>,
+    pub(crate) others: Manner<'a>,
+    pub(crate) last: Manner<'a>,
+    pub(crate) watched: usize,
+    pub(crate) told: &'a Cell<usize>,
+    pub(crate) rest: &'a Cell<usize>,
+}
+
+impl<'a> OpenListener for Clients<'a> {
+    type Stream = Client<'a>;
+
+    fn accept(&self) -> io::Result<(Client<'a>, SocketAddr)> {
+        let left = self.left.get();
+        if left == 0 {
+            return Err(io::Error::from(ErrorKind::WouldBlock));
+        }
+        self.left.set(left - 1);
+        let (says, goes_on, takes, pauses) = if left == self.all {
+            self.first
+        } else if left == 1 {
+            self.last
+        } else {
+            self.others
+        };
+        let client = Client {
+            says,
+            goes_on,
+            takes,
+            pauses,
+            told: if left == self.watched {
+                self.told
+            } else {
+                self.rest
+            },
+        };
+        Ok((client, SocketAddr::from((Ipv4Addr::LOCALHOST, 1))))
+    }
+
+    fn set_nonblocking(&self, _nonblocking: bool) -> io::Result<()> {
+        Ok(())
+    }
+}
+
+/// A clock that goes on by so many microseconds at each reading, and counts the rests and their time.
+#[derive(Drop)]
+pub(crate) struct Steps {
+    step: u64,
+    now: Cell<u64>,
+    rests: Cell<u32>,
+    rested: Cell<Duration>,
+}
+
+impl Steps {
+    pub(crate) fn new(step: u64) -> Self {
+        Steps {
+            step,
+            now: Cell::new(0),
+            rests: Cell::new(0),
+            rested: Cell::new(Duration::ZERO),
+        }
+    }
+
+    /// How often the server rested, and how long in all.
+    pub(crate) fn rests(&self) -> (u32, Duration) {
+        (self.rests.get(), self.rested.get())
+    }
+}
+
+impl Clock for Steps {
+    fn monotonic(&self) -> io::Result<Duration> {
+        let now = self.now.get();
+        self.now.set(now.saturating_add(self.step));
+        Ok(Duration::from_micros(now))
+    }
+
+    fn since_1970(&self) -> io::Result<Duration> {
+        self.monotonic()
+    }
+
+    fn sleep(&self, duration: Duration) {
+        self.rests.set(self.rests.get().saturating_add(1));
+        self.rested.set(self.rested.get().saturating_add(duration));
+    }
+}
+
+/// Serves clients, of whom one may have to wait for a place, over a spool of so many blocks without uploads, in so many
+/// turns: how many connections were closed.
+pub(crate) fn served(
+    rt: &impl Abort,
+    alloc: Global,
+    clock: &Steps,
+    clients: &Clients,
+    blocks: u32,
+    turns: u64,
+) -> u64 {
+    let gateway = opened(rt, alloc, fresh(rt, alloc, blocks, None));
+    let Outcome {
+        gateway,
+        served,
+        connections,
+        ended: _,
+    } = serve_on(alloc, clock, clients, gateway, MOST_OPEN as u64 + 2, turns);
+    assert!(rt; served.is_ok());
+    drop(gateway.into_disk());
+    connections
+}
