@@ -1,15 +1,15 @@
 -- A session's calls as those of connections.
 use Rattle.std.proofs.Common.{◌≡◌, Bool, true, false, ℕ, List, [], Option, Some, None, Result, Ok, Err, refl, sym}
-use Rattle.std.proofs.Common.{subst, ap, nat_lt, if◌then◌else◌}
+use Rattle.std.proofs.Common.{subst, ap, nat_lt}
 use Rattle.std.specs.Prelude.{◌↔◌, IsErrOf}
 use Rattle.std.proofs.lemmas.Bool.{false_from_ne_true}
 use Rattle.upload_rules.specs.declared.uploads.Uploads.{Ghosts}
 use Rattle.upload_rules.specs.Store.{Store}
 use Rattle.upload_rules.specs.Answers.{Limits}
-use Rattle.tus_session.specs.Turns.{Conn, fresh}
-use Rattle.tus_session.specs.History.{State, Event, Opened, Came, More, Ended, Served, Done, Refused, Step, step, put}
+use Rattle.tus_session.specs.Turns.{Conn}
+use Rattle.tus_session.specs.History.{State, Event, Opened, Came, More, Ended, Served, Refused, Step, step}
 use Rattle.tus_session.specs.History.{most_open, opened_if}
-use Rattle.tus_session.specs.History.{kept, opened_at, came_at, more_at, ended_at}
+use Rattle.tus_session.specs.History.{opened_at, came_at, more_at, ended_at}
 use Rattle.tus_session.specs.Places.{places_of}
 use Rattle.tus_session.specs.Stands.{SessionStands}
 use Rattle.tus_session.specs.Told as told

@@ -1,5 +1,5 @@
 //! How much of a spool is in use.
-ghost use Rattle.std.specs.Prelude.{◌≡◌, ◌↔◌, ℕ, Err, IfErr, IfOk, OnOk, Some};
+ghost use Rattle.std.specs.Prelude.{◌≡◌, ◌↔◌, ℕ, Err, IfErr, IfOk, OnOk, Some, true};
 ghost use Rattle.spool_disk.specs.Disk.{Counts, IsImage, Keeps};
 ghost use Rattle.spool_disk.specs.Views.{Lasts};
 ghost use Rattle.spool_journal.specs.Image.{journal_pages, overlaid};
@@ -46,7 +46,7 @@ pub fn open_surveyed<D: Disk>(alloc: Global, disk: D) -> Result<(Spool<D>, Surve
 
     // A spool is opened, unless memory or the disk refuses it, and stands for its uploads. So many blocks are told.
     ensures stands { (n : ℕ) (m : Store) → IsSpool D.Disk disk n m
-        → OpensAs result (λ opened. SpoolStands opened.0 (at_rest m (Some n))) }
+        → OpensAs result (λ opened. SpoolStands opened.0 true (at_rest m (Some n))) }
     ensures blocks { (n : ℕ) (m : Store) → IsSpool D.Disk disk n m → IfOk result (λ opened. opened.1.blocks ≡ n) }
 
     // What is opened is a sound spool, and it is what a read shows. Each refusal has its reason, and each reason is

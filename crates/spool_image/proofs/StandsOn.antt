@@ -1,5 +1,5 @@
 -- A spool that stands for a world, at its opening and from call to call.
-use Rattle.std.proofs.Common.{◌≡◌, ◌↔◌, inl, inr, Result, Ok, Err, OnOk, IsErrOf, ℕ, ◌+◌, ◌*◌, ◌≤◌, Bool, false, true}
+use Rattle.std.proofs.Common.{◌≡◌, ◌↔◌, inl, inr, Result, Ok, Err, OnOk, IsErrOf, ℕ, ◌*◌, ◌≤◌, Bool, false, true}
 use Rattle.std.proofs.Common.{List, [], Option, None, Some, length, get_or, replicate, refl, sym, ◌∙◌, ap, subst}
 use Rattle.std.proofs.Common.{arith}
 use Rattle.std.proofs.Math.ListN.{get_or-eq_default, length-replicate}

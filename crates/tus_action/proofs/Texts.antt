@@ -11,7 +11,7 @@ use Rattle.upload_rules.specs.declared.uploads.Uploads.{Ghosts}
 use Rattle.tus_request.specs.Requests.{Request}
 use Rattle.tus_request.specs.Replies.{reply_text}
 use Rattle.tus_action.specs.Acts.{Acted, Giving, piece_size, pending_of, pending_after, is_pending, get}
-use Rattle.tus_action.specs.Serves.{Appends, AppendsText, GivesAs, IsGiving, GivingIs, DraftIs, ActedAs, Serves}
+use Rattle.tus_action.specs.Serves.{Appends, GivesAs, IsGiving, GivingIs, DraftIs, ActedAs, Serves}
 use Rattle.tus_action.specs.Serves.{GivesPiece, replied_giving}
 use Rattle.tus_action.proofs.Pieces.{appends}
 use Rattle.tus_action.specs.Serves.{draft_in, giving_in, closes_in}

@@ -13,7 +13,7 @@ use Rattle.upload_rules.specs.Lengths.{known_or, longest}
 use Rattle.upload_rules.specs.Store.{Upload, upload_of, patched, find}
 use Rattle.upload_rules.specs.World.{Patch, World}
 use Rattle.upload_rules.specs.Grown.{GrewFrom}
-use Rattle.upload_rules.specs.Calls.{dropped, spent, commit_refusal, appended_at, appended}
+use Rattle.upload_rules.specs.Calls.{dropped, spent, commit_refusal, appended_at}
 use Rattle.upload_rules.specs.Calls.{longer as longer_patch}
 use Rattle.upload_rules.proofs.Finds.{find_replaced_same}
 use Rattle.upload_rules.specs.declared.uploads.Uploads.{Ghosts}

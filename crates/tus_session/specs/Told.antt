@@ -1,5 +1,5 @@
 -- How a call of a session answers.
-use Rattle.std.specs.Prelude.{◌≡◌, ◌++◌, ℕ, List, Option, Result, Ok, Err, Bool}
+use Rattle.std.specs.Prelude.{◌≡◌, ℕ, List, Option, Result, Ok, Err, Bool}
 use Rattle.upload_rules.specs.declared.uploads.Uploads.{Ghosts}
 use Rattle.tus_action.specs.Serves.{Appends}
 use Rattle.tus_session.specs.History.{State, Event, Served, OutOfMemory, Failed, Outcome, Gave, Done, Refused, step}

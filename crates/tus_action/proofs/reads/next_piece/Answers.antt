@@ -1,4 +1,4 @@
-use Rattle.std.proofs.Common.{◌≡◌, ◌++◌, ◌-◌, ℕ, length, take, ap, sym, subst, ◌∙◌, min, arith}
+use Rattle.std.proofs.Common.{◌≡◌, ◌-◌, ℕ, length, take, ap, sym, subst, ◌∙◌, min, arith}
 use Rattle.std.proofs.lemmas.List.{length-take-le}
 use Rattle.tus_action.specs.Acts.{pending_after, piece_of}
 use Rattle.tus_action.specs.Serves.{GivingIs}

@@ -1,3 +1,4 @@
+use Rattle.std.proofs.Common.{true}
 use Rattle.tus_session.specs.History.{Came}
 use Rattle.gateway_engine.proofs.Sessions.{told_gives, came_refused, shown_after}
 use Rattle.gateway_engine.proofs.gateway.GatewayConnections.came.Goals as goal

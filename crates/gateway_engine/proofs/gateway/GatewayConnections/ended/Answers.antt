@@ -1,3 +1,4 @@
+use Rattle.std.proofs.Common.{true}
 use Rattle.tus_session.specs.History.{Ended}
 use Rattle.gateway_engine.proofs.Sessions.{ends_does, ended_refused, shown_after}
 use Rattle.gateway_engine.proofs.gateway.GatewayConnections.ended.Goals as goal

@@ -1,3 +1,4 @@
+use Rattle.std.proofs.Common.{true}
 use Rattle.tus_session.specs.History.{More}
 use Rattle.gateway_engine.proofs.Sessions.{told_gives, more_refused}
 use Rattle.gateway_engine.proofs.gateway.GatewayConnections.more.Goals as goal

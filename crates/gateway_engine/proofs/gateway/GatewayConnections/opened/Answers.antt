@@ -1,3 +1,4 @@
+use Rattle.std.proofs.Common.{true}
 use Rattle.tus_session.specs.History.{Opened}
 use Rattle.gateway_engine.proofs.Sessions.{opens_does, opened_refused}
 use Rattle.gateway_engine.proofs.gateway.GatewayConnections.opened.Goals as goal
