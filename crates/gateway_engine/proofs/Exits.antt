@@ -1,7 +1,7 @@
 -- From the lines' end to the script's.
 use Rattle.std.proofs.Common.{◌≡◌, ◌⊎◌, inl, inr, ℕ, List, [], ◌++◌, take, Option, Some, None, Ok, Err, refl, sym}
 use Rattle.std.proofs.Common.{subst, ◌∙◌, append-nil, arith}
-use Rattle.std.proofs.Common.{⊎_elim}
+use Rattle.std.proofs.Common.{⊎_elim, true}
 use Rattle.std.specs.Prelude.{IsErrOf}
 use Rattle.std.specs.Io.KnownBytes.{Appends}
 use Rattle.upload_rules.specs.Store.{Store}
@@ -29,7 +29,7 @@ limits_none : (moment : ℕ) (left_only : Option ℕ → ℕ → List Store → 
     → LimitsTo moment moment left_only left_only stores
 limits_none moment left_only stores = record { later = omega arith; limits = λ n t ms le left among. left }
 
-pub begins : {C : Type 0} (v : View C) → v.before ≡ v.now → v.u.stands v.now v.st → v.held ≡ v.front
+pub begins : {C : Type 0} (v : View C) → v.before ≡ v.now → v.u.stands v.now true v.st → v.held ≡ v.front
     → IsAt v (run_from v.st [])
 begins v same stands is = record {
   keeps = stands;
@@ -74,7 +74,7 @@ abbrev pub LastIn : {C : Type 0} → View C → List Marked → Type 0
 LastIn v past = ShowsLast (v.u.moment v.now) (v.u.left_only v.now) v.st past
 
 module _ {U B C : Type 0} (u : Ghosts U B) (v : View C) (before store : U) (bytes : List ℕ)
-    (closes : (now : State) → v.u.stands v.now now → Rests u store now)
+    (closes : (now : State) → v.u.stands v.now true now → Rests u store now)
     (shows : (past : List Marked) → ShowsIn v past → Shows u before store v.st past)
     (last : (past : List Marked) → LastIn v past → ShowsLast (u.moment store) (u.left_only store) v.st past) where
   abbrev lines : Run → script.Result

@@ -19,7 +19,6 @@ use Rattle.tus_session.specs.declared.conns.Link.{Link}
 use Rattle.tus_session.specs.declared.errors.SessionError.{SessionError}
 use Rattle.tus_session.specs.declared.errors.SessionError.TheVariants.{NoMemory, DiskFault, TooMany, Closed, Down}
 use Rattle.tus_session.proofs.Limiting.{still_limits}
-use Rattle.tus_session.proofs.Tolds.{told_bytes}
 use Rattle.tus_session.specs.Connections.{Gives, Does, mark_of}
 use Rattle.tus_session.specs.Images.{shown_by}
 use Rattle.gateway_engine.specs.Gateways.{GatewayStands, is_down}
@@ -78,30 +77,29 @@ abbrev pub FallsBy : {T : Type 0} → Bool → Result T SessionError → Type 0
 FallsBy down result = (down ≡ true) ↔ IsErrOf result DiskFault
 
 -- HOW A CALL OF THE SESSION LEAVES THE GATEWAY
-module _ {U B : Type 0} (u : Ghosts U B) (g : Gateway U B) (st : State) (e : Event) where
+module _ {U B : Type 0} (u : Ghosts U B) (g : Gateway U B) (sure : Bool) (st : State) (e : Event) where
   abbrev places : List (Option (Link B))
   places = places_of g.session
 
   abbrev stands : State → Type 0
-  stands s = GatewayStands u g s
+  stands s = GatewayStands u g sure s
 
   still_up : {T : Type 0} (result : Result T SessionError) → FallsBy (is_down g) result
       → (IsErrOf result DiskFault → ⊥) → is_down g ≡ false
   still_up result falls sound = false_from_ne_true (is_down g) (λ down. sound (falls.0 down))
 
-  at : (s : State) → SessionStands u true places g.store s → is_down g ≡ false → GatewayStands u g s
+  at : (s : State) → SessionStands u sure places g.store s → is_down g ≡ false → GatewayStands u g sure s
   at s session up = record { session = session; up = up }
 
-  at_same : (s : State) → s ≡ st → SessionStands u true places g.store st → is_down g ≡ false → GatewayStands u g s
-  at_same s same session up = at s (subst (λ x. SessionStands u true places g.store x) (sym same) session) up
+  at_same : (s : State) → s ≡ st → SessionStands u sure places g.store st → is_down g ≡ false → GatewayStands u g sure s
+  at_same s same session up = at s (subst (λ x. SessionStands u sure places g.store x) (sym same) session) up
 
   pub told_gives : (result : Result Answer SessionError) (old new : List ℕ) → FallsBy (is_down g) result
-      → RefusedStays st (step st e Served) → Told u true places g.store result old new st e
-      → Gives stands result old new st e
+      → RefusedStays st (step st e Served) → Told u sure places g.store result old new st e
+      → Gives sure stands result old new st e
   told_gives (Ok a) old new falls stays t =
       let up = still_up (Ok a) falls (λ f. absurd (cc)) in
-      let gave = told_bytes u places g.store a old new st e t in
-      (gave.0, record { answer = gave.1.outcome; keeps = at _ gave.1.stands up }, gave.2)
+      (t.0, record { answer = t.1.outcome; keeps = at _ t.1.stands up }, t.2)
   told_gives (Err NoMemory) old new falls stays t =
       let up = still_up {T = Answer} (Err NoMemory) falls (λ f. absurd (cc)) in
       ([], record { answer = t.0.outcome; keeps = at _ t.0.stands up }, t.1)
@@ -117,7 +115,7 @@ module _ {U B : Type 0} (u : Ghosts U B) (g : Gateway U B) (st : State) (e : Eve
       ([], record { answer = t.0.outcome; keeps = at_same _ (stays Down t.0.outcome) t.0.stands up }, t.1)
 
   pub ends_does : (result : Result (Unit {0}) SessionError) → FallsBy (is_down g) result
-      → RefusedStays st (step st e Served) → told.Ends u true places g.store result st e → Does stands result st e
+      → RefusedStays st (step st e Served) → told.Ends u sure places g.store result st e → Does stands result st e
   ends_does (Ok x) falls stays t =
       record { answer = t.outcome; keeps = at _ t.stands (still_up (Ok x) falls (λ f. absurd (cc))) }
   ends_does (Err NoMemory) falls stays t =
@@ -135,7 +133,7 @@ module _ {U B : Type 0} (u : Ghosts U B) (g : Gateway U B) (st : State) (e : Eve
       record { answer = t.outcome; keeps = at_same _ (stays Down t.outcome) t.stands up }
 
   pub opens_does : (result : Result (Unit {0}) SessionError) → is_down g ≡ false
-      → ManyStays st (step st e Served) → Opens u true places g.store result st e → Does stands result st e
+      → ManyStays st (step st e Served) → Opens u sure places g.store result st e → Does stands result st e
   opens_does (Ok x) up stays t = record { answer = t.outcome; keeps = at _ t.stands up }
   opens_does (Err NoMemory) up stays t = let f : NoMemory ≡ TooMany = (stays NoMemory t.outcome).0 in absurd (cc)
   opens_does (Err DiskFault) up stays t = let f : DiskFault ≡ TooMany = (stays DiskFault t.outcome).0 in absurd (cc)

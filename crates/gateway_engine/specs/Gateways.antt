@@ -1,5 +1,5 @@
 -- What a gateway stands for.
-use Rattle.std.specs.Prelude.{◌≡◌, ℕ, Bool, false, true, Result, Ok, Err}
+use Rattle.std.specs.Prelude.{◌≡◌, ℕ, Bool, false, Result, Ok, Err}
 use Rattle.spool_disk.specs.declared.disk.Disk as disks
 use Rattle.spool_image.specs.Spool.{disk_of, size_of}
 use Rattle.spool_kept.specs.declared.error.OpenFault.{OpenFault}
@@ -20,14 +20,14 @@ abbrev pub is_down : {U B : Type 0} → Gateway U B → Bool
 is_down g = g.down
 
 -- its session and its store are where the history is, and it isn't down
-pub record GatewayStands {U B : Type 0} (u : Ghosts U B) (g : Gateway U B) (st : State) : Type 0 where
-  pub session : SessionStands u true (places_of g.session) g.store st
+pub record GatewayStands {U B : Type 0} (u : Ghosts U B) (g : Gateway U B) (sure : Bool) (st : State) : Type 0 where
+  pub session : SessionStands u sure (places_of g.session) g.store st
   pub up : is_down g ≡ false
 
 -- a gateway as connections
 abbrev pub as_connections : {U B : Type 0} → Ghosts U B → connections.Ghosts (Gateway U B)
 as_connections u = record {
-  stands = λ g st. GatewayStands u g st;
+  stands = λ g sure st. GatewayStands u g sure st;
   moment = λ g. u.moment (store_of g);
   left_only = λ g blocks t ms. u.left_only (store_of g) blocks t ms;
   failures = λ g. u.failures (store_of g);

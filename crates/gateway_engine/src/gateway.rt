@@ -1,5 +1,5 @@
 //! A session over a store of uploads, as one value.
-ghost use Rattle.std.specs.Prelude.{◌≡◌, ◌↔◌, ℕ, true, false, Option, IsTrue, IsErr, IsErrOf, IfOk, IfErr};
+ghost use Rattle.std.specs.Prelude.{◌≡◌, ◌↔◌, ℕ, Bool, true, false, Option, IsTrue, IsErr, IsErrOf, IfOk, IfErr};
 ghost use Rattle.upload_rules.specs.Store.{Store};
 ghost use Rattle.upload_rules.specs.World.{at_rest};
 ghost use Rattle.upload_rules.specs.Answers.{Quiet};
@@ -24,8 +24,8 @@ pub struct Gateway<U: Uploads> {
 impl<U: Uploads> Gateway<U> {
     /// No connection is open.
     pub fn new(alloc: Global, store: U) -> Result<Self, (U, AllocError)>
-        ensures ok { (m : Store) (blocks : Option ℕ) → U.stands store true (at_rest m blocks)
-            → IfOk result (λ g. GatewayStands U.Uploads g (beginning m blocks)) }
+        ensures ok { (sure : Bool) (m : Store) (blocks : Option ℕ) → U.stands store sure (at_rest m blocks)
+            → IfOk result (λ g. GatewayStands U.Uploads g sure (beginning m blocks)) }
         ensures same { IfOk result (λ g. store_of g ≡ store) }
         ensures up { IfOk result (λ g. is_down g ≡ false) }
         ensures back { IfErr result (λ e. e.0 ≡ store) }
@@ -42,8 +42,8 @@ impl<U: Uploads> Gateway<U> {
 
     /// Ends the session: the drafts that are open are dropped. The store has the uploads.
     pub fn close(self) -> U
-        ensures kept { (st : State) → GatewayStands U.Uploads self st
-            → U.stands result true (at_rest st.world.store st.world.blocks) }
+        ensures kept { (sure : Bool) (st : State) → GatewayStands U.Uploads self sure st
+            → U.stands result sure (at_rest st.world.store st.world.blocks) }
         ensures crash { Quiet (U.moment (store_of self)) (U.moment result) (U.left_only (store_of self))
             (U.left_only result) }
         ensures counts { U.failures result ≡ U.failures (store_of self) }
@@ -78,7 +78,7 @@ fn failed<T>(answer: &Result<T, SessionError>) -> bool
 }
 
 impl<U: Uploads> Connections for Gateway<U> {
-    ghost stands = { λ g st. GatewayStands U.Uploads g st };
+    ghost stands = { λ g sure st. GatewayStands U.Uploads g sure st };
 
     ghost moment = { λ g. U.moment (store_of g) };
 
@@ -90,7 +90,7 @@ impl<U: Uploads> Connections for Gateway<U> {
 
     ghost durable = { λ g st ms stands among. U.durable (store_of g) st.world ms stands.session.shown among };
 
-    ghost up = { λ g st stands. stands.up };
+    ghost up = { λ g sure st stands. stands.up };
 
     fn opened(&mut self, conn: usize) -> Result<(), SessionError> {
         self.up()?;

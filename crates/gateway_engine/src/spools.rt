@@ -1,14 +1,16 @@
 //! A gateway over a spool on a disk.
-ghost use Rattle.std.specs.Prelude.{◌≡◌, ◌↔◌, ℕ, false, List, Some, IfOk};
+ghost use Rattle.std.specs.Prelude.{◌≡◌, ◌↔◌, ℕ, true, false, List, Some, IfOk};
 ghost use Rattle.spool_disk.specs.Disk.{Counts};
 ghost use Rattle.spool_disk.specs.Views.{Lasts};
 ghost use Rattle.spool_image.specs.LeftOnly.{AllShow, IsSpool, LeftOrShows, SpoolLeft};
 ghost use Rattle.spool_image.specs.Opening.{OpensExactly, ReadsSame, Unwritten, refusal_of};
-ghost use Rattle.spool_image.specs.Spool.{IsFault, OpensAs};
+ghost use Rattle.spool_image.specs.Spool.{IsFault, Keeps, OpensAs};
+ghost use Rattle.spool_kept.specs.Shows.{Shows};
+ghost use Rattle.spool_pages.specs.View.{View};
 ghost use Rattle.upload_rules.specs.Store.{Store};
 ghost use Rattle.upload_rules.specs.Answers.{Quiet};
 ghost use Rattle.tus_session.specs.History.{State, beginning};
-ghost use Rattle.gateway_engine.specs.Gateways.{GatewayStands, disk_in, size_in, disk_after, is_down};
+ghost use Rattle.gateway_engine.specs.Gateways.{GatewayStands, disk_in, size_in, disk_after, is_down, store_of};
 ghost use Rattle.gateway_script.specs.Script.{IsScript};
 ghost use Rattle.gateway_engine.specs.Ran.{CountsEither};
 ghost use Rattle.gateway_engine.specs.RanOn.{HasRunOn, HasFailedOn, HasRefusedOn, Unopened};
@@ -36,7 +38,12 @@ impl<D: Disk> Gateway<Spool<D>> {
 
         // A disk of which a read shows uploads is opened, and no event came so far, or memory or the disk refuses it.
         ensures opened { (n : ℕ) (m : Store) → IsSpool D.Disk disk n m
-            → OpensAs result (λ g. GatewayStands ⟦<Spool<D> as Uploads>⟧ g (beginning m (Some n))) }
+            → OpensAs result (λ g. GatewayStands ⟦<Spool<D> as Uploads>⟧ g true (beginning m (Some n))) }
+
+        // And whatever the disk, it stands for the uploads that are shown by what its spool keeps.
+        ensures kept { (v : View) (m : Store) → Shows v m
+            → IfOk result (λ g. Keeps (store_of g) v
+            → GatewayStands ⟦<Spool<D> as Uploads>⟧ g false (beginning m (Some v.blocks))) }
 
         // What is opened is a sound spool. Each refusal has its reason, and each reason is answered so.
         ensures exact { D.honest disk → OpensExactly (D.size disk) (D.seen disk) (refusal_of result) }
@@ -63,8 +70,8 @@ impl<D: Disk> Gateway<Spool<D>> {
 
     /// Ends the session: the drafts that are open are dropped. The disk has the uploads.
     pub fn into_disk(self) -> D
-        ensures shows { (st : State) (n : ℕ) → GatewayStands ⟦<Spool<D> as Uploads>⟧ self st → st.world.blocks ≡ Some n
-            → AllShow D.Disk result n st.world.store }
+        ensures shows { (st : State) (n : ℕ) → GatewayStands ⟦<Spool<D> as Uploads>⟧ self true st
+            → st.world.blocks ≡ Some n → AllShow D.Disk result n st.world.store }
         ensures crash { Quiet (D.moment (disk_in self)) (D.moment result)
             (SpoolLeft D.Disk (disk_in self) (size_in self)) (SpoolLeft D.Disk result (size_in self)) }
         ensures counts { D.failures result ≡ D.failures (disk_in self) }

@@ -7,6 +7,7 @@ use Rattle.tus_session.specs.History.{Event, Mark, Served, Outcome, Gave, Done, 
 use Rattle.tus_session.specs.declared.answers.Answer.{Answer}
 use Rattle.tus_session.specs.declared.errors.SessionError.{SessionError}
 use Rattle.tus_session.specs.declared.errors.SessionError.TheVariants as errors
+use Rattle.tus_session.proofs.Added.{adds_all}
 use Rattle.tus_session.specs.Connections.{Falls, mark_of, Gives, Does, UnlessFailed}
 use Rattle.tus_session.specs.Images.{shown_by}
 use Rattle.gateway_script.specs.declared.faults.CallFault.{CallFault}
@@ -65,7 +66,7 @@ falling was now f falls is = falls.falls.1 (inr (ap Err is))
 module _ {C : Type 0} (v : View C) (now : C) (held : Option (List ℕ)) (r : Run) (e : Event) (m : Mark) (at : IsAt v r)
     (leaves : Leaves v now r.state.world.store (shown_by r.state e m)) where
   -- it is at its place
-  stays_at : (outcome : Outcome) → v.u.stands now (step r.state e m).state → (step r.state e m).outcome ≡ outcome
+  stays_at : (outcome : Outcome) → v.u.stands now true (step r.state e m).state → (step r.state e m).outcome ≡ outcome
       → is_fault outcome ≡ false
       → Appends v.held held (written (conn_in e) outcome) → IsAt (seen_after v now held) (stepped r (conn_in e) e m)
   stays_at outcome stands is up appends = record {
@@ -90,7 +91,7 @@ module _ {C : Type 0} (v : View C) (now : C) (held : Option (List ℕ)) (r : Run
   }
 
   -- it was out of memory for the reply: nothing was written
-  wants_memory : v.u.stands now (step r.state e m).state → held ≡ v.held
+  wants_memory : v.u.stands now true (step r.state e m).state → held ≡ v.held
       → IsStopped (seen_after v now held) faults.NoMemory (stepped r (conn_in e) e m)
   wants_memory stands same = record {
     keeps = stands;
@@ -101,7 +102,7 @@ module _ {C : Type 0} (v : View C) (now : C) (held : Option (List ℕ)) (r : Run
   }
 
   -- a front part of the reply was written
-  breaks_off : (outcome : Outcome) → v.u.stands now (step r.state e m).state → (step r.state e m).outcome ≡ outcome
+  breaks_off : (outcome : Outcome) → v.u.stands now true (step r.state e m).state → (step r.state e m).outcome ≡ outcome
       → AppendsPart v.held held (written (conn_in e) outcome)
       → IsStopped (seen_after v now held) faults.Io (stepped r (conn_in e) e m)
   breaks_off outcome stands is wrote = record {
@@ -121,7 +122,7 @@ module _ {C : Type 0} (v : View C) (now : C) (held : Option (List ℕ)) (r : Run
 -- A CALL THAT GIVES NOTHING
 pub done_went : {C : Type 0} (v : View C) (now : C) (r : Run) (e : Event) → IsAt v r
     → Leaves v now r.state.world.store (shown_by r.state e Served)
-    → Does (v.u.stands now) (Ok (tt {0})) r.state e
+    → Does (v.u.stands now true) (Ok (tt {0})) r.state e
     → Went (seen_after v now v.held) (Ok (tt {0})) (λ x. (call x (conn_in e) e).run) r
 done_went v now r e at leaves does = (
   stepped r (conn_in e) e Served,
@@ -142,7 +143,7 @@ stops_at v fault r n e m is = (
 pub refused_went : {C : Type 0} (v : View C) (now : C) (held : Option (List ℕ)) (r : Run) (e : Event) (f : SessionError)
     (result : Result (Unit {0}) CallFault)
     → IsAt v r → OnDevice v r → Leaves v now r.state.world.store (shown_by r.state e (mark_of {T = Unit {0}} (Err f)))
-    → Does (v.u.stands now) (Err f) r.state e → Falling v now f
+    → Does (v.u.stands now true) (Err f) r.state e → Falling v now f
     → Refuses v.held held result (conn_in e) f
     → Went (seen_after v now held) result (λ x. (call x (conn_in e) e).run) r
 refused_went v now held r e f (Ok x) at durable leaves does fell refuses =
@@ -171,9 +172,9 @@ refused_went v now held r e f (Err faults.Io) at durable leaves does fell refuse
 -- A CALL THAT GIVES BYTES
 module _ {C : Type 0} (v : View C) (now : C) (held : Option (List ℕ)) (r : Run) (e : Event) (at : IsAt v r) where
   module _ (a : Answer) (given : List ℕ) (leaves : Leaves v now r.state.world.store (shown_by r.state e Served))
-      (gives : Gives (v.u.stands now) (Ok a) [] given r.state e) where
+      (gives : Gives true (v.u.stands now true) (Ok a) [] given r.state e) where
     bytes_are : given ≡ gives.0
-    bytes_are = gives.2
+    bytes_are = adds_all (Ok a) gives.0 (step r.state e Served).text [] given gives.2
 
     pub told_called : Tells v.held held (Ok (tt {0})) (conn_in e) given a.closes
         → Called (seen_after v now held) (Ok (Some a)) (conn_in e) e r
@@ -203,7 +204,7 @@ module _ {C : Type 0} (v : View C) (now : C) (held : Option (List ℕ)) (r : Run
     )
 
   module _ (f : SessionError) (given : List ℕ) (leaves : Leaves v now r.state.world.store
-      (shown_by r.state e (mark_of {T = Answer} (Err f)))) (gives : Gives (v.u.stands now) (Err f) [] given r.state e)
+      (shown_by r.state e (mark_of {T = Answer} (Err f)))) (gives : Gives true (v.u.stands now true) (Err f) [] given r.state e)
     where
       abbrev m : Mark
       m = mark_of {T = Answer} (Err f)

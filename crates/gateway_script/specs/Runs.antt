@@ -45,7 +45,7 @@ pub record IsHistory {C : Type 0} (v : View C) (r : Run) : Type 0 where
 -- the connections are where the run is, the writer holds what it wrote after what was there before, and the disk
 -- hasn't failed
 pub record IsAt {C : Type 0} (v : View C) (r : Run) : Type 0 where
-  pub keeps : v.u.stands v.now r.state
+  pub keeps : v.u.stands v.now true r.state
   pub wrote : Appends v.front v.held r.out
   pub up : r.down ≡ false
   pub history : IsHistory v r
@@ -61,7 +61,7 @@ pub record IsDown {C : Type 0} (v : View C) (r : Run) : Type 0 where
 -- the writer failed or it was out of memory, and the connections are where the run is; what it gave last may not be
 -- written
 pub record IsStopped {C : Type 0} (v : View C) (fault : CallFault) (r : Run) : Type 0 where
-  pub keeps : v.u.stands v.now r.state
+  pub keeps : v.u.stands v.now true r.state
   pub out : List ℕ
   pub wrote : Appends v.front v.held out
   pub replies : WroteMost fault v.st r.past out

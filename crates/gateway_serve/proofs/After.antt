@@ -33,7 +33,7 @@ module _ {C : Type 0} (c : Ghosts C) (before old now : C) (st : State) (past : L
 
   -- where the connections are after it
   abbrev pub Keeps : {T : Type 0} → Result T SessionError → Type 0
-  Keeps answer = UnlessFailed answer (c.stands now (step (history st past) e (mark_of answer)).state)
+  Keeps answer = UnlessFailed answer (c.stands now true (step (history st past) e (mark_of answer)).state)
 
   module _ (On Down : List Marked → Type 0) where
     pub served : {T U : Type 0} (answer : Result T SessionError) (told : Result U DiskFault) → GoesOn answer told

@@ -8,7 +8,7 @@ use Rattle.tus_session.specs.History.{history, step}
 use Rattle.tus_session.specs.declared.answers.Answer.{Answer}
 use Rattle.tus_session.specs.declared.errors.SessionError.{SessionError}
 use Rattle.tus_session.specs.declared.errors.SessionError.TheVariants.{NoMemory, DiskFault, TooMany, Closed, Down}
-use Rattle.tus_session.specs.Connections.{mark_of, told, Adds}
+use Rattle.tus_session.specs.Connections.{mark_of, told, AddsAll}
 use Rattle.gateway_serve.specs.Conversations.{longer, latest, goes_on, conversations}
 use Rattle.gateway_serve.specs.Sockets.{Seen}
 use Rattle.gateway_serve.specs.Joined.{Joint, Joins, Writes, Reads, wrote, read, is_last, stage_by, stage_after}
@@ -126,7 +126,7 @@ module _ (ended : List Seen) (st : State) (past : List Marked) (n : ℕ) where
   came_joins : (answer : Result Answer SessionError) (bytes : List ℕ) (j : Joint) (output : List ℕ)
       → (answer ≡ Err DiskFault → ⊥)
       → (step (history st past) (Came n j.input) (mark_of answer)).outcome ≡ told bytes answer
-      → Adds answer bytes j.output output → Joins j ended st past n
+      → AddsAll answer bytes j.output output → Joins j ended st past n
       → Joins (answered j output answer) ended st ((Came n j.input, mark_of answer) ∷ past) n
   came_joins (Ok a) bytes j output ok same adds is =
       longer_joins (Came n j.input) Served j output (take a.taken j.input) bytes (drop a.taken j.input)
@@ -161,7 +161,7 @@ module _ (ended : List Seen) (st : State) (past : List Marked) (n : ℕ) where
   came_fell : (answer : Result Answer SessionError) (bytes : List ℕ) (j : Joint) (output : List ℕ)
       → answer ≡ Err DiskFault
       → (step (history st past) (Came n j.input) (mark_of answer)).outcome ≡ told bytes answer
-      → Adds answer bytes j.output output → Joins j ended st past n
+      → AddsAll answer bytes j.output output → Joins j ended st past n
       → Joins (kept j output) ended st ((Came n j.input, mark_of answer) ∷ past) n
   came_fell (Ok a) bytes j output fails same adds is = absurd (cc)
   came_fell (Err NoMemory) bytes j output fails same adds is = absurd (cc)
@@ -187,7 +187,7 @@ module _ (ended : List Seen) (st : State) (past : List Marked) (n : ℕ) where
   more_joins : (answer : Result Answer SessionError) (bytes : List ℕ) (j : Joint) (output : List ℕ)
       → (answer ≡ Err DiskFault → ⊥)
       → (step (history st past) (More n) (mark_of answer)).outcome ≡ told bytes answer
-      → Adds answer bytes j.output output → Joins j ended st past n
+      → AddsAll answer bytes j.output output → Joins j ended st past n
       → Joins (asked j output answer) ended st ((More n, mark_of answer) ∷ past) n
   more_joins (Ok a) bytes j output ok same adds is =
       longer_joins (More n) Served j output [] bytes j.input (is_last (stage_by a)) is
@@ -216,7 +216,7 @@ module _ (ended : List Seen) (st : State) (past : List Marked) (n : ℕ) where
   pub more_fell : (answer : Result Answer SessionError) (bytes : List ℕ) (j : Joint) (output : List ℕ)
       → answer ≡ Err DiskFault
       → (step (history st past) (More n) (mark_of answer)).outcome ≡ told bytes answer
-      → Adds answer bytes j.output output → Joins j ended st past n
+      → AddsAll answer bytes j.output output → Joins j ended st past n
       → Joins (kept j output) ended st ((More n, mark_of answer) ∷ past) n
   more_fell (Ok a) bytes j output fails same adds is = absurd (cc)
   more_fell (Err NoMemory) bytes j output fails same adds is = absurd (cc)
@@ -232,7 +232,7 @@ module _ (ended : List Seen) (st : State) (past : List Marked) (n : ℕ) where
   came_there : (answer : Result Answer SessionError) (bytes : List ℕ) (j : Joint) (input output : List ℕ)
       (stage : Stage) (taken : ℕ) → (answer ≡ Err DiskFault → ⊥)
       → (step (history st past) (Came n j.input) (mark_of answer)).outcome ≡ told bytes answer
-      → Adds answer bytes j.output output
+      → AddsAll answer bytes j.output output
       → stage ≡ stage_after answer → taken ≡ taken_after answer → input ≡ drop taken j.input → Joins j ended st past n
       → Joins (record { came = j.came; went = j.went; input = input; output = output; closed = is_last stage }) ended st
       ((Came n j.input, mark_of answer) ∷ past) n
@@ -263,7 +263,7 @@ module _ (ended : List Seen) (st : State) (past : List Marked) (n : ℕ) where
   pub came_link : (answer : Result Answer SessionError) (bytes : List ℕ) (j : Joint) (piece input output : List ℕ)
       (stage : Stage) (taken : ℕ) → (answer ≡ Err DiskFault → ⊥)
       → piece ≡ j.input → (step (history st past) (Came n piece) (mark_of answer)).outcome ≡ told bytes answer
-      → Adds answer bytes j.output output
+      → AddsAll answer bytes j.output output
       → stage ≡ stage_after answer → taken ≡ taken_after answer → input ≡ drop taken j.input → Joins j ended st past n
       → Joins (record { came = j.came; went = j.went; input = input; output = output; closed = is_last stage }) ended st
       ((Came n piece, mark_of answer) ∷ past) n
@@ -274,7 +274,7 @@ module _ (ended : List Seen) (st : State) (past : List Marked) (n : ℕ) where
   pub came_down : (answer : Result Answer SessionError) (bytes : List ℕ) (j : Joint) (piece output : List ℕ)
       → answer ≡ Err DiskFault → piece ≡ j.input
       → (step (history st past) (Came n piece) (mark_of answer)).outcome ≡ told bytes answer
-      → Adds answer bytes j.output output → Joins j ended st past n
+      → AddsAll answer bytes j.output output → Joins j ended st past n
       → Joins (kept j output) ended st ((Came n piece, mark_of answer) ∷ past) n
   came_down answer bytes j piece output fails whole same adds is =
       given_piece j piece (mark_of answer) (told bytes answer) _ whole
@@ -283,7 +283,7 @@ module _ (ended : List Seen) (st : State) (past : List Marked) (n : ℕ) where
   pub more_link : (answer : Result Answer SessionError) (bytes : List ℕ) (j : Joint) (output : List ℕ) (stage : Stage)
       → (answer ≡ Err DiskFault → ⊥)
       → (step (history st past) (More n) (mark_of answer)).outcome ≡ told bytes answer
-      → Adds answer bytes j.output output
+      → AddsAll answer bytes j.output output
       → stage ≡ stage_after answer → Joins j ended st past n
       → Joins (record { came = j.came; went = j.went; input = j.input; output = output; closed = is_last stage }) ended
       st ((More n, mark_of answer) ∷ past) n

@@ -15,7 +15,7 @@ ImagesShow c before now st past = LimitsTo (c.moment before) (c.moment now) (c.l
 
 -- these events came, and the connections are where their history is
 pub record WentOn {C : Type 0} (c : Ghosts C) (before now : C) (st : State) (past : List Marked) : Type 0 where
-  pub stands : c.stands now (history st past)
+  pub stands : c.stands now true (history st past)
   pub images : ImagesShow c before now st past
 
 -- these events came, and at the latest of them the disk failed: the connections are down, and of them nothing is

@@ -1,5 +1,5 @@
 //! The bytes between a socket and a session. Each buffer is seen as the bytes that are left in it.
-ghost use Rattle.std.specs.Prelude.{◌≡◌, ◌≤◌, ◌++◌, ℕ, List, [], length, take, drop, slice_range, vec_len};
+ghost use Rattle.std.specs.Prelude.{◌≡◌, ◌≤◌, ◌++◌, ℕ, List, [], length, take, drop, slice_range, vec_len, Bool, true};
 ghost use Rattle.std.specs.Prelude.{◌↔◌, IfOk, OnErr, IsErrOf, IsTrue, vec_capacity};
 ghost use Rattle.std.specs.Io.KnownBytes.{Consumes, Appends, Keeps, IsAtEnd};
 ghost use Rattle.upload_rules.specs.Answers.{Limits, Quiet, Counts};
@@ -175,9 +175,9 @@ impl Output {
         bytes: &[u8],
     ) -> Result<Answer, SessionError>
         requires { HasRoom self.old }
-        ensures gives { (st : State) → C.stands gateway.old st
-            → Gives (C.stands gateway.new) result self.old self.new st (Came conn bytes.now) }
-        ensures crash { (st : State) → C.stands gateway.old st
+        ensures gives { (sure : Bool) (st : State) → C.stands gateway.old sure st
+            → Gives sure (C.stands gateway.new sure) result self.old self.new st (Came conn bytes.now) }
+        ensures crash { (st : State) → C.stands gateway.old true st
             → Limits (C.moment gateway.old) (C.moment gateway.new) (C.left_only gateway.old) (C.left_only gateway.new)
             st.world.store (shown_by st (Came conn bytes.now) (mark_of result)) }
         ensures counts { Counts (IsErrOf result SessionError.DiskFault) (C.failures gateway.old)
@@ -196,8 +196,8 @@ impl Output {
         conn: usize,
     ) -> Result<Answer, SessionError>
         requires { HasRoom self.old }
-        ensures gives { (st : State) → C.stands gateway.old st
-            → Gives (C.stands gateway.new) result self.old self.new st (More conn) }
+        ensures gives { (sure : Bool) (st : State) → C.stands gateway.old sure st
+            → Gives sure (C.stands gateway.new sure) result self.old self.new st (More conn) }
         ensures crash { Quiet (C.moment gateway.old) (C.moment gateway.new) (C.left_only gateway.old)
             (C.left_only gateway.new) }
         ensures counts { Counts (IsErrOf result SessionError.DiskFault) (C.failures gateway.old)

@@ -1,5 +1,5 @@
 //! Connections over sockets, turn by turn in one thread.
-ghost use Rattle.std.specs.Prelude.{◌≡◌, ◌⊎◌, List, [], IsErr, IfSome, length};
+ghost use Rattle.std.specs.Prelude.{◌≡◌, ◌⊎◌, List, [], IsErr, IfSome, length, true};
 ghost use Rattle.upload_rules.specs.Answers.{Counts};
 ghost use Rattle.tus_session.specs.History.{State, Marked};
 ghost use Rattle.gateway_serve.specs.Served.{Serves, AllServed, AllLeft};
@@ -443,7 +443,7 @@ where
     // unless the session was told that the client is gone. Each connection is closed again. After a disk fault the
     // last two are not promised, but where the reason is that the session closed the connection, or that it was late
     // between requests or in one, all of that went.
-    ensures serves { (st : State) → C.stands gateway st
+    ensures serves { (st : State) → C.stands gateway true st
         → Serves C.Connections gateway result.gateway st result.served
         (AllServed result.ended.sockets st) (AllLeft result.ended.sockets st) }
     ensures counts { Counts (IsErr result.served) (C.failures gateway) (C.failures result.gateway) }

@@ -1,5 +1,5 @@
 -- From a turn to the session's answer.
-use Rattle.std.proofs.Common.{◌≡◌, ◌++◌, ℕ, List, Option, Some, None, Ok, Err, refl, sym, ◌∙◌, ap, subst, [], Bool, true}
+use Rattle.std.proofs.Common.{◌≡◌, ℕ, List, Option, Some, None, Ok, Err, refl, sym, ◌∙◌, ap, subst, [], Bool}
 use Rattle.upload_rules.specs.World.{World}
 use Rattle.upload_rules.specs.declared.uploads.Uploads.{Ghosts}
 use Rattle.tus_action.specs.Serves.{Appends}
@@ -18,7 +18,6 @@ use Rattle.tus_session.specs.Told.{Follows, Told, Ends}
 use Rattle.tus_session.specs.declared.answers.Answer.{Answer}
 use Rattle.tus_session.specs.declared.conns.Link.{Link}
 use Rattle.tus_session.specs.declared.errors.SessionError.TheVariants as errors
-use Rattle.tus_action.proofs.Pieces.{all_appended}
 use Rattle.tus_session.proofs.Moved.{left_moves}
 use Rattle.tus_session.specs.Places.{IsPut}
 use Rattle.tus_session.proofs.InPlace.{in_place}
@@ -159,10 +158,3 @@ pub ended_step : (st : State) (c : ℕ) (conn : Conn) → st.conns c ≡ Some co
     → step st (Ended c) Served ≡ record { state = put st (ended_world st.world conn) c None; outcome = Done; text = [] }
 unfolding step
 ended_step st c conn e = ap (ended_at st c) e
-
--- where the disk is known to be honest the bytes that are given are the history's
-pub told_bytes : {U B : Type 0} (u : Ghosts U B) (places : List (Option (Link B))) (store : U) (a : Answer)
-    (old new : List ℕ) (st : State) (e : Event) → Told u true places store (Ok a) old new st e → (bytes : List ℕ)
-    × Follows u true places store (step st e Served).state (step st e Served).outcome
-    (Gave bytes a.taken a.closes a.more) × (new ≡ old ++ bytes)
-told_bytes u places store a old new st e t = (t.0, t.1, all_appended old new t.0 (step st e Served).text t.2)

@@ -2,6 +2,7 @@
 use Rattle.std.specs.Prelude.{◌≡◌, ◌↔◌, ◌⊎◌, ◌++◌, ℕ, Bool, true, List, Option, Result, Ok, Err, IsErrOf}
 use Rattle.upload_rules.specs.Store.{Store}
 use Rattle.upload_rules.specs.Answers.{Quiet}
+use Rattle.tus_action.specs.Serves.{Appends}
 use Rattle.tus_session.specs.History.{State, Event, Mark, Served, OutOfMemory, Failed}
 use Rattle.tus_session.specs.History.{Outcome, Gave, Done, Refused, Step, step}
 use Rattle.tus_session.specs.declared.answers.Answer.{Answer}
@@ -35,15 +36,22 @@ pub record Keeps {T : Type 0} (stands : State → Type 0) (result : Result T Ses
   pub answer : now.outcome ≡ outcome
   pub keeps : UnlessFailed result (stands now.state)
 
--- what is put after the output: the bytes that the call gives. A refusal leaves it as it was
-abbrev pub Adds : Result Answer SessionError → List ℕ → List ℕ → List ℕ → Type 0
-Adds (Ok a) bytes old new = new ≡ old ++ bytes
-Adds (Err f) bytes old new = new ≡ old
+-- What is put after the output: the bytes that the call gives, of which the last are a text's. A refusal leaves it as
+-- it was
+abbrev pub Adds : Bool → Result Answer SessionError → List ℕ → List ℕ → List ℕ → List ℕ → Type 0
+Adds sure (Ok a) bytes text old new = Appends sure old new bytes text
+Adds sure (Err f) bytes text old new = new ≡ old
+
+-- the same where the disk is known to be honest
+abbrev pub AddsAll : Result Answer SessionError → List ℕ → List ℕ → List ℕ → Type 0
+AddsAll (Ok a) bytes old new = new ≡ old ++ bytes
+AddsAll (Err f) bytes old new = new ≡ old
 
 -- a call that gives bytes
-abbrev pub Gives : (State → Type 0) → Result Answer SessionError → List ℕ → List ℕ → State → Event → Type 0
-Gives stands result old new st e =
-    (bytes : List ℕ) × Keeps stands result (told bytes result) (step st e (mark_of result)) × Adds result bytes old new
+abbrev pub Gives : Bool → (State → Type 0) → Result Answer SessionError → List ℕ → List ℕ → State → Event → Type 0
+Gives sure stands result old new st e =
+    (bytes : List ℕ) × Keeps stands result (told bytes result) (step st e (mark_of result))
+    × Adds sure result bytes (step st e (mark_of result)).text old new
 
 -- a call that gives none
 abbrev pub Does : (State → Type 0) → Result (Unit {0}) SessionError → State → Event → Type 0

@@ -1,4 +1,4 @@
-use Rattle.std.proofs.Common.{[], Ok, Err, inl, refl, sym, subst}
+use Rattle.std.proofs.Common.{[], true, Ok, Err, inl, refl, sym, subst}
 use Rattle.upload_rules.specs.World.{at_rest}
 use Rattle.tus_session.specs.History.{beginning}
 use Rattle.tus_session.specs.Images.{stores_of}
@@ -51,11 +51,11 @@ returns-in-Ok-run_script-clause-output g c = λ m blocks stands.
     let gateway = c.in-Ok-new.gateway in
     let now = c.run_script.new.core in
     let w = view (as_connections u) gateway gateway st front front in
-    let at : IsAt w (run_from st []) = begins w refl (c.in-Ok-new.ensures.ok m blocks stands) refl in
+    let at : IsAt w (run_from st []) = begins w refl (c.in-Ok-new.ensures.ok true m blocks stands) refl in
     let v = view (as_connections u) gateway now st (g.W.CountedWrite.contents c.run_script.new.writer) front in (
       script,
       c.in-Ok.ensures.ok,
-      ran u v c.args.store c.close.result script (λ s is. c.close.ensures.kept s is)
+      ran u v c.args.store c.close.result script (λ s is. c.close.ensures.kept true s is)
           (λ past shown. shows_since u c.args.store c.close.result st past
           (λ ms among. g.met.U.Uploads.durable c.args.store (at_rest m blocks) ms stands among)
           (shows_through u c.args.store (store_of gateway) (store_of now) c.close.result (stores_of st past)
@@ -75,12 +75,12 @@ returns-clause-output g c = λ m blocks stands.
     let now = c.run_script.new.core in
     let fault = c.in-Err-run_script.fault in
     let w = view (as_connections u) gateway gateway st front front in
-    let at : IsAt w (run_from st []) = begins w refl (c.in-Ok-new.ensures.ok m blocks stands) refl in
+    let at : IsAt w (run_from st []) = begins w refl (c.in-Ok-new.ensures.ok true m blocks stands) refl in
     let v = view (as_connections u) gateway now st (g.W.CountedWrite.contents c.run_script.new.writer) front in
     let back = c.close-in-Err-run_script.result in (
       script,
       c.in-Ok.ensures.ok,
-      stopped u v c.args.store back script (λ s is. c.close-in-Err-run_script.ensures.kept s is)
+      stopped u v c.args.store back script (λ s is. c.close-in-Err-run_script.ensures.kept true s is)
           (λ past shown. shows_since u c.args.store back st past
           (λ ms among. g.met.U.Uploads.durable c.args.store (at_rest m blocks) ms stands among)
           (shows_through u c.args.store (store_of gateway) (store_of now) back (stores_of st past)

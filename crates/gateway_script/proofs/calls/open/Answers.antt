@@ -1,3 +1,4 @@
+use Rattle.std.proofs.Common.{true}
 use Rattle.tus_session.specs.History.{Opened}
 use Rattle.tus_session.proofs.Limiting.{quiet_limits}
 use Rattle.gateway_script.specs.Runs.{view}
@@ -8,7 +9,7 @@ pub returns-in-Ok-clause-does : goal.returns-in-Ok-clause-does
 returns-in-Ok-clause-does g c = λ before st r front at.
     done_went (view g.C.Connections before c.args.core.now st (g.W.CountedWrite.contents c.args.writer.now) front)
     c.opened.new.self r (Opened c.args.conn) at
-    (quiet_limits _ _ c.opened.ensures.crash) (c.in-Ok.ensures.does r.state at.keeps)
+    (quiet_limits _ _ c.opened.ensures.crash) (c.in-Ok.ensures.does true r.state at.keeps)
 
 pub returns-in-Err-clause-does : goal.returns-in-Err-clause-does
 returns-in-Err-clause-does g c = λ before st r front at.
@@ -16,7 +17,7 @@ returns-in-Err-clause-does g c = λ before st r front at.
     c.opened.new.self (g.W.CountedWrite.contents c.refused.new.writer) r (Opened c.args.conn)
     c.in-Err.error c.refused.result at
     (λ ms among. g.met.C.Connections.durable c.args.core.now r.state ms at.keeps among)
-    (quiet_limits _ _ c.opened.ensures.crash) (c.in-Err.ensures.does r.state at.keeps)
+    (quiet_limits _ _ c.opened.ensures.crash) (c.in-Err.ensures.does true r.state at.keeps)
     (falling (g.C.Connections.down c.args.core.now) (g.C.Connections.down c.opened.new.self) c.in-Err.error
     c.in-Err.ensures.falls)
     c.refused.ensures.refuses

@@ -1,12 +1,11 @@
-use Rattle.std.proofs.Common.{true}
 use Rattle.tus_session.specs.History.{Ended}
 use Rattle.gateway_engine.proofs.Sessions.{ends_does, ended_refused, shown_after}
 use Rattle.gateway_engine.proofs.gateway.GatewayConnections.ended.Goals as goal
 
 pub returns-clause-does : goal.returns-clause-does
-returns-clause-does g c = λ st stands.
-    ends_does g.U.Uploads _ st (Ended c.args.conn) c.ended-answer.result
-    c.failed-self.ensures (ended_refused st c.args.conn) (c.ended-answer.ensures.answer true st stands.session)
+returns-clause-does g c = λ sure st stands.
+    ends_does g.U.Uploads _ sure st (Ended c.args.conn) c.ended-answer.result
+    c.failed-self.ensures (ended_refused st c.args.conn) (c.ended-answer.ensures.answer sure st stands.session)
 
 pub returns-clause-crash : goal.returns-clause-crash
 returns-clause-crash g c = λ st stands.

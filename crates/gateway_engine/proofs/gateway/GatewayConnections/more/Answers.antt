@@ -1,9 +1,8 @@
-use Rattle.std.proofs.Common.{true}
 use Rattle.tus_session.specs.History.{More}
 use Rattle.gateway_engine.proofs.Sessions.{told_gives, more_refused}
 use Rattle.gateway_engine.proofs.gateway.GatewayConnections.more.Goals as goal
 
 pub returns-clause-gives : goal.returns-clause-gives
-returns-clause-gives g c = λ st stands.
-    told_gives g.U.Uploads _ st (More c.args.conn) c.more-answer.result c.args.out.now.items c.more-answer.new.out.items
-    c.failed-self.ensures (more_refused st c.args.conn) (c.more-answer.ensures.answer true st stands.session)
+returns-clause-gives g c = λ sure st stands.
+    told_gives g.U.Uploads _ sure st (More c.args.conn) c.more-answer.result c.args.out.now.items c.more-answer.new.out.items
+    c.failed-self.ensures (more_refused st c.args.conn) (c.more-answer.ensures.answer sure st stands.session)

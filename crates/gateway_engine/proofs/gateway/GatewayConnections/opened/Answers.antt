@@ -1,9 +1,8 @@
-use Rattle.std.proofs.Common.{true}
 use Rattle.tus_session.specs.History.{Opened}
 use Rattle.gateway_engine.proofs.Sessions.{opens_does, opened_refused}
 use Rattle.gateway_engine.proofs.gateway.GatewayConnections.opened.Goals as goal
 
 pub returns-clause-does : goal.returns-clause-does
-returns-clause-does g c = λ st stands.
-    opens_does g.U.Uploads _ st (Opened c.args.conn) c.opened.result stands.up
-    (opened_refused st c.args.conn) (c.opened.ensures.answer true _ st stands.session)
+returns-clause-does g c = λ sure st stands.
+    opens_does g.U.Uploads _ sure st (Opened c.args.conn) c.opened.result stands.up
+    (opened_refused st c.args.conn) (c.opened.ensures.answer sure _ st stands.session)

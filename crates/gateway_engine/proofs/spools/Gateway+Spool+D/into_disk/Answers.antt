@@ -1,4 +1,4 @@
-use Rattle.std.proofs.Common.{◌≡◌, ◌∙◌, ℕ, inl, refl, [], ◌∷◌, sym, subst}
+use Rattle.std.proofs.Common.{◌≡◌, ◌∙◌, ℕ, true, inl, refl, [], ◌∷◌, sym, subst}
 use Rattle.upload_rules.specs.Answers.{Quiet}
 use Rattle.upload_rules.specs.World.{at_rest}
 use Rattle.spool_image.specs.LeftOnly.{AllShow, SpoolLeft}
@@ -14,7 +14,7 @@ returns-clause-shows g c st n stands said =
     let m = st.world.store in
     let left = durable-law g.row.D g.D.Disk g.D.Disk-dict
     (record { counts_now = g.met.D.Disk.counts_now; only_now = g.met.D.Disk.only_now }) s
-    (at_rest m st.world.blocks) (m ∷ []) (c.close.ensures.kept st stands) (inl refl) in
+    (at_rest m st.world.blocks) (m ∷ []) (c.close.ensures.kept true st stands) (inl refl) in
     let size : size_of s ≡ n = same_size n (size_of s) (sym said ∙ left.0) in
     subst (λ d. AllShow g.D.Disk d n m) (sym c.into_disk.ensures.same)
     (subst (λ (k : ℕ). AllShow g.D.Disk (disk_of s) k m) size

@@ -1,7 +1,7 @@
-use Rattle.std.proofs.Common.{Some, sym, subst}
+use Rattle.std.proofs.Common.{true, false, Some, sym, subst}
 use Rattle.std.proofs.lemmas.Result.{err_from_is_err_and}
 use Rattle.spool_disk.specs.Views.{Lasts}
-use Rattle.spool_image.specs.Spool.{disk_of}
+use Rattle.spool_image.specs.Spool.{Keeps, disk_of}
 use Rattle.spool_image.specs.LeftOnly.{AllShow, LeftOrShows}
 use Rattle.spool_image.specs.Opening.{ReadsSame, Unwritten}
 use Rattle.spool_image.proofs.Opening.{exhausted_exactly, opened_exactly, refused_exactly}
@@ -9,7 +9,12 @@ use Rattle.gateway_engine.proofs.OnDisk.{refused_as, view_room}
 use Rattle.gateway_engine.proofs.spools.Gateway+Spool+D.open.Goals as goal
 
 pub returns-in-Ok-clause-opened : goal.returns-in-Ok-clause-opened
-returns-in-Ok-clause-opened g c n m is = c.in-Ok.ensures.ok m (Some n) (c.in_ok-spool.ensures.stands n m is)
+returns-in-Ok-clause-opened g c n m is = c.in-Ok.ensures.ok true m (Some n) (c.in_ok-spool.ensures.stands n m is)
+
+pub returns-in-Ok-clause-kept : goal.returns-in-Ok-clause-kept
+returns-in-Ok-clause-kept g c v m shows keeps =
+    c.in-Ok.ensures.ok false m (Some v.blocks) (c.in_ok-spool.ensures.kept v m shows
+    (subst (λ s. Keeps s v) c.in-Ok.ensures.same keeps))
 
 pub returns-in-Ok-clause-shows : goal.returns-in-Ok-clause-shows
 returns-in-Ok-clause-shows g c n m is =

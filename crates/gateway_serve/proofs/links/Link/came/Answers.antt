@@ -1,6 +1,7 @@
-use Rattle.std.proofs.Common.{ℕ, List, Result, Ok, Err}
+use Rattle.std.proofs.Common.{ℕ, true, List, Result, Ok, Err}
 use Rattle.spool_disk.specs.declared.disk.DiskFault.{DiskFault}
 use Rattle.tus_session.specs.History.{Came, Marked}
+use Rattle.tus_session.proofs.Added.{adds_all}
 use Rattle.gateway_serve.specs.Joined.{Alone, Joins, joint_of}
 use Rattle.gateway_serve.proofs.After.{served}
 use Rattle.gateway_serve.proofs.Talks.{alone_step}
@@ -11,7 +12,8 @@ pub returns-in-Ok-clause-serves : goal.returns-in-Ok-clause-serves
 returns-in-Ok-clause-serves g c = λ before st past ended went joins.
     let n = c.args.conn in
     let piece = c.left.result.now in
-    let gives = c.came-answer.ensures.gives _ went.stands in
+    let gives = c.came-answer.ensures.gives true _ went.stands in
+    let adds = adds_all c.came-answer.result gives.0 _ _ _ gives.2 in
     served g.C.Connections before c.args.gateway.now c.came-answer.new.gateway st past (Came n piece) went
     (λ ms among. g.met.C.Connections.durable c.args.gateway.now _ ms went.stands among)
     (λ (now : List Marked). Alone st n past now
@@ -28,7 +30,7 @@ returns-in-Ok-clause-serves g c = λ before st past ended went joins.
       came_link ended st past n c.came-answer.result gives.0
           (joint_of c.args.self.now) piece c.take.new.self c.came-answer.new.self c.in-Ok.next.stage c.in-Ok.next.taken
           ok c.left.ensures
-          gives.1.answer gives.2 c.in-Ok.ensures.stage c.in-Ok.ensures.taken c.take.ensures joins,
+          gives.1.answer adds c.in-Ok.ensures.stage c.in-Ok.ensures.taken c.take.ensures joins,
     )) (λ fails. tt)
 
 pub returns-in-Err-clause-serves : goal.returns-in-Err-clause-serves
@@ -36,7 +38,8 @@ returns-in-Err-clause-serves g c = λ before st past ended went joins.
     let n = c.args.conn in
     let piece = c.left.result.now in
     let told : Result ℕ DiskFault = Err c.in-Err.fault in
-    let gives = c.came-answer.ensures.gives _ went.stands in
+    let gives = c.came-answer.ensures.gives true _ went.stands in
+    let adds = adds_all c.came-answer.result gives.0 _ _ _ gives.2 in
     served g.C.Connections before c.args.gateway.now c.came-answer.new.gateway st past (Came n piece) went
     (λ ms among. g.met.C.Connections.durable c.args.gateway.now _ ms went.stands among)
     (λ now. Unit {0}) (λ (now : List Marked). Alone st n past now
@@ -47,5 +50,5 @@ returns-in-Err-clause-serves g c = λ before st past ended went joins.
     (λ fails. (
       alone_step st past (Came n piece) _,
       came_down ended st past n c.came-answer.result gives.0
-          (joint_of c.args.self.now) piece c.came-answer.new.self fails c.left.ensures gives.1.answer gives.2 joins,
+          (joint_of c.args.self.now) piece c.came-answer.new.self fails c.left.ensures gives.1.answer adds joins,
     ))

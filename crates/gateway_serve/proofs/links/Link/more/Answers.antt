@@ -1,7 +1,8 @@
-use Rattle.std.proofs.Common.{ℕ, List, Result, Ok, Err}
+use Rattle.std.proofs.Common.{ℕ, true, List, Result, Ok, Err}
 use Rattle.spool_disk.specs.declared.disk.DiskFault.{DiskFault}
 use Rattle.tus_session.specs.History.{More, Marked}
 use Rattle.tus_session.proofs.Limiting.{quiet_limits}
+use Rattle.tus_session.proofs.Added.{adds_all}
 use Rattle.gateway_serve.specs.Joined.{Alone, Joins, joint_of}
 use Rattle.gateway_serve.proofs.After.{served}
 use Rattle.gateway_serve.proofs.Talks.{alone_step}
@@ -11,7 +12,8 @@ use Rattle.gateway_serve.proofs.links.Link.more.Goals as goal
 pub returns-in-Ok-clause-serves : goal.returns-in-Ok-clause-serves
 returns-in-Ok-clause-serves g c = λ before st past ended went joins.
     let n = c.args.conn in
-    let gives = c.more.ensures.gives _ went.stands in
+    let gives = c.more.ensures.gives true _ went.stands in
+    let adds = adds_all c.more.result gives.0 _ _ _ gives.2 in
     served g.C.Connections before c.args.gateway.now c.more.new.gateway st past (More n) went
     (λ ms among. g.met.C.Connections.durable c.args.gateway.now _ ms went.stands among)
     (λ (now : List Marked). Alone st n past now
@@ -22,14 +24,15 @@ returns-in-Ok-clause-serves g c = λ before st past ended went joins.
     (λ ok. (
       alone_step st past (More n) _,
       more_link ended st past n c.more.result gives.0 (joint_of c.args.self.now) c.more.new.self c.in-Ok.next.stage ok
-          gives.1.answer gives.2 c.in-Ok.ensures.stage joins,
+          gives.1.answer adds c.in-Ok.ensures.stage joins,
     )) (λ fails. tt)
 
 pub returns-in-Err-clause-serves : goal.returns-in-Err-clause-serves
 returns-in-Err-clause-serves g c = λ before st past ended went joins.
     let n = c.args.conn in
     let told : Result ℕ DiskFault = Err c.in-Err.fault in
-    let gives = c.more.ensures.gives _ went.stands in
+    let gives = c.more.ensures.gives true _ went.stands in
+    let adds = adds_all c.more.result gives.0 _ _ _ gives.2 in
     served g.C.Connections before c.args.gateway.now c.more.new.gateway st past (More n) went
     (λ ms among. g.met.C.Connections.durable c.args.gateway.now _ ms went.stands among)
     (λ now. Unit {0}) (λ (now : List Marked). Alone st n past now
@@ -39,5 +42,5 @@ returns-in-Err-clause-serves g c = λ before st past ended went joins.
     (λ fails. (
       alone_step st past (More n) _,
       more_fell ended st past n c.more.result gives.0
-          (joint_of c.args.self.now) c.more.new.self fails gives.1.answer gives.2 joins,
+          (joint_of c.args.self.now) c.more.new.self fails gives.1.answer adds joins,
     ))

@@ -13,7 +13,7 @@ returns-clause-serves g c = λ before st past went joins.
     let n = c.args.conn in
     let ended = c.args.ended.now.sockets in
     let ended' = c.free.new.ended.sockets in
-    let does = c.ended.ensures.does _ went.stands in
+    let does = c.ended.ensures.does true _ went.stands in
     let used : c.args.self.now ≡ Free → ⊥ = λ e. let f : false ≡ true = c.if-is_free.ensures.1 e in absurd (cc) in
     served g.C.Connections before c.args.gateway.now c.ended.new.self st past (Ended n) went
     (λ ms among. g.met.C.Connections.durable c.args.gateway.now _ ms went.stands among)

@@ -1,4 +1,4 @@
-use Rattle.std.proofs.Common.{Result, Ok, Err, refl}
+use Rattle.std.proofs.Common.{true, Result, Ok, Err, refl}
 use Rattle.spool_disk.specs.declared.disk.DiskFault.{DiskFault}
 use Rattle.tus_session.specs.History.{Opened}
 use Rattle.tus_session.specs.declared.errors.SessionError.{SessionError}
@@ -21,7 +21,7 @@ returns-in-Ok-clause-serves g c = λ before st past went joins.
     let n = c.in-Some.conn in
     let ended = ended_of c.next_place.new.self in
     let told : Result (Unit {0}) DiskFault = Ok tt in
-    let does = c.opened.ensures.does _ went.stands in
+    let does = c.opened.ensures.does true _ went.stands in
     let goes : GoesOn c.opened.result told = (λ e. absurd (cc), λ f. let x = c.in-Ok.is in absurd (cc)) in
     let all = same_join (places_of c.args.self.now) (places_of c.next_place.new.self)
     (ended_of c.args.self.now) ended st past c.next_place.ensures.same c.next_place.ensures.ended joins in
@@ -38,7 +38,7 @@ returns-in-Err-clause-serves g c = λ before st past went joins.
     let n = c.in-Some.conn in
     let ended = ended_of c.next_place.new.self in
     let answer : Result (Unit {0}) SessionError = Err c.in-Err.error in
-    let does = c.in-Err.ensures.does _ went.stands in
+    let does = c.in-Err.ensures.does true _ went.stands in
     let all = same_join (places_of c.args.self.now) (places_of c.next_place.new.self)
     (ended_of c.args.self.now) ended st past c.next_place.ensures.same c.next_place.ensures.ended joins in
     let kept = all_unopened (places_of c.next_place.new.self) n ended st past answer does.answer all
