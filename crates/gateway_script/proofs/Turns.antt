@@ -204,7 +204,8 @@ module _ {C : Type 0} (v : View C) (now : C) (held : Option (List ℕ)) (r : Run
     )
 
   module _ (f : SessionError) (given : List ℕ) (leaves : Leaves v now r.state.world.store
-      (shown_by r.state e (mark_of {T = Answer} (Err f)))) (gives : Gives true (v.u.stands now true) (Err f) [] given r.state e)
+      (shown_by r.state e (mark_of {T = Answer} (Err f))))
+      (gives : Gives true (v.u.stands now true) (Err f) [] given r.state e)
     where
       abbrev m : Mark
       m = mark_of {T = Answer} (Err f)

@@ -4,5 +4,6 @@ use Rattle.gateway_engine.proofs.gateway.GatewayConnections.more.Goals as goal
 
 pub returns-clause-gives : goal.returns-clause-gives
 returns-clause-gives g c = λ sure st stands.
-    told_gives g.U.Uploads _ sure st (More c.args.conn) c.more-answer.result c.args.out.now.items c.more-answer.new.out.items
+    told_gives g.U.Uploads _ sure st (More c.args.conn) c.more-answer.result c.args.out.now.items
+    c.more-answer.new.out.items
     c.failed-self.ensures (more_refused st c.args.conn) (c.more-answer.ensures.answer sure st stands.session)
