@@ -21,8 +21,7 @@ pub record Giving : Type 0 where
   pub closes : Bool
 
 -- AT THE HEAD MOMENT: the world, a patch that is now open, a reply, the bytes of a text that it ends in, a text still
--- to
--- be given, and whether it closes
+-- to be given, and whether it closes
 pub record Acted : Type 0 where
   pub world : World
   pub draft : Option ℕ

@@ -125,7 +125,7 @@ module _ (w : World) (r : Request) where
   patch_bare number declare None =
       let a = patch w r number declare None in
       let opened : World → ℕ → Acted =
-      λ v d. record { world = v; draft = Some d; bytes = a.bytes; pending = None; closes = false } in
+      λ v d. record { world = v; draft = Some d; bytes = a.bytes; text = []; pending = None; closes = false } in
       ap (λ v. opened v (free_number (bared w))) (begun_bare number r.length declare (upload_of w.store number))
       ∙ ap (opened (bared a.world)) (free_bares w)
   patch_bare number declare (Some f) = refl

@@ -225,14 +225,15 @@ module _ (st : State) (sound : Sound st) (g : ℕ → List ℕ) (r : Rep) (sim :
       }
 
       cut_after : After g c (act_cut r c body (r.drafts c))
-          (record { state = put st (ended_world st.world k) c None; outcome = Done })
+          (record { state = put st (ended_world st.world k) c None; outcome = Done; text = [] })
       cut_after =
-          let now : After g c (act_cut r c body (Some d)) (record { state = put st w' c None; outcome = Done }) = (
+          let now : After g c (act_cut r c body (Some d))
+          (record { state = put st w' c None; outcome = Done; text = [] }) = (
             sound_put st sound w' c None cut_keeps,
             sim_put st g r (act_cut r c body (Some d)) w' c None [] sim cut_replays,
           ) in
           let own : r.drafts c ≡ Some d = sim.drafts c ∙ (ap draft_at here ∙ is) in
-          let left : World → Step = λ w. record { state = put st w c None; outcome = Done } in
+          let left : World → Step = λ w. record { state = put st w c None; outcome = Done; text = [] } in
           subst (λ o. After g c (act_cut r c body o) (left (ended_world st.world k))) (sym own)
           (subst (λ w. After g c (act_cut r c body (Some d)) (left w)) (sym ends) now)
 
@@ -242,9 +243,9 @@ module _ (st : State) (sound : Sound st) (g : ℕ → List ℕ) (r : Rep) (sim :
 
     end_case : ((x : DonePatch st (Ended c)) → IsRefused x Full → ⊥) → still_to_give (st.conns c) ≡ []
         → (o : Option ℕ) → k.draft ≡ o → After g c (replay r (cut_moment st.world c k o))
-        (record { state = put st (ended_world st.world k) c None; outcome = Done })
+        (record { state = put st (ended_world st.world k) c None; outcome = Done; text = [] })
     end_case roomy text None none =
-        subst (λ w. After g c r (record { state = put st w c None; outcome = Done })) (sym (none_ended none))
+        subst (λ w. After g c r (record { state = put st w c None; outcome = Done; text = [] })) (sym (none_ended none))
         (closed_after [] (ap draft_at here ∙ none) text)
     end_case roomy text (Some d) is = cut_after d is roomy text
 
@@ -386,7 +387,7 @@ module _ (st : State) (sound : Sound st) (g : ℕ → List ℕ) (r : Rep) (sim :
       came_goal = by_text a.pending refl
 
     nothing_taken : (piece : List ℕ) (h : Giving) → k.pending ≡ Some h
-        → came_turn st.world k piece ≡ record { world = st.world; conn = Some k; bytes = []; taken = 0 }
+        → came_turn st.world k piece ≡ record { world = st.world; conn = Some k; bytes = []; text = []; taken = 0 }
     unfolding came_turn
     nothing_taken piece h e = ap (came_turn_on st.world k piece) e
 

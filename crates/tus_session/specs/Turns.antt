@@ -39,8 +39,7 @@ body_step a piece moment (Some d) = let b =
     at_body (fed a.world d piece) d moment in record b { bytes = a.bytes ++ b.bytes }
 
 -- TURNS: the world, the connection unless it closed, the bytes that were given, those of a text that they end in, and
--- how
--- many were taken
+-- how many were taken
 pub record Turn : Type 0 where
   pub world : World
   pub conn : Option Conn
