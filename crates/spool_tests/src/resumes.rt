@@ -145,8 +145,10 @@ impl<'a> Row<'a> {
 
     /// Makes the upload.
     fn make(&self, rt: &impl Abort, alloc: Global, spool: &mut Spool<MemoryDisk>) {
-        let offered = spool.indexes().offers(self.from) && spool.indexes().offers(self.to);
-        assert!(rt; offered && self.to != Encoding::Utf16Be && self.to != Encoding::Utf16Le);
+        let indexes = spool.indexes();
+        assert!(rt; indexes.offers(self.from));
+        assert!(rt; indexes.offers(self.to));
+        assert!(rt; self.to != Encoding::Utf16Be && self.to != Encoding::Utf16Le);
         let new = New {
             declared: Some(self.offset(self.bars.len())),
             from: self.from,
