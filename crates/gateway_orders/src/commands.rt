@@ -24,8 +24,8 @@ struct Given {
     help: &'static str,
 }
 
-/// What comes with an argument. Where it is no word by itself, it stands after `--` and its name; a value has to be given
-/// but for one that is there by default, and help calls it so.
+/// What comes with an argument. Where it is no word by itself, it stands after `--` and its name; a value has to be
+/// given but for one that is there by default, and help calls it so.
 #[derive(Clone, Copy)]
 enum With {
     /// It is a word by itself, which has to be given.

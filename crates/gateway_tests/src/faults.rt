@@ -236,7 +236,8 @@ fn disks_that_stop_and_lose_keep_or_tear_bytes(rt: HostRuntime) {
     }
 }
 
-/// Each call of an opening fails once, and a write leaves zeros; or all fail from it on, and a crash of this kind comes.
+/// Each call of an opening fails once, and a write leaves zeros; or all fail from it on, and a crash of this kind
+/// comes.
 fn openings_fail(rt: &impl Abort, alloc: Global, kind: Option<Crash>) {
     let talk = Talk::new(rt, alloc, HELLO);
     let story = hello(alloc, &talk);

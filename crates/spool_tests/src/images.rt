@@ -132,9 +132,9 @@ fn refuse_all(rt: &impl Abort, alloc: Global, disk: MemoryDisk, rows: &[(u64, u8
     assert_eq!(rt; fault, None);
 }
 
-/// Bytes that damage a spool without uploads: an open gate with a count of 0, another version, a next number of 0, flags
-/// of the index area, a byte after them, an entry of each of four files that aren't there and a byte after the last, a
-/// record without a number below the next, a block of a free slot, and no spool.
+/// Bytes that damage a spool without uploads: an open gate with a count of 0, another version, a next number of 0,
+/// flags of the index area, a byte after them, an entry of each of four files that aren't there and a byte after the
+/// last, a record without a number below the next, a block of a free slot, and no spool.
 const DAMAGED_EMPTY: [(u64, u8, OpenFault); 15] = [
     (4096, 0xA5, OpenFault::Damaged),
     (283 * 4096 + 3, 9, OpenFault::Version),

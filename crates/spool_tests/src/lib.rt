@@ -1,5 +1,5 @@
-//! Tests of stores of uploads by their public calls: a table, and a spool on disks that stop and crash; and of each kind
-//! of disk.
+//! Tests of stores of uploads by their public calls: a table, and a spool on disks that stop and crash; and of each
+//! kind of disk.
 #![tactic(auto)]
 
 #[cfg(test)]
