@@ -75,6 +75,31 @@ fn pages_of_the_least_and_the_greatest_spool(rt: HostRuntime) {
 }
 
 #[test]
+fn record_lies_as_the_format_says(rt: HostRuntime) {
+    let mut disk = small_disk(&rt, rt.alloc());
+    write_uploads(&rt, &mut disk);
+    // of upload 7 the number, the length of 5,000, the text's of 4,097, the state and the metadata with its length; of
+    // upload 3 a byte that was accepted; and of upload 2 the tag of a length that isn't known
+    for (at, want) in [
+        (7, 7),
+        (14, 0x13),
+        (15, 0x88),
+        (30, 0x10),
+        (31, 1),
+        (65, 4),
+        (66, b'n'),
+        (69, b'e'),
+        (70, 0),
+        (1602, 0),
+        (2 * 4096 + 23, 1),
+        (3 * 4096 + 20, 0x40),
+        (3 * 4096 + 1602, 1),
+    ] {
+        assert_eq!(rt; byte_at(&rt, &mut disk, 284 * 4096 + at), want, "at {at}");
+    }
+}
+
+#[test]
 fn spool_is_not_formatted_again(rt: HostRuntime) {
     let index = Index::read(rt.alloc(), b"0\t3000\n", Kind::Jis0208).expect(&rt, "an index");
     let mut indexes = IndexSet::new(rt.alloc()).expect(&rt, "memory for a set");
