@@ -81,21 +81,21 @@ fn record_lies_as_the_format_says(rt: HostRuntime) {
     // of upload 7 the number, the length of 5,000, the text's of 4,097, the state and the metadata with its length; of
     // upload 3 a byte that was accepted; and of upload 2 the tag of a length that isn't known
     for (at, want) in [
-        (7, 7),
-        (14, 0x13),
-        (15, 0x88),
-        (30, 0x10),
-        (31, 1),
-        (65, 4),
-        (66, b'n'),
-        (69, b'e'),
-        (70, 0),
-        (1602, 0),
-        (2 * 4096 + 23, 1),
-        (3 * 4096 + 20, 0x40),
-        (3 * 4096 + 1602, 1),
+        (284 * 4096 + 7, 7),
+        (284 * 4096 + 14, 0x13),
+        (284 * 4096 + 15, 0x88),
+        (284 * 4096 + 30, 0x10),
+        (284 * 4096 + 31, 1),
+        (284 * 4096 + 65, 4),
+        (284 * 4096 + 66, b'n'),
+        (284 * 4096 + 69, b'e'),
+        (284 * 4096 + 70, 0),
+        (284 * 4096 + 1602, 0),
+        (286 * 4096 + 23, 1),
+        (287 * 4096 + 20, 0x40),
+        (287 * 4096 + 1602, 1),
     ] {
-        assert_eq!(rt; byte_at(&rt, &mut disk, 284 * 4096 + at), want, "at {at}");
+        assert_eq!(rt; byte_at(&rt, &mut disk, at), want, "at {at}");
     }
 }
 
