@@ -98,7 +98,7 @@ def while_patched(server, client):
 
 
 def while_read(server, client):
-    """A GET that is under way is cut: curl tells so, and what it read is the front of the text, though another text
+    """A GET that is under way is cut: curl tells so, and what it read is a prefix of the text, though another text
     has all its blocks then."""
     text = lines_of("old")
     path = uploaded(client, text)
@@ -109,7 +109,7 @@ def while_read(server, client):
         other = uploaded(client, lines_of("new"))
         read += reader.communicate(timeout=60)[0]
     same("curl's status", reader.returncode, CUT_SHORT)
-    same("what was read is the front of the text", len(read) < len(text) and text.startswith(read), True)
+    same("what was read is a prefix of the text", len(read) < len(text) and text.startswith(read), True)
     same("the other text", client.text(other) == lines_of("new"), True)
     client.delete(other)
 

@@ -40,24 +40,24 @@ class Disk:
     """The bytes of a file that last, and what was written to it since the last sync."""
 
     def __init__(self, data):
-        self.firm, self.loose = bytearray(data), []
+        self.synced, self.unsynced = bytearray(data), []
 
     def take(self, call):
-        """A call of the run. A sync of the data alone leaves a new length loose."""
+        """A call of the run. A sync of the data alone leaves a new length unsynced."""
         if call.kind in "wl":
-            self.loose.append(call)
+            self.unsynced.append(call)
         elif call.kind in "sd":
-            kept = [it for it in self.loose if it.kind == "l" and call.kind == "d"]
-            for it in self.loose:
+            kept = [it for it in self.unsynced if it.kind == "l" and call.kind == "d"]
+            for it in self.unsynced:
                 if it not in kept:
-                    lay(self.firm, it, 0, len(it.data))
-            self.loose = kept
+                    lay(self.synced, it, 0, len(it.data))
+            self.unsynced = kept
 
     def image(self, rng):
         """What a failure may leave: of each sector that was written since, one of the contents that it had."""
-        data, chance = bytearray(self.firm), rng.choice([0.0, 0.5, 0.5, 0.9, 1.0])
+        data, chance = bytearray(self.synced), rng.choice([0.0, 0.5, 0.5, 0.9, 1.0])
         written = {}
-        for call in self.loose:
+        for call in self.unsynced:
             for sector in sectors(call):
                 written.setdefault(sector, []).append(call)
         for sector, calls in written.items():

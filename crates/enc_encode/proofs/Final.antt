@@ -9,13 +9,13 @@ use Rattle.enc_encode.specs.declared.error.EncodeError.TheVariants.{NoMemory, Un
 use Rattle.enc_encode.specs.declared.shift.ShiftState.{ShiftState}
 use Rattle.enc_encode.specs.Reasons.{Gave}
 use Rattle.enc_encode.specs.Growth.{Appended, Stopped}
-use Rattle.enc_encode.proofs.Growth.{front, both, after_part}
+use Rattle.enc_encode.proofs.Growth.{prefix, both, after_part}
 
 -- refused before an error's own bytes
-pub lacks_front : (mode : Mode) (b : List ℕ) (s : Shift) (d : ℕ) {Z : Type 0} {old new : Vec ℕ Z} → Stopped old b new
+pub lacks_prefix : (mode : Mode) (b : List ℕ) (s : Shift) (d : ℕ) {Z : Type 0} {old new : Vec ℕ Z} → Stopped old b new
     → Stopped old (final mode (Lacks b s d)).bytes new
-lacks_front Html b s d p = front (reference d) p
-lacks_front Fatal b s d p = p
+lacks_prefix Html b s d p = prefix (reference d) p
+lacks_prefix Fatal b s d p = p
 
 -- led_by a part of the code
 pub gave_after : {Z : Type 0} {old mid : Vec ℕ Z} (b : List ℕ) (code : Coded) (new : Vec ℕ Z)

@@ -7,24 +7,24 @@ use Rattle.enc_encode.specs.Growth.{Appended, Stopped, Grew}
 
 -- not at all
 grown_none : (old x new : List ℕ) → new ≡ old → GrownByPrefix old x new
-grown_none old x new e = record { front = []; rest = x; parts = refl; out = e ∙ sym (append-nil old) }
+grown_none old x new e = record { prefix = []; rest = x; parts = refl; out = e ∙ sym (append-nil old) }
 
--- what is a part of the front is one of the whole
-grown_front : (old x y new : List ℕ) → GrownByPrefix old x new → GrownByPrefix old (x ++ y) new
-grown_front old x y new p = record {
-  front = p.front;
+-- what is a part of the prefix is one of the whole
+grown_prefix : (old x y new : List ℕ) → GrownByPrefix old x new → GrownByPrefix old (x ++ y) new
+grown_prefix old x y new p = record {
+  prefix = p.prefix;
   rest = p.rest ++ y;
-  parts = ap (λ w. w ++ y) p.parts ∙ append_assoc p.front p.rest y;
+  parts = ap (λ w. w ++ y) p.parts ∙ append_assoc p.prefix p.rest y;
   out = p.out;
 }
 
--- after the whole front
+-- after the whole prefix
 grown_more : (old x y mid new : List ℕ) → mid ≡ old ++ x → GrownByPrefix mid y new → GrownByPrefix old (x ++ y) new
 grown_more old x y mid new m p = record {
-  front = x ++ p.front;
+  prefix = x ++ p.prefix;
   rest = p.rest;
-  parts = ap (λ w. x ++ w) p.parts ∙ sym (append_assoc x p.front p.rest);
-  out = p.out ∙ ap (λ w. w ++ p.front) m ∙ append_assoc old x p.front;
+  parts = ap (λ w. x ++ w) p.parts ∙ sym (append_assoc x p.prefix p.rest);
+  out = p.out ∙ ap (λ w. w ++ p.prefix) m ∙ append_assoc old x p.prefix;
 }
 
 module _ {Z : Type 0} where
@@ -39,9 +39,9 @@ module _ {Z : Type 0} where
   }
 
   -- refused in its first part
-  pub front : {old : Vec ℕ Z} {x : List ℕ} {new : Vec ℕ Z} (y : List ℕ) → Stopped old x new → Stopped old (x ++ y) new
-  front {old} {x} {new} y p = record {
-    items = grown_front old.items x y new.items p.items;
+  pub prefix : {old : Vec ℕ Z} {x : List ℕ} {new : Vec ℕ Z} (y : List ℕ) → Stopped old x new → Stopped old (x ++ y) new
+  prefix {old} {x} {new} y p = record {
+    items = grown_prefix old.items x y new.items p.items;
     full = let l = length-append x y in let f = p.full in omega (arith, l, f);
   }
 

@@ -16,16 +16,16 @@ use Rattle.enc_encode.specs.Growth.{Appended, Stopped}
 use Rattle.enc_encode.specs.Held.{Passed, Kept}
 use Rattle.enc_encode.specs.Reasons.{Gave}
 use Rattle.enc_encode.specs.State.{shift_of, EncoderState, code_from}
-use Rattle.enc_encode.proofs.Growth.{front, both, after_part}
+use Rattle.enc_encode.proofs.Growth.{prefix, both, after_part}
 
-parts_after : (held a b front mid more kept : List ℕ) → held ++ a ≡ front ++ mid → mid ++ b ≡ more ++ kept
-    → held ++ (a ++ b) ≡ (front ++ more) ++ kept
-parts_after held a b front mid more kept e f =
-    sym (append_assoc held a b) ∙ ap (λ z. z ++ b) e ∙ append_assoc front mid b ∙ ap (λ z. front ++ z) f
-    ∙ sym (append_assoc front more kept)
+parts_after : (held a b prefix mid more kept : List ℕ) → held ++ a ≡ prefix ++ mid → mid ++ b ≡ more ++ kept
+    → held ++ (a ++ b) ≡ (prefix ++ more) ++ kept
+parts_after held a b prefix mid more kept e f =
+    sym (append_assoc held a b) ∙ ap (λ z. z ++ b) e ∙ append_assoc prefix mid b ∙ ap (λ z. prefix ++ z) f
+    ∙ sym (append_assoc prefix more kept)
 
-whole_after : (held a b front mid : List ℕ) → held ++ a ≡ front ++ mid → front ++ (mid ++ b) ≡ held ++ (a ++ b)
-whole_after held a b front mid e = sym (append_assoc front mid b) ∙ ap (λ z. z ++ b) (sym e) ∙ append_assoc held a b
+whole_after : (held a b prefix mid : List ℕ) → held ++ a ≡ prefix ++ mid → prefix ++ (mid ++ b) ≡ held ++ (a ++ b)
+whole_after held a b prefix mid e = sym (append_assoc prefix mid b) ∙ ap (λ z. z ++ b) (sym e) ∙ append_assoc held a b
 
 module _ {Z : Type 0} where
   pub nothing_appended : (out : Vec ℕ Z) → Appended out [] out
@@ -33,19 +33,19 @@ module _ {Z : Type 0} where
 
   -- all is held still, or nothing is
   pub all_held : (out : Vec ℕ Z) (held bytes kept : List ℕ) → kept ≡ held ++ bytes → Passed out held bytes out kept
-  all_held out held bytes kept e = record { front = []; parts = sym e; appended = nothing_appended out }
+  all_held out held bytes kept e = record { prefix = []; parts = sym e; appended = nothing_appended out }
 
   pub none_held : {old : Vec ℕ Z} {held : List ℕ} {new : Vec ℕ Z} (kept : List ℕ) → kept ≡ [] → Appended old held new
       → Passed old held [] new kept
-  none_held {held = held} kept e a = record { front = held; parts = ap (λ z. held ++ z) (sym e); appended = a }
+  none_held {held = held} kept e a = record { prefix = held; parts = ap (λ z. held ++ z) (sym e); appended = a }
 
   -- more that is held led_by the rest
   pub held_more : {old : Vec ℕ Z} {held : List ℕ} {new : Vec ℕ Z} {mid : List ℕ} (bytes kept : List ℕ)
       → kept ≡ mid ++ bytes → Passed old held [] new mid → Passed old held bytes new kept
   held_more {held = held} {mid = mid} bytes kept e p = record {
-    front = p.front;
-    parts = ap (λ z. z ++ bytes) (sym (append-nil held) ∙ p.parts) ∙ append_assoc p.front mid bytes
-        ∙ ap (λ z. p.front ++ z) (sym e);
+    prefix = p.prefix;
+    parts = ap (λ z. z ++ bytes) (sym (append-nil held) ∙ p.parts) ∙ append_assoc p.prefix mid bytes
+        ∙ ap (λ z. p.prefix ++ z) (sym e);
     appended = p.appended;
   }
 
@@ -57,17 +57,17 @@ module _ {Z : Type 0} where
     q.0,
     q.1,
     record {
-      front = p.front ++ q.2.front;
-      parts = parts_after held a.bytes code.bytes p.front kept q.2.front last p.parts q.2.parts;
+      prefix = p.prefix ++ q.2.prefix;
+      parts = parts_after held a.bytes code.bytes p.prefix kept q.2.prefix last p.parts q.2.parts;
       appended = both p.appended q.2.appended;
     },
   )
   kept_after a code old held mid kept new last (Err NoMemory) p q =
-      subst (λ z. Stopped old z new) (whole_after held a.bytes code.bytes p.front kept p.parts)
+      subst (λ z. Stopped old z new) (whole_after held a.bytes code.bytes p.prefix kept p.parts)
       (after_part p.appended q)
   kept_after a code old held mid kept new last (Err (Unencodable c)) p q = (
     q.0,
-    subst (λ z. Appended old z new) (whole_after held a.bytes code.bytes p.front kept p.parts)
+    subst (λ z. Appended old z new) (whole_after held a.bytes code.bytes p.prefix kept p.parts)
         (both p.appended q.1),
   )
 
@@ -79,7 +79,7 @@ module _ {Z : Type 0} where
     q.0,
     q.1,
     record {
-      front = held ++ code.bytes;
+      prefix = held ++ code.bytes;
       parts = sym (append-nil (held ++ code.bytes));
       appended = both p q.2;
     },

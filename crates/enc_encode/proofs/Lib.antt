@@ -4,9 +4,9 @@ pub mod Final
 pub mod Codes
 pub mod Runs
 mod Rows
-mod Fronts
+mod Prefixes
 mod Singles
 mod Given
-mod RunFronts
+mod RunPrefixes
 mod Twos
 mod Puts

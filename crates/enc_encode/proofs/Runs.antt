@@ -12,7 +12,7 @@ use Rattle.enc_encode.specs.Growth.{Stopped}
 use Rattle.enc_model.specs.Transcode.{Refused}
 use Rattle.enc_encode.specs.Reasons.{Gave, Explains, reason_of}
 use Rattle.enc_encode.specs.State.{shift_of, EncoderState, coder, code_from}
-use Rattle.enc_encode.proofs.Growth.{front}
+use Rattle.enc_encode.proofs.Growth.{prefix}
 use Rattle.enc_encode.proofs.Final.{gave_after}
 
 module _ (t : Tables) (e : EncoderState) where
@@ -47,7 +47,7 @@ module _ (t : Tables) (e : EncoderState) where
   stopped_more old new r m p = go r.fault refl
     where
       go : (z : Option ℕ) → r.fault ≡ z → Stopped old (joined r m).bytes new
-      go None h = rw h (front (m r.state).bytes p)
+      go None h = rw h (prefix (m r.state).bytes p)
       go (Some d) h = rw h p
 
   -- an error in a part is one of the whole
@@ -64,7 +64,7 @@ module _ (t : Tables) (e : EncoderState) where
       → Gave (code_from t e x) old new (Err d) →
       Refused (encoder t e.to) e.mode (coder e old.items) x (reason_of d) (coder e new.items)
   gave_refused x old new NoMemory p = record {
-    front = p.items.front;
+    prefix = p.items.prefix;
     rest = p.items.rest;
     parts = p.items.parts;
     out = p.items.out;
@@ -72,7 +72,7 @@ module _ (t : Tables) (e : EncoderState) where
   }
   gave_refused x old new (Unencodable c) p =
       record {
-        front = (code_from t e x).bytes;
+        prefix = (code_from t e x).bytes;
         rest = [];
         parts = sym (append-nil (code_from t e x).bytes);
         out = p.1.items;

@@ -1,4 +1,4 @@
--- Characters of two bytes at a text's front.
+-- Characters of two bytes at a text's start.
 use Rattle.std.proofs.Common.{ℕ, ◌≡◌, ◌<◌, ◌≤◌, ◌+◌, ◌*◌, ◌/◌, ◌%◌, List, [], ◌∷◌, ◌++◌, sym, ◌∙◌, ap, arith}
 use Rattle.std.proofs.Common.{get_or, drop, inl, inr}
 use Rattle.std.proofs.lemmas.Bool.{cases_lt}

@@ -11,7 +11,7 @@ pub record Appended {Z : Type 0} (old : Vec ℕ Z) (bytes : List ℕ) (new : Vec
   pub items : new.items ≡ old.items ++ bytes
   pub capacity : vec_capacity old ≤ vec_capacity new
 
--- a part of their front was, since there was no room for them
+-- a part of their prefix was, since there was no room for them
 pub record Stopped {Z : Type 0} (old : Vec ℕ Z) (bytes : List ℕ) (new : Vec ℕ Z) : Type 0 where
   pub items : GrownByPrefix old.items bytes new.items
   pub full : NoRoom old bytes

@@ -6,18 +6,18 @@ use Rattle.std.specs.Str.{IsUtf8, chars}
 use Rattle.enc_model.specs.declared.Encoding.{Encoding}
 use Rattle.enc_model.specs.declared.Encoding.TheVariants.{Iso2022Jp}
 use Rattle.enc_model.specs.Encode.{Coded, Shift, InAscii}
-use Rattle.lane_kernels.specs.Front.{is_plain_2022}
+use Rattle.lane_kernels.specs.Classes.{is_plain_2022}
 use Rattle.enc_encode.specs.Growth.{Appended, Stopped}
 use Rattle.enc_encode.specs.State.{shift_of}
 use Rattle.enc_encode.specs.declared.error.EncodeError.{EncodeError}
 use Rattle.enc_encode.specs.declared.error.EncodeError.TheVariants.{NoMemory, Unencodable}
 use Rattle.enc_encode.specs.declared.shift.ShiftState.{ShiftState}
 
--- of those that were held and some more, a front was appended, and the rest is held
+-- of those that were held and some more, a prefix was appended, and the rest is held
 pub record Passed {Z : Type 0} (old : Vec ℕ Z) (held bytes : List ℕ) (new : Vec ℕ Z) (kept : List ℕ) : Type 0 where
-  pub front : List ℕ
-  pub parts : held ++ bytes ≡ front ++ kept
-  pub appended : Appended old front new
+  pub prefix : List ℕ
+  pub parts : held ++ bytes ≡ prefix ++ kept
+  pub appended : Appended old prefix new
 
 -- a code that goes after bytes that are held: it is passed on; or memory is wanted; or all before the first fault is
 -- appended
@@ -27,13 +27,13 @@ Kept code old held new kept (Ok next) =
 Kept code old held new kept (Err NoMemory) = Stopped old (held ++ code.bytes) new
 Kept code old held new kept (Err (Unencodable c)) = (code.fault ≡ Some c) × Appended old (held ++ code.bytes) new
 
--- the code of a text's front went after bytes that are held, and the rest is left
-pub record HeldFront {Z : Type 0} (code_of : List ℕ → Coded) (text rest : List ℕ) (old : Vec ℕ Z) (held : List ℕ)
+-- the code of a text's start went after bytes that are held, and the rest is left
+pub record HeldPrefix {Z : Type 0} (code_of : List ℕ → Coded) (text rest : List ℕ) (old : Vec ℕ Z) (held : List ℕ)
     (new : Vec ℕ Z) (kept : List ℕ) (r : Result ShiftState EncodeError) : Type 0 where
-  pub front : List ℕ
-  pub parts : text ≡ front ++ rest
-  pub own : IsUtf8 front
-  pub code : Kept (code_of (chars front)) old held new kept r
+  pub prefix : List ℕ
+  pub parts : text ≡ prefix ++ rest
+  pub own : IsUtf8 prefix
+  pub code : Kept (code_of (chars prefix)) old held new kept r
 
 -- the bytes of ASCII that an encoder writes as they are
 abbrev pub own_byte : Encoding → Shift → ℕ → Bool
@@ -41,8 +41,8 @@ own_byte Iso2022Jp InAscii = is_plain_2022
 own_byte Iso2022Jp _ = λ _. false
 own_byte _ _ = is_ascii
 
--- lanes at the front of a text, so many bytes of which are ASCII that stands for itself in the encoding
-pub record IsOwnFront (to : Encoding) (s : Shift) (text lanes : List ℕ) (n : ℕ) : Type 0 where
+-- lanes at the start of a text, so many bytes of which are ASCII that stands for itself in the encoding
+pub record IsOwnPrefix (to : Encoding) (s : Shift) (text lanes : List ℕ) (n : ℕ) : Type 0 where
   pub lanes_are : lanes ≡ take 32 text
   pub some : 0 < n
   pub few : n ≤ 32

@@ -1,4 +1,4 @@
--- Characters at a text's front, whose bytes are known and leave the encoder's state as it is.
+-- Characters at a text's start, whose bytes are known and leave the encoder's state as it is.
 use Rattle.std.specs.Prelude.{ℕ, List, [], ◌∷◌, ◌++◌, ◌≡◌, encode_utf8}
 use Rattle.std.specs.Str.{IsUtf8, chars}
 use Rattle.enc_model.specs.Encode.{Encoder, Shift, Wrote}
@@ -18,11 +18,11 @@ abbrev pub AllGiven : (ℕ → List ℕ → Type 0) → List ℕ → List ℕ �
 AllGiven gives [] bytes = bytes ≡ []
 AllGiven gives (c ∷ cs) bytes = (b more : List ℕ) × (bytes ≡ b ++ more) × gives c b × AllGiven gives cs more
 
--- the bytes of a text's front went after those that are held, and the rest is left
-pub record RunFront (gives : ℕ → List ℕ → Type 0) (text rest held new : List ℕ) : Type 0 where
-  pub front : List ℕ
+-- the bytes of a text's start went after those that are held, and the rest is left
+pub record RunPrefix (gives : ℕ → List ℕ → Type 0) (text rest held new : List ℕ) : Type 0 where
+  pub prefix : List ℕ
   pub bytes : List ℕ
-  pub parts : text ≡ front ++ rest
-  pub own : IsUtf8 front
+  pub parts : text ≡ prefix ++ rest
+  pub own : IsUtf8 prefix
   pub kept : new ≡ held ++ bytes
-  pub given : AllGiven gives (chars front) bytes
+  pub given : AllGiven gives (chars prefix) bytes

@@ -15,8 +15,8 @@ use Rattle.enc_encode.specs.Growth.{NoRoom}
 use Rattle.enc_encode.specs.Reasons.{reason_of}
 use Rattle.enc_encode.specs.Sinks.{SinkState, Setting, setting_of, coder_of, code_in, SinkTook, SinkRefused}
 
-room_front : (old : Vec ℕ Global) (x y : List ℕ) → NoRoom old x → NoRoom old (x ++ y)
-room_front old x y h = let l = length-append x y in omega (arith, l, h)
+room_prefix : (old : Vec ℕ Global) (x y : List ℕ) → NoRoom old x → NoRoom old (x ++ y)
+room_prefix old x y h = let l = length-append x y in omega (arith, l, h)
 
 room_after : (old mid : Vec ℕ Global) (x y : List ℕ) → mid.items ≡ old.items ++ x → vec_capacity old ≤ vec_capacity mid
     → NoRoom mid y → NoRoom old (x ++ y)
@@ -29,7 +29,7 @@ room_joined : (old : Vec ℕ Global) (r : Coded) (m : Shift → Coded) → NoRoo
 room_joined old r m p = go r.fault refl
   where
     go : (z : Option ℕ) → r.fault ≡ z → NoRoom old (joined r m).bytes
-    go None h = rw h (room_front old r.bytes (m r.state).bytes p)
+    go None h = rw h (room_prefix old r.bytes (m r.state).bytes p)
     go (Some d) h = rw h p
 
 abbrev TookBy : Setting → SinkState → List ℕ → SinkState → Type 0

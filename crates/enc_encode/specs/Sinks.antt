@@ -38,7 +38,7 @@ pub record SinkTook (a : SinkState) (text : List ℕ) (b : SinkState) : Type 0 w
   pub took : Took (encoder (tables a.set) a.encoder.to) a.encoder.mode (coder_of a) text (coder_of b)
   pub capacity : vec_capacity a.out ≤ vec_capacity b.out
 
--- it wrote a part of the code's front, out of memory where there was no room for the code
+-- it wrote a part of the code's start, out of memory where there was no room for the code
 pub record SinkRefused (a : SinkState) (text : List ℕ) (why : EncodeError) (b : SinkState) : Type 0 where
   pub setting : setting_of b ≡ setting_of a
   pub refused : Refused (encoder (tables a.set) a.encoder.to) a.encoder.mode (coder_of a) text (reason_of why)

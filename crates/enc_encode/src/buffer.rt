@@ -5,7 +5,7 @@ ghost use Rattle.std.specs.Prelude.{take};
 ghost use Rattle.enc_encode.specs.Code.{bytes_of};
 ghost use Rattle.enc_encode.specs.Growth.{Appended, Stopped};
 ghost use Rattle.enc_encode.specs.Held.{Passed};
-ghost use Rattle.enc_encode.specs.Runs.{FirstGiven, RunFront, Stays};
+ghost use Rattle.enc_encode.specs.Runs.{FirstGiven, RunPrefix, Stays};
 ghost use Rattle.enc_encode.specs.Singles.{AreSingles, FewPointers, IsSingle};
 ghost use Rattle.enc_encode.specs.State.{shift_of};
 ghost use Rattle.enc_model.specs.Encode.{encoder};
@@ -123,13 +123,13 @@ impl Buffer {
         self.len += count;
     }
 
-    /// Puts the bytes of a text's front after the others: of ASCII, and of characters of two bytes that a single-byte
+    /// Puts the bytes of a text's start after the others: of ASCII, and of characters of two bytes that a single-byte
     /// encoding has, as far as there is room. Gives the rest of the text. The length is a local of the loop, which a
     /// register can hold.
     #[inline(always)]
     pub fn push_singles<'a>(&mut self, pointers: &Pointers, text: &'a str) -> &'a str
         requires { FewPointers pointers.now }
-        ensures { RunFront (IsSingle pointers.now) text.now result.now self.old self.new }
+        ensures { RunPrefix (IsSingle pointers.now) text.now result.now self.old self.new }
     {
         let mut len = self.len;
         let mut rest = text;
@@ -147,7 +147,7 @@ impl Buffer {
         left
     }
 
-    /// Puts the bytes of characters at a text's front after the others: as many as `pair` has one after the other, and
+    /// Puts the bytes of characters at a text's start after the others: as many as `pair` has one after the other, and
     /// as there is room for. Gives the rest of the text.
     #[inline(always)]
     pub fn push_pairs<'a>(
@@ -157,7 +157,7 @@ impl Buffer {
         shift: ShiftState,
         text: &'a str,
     ) -> &'a str
-        ensures { RunFront (Stays (encoder (tables set.now) to) (shift_of shift)) text.now result.now self.old
+        ensures { RunPrefix (Stays (encoder (tables set.now) to) (shift_of shift)) text.now result.now self.old
             self.new }
     {
         let mut len = self.len;
@@ -175,7 +175,7 @@ impl Buffer {
         rest
     }
 
-    /// Puts the bytes of characters at a text's front after the others: those that a single-byte encoding has, by the
+    /// Puts the bytes of characters at a text's start after the others: those that a single-byte encoding has, by the
     /// table of its pointers, or else pairs. Gives the rest of the text.
     #[inline(always)]
     pub fn push_run<'a>(
@@ -188,7 +188,7 @@ impl Buffer {
     ) -> &'a str
         requires singles { IfSome singles (λ p. AreSingles (encoder (tables set.now) to) p.now) }
         requires few { IfSome singles (λ p. FewPointers p.now) }
-        ensures { RunFront (Stays (encoder (tables set.now) to) (shift_of shift)) text.now result.now self.old
+        ensures { RunPrefix (Stays (encoder (tables set.now) to) (shift_of shift)) text.now result.now self.old
             self.new }
     {
         match singles {

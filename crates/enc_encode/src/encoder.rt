@@ -8,7 +8,7 @@ ghost use Rattle.std.specs.Str.{chars};
 ghost use Rattle.enc_encode.specs.State.{EncoderState, shift_of, code_of_shift, code_of_shift_of, shifted, coder};
 ghost use Rattle.enc_encode.specs.State.{code_from};
 ghost use Rattle.enc_encode.specs.Growth.{NoRoom};
-ghost use Rattle.enc_encode.specs.Held.{Kept, HeldFront, IsOwnFront, own_byte};
+ghost use Rattle.enc_encode.specs.Held.{Kept, HeldPrefix, IsOwnPrefix, own_byte};
 ghost use Rattle.enc_encode.specs.Reasons.{Gave, Explains, reason_of};
 ghost use Rattle.enc_encode.specs.Singles.{AreSingles, FewPointers};
 ghost use Rattle.enc_model.specs.Encode.{Tables, coded, encoder, encoder_end, InAscii};
@@ -70,10 +70,10 @@ fn are_ascii(bytes: &[u8]) -> bool
     ascii_front(bytes) == bytes.len()
 }
 
-/// Whole lanes at the front of a text that begins with ASCII, and how much of it there is, where it stands for itself.
+/// Whole lanes at the start of a text that begins with ASCII, and how much of it there is, where it stands for itself.
 #[inline(always)]
-fn own_front(to: Encoding, shift: ShiftState, text: &str) -> Option<(&[u8; LANES], usize)>
-    ensures { IfSome result (λ r. IsOwnFront to (shift_of shift) text.now r.0.now r.1) }
+fn own_prefix(to: Encoding, shift: ShiftState, text: &str) -> Option<(&[u8; LANES], usize)>
+    ensures { IfSome result (λ r. IsOwnPrefix to (shift_of shift) text.now r.0.now r.1) }
 {
     let lanes = text.as_bytes().first_chunk::<LANES>()?;
     let count = own_lanes(to, shift, lanes);
@@ -259,10 +259,10 @@ impl Encoder {
         self.encode(set, shift, c, out)
     }
 
-    /// Puts the code of a text's front after bytes that are held, or appends both: of ASCII in lanes, or else of one
+    /// Puts the code of a text's start after bytes that are held, or appends both: of ASCII in lanes, or else of one
     /// character. Gives the state that it leads to, and the rest of the text.
     #[inline(always)]
-    fn hold_front<'a>(
+    fn hold_prefix<'a>(
         &self,
         to: Encoding,
         set: &IndexSet,
@@ -274,16 +274,16 @@ impl Encoder {
         requires same { to ≡ self.now.to }
         requires some { 0 < length text.now }
         ensures shorter { IfOk result (λ r. length r.1.now < length text.now) }
-        ensures ok { IfOk result (λ r. HeldFront (code_from (tables set.now) (shifted self.now (shift_of shift)))
+        ensures ok { IfOk result (λ r. HeldPrefix (code_from (tables set.now) (shifted self.now (shift_of shift)))
             text.now r.1.now out.old held.old out.new held.new (Ok r.0)) }
         ensures err { IfErr result
-            (λ e. (rest : List ℕ) × HeldFront (code_from (tables set.now) (shifted self.now (shift_of shift)))
+            (λ e. (rest : List ℕ) × HeldPrefix (code_from (tables set.now) (shifted self.now (shift_of shift)))
             text.now rest out.old held.old out.new held.new (Err e)) }
     {
-        if let Some((lanes, front)) = own_front(to, shift, text) {
+        if let Some((lanes, prefix)) = own_prefix(to, shift, text) {
             held.make_room(out)?;
-            held.push_front(*lanes, front);
-            return Ok((shift, &text[front..]));
+            held.push_front(*lanes, prefix);
+            return Ok((shift, &text[prefix..]));
         }
         let mut chars = text.chars();
         match chars.next() {
@@ -315,7 +315,7 @@ impl Encoder {
         let mut shift = self.shift;
         let mut rest = run;
         while !rest.is_empty() {
-            let (next, after) = self.hold_front(to, set, shift, rest, &mut held, out)?;
+            let (next, after) = self.hold_prefix(to, set, shift, rest, &mut held, out)?;
             shift = next;
             rest = held.push_run(to, set, singles, shift, after);
         }

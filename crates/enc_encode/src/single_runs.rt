@@ -1,8 +1,8 @@
-//! The bytes of a text's front in a single-byte encoding.
+//! The bytes of a text's start in a single-byte encoding.
 
 ghost use Rattle.std.specs.Prelude.{◌≡◌, ◌<◌, ◌≤◌, ◌+◌, ◌++◌, ◌∷◌, [], ℕ, List, All, IfSome, length, take, drop};
 ghost use Rattle.std.specs.Str.{IsUtf8};
-ghost use Rattle.enc_encode.specs.Runs.{FirstGiven, RunFront};
+ghost use Rattle.enc_encode.specs.Runs.{FirstGiven, RunPrefix};
 ghost use Rattle.enc_encode.specs.Singles.{FewPointers, IsSingle};
 
 use crate::buffer::{LANES, ROOM};
@@ -29,7 +29,7 @@ fn first_single(pointers: &Pointers, lead: u8, trail: u8) -> Option<u8>
     Some((pointer + 0x80) as u8)
 }
 
-/// Puts the bytes of characters of two bytes at a text's front after the first so many: as many as a single-byte
+/// Puts the bytes of characters of two bytes at a text's start after the first so many: as many as a single-byte
 /// encoding has one after the other, and as there is room for. Gives the rest of the text, and how many bytes there are
 /// then.
 #[inline(always)]
@@ -42,7 +42,7 @@ fn put_singles<'a>(
     requires few { FewPointers pointers.now }
     requires room { from ≤ ROOM }
     ensures more { (from ≤ result.1) × (result.1 ≤ ROOM) }
-    ensures run { RunFront (IsSingle pointers.now) text.now result.0.now (take from held.old)
+    ensures run { RunPrefix (IsSingle pointers.now) text.now result.0.now (take from held.old)
         (take result.1 held.new) }
 {
     let bytes = text.as_bytes();
@@ -61,7 +61,7 @@ fn put_singles<'a>(
 /// Puts the first so many bytes of lanes after the first so many. All lanes are stored, so that nothing depends on how
 /// many.
 #[inline(always)]
-fn store_front(held: &mut [u8; ROOM], from: usize, lanes: [u8; LANES], count: usize)
+fn store_prefix(held: &mut [u8; ROOM], from: usize, lanes: [u8; LANES], count: usize)
     requires few { count ≤ LANES }
     requires room { from + LANES ≤ ROOM }
     ensures { take (from + count) held.new ≡ take from held.old ++ take count lanes }
@@ -105,7 +105,7 @@ fn put_lanes(held: &mut [u8; ROOM], from: usize, bytes: &[u8]) -> usize
     while at + LANES <= most {
         let lanes = lanes_at(bytes, at);
         let count = ascii_in(&lanes);
-        store_front(held, from + at, lanes, count);
+        store_prefix(held, from + at, lanes, count);
         if count < LANES {
             return at + count;
         }
@@ -132,7 +132,7 @@ fn put_each(held: &mut [u8; ROOM], from: usize, bytes: &[u8]) -> usize
     at
 }
 
-/// Puts the bytes of a text's front after the first so many: of ASCII in lanes, and then of characters of two bytes
+/// Puts the bytes of a text's start after the first so many: of ASCII in lanes, and then of characters of two bytes
 /// that a single-byte encoding has. Gives the rest of the text, and how many bytes there are then.
 #[inline(always)]
 pub fn put_run<'a>(
@@ -144,20 +144,20 @@ pub fn put_run<'a>(
     requires few { FewPointers pointers.now }
     requires room { from ≤ ROOM }
     ensures more { (from ≤ result.1) × (result.1 ≤ ROOM) }
-    ensures run { RunFront (IsSingle pointers.now) text.now result.0.now (take from held.old)
+    ensures run { RunPrefix (IsSingle pointers.now) text.now result.0.now (take from held.old)
         (take result.1 held.new) }
 {
     let count = put_lanes(held, from, text.as_bytes());
     put_singles(held, from + count, pointers, &text[count..])
 }
 
-/// Puts the ASCII of a text's front after the first so many bytes, where it is short. Gives the rest of the text, and
+/// Puts the ASCII of a text's start after the first so many bytes, where it is short. Gives the rest of the text, and
 /// how many bytes there are then.
 #[inline(always)]
 pub fn put_last_ascii<'a>(held: &mut [u8; ROOM], from: usize, text: &'a str) -> (&'a str, usize)
     requires { from ≤ ROOM }
     ensures more { result.1 ≤ ROOM }
-    ensures run { (at : List ℕ) → RunFront (IsSingle at) text.now result.0.now (take from held.old)
+    ensures run { (at : List ℕ) → RunPrefix (IsSingle at) text.now result.0.now (take from held.old)
         (take result.1 held.new) }
 {
     let count = put_each(held, from, text.as_bytes());

@@ -34,10 +34,10 @@ and_right false b e = absurd cc
 first_below : (low n : ℕ) (pair : ℕ × ℕ) (index : Index) → ascends low n (pair ∷ index) ≡ true → pair.0 < n
 unfolding ascends
 first_below low n pair index e =
-    let front = and_left (nat_le low pair.0 && nat_lt pair.0 n && is_scalar pair.1) (ascends (suc pair.0) n index) e in
+    let prefix = and_left (nat_le low pair.0 && nat_lt pair.0 n && is_scalar pair.1) (ascends (suc pair.0) n index) e in
     let test : nat_lt pair.0 n ≡ true =
     and_right (nat_le low pair.0) (nat_lt pair.0 n)
-    (and_left (nat_le low pair.0 && nat_lt pair.0 n) (is_scalar pair.1) front) in
+    (and_left (nat_le low pair.0 && nat_lt pair.0 n) (is_scalar pair.1) prefix) in
     grind (arith, nat_tests, test)
 
 others : (low n : ℕ) (pair : ℕ × ℕ) (index : Index) → ascends low n (pair ∷ index) ≡ true

@@ -23,9 +23,9 @@ module _ (mark : ℕ) (bytes : List ℕ) (i : ℕ) (h : i < length bytes) where
   unfolding after
   after_next e = rw (drop_more bytes i 0 h) (grind (arith, nat_tests, e))
 
-  pub front_next : (get_or bytes i 0 ≡ mark → ⊥) → take i bytes ++ before mark (drop i bytes) ≡ take (i + 1)
+  pub prefix_next : (get_or bytes i 0 ≡ mark → ⊥) → take i bytes ++ before mark (drop i bytes) ≡ take (i + 1)
       bytes ++ before mark (drop (i + 1) bytes)
-  front_next e = rw (before_next e, take_more bytes i 0 h, append_assoc) refl
+  prefix_next e = rw (before_next e, take_more bytes i 0 h, append_assoc) refl
 
 pub before_end : (mark : ℕ) (bytes : List ℕ) (i : ℕ) → length bytes ≤ i → before mark (drop i bytes) ≡ []
 unfolding before

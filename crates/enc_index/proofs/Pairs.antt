@@ -13,13 +13,14 @@ use Rattle.enc_index.proofs.Lookups.{code_entry}
 pub scalar_test : (c : ℕ) → InScalarRange c → is_scalar c ≡ true
 scalar_test c h = grind (arith, nat_tests, h)
 
--- in front of greater pointers
-in_front : (p c q : ℕ) (entries : List (Option ℕ)) → p < q → inserted p c (pairs_from q entries) ≡ (p, c) ∷ pairs_from q
+-- before greater pointers
+in_prefix : (p c q : ℕ) (entries : List (Option ℕ)) → p < q
+    → inserted p c (pairs_from q entries) ≡ (p, c) ∷ pairs_from q
     entries
 unfolding inserted pairs_from
-in_front p c q [] h = refl
-in_front p c q (None ∷ entries) h = in_front p c (suc q) entries (omega arith)
-in_front p c q (Some d ∷ entries) h = grind (arith, nat_tests)
+in_prefix p c q [] h = refl
+in_prefix p c q (None ∷ entries) h = in_prefix p c (suc q) entries (omega arith)
+in_prefix p c q (Some d ∷ entries) h = grind (arith, nat_tests)
 
 placed_at : (q : ℕ) (entries : List (Option ℕ)) (p k c : ℕ) → p ≡ q + k → k < length entries
     → slice_index_or entries k None ≡ None →
@@ -28,7 +29,7 @@ unfolding inserted pairs_from
 placed_at q [] p k c e h n = absurd (omega arith)
 placed_at q (None ∷ entries) p zero c e h n =
     let same : p ≡ q = omega arith in
-    rw same (sym (in_front q c (suc q) entries (omega arith)))
+    rw same (sym (in_prefix q c (suc q) entries (omega arith)))
 placed_at q (None ∷ entries) p (suc k) c e h n = placed_at (suc q) entries p k c (omega arith) (omega arith) n
 placed_at q (Some d ∷ entries) p zero c e h n = absurd cc
 placed_at q (Some d ∷ entries) p (suc k) c e h n =

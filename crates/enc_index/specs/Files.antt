@@ -75,7 +75,7 @@ unfoldable pub without_spaces : List ℕ → List ℕ
 without_spaces [] = []
 without_spaces (b ∷ bytes) = if b == 0x20 then without_spaces bytes else b ∷ bytes
 
--- without `0x` in front
+-- without `0x` at the start
 abbrev pub without_0x : List ℕ → List ℕ
 without_0x bytes = if begins (0x30 ∷ 0x78 ∷ []) bytes then drop 2 bytes else bytes
 

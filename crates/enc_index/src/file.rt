@@ -9,7 +9,7 @@ ghost use Rattle.enc_index.specs.Files.{without_0x, pair_of, with_pair, with_lin
 use crate::kind::ReadError;
 
 /// The bytes before the first mark, and those after it.
-#[tactic(auto, using(crate::proofs::Cuts::before_here, crate::proofs::Cuts::after_here, crate::proofs::Cuts::front_next, crate::proofs::Cuts::after_next, crate::proofs::Cuts::before_end, crate::proofs::Cuts::after_end))]
+#[tactic(auto, using(crate::proofs::Cuts::before_here, crate::proofs::Cuts::after_here, crate::proofs::Cuts::prefix_next, crate::proofs::Cuts::after_next, crate::proofs::Cuts::before_end, crate::proofs::Cuts::after_end))]
 fn cut(bytes: &[u8], mark: u8) -> (&[u8], Option<&[u8]>)
     ensures before { result.0.now ≡ before mark bytes.now }
     ensures after { option_copied result.1 ≡ after mark bytes.now }
@@ -37,7 +37,7 @@ fn without_cr(line: &[u8]) -> &[u8]
     }
 }
 
-/// A field without the spaces in front.
+/// A field without the spaces at the start.
 #[tactic(auto, using(crate::proofs::Cuts::spaces_here, crate::proofs::Cuts::spaces_next, crate::proofs::Cuts::spaces_end))]
 fn without_spaces(field: &[u8]) -> &[u8]
     ensures { result.now ≡ without_spaces field.now }
@@ -50,7 +50,7 @@ fn without_spaces(field: &[u8]) -> &[u8]
     &field[field.len()..]
 }
 
-/// A field without `0x` in front.
+/// A field without `0x` at the start.
 fn without_0x(field: &[u8]) -> &[u8]
     ensures { result.now ≡ without_0x field.now }
 {

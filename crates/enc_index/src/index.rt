@@ -58,7 +58,7 @@ fn no_codes(alloc: Global, pointers: usize) -> Result<Vec<Option<char>>, AllocEr
 impl Index {
     /// Reads an index file: lines of a pointer, a TAB and a code point (Encoding Standard, "Indexes"). Lines end in LF,
     /// with or without a CR before it. Empty lines, lines that start with `#` and fields after the code point don't
-    /// matter. A pointer has 1 to 6 decimal digits, with any spaces in front, a code point 1 to 8 hexadecimal ones,
+    /// matter. A pointer has 1 to 6 decimal digits, with any spaces at the start, a code point 1 to 8 hexadecimal ones,
     /// with or without `0x`.
     ///
     /// # Errors

@@ -74,19 +74,19 @@ inserted_cases p c (pair ∷ index) x h = go (nat_lt p pair.0) h (inserted_cases
 
 -- WHAT LINES GIVE
 
-give_left : (front back : List (List ℕ)) (p c : ℕ) → Give front p c → Give (front ++ back) p c
+give_left : (prefix back : List (List ℕ)) (p c : ℕ) → Give prefix p c → Give (prefix ++ back) p c
 give_left [] back p c g = absurd g
-give_left (line ∷ front) back p c (inl g) = inl g
-give_left (line ∷ front) back p c (inr g) = inr (give_left front back p c g)
+give_left (line ∷ prefix) back p c (inl g) = inl g
+give_left (line ∷ prefix) back p c (inr g) = inr (give_left prefix back p c g)
 
-give_right : (front back : List (List ℕ)) (p c : ℕ) → Give back p c → Give (front ++ back) p c
+give_right : (prefix back : List (List ℕ)) (p c : ℕ) → Give back p c → Give (prefix ++ back) p c
 give_right [] back p c g = g
-give_right (line ∷ front) back p c g = inr (give_right front back p c g)
+give_right (line ∷ prefix) back p c g = inr (give_right prefix back p c g)
 
-give_cases : (front back : List (List ℕ)) (p c : ℕ) → Give (front ++ back) p c → Give front p c ⊎ Give back p c
+give_cases : (prefix back : List (List ℕ)) (p c : ℕ) → Give (prefix ++ back) p c → Give prefix p c ⊎ Give back p c
 give_cases [] back p c g = inr g
-give_cases (line ∷ front) back p c (inl g) = inl (inl g)
-give_cases (line ∷ front) back p c (inr g) = ⊎_elim (λ x. inl (inr x)) inr (give_cases front back p c g)
+give_cases (line ∷ prefix) back p c (inl g) = inl (inl g)
+give_cases (line ∷ prefix) back p c (inr g) = ⊎_elim (λ x. inl (inr x)) inr (give_cases prefix back p c g)
 
 -- the index is what these lines give
 pub record Holds (lines : List (List ℕ)) (index : Index) : Type 0 where
@@ -103,14 +103,14 @@ holds_none = record {
 }
 
 -- a line that says nothing
-holds_dropped : (front : List (List ℕ)) (line : List ℕ) (index : Index) → is_dropped line ≡ true → Holds front index →
-    Holds (front ++ line ∷ []) index
-holds_dropped front line index d h = record {
-  found = λ p c e. give_left front (line ∷ []) p c (h.found p c e);
+holds_dropped : (prefix : List (List ℕ)) (line : List ℕ) (index : Index) → is_dropped line ≡ true → Holds prefix index →
+    Holds (prefix ++ line ∷ []) index
+holds_dropped prefix line index d h = record {
+  found = λ p c e. give_left prefix (line ∷ []) p c (h.found p c e);
   given = λ p c g.
       ⊎_elim (h.given p c)
       (λ last. ⊎_elim (λ is. let kept = is.0 in absurd cc) (λ none. absurd none) last)
-      (give_cases front (line ∷ []) p c g);
+      (give_cases prefix (line ∷ []) p c g);
   contained = h.contained;
 }
 
@@ -119,9 +119,9 @@ some_same a b e = ap (λ o. elim o as (λ _. ℕ × ℕ) [ Some z ↦ z | None �
 
 -- a line that gives a new pair
 module _
-    (front : List (List ℕ)) (line : List ℕ) (index : Index) (p c : ℕ)
+    (prefix : List (List ℕ)) (line : List ℕ) (index : Index) (p c : ℕ)
     (kept : is_dropped line ≡ false) (gives : pair_of line ≡ Some (p, c)) (none : code index p ≡ None)
-    (h : Holds front index) where
+    (h : Holds prefix index) where
   last_gives : (q d : ℕ) → Give (line ∷ []) q d → (p ≡ q) × (c ≡ d)
   last_gives q d (inl is) = let e = some_same (p, c) (q, d) (sym gives ∙ is.1) in (ap (λ z. z.0) e, ap (λ z. z.1) e)
   last_gives q d (inr z) = absurd z
@@ -144,12 +144,12 @@ module _
       go true x y = let same : p ≡ q = grind (arith, nat_tests, x) in inl (same, cc)
       go false x y = inr y
 
-  give_here : Give (front ++ line ∷ []) p c
-  give_here = give_right front (line ∷ []) p c (inl (kept, gives))
+  give_here : Give (prefix ++ line ∷ []) p c
+  give_here = give_right prefix (line ∷ []) p c (inl (kept, gives))
 
-  give_same : (q d : ℕ) → (p ≡ q) × (c ≡ d) → Give (front ++ line ∷ []) q d
-  give_same q d e = subst (λ z. Give (front ++ line ∷ []) z d) e.0
-      (subst (λ z. Give (front ++ line ∷ []) p z) e.1 give_here)
+  give_same : (q d : ℕ) → (p ≡ q) × (c ≡ d) → Give (prefix ++ line ∷ []) q d
+  give_same q d e = subst (λ z. Give (prefix ++ line ∷ []) z d) e.0
+      (subst (λ z. Give (prefix ++ line ∷ []) p z) e.1 give_here)
 
   code_same : (q d : ℕ) → (p ≡ q) × (c ≡ d) → code (inserted p c index) q ≡ Some d
   code_same q d e = ap (code (inserted p c index)) (sym e.0) ∙ code_here ∙ ap Some e.1
@@ -157,12 +157,13 @@ module _
   pair_same : (q d : ℕ) → ◌≡◌ {A = ℕ × ℕ} (p, c) (q, d) → (p ≡ q) × (c ≡ d)
   pair_same q d e = (ap (λ z. z.0) e, ap (λ z. z.1) e)
 
-  pub holds_inserted : Holds (front ++ line ∷ []) (inserted p c index)
+  pub holds_inserted : Holds (prefix ++ line ∷ []) (inserted p c index)
   holds_inserted = record {
-    found = λ q d e. ⊎_elim (give_same q d) (λ old. give_left front (line ∷ []) q d (h.found q d old)) (code_new q d e);
+    found = λ q d e. ⊎_elim (give_same q d) (λ old. give_left prefix (line ∷ []) q d (h.found q d old))
+        (code_new q d e);
     given = λ q d g.
         ⊎_elim (λ old. code_old q d (h.given q d old)) (λ last. code_same q d (last_gives q d last))
-        (give_cases front (line ∷ []) q d g);
+        (give_cases prefix (line ∷ []) q d g);
     contained = λ q d x.
         ⊎_elim (λ e. code_same q d (pair_same q d e)) (λ old. code_old q d (h.contained q d old))
         (inserted_cases p c index (q, d) x);
@@ -172,22 +173,22 @@ module _
 
 module _ (bound : ℕ) where
   abbrev LineReads : List (List ℕ) → List ℕ → ℕ → Result Index ReadError → Type 0
-  LineReads front line n (Ok next) =
-      (is_dropped line ≡ false → GivesNew bound front line) × Holds (front ++ line ∷ []) next
-  LineReads front line n (Err e) = (is_dropped line ≡ false) × Breaks bound front line n e
+  LineReads prefix line n (Ok next) =
+      (is_dropped line ≡ false → GivesNew bound prefix line) × Holds (prefix ++ line ∷ []) next
+  LineReads prefix line n (Err e) = (is_dropped line ≡ false) × Breaks bound prefix line n e
 
-  module _ (front : List (List ℕ)) (line : List ℕ) (index : Index) (n : ℕ) (h : Holds front index) where
+  module _ (prefix : List (List ℕ)) (line : List ℕ) (index : Index) (n : ℕ) (h : Holds prefix index) where
     code_reads : (pair : ℕ × ℕ) → is_dropped line ≡ false → pair_of line ≡ Some pair → IsInRange bound pair →
-        (o : Option ℕ) → code index pair.0 ≡ o → LineReads front line n (unless_given n pair index o)
+        (o : Option ℕ) → code index pair.0 ≡ o → LineReads prefix line n (unless_given n pair index o)
     code_reads pair kept gives range None none = (
       λ k. record { pair = pair; gives = gives; range = range; fresh = λ c g. let e = h.given pair.0 c g in absurd cc },
-      holds_inserted front line index pair.0 pair.1 kept gives none h,
+      holds_inserted prefix line index pair.0 pair.1 kept gives none h,
     )
     code_reads pair kept gives range (Some d) some = (kept, (refl, pair, gives, range, d, h.found pair.0 d some))
 
     range_reads : (pair : ℕ × ℕ) → is_dropped line ≡ false → pair_of line ≡ Some pair → (b : Bool)
         → (nat_lt pair.0 bound && is_scalar pair.1) ≡ b →
-        LineReads front line n (if b then unless_given n pair index (code index pair.0) else Err (Range n))
+        LineReads prefix line n (if b then unless_given n pair index (code index pair.0) else Err (Range n))
     range_reads pair kept gives true test =
         let below : pair.0 < bound = grind (arith, nat_tests, test) in
         let scalar : is_scalar pair.1 ≡ true = (both (nat_lt pair.0 bound) (is_scalar pair.1) test).1 in
@@ -202,42 +203,42 @@ module _ (bound : ℕ) where
             true≢false (sym (and_from (nat_lt pair.0 bound) (is_scalar pair.1) yes scalar) ∙ test)
 
     pair_reads : is_dropped line ≡ false → (o : Option (ℕ × ℕ)) → pair_of line ≡ o
-        → LineReads front line n (with_pair bound n index o)
+        → LineReads prefix line n (with_pair bound n index o)
     pair_reads kept None none = (kept, (refl, none))
     pair_reads kept (Some pair) gives = range_reads pair kept gives (nat_lt pair.0 bound && is_scalar pair.1) refl
 
-    dropped_reads : (b : Bool) → is_dropped line ≡ b → LineReads front line n
+    dropped_reads : (b : Bool) → is_dropped line ≡ b → LineReads prefix line n
         (if b then Ok index else with_pair bound n index (pair_of line))
-    dropped_reads true d = (λ kept. absurd cc, holds_dropped front line index d h)
+    dropped_reads true d = (λ kept. absurd cc, holds_dropped prefix line index d h)
     dropped_reads false kept = pair_reads kept (pair_of line) refl
 
-    line_reads : LineReads front line n (with_line bound n index line)
+    line_reads : LineReads prefix line n (with_line bound n index line)
     unfolding with_line
     line_reads = dropped_reads (is_dropped line) refl
 
   -- ALL LINES
 
   -- a line of the rest is the first bad one
-  record BadAfter (front rest : List (List ℕ)) (e : ReadError) : Type 0 where
+  record BadAfter (prefix rest : List (List ℕ)) (e : ReadError) : Type 0 where
     mid : List (List ℕ)
     line : List ℕ
     back : List (List ℕ)
     parts : rest ≡ mid ++ line ∷ back
-    good : AreGoodAfter bound front mid
+    good : AreGoodAfter bound prefix mid
     kept : is_dropped line ≡ false
-    breaks : Breaks bound (front ++ mid) line (suc (length (front ++ mid))) e
+    breaks : Breaks bound (prefix ++ mid) line (suc (length (prefix ++ mid))) e
 
   abbrev Reads : List (List ℕ) → List (List ℕ) → Result Index ReadError → Type 0
-  Reads front rest (Ok index) = AreGoodAfter bound front rest × Holds (front ++ rest) index
-  Reads front rest (Err e) = BadAfter front rest e
+  Reads prefix rest (Ok index) = AreGoodAfter bound prefix rest × Holds (prefix ++ rest) index
+  Reads prefix rest (Err e) = BadAfter prefix rest e
 
-  further : (front : List (List ℕ)) (line : List ℕ) (lines : List (List ℕ)) (r : Result Index ReadError) →
-      (is_dropped line ≡ false → GivesNew bound front line) → Reads (front ++ line ∷ []) lines r
-      → Reads front (line ∷ lines) r
-  further front line lines (Ok index) good r =
-      ((good, r.0), subst (λ z. Holds z index) (append_assoc front (line ∷ []) lines) r.1)
-  further front line lines (Err e) good r =
-      let same = append_assoc front (line ∷ []) r.mid in
+  further : (prefix : List (List ℕ)) (line : List ℕ) (lines : List (List ℕ)) (r : Result Index ReadError) →
+      (is_dropped line ≡ false → GivesNew bound prefix line) → Reads (prefix ++ line ∷ []) lines r
+      → Reads prefix (line ∷ lines) r
+  further prefix line lines (Ok index) good r =
+      ((good, r.0), subst (λ z. Holds z index) (append_assoc prefix (line ∷ []) lines) r.1)
+  further prefix line lines (Err e) good r =
+      let same = append_assoc prefix (line ∷ []) r.mid in
       record {
         mid = line ∷ r.mid;
         line = r.line;
@@ -248,21 +249,21 @@ module _ (bound : ℕ) where
         breaks = subst (λ z. Breaks bound z r.line (suc (length z)) e) same r.breaks;
       }
 
-  reads : (rest front : List (List ℕ)) (index : Index) (n : ℕ) → n ≡ suc (length front) → Holds front index →
-      Reads front rest (with_lines bound n index rest)
+  reads : (rest prefix : List (List ℕ)) (index : Index) (n : ℕ) → n ≡ suc (length prefix) → Holds prefix index →
+      Reads prefix rest (with_lines bound n index rest)
   unfolding with_lines
-  reads [] front index n count h = (tt, subst (λ z. Holds z index) (sym (append-nil front)) h)
-  reads (line ∷ lines) front index n count h =
-      let more : n + 1 ≡ suc (length (front ++ line ∷ [])) = let l =
-      length-append front (line ∷ []) in omega (arith, count, l) in
-      go (with_line bound n index line) (line_reads front line index n h)
-      (λ next holds. reads lines (front ++ line ∷ []) next (n + 1) more holds)
+  reads [] prefix index n count h = (tt, subst (λ z. Holds z index) (sym (append-nil prefix)) h)
+  reads (line ∷ lines) prefix index n count h =
+      let more : n + 1 ≡ suc (length (prefix ++ line ∷ [])) = let l =
+      length-append prefix (line ∷ []) in omega (arith, count, l) in
+      go (with_line bound n index line) (line_reads prefix line index n h)
+      (λ next holds. reads lines (prefix ++ line ∷ []) next (n + 1) more holds)
     where
-      go : (r : Result Index ReadError) → LineReads front line n r →
-          ((next : Index) → Holds (front ++ line ∷ []) next → Reads (front ++ line ∷ []) lines
+      go : (r : Result Index ReadError) → LineReads prefix line n r →
+          ((next : Index) → Holds (prefix ++ line ∷ []) next → Reads (prefix ++ line ∷ []) lines
           (with_lines bound (n + 1) next lines)) →
-          Reads front (line ∷ lines) (and_then r (λ next. with_lines bound (n + 1) next lines))
-      go (Ok next) is ih = further front line lines (with_lines bound (n + 1) next lines) is.0 (ih next is.1)
+          Reads prefix (line ∷ lines) (and_then r (λ next. with_lines bound (n + 1) next lines))
+      go (Ok next) is ih = further prefix line lines (with_lines bound (n + 1) next lines) is.0 (ih next is.1)
       go (Err e) is ih = record {
         mid = [];
         line = line;
@@ -270,8 +271,8 @@ module _ (bound : ℕ) where
         parts = refl;
         good = tt;
         kept = is.0;
-        breaks = subst (λ z. Breaks bound z line (suc (length z)) e) (sym (append-nil front))
-            (subst (λ z. Breaks bound front line z e) count is.1);
+        breaks = subst (λ z. Breaks bound z line (suc (length z)) e) (sym (append-nil prefix))
+            (subst (λ z. Breaks bound prefix line z e) count is.1);
       }
 
   -- THE WHOLE FILE
@@ -287,7 +288,7 @@ module _ (bound : ℕ) where
     when_bad e is =
         let bad = subst (Reads [] lines) is all in
         record {
-          front = bad.mid;
+          prefix = bad.mid;
           line = bad.line;
           back = bad.back;
           parts = bad.parts;
@@ -297,22 +298,22 @@ module _ (bound : ℕ) where
         }
 
   -- a good file has no bad line
-  good_line : (front mid : List (List ℕ)) (line : List ℕ) (back : List (List ℕ))
-      → AreGoodAfter bound front (mid ++ line ∷ back) →
-      is_dropped line ≡ false → GivesNew bound (front ++ mid) line
-  good_line front [] line back g kept = subst (λ z. GivesNew bound z line) (sym (append-nil front)) (g.0 kept)
-  good_line front (first ∷ mid) line back g kept =
-      subst (λ z. GivesNew bound z line) (append_assoc front (first ∷ []) mid)
-      (good_line (front ++ first ∷ []) mid line back g.1 kept)
+  good_line : (prefix mid : List (List ℕ)) (line : List ℕ) (back : List (List ℕ))
+      → AreGoodAfter bound prefix (mid ++ line ∷ back) →
+      is_dropped line ≡ false → GivesNew bound (prefix ++ mid) line
+  good_line prefix [] line back g kept = subst (λ z. GivesNew bound z line) (sym (append-nil prefix)) (g.0 kept)
+  good_line prefix (first ∷ mid) line back g kept =
+      subst (λ z. GivesNew bound z line) (append_assoc prefix (first ∷ []) mid)
+      (good_line (prefix ++ first ∷ []) mid line back g.1 kept)
 
-  no_break : (front : List (List ℕ)) (line : List ℕ) (n : ℕ) (e : ReadError) → GivesNew bound front line
-      → Breaks bound front line n e → ⊥
-  no_break front line n (Line m) good b = let is = good.gives in let none = b.1 in absurd cc
-  no_break front line n (Range m) good (m_is, pair, gives, out) =
+  no_break : (prefix : List (List ℕ)) (line : List ℕ) (n : ℕ) (e : ReadError) → GivesNew bound prefix line
+      → Breaks bound prefix line n e → ⊥
+  no_break prefix line n (Line m) good b = let is = good.gives in let none = b.1 in absurd cc
+  no_break prefix line n (Range m) good (m_is, pair, gives, out) =
       out (subst (IsInRange bound) (some_same good.pair pair (sym good.gives ∙ gives)) good.range)
-  no_break front line n (Twice m) good (m_is, pair, gives, range, c, given) =
-      good.fresh c (subst (λ z. Give front z.0 c) (sym (some_same good.pair pair (sym good.gives ∙ gives))) given)
-  no_break front line n NoMemory good b = b
+  no_break prefix line n (Twice m) good (m_is, pair, gives, range, c, given) =
+      good.fresh c (subst (λ z. Give prefix z.0 c) (sym (some_same good.pair pair (sym good.gives ∙ gives))) given)
+  no_break prefix line n NoMemory good b = b
 
   module _ (lines : List (List ℕ)) where
     pub read_when_good : AreGood bound lines → (index : Index) × (with_lines bound 1 [] lines ≡ Ok index)
@@ -323,8 +324,8 @@ module _ (bound : ℕ) where
         go (Ok index) e = (index, e)
         go (Err e) is =
             let bad = when_bad lines e is in
-            absurd (no_break bad.front bad.line (suc (length bad.front)) e
-            (good_line [] bad.front bad.line bad.back (subst (AreGood bound) bad.parts good) bad.kept) bad.breaks)
+            absurd (no_break bad.prefix bad.line (suc (length bad.prefix)) e
+            (good_line [] bad.prefix bad.line bad.back (subst (AreGood bound) bad.parts good) bad.kept) bad.breaks)
 
     pub pairs_when_ok : (index : Index) → with_lines bound 1 [] lines ≡ Ok index → (p c : ℕ)
         → Contains index (p, c) ↔ Give lines p c

@@ -16,7 +16,7 @@ module _ (b : ℕ) (t rest : List ℕ) where
       let least = taken_longest ranges t rest (sym (l.prefix t) ∙ p) in
       rw (segment_is b ranges (t ++ rest) l) (omega (arith, least))
 
-pub sequence_first : (front rest : List ℕ) → is_sequence front ≡ true → segment (front ++ rest) ≡ front
+pub sequence_first : (prefix rest : List ℕ) → is_sequence prefix ≡ true → segment (prefix ++ rest) ≡ prefix
 sequence_first [] rest s = absurd cc
 sequence_first (b ∷ t) rest s = elim (kind_of b) [
   | inl low ↦ whole_at b t rest [] (ascii b low) s
@@ -24,7 +24,8 @@ sequence_first (b ∷ t) rest s = elim (kind_of b) [
   | inr (inr none) ↦ (let no = none.sequence t in absurd cc)
 ]
 
-pub prefix_longest : (front rest : List ℕ) → is_prefix front ≡ true → length front ≤ length (segment (front ++ rest))
+pub prefix_longest : (prefix rest : List ℕ) → is_prefix prefix ≡ true
+    → length prefix ≤ length (segment (prefix ++ rest))
 prefix_longest [] rest p = omega arith
 prefix_longest (b ∷ t) rest p = elim (kind_of b) [
   | inl low ↦ longest_at b t rest [] (ascii b low) p

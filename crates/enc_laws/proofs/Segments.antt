@@ -5,7 +5,7 @@ use Rattle.enc_model.specs.Index.{within}
 use Rattle.enc_laws.specs.Subparts.{Ranges, fills, begins_to_fill, segment}
 use Rattle.enc_laws.proofs.Leads.{Leads, both}
 
--- the bytes at the front that fill the first ranges
+-- the bytes at the start that fill the first ranges
 abbrev pub taken : Ranges → List ℕ → List ℕ
 taken [] bytes = []
 taken (r ∷ ranges) [] = []
@@ -114,7 +114,7 @@ taken_parts (r ∷ ranges) (c ∷ bytes) = go (within r.0 r.1 c) refl (taken_par
     go true e ih = ap (λ t. t ++ drop (length t) (c ∷ bytes)) (taken_on r ranges c bytes e) ∙ ap (λ t. c ∷ t) ih
     go false e ih = ap (λ t. t ++ drop (length t) (c ∷ bytes)) (taken_stops r ranges c bytes e)
 
--- A sequence at the front is what fills the ranges, and no longer prefix begins to.
+-- A sequence at the start is what fills the ranges, and no longer prefix begins to.
 pub taken_whole : (ranges : Ranges) (t rest : List ℕ) → fills ranges t ≡ true → taken ranges (t ++ rest) ≡ t
 taken_whole [] [] rest f = refl
 taken_whole [] (c ∷ t) rest f = absurd cc

@@ -4,7 +4,7 @@ use Rattle.enc_model.specs.declared.Answer.TheVariants.{Finished}
 use Rattle.enc_model.specs.Stream.{Handler, PutsBack, after, said, steps}
 
 pub record IsByAnswers {S : Type 0} (h : Handler S) : Type 0 where
-  -- a byte's answer, and then what it restores, put back in front
+  -- a byte's answer, and then what it restores, put back at the start
   pub byte : PutsBack h
   -- no more bytes, and not ended
   pub paused : (s : S) → steps h false s [] ≡ record { text = []; state = s }

@@ -49,14 +49,14 @@ abbrev pub first_where : (List ℕ → Bool) → List (List ℕ) → List ℕ �
 first_where test [] other = other
 first_where test (x ∷ xs) other = if test x then x else first_where test xs other
 
--- the bytes at the front, at most four of them, the longest first
-abbrev pub fronts : List ℕ → List (List ℕ)
-fronts bytes = take 4 bytes ∷ take 3 bytes ∷ take 2 bytes ∷ take 1 bytes ∷ []
+-- the bytes at the start, at most four of them, the longest first
+abbrev pub prefixes : List ℕ → List (List ℕ)
+prefixes bytes = take 4 bytes ∷ take 3 bytes ∷ take 2 bytes ∷ take 1 bytes ∷ []
 
 -- The segment that begins here: a well-formed sequence; where there is none, the longest prefix of one; where that is
 -- empty, a single byte.
 abbrev pub segment : List ℕ → List ℕ
-segment bytes = first_where is_sequence (fronts bytes) (first_where is_prefix (fronts bytes) (take 1 bytes))
+segment bytes = first_where is_sequence (prefixes bytes) (first_where is_prefix (prefixes bytes) (take 1 bytes))
 
 -- the cut of the whole list: as many segments as there can be
 abbrev pub segments_within : ℕ → List ℕ → List (List ℕ)

@@ -22,7 +22,7 @@ pub fn decodes_by_answers()
 {}
 
 /// Each encoder goes on by what it gives for a code point, with references and code points that it asks for again put
-/// in front, as long as there are any: the number of calls in the definition of `coded` never cuts them short.
+/// at the start, as long as there are any: the number of calls in the definition of `coded` never cuts them short.
 pub fn encodes_by_answers()
     ensures none { (t : Tables) (e : Encoding) (mode : Mode) (s : Shift) →
         coded (encoder t e) mode s [] ≡ record { bytes = []; state = s; fault = None } }

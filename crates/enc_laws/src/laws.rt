@@ -17,8 +17,9 @@ ghost use Rattle.enc_laws.specs.WellFormed.{AreBytes, AreScalars, IsWellFormed};
 /// Where a well-formed sequence begins, it is the segment. No longer prefix of one begins there than the segment, which
 /// is such a prefix itself; where there is none, a single byte.
 pub fn longest_subparts()
-    ensures sequence { (front rest : List ℕ) → is_sequence front ≡ true → segment (front ++ rest) ≡ front }
-    ensures longest { (front rest : List ℕ) → is_prefix front ≡ true → length front ≤ length (segment (front ++ rest)) }
+    ensures sequence { (prefix rest : List ℕ) → is_sequence prefix ≡ true → segment (prefix ++ rest) ≡ prefix }
+    ensures longest { (prefix rest : List ℕ) → is_prefix prefix ≡ true
+        → length prefix ≤ length (segment (prefix ++ rest)) }
     ensures prefix { (b : ℕ) (bytes : List ℕ) → is_prefix (b ∷ []) ≡ true → is_prefix (segment (b ∷ bytes)) ≡ true }
     ensures single { (b : ℕ) (bytes : List ℕ) → is_prefix (b ∷ []) ≡ false → segment (b ∷ bytes) ≡ b ∷ [] }
 {}

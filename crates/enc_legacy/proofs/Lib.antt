@@ -1,5 +1,5 @@
 pub mod SinglesSteps
-pub mod Fronts
+pub mod Prefixes
 pub mod Strides
 pub mod PairPointers
 pub mod SjisBytes

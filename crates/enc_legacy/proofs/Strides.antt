@@ -6,7 +6,7 @@ use Rattle.std.proofs.lemmas.List.{length-take, get_or-take}
 use Rattle.std.proofs.lemmas.List.Elements.{All-head, All-tail, All-from_get_or}
 use Rattle.std.proofs.lemmas.List.Sums.{prefix_len-le-length, prefix_len_passes}
 use Rattle.std.specs.List.{prefix_len}
-use Rattle.lane_kernels.specs.Front.{is_plain_2022}
+use Rattle.lane_kernels.specs.Classes.{is_plain_2022}
 use Rattle.enc_model.specs.declared.Answer.TheVariants.{Point, Nothing}
 use Rattle.enc_model.specs.declared.Charset.{Charset}
 use Rattle.enc_model.specs.declared.Charset.TheVariants.{Ascii, Lead}

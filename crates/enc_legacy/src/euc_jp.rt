@@ -114,7 +114,7 @@ impl PairReader for EucJpState {
 
 impl PairDecoder for EucJpState {
     #[inline(always)]
-    #[tactic(auto, using(enc_model::proofs::Fronts::front_none, crate::proofs::Fronts::euc_front))]
+    #[tactic(auto, using(enc_model::proofs::Prefixes::prefix_none, crate::proofs::Prefixes::euc_front))]
     fn ascii(&self, _indexes: &IndexSet, bytes: &[u8]) -> usize {
         if self.lead == 0 {
             ascii_front(bytes)
@@ -124,7 +124,7 @@ impl PairDecoder for EucJpState {
     }
 
     #[inline(always)]
-    #[tactic(auto, using(enc_model::proofs::Fronts::front_none, crate::proofs::Fronts::euc_front))]
+    #[tactic(auto, using(enc_model::proofs::Prefixes::prefix_none, crate::proofs::Prefixes::euc_front))]
     fn ascii_lanes(&self, _indexes: &IndexSet, bytes: &[u8]) -> usize {
         if self.lead == 0 {
             ascii_lanes(bytes)
@@ -150,7 +150,7 @@ impl Strider for EucJpState {
 }
 
 impl BlockDecoder for EucJpState {
-    fn front(&self, indexes: &IndexSet, bytes: &[u8]) -> usize {
+    fn prefix(&self, indexes: &IndexSet, bytes: &[u8]) -> usize {
         self.ascii(indexes, bytes)
     }
 

@@ -327,8 +327,8 @@ impl Strider for Iso2022State {
 }
 
 impl BlockDecoder for Iso2022State {
-    #[tactic(auto, using(enc_model::proofs::Fronts::front_none))]
-    fn front(&self, _indexes: &IndexSet, _bytes: &[u8]) -> usize {
+    #[tactic(auto, using(enc_model::proofs::Prefixes::prefix_none))]
+    fn prefix(&self, _indexes: &IndexSet, _bytes: &[u8]) -> usize {
         0
     }
 

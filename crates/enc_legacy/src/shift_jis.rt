@@ -119,7 +119,7 @@ impl PairReader for ShiftJisState {
 
 impl PairDecoder for ShiftJisState {
     #[inline(always)]
-    #[tactic(auto, using(enc_model::proofs::Fronts::front_none, crate::proofs::Fronts::sjis_front))]
+    #[tactic(auto, using(enc_model::proofs::Prefixes::prefix_none, crate::proofs::Prefixes::sjis_front))]
     fn ascii(&self, _indexes: &IndexSet, bytes: &[u8]) -> usize {
         if self.lead == 0 {
             ascii_front(bytes)
@@ -129,7 +129,7 @@ impl PairDecoder for ShiftJisState {
     }
 
     #[inline(always)]
-    #[tactic(auto, using(enc_model::proofs::Fronts::front_none, crate::proofs::Fronts::sjis_front))]
+    #[tactic(auto, using(enc_model::proofs::Prefixes::prefix_none, crate::proofs::Prefixes::sjis_front))]
     fn ascii_lanes(&self, _indexes: &IndexSet, bytes: &[u8]) -> usize {
         if self.lead == 0 {
             ascii_lanes(bytes)
@@ -155,7 +155,7 @@ impl Strider for ShiftJisState {
 }
 
 impl BlockDecoder for ShiftJisState {
-    fn front(&self, indexes: &IndexSet, bytes: &[u8]) -> usize {
+    fn prefix(&self, indexes: &IndexSet, bytes: &[u8]) -> usize {
         self.ascii(indexes, bytes)
     }
 

@@ -104,7 +104,7 @@ impl SingleState {
         Ok(())
     }
 
-    /// The steps over a piece by what the bytes stand for. The ASCII in front is given to the sink as it is.
+    /// The steps over a piece by what the bytes stand for. The ASCII at the start is given to the sink as it is.
     fn feed_ready<S: Sink>(
         &self,
         indexes: &IndexSet,
@@ -118,12 +118,12 @@ impl SingleState {
         ensures { Given S.takes S.refuses sink.old
             (steps (single_in (tables indexes.now)) false self.now piece.now).text sink.new result }
     {
-        let front = ascii_front(piece);
-        sink.ascii(&piece[..front])?;
-        if front == piece.len() {
+        let prefix = ascii_front(piece);
+        sink.ascii(&piece[..prefix])?;
+        if prefix == piece.len() {
             return Ok(());
         }
-        self.feed_blocks(indexes, chars, &piece[front..], sink)
+        self.feed_blocks(indexes, chars, &piece[prefix..], sink)
     }
 }
 

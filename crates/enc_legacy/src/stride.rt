@@ -4,14 +4,14 @@ ghost use Rattle.std.specs.Prelude.{◌≡◌, ◌≤◌, ◌<◌, ◌+◌, ◌*
 ghost use Rattle.std.specs.Prelude.{All, slice_index};
 ghost use Rattle.std.specs.Bool.{OnTrue, OnFalse};
 ghost use Rattle.enc_model.specs.Batches.{BatchTook};
-ghost use Rattle.enc_model.specs.Front.{IsFront};
+ghost use Rattle.enc_model.specs.AsciiPrefix.{IsAsciiPrefix};
 ghost use Rattle.enc_model.specs.Stream.{steps};
 
 use enc_model::{Batch, Decoder, LANES, PairReader, ROOM, Utf8Char, decode_each};
 
 /// A decoder that reads some bytes at once: a run, the bytes of a character, or else one byte.
 pub trait Strider: Decoder {
-    /// Reads some bytes at the front of these, for whose text a batch surely has room, and says how many.
+    /// Reads some bytes at the start of these, for whose text a batch surely has room, and says how many.
     fn stride(&mut self, tables: &Self::Tables, rest: &[u8], batch: &mut Batch) -> usize
         requires some { 0 < length rest.now }
         requires room { length batch.old + 12 * length rest.now ≤ ROOM }
@@ -24,15 +24,15 @@ pub trait Strider: Decoder {
 
 /// A decoder that reads ASCII and two-byte characters at once where it keeps nothing.
 pub trait PairDecoder: Decoder + PairReader {
-    /// How many bytes at the front are ASCII and stand for themselves from here.
+    /// How many bytes at the start are ASCII and stand for themselves from here.
     fn ascii(&self, tables: &Self::Tables, bytes: &[u8]) -> usize
-        ensures { IsFront (Self.handler tables.now) self.now bytes.now result };
+        ensures { IsAsciiPrefix (Self.handler tables.now) self.now bytes.now result };
 
     /// How many of the first 32 bytes are ASCII and stand for themselves from here.
     fn ascii_lanes(&self, tables: &Self::Tables, bytes: &[u8]) -> usize
         requires { LANES ≤ length bytes.now }
         ensures few { result ≤ LANES }
-        ensures front { IsFront (Self.handler tables.now) self.now bytes.now result };
+        ensures prefix { IsAsciiPrefix (Self.handler tables.now) self.now bytes.now result };
 
     /// Characters by their pointers, where a table has them ready and pairs are read from here.
     fn ready<'a>(&self, tables: &'a Self::Tables) -> Option<&'a [Option<Utf8Char>]>

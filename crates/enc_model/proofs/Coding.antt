@@ -120,23 +120,23 @@ module _ (f : Encoder) (steady : IsSteady f) (mode : Mode) where
       ∙ plain_fault r one.state
 
   -- one of them
-  plain_wrote : (c : ℕ) (r cs : List ℕ) (front : List ℕ) (v : Written) (j : ℕ) (x : Coded) → IsWrote v →
+  plain_wrote : (c : ℕ) (r cs : List ℕ) (prefix : List ℕ) (v : Written) (j : ℕ) (x : Coded) → IsWrote v →
       ((s : Shift) → ((m : ℕ) → j ≤ m + 2 * length r → coded_within m f mode (all_codes (plain_code f) s r).state
       cs ≡ x) →
       coded_within j f mode s (r ++ cs) ≡ led_by (all_codes (plain_code f) s r).bytes x) →
       ((m : ℕ) → j ≤ m + 2 * length r →
       coded_within m f mode (joined
-      (code_within Html (λ next z. record { bytes = []; state = next; fault = None }) (after_written front v))
+      (code_within Html (λ next z. record { bytes = []; state = next; fault = None }) (after_written prefix v))
       (λ next. all_codes (plain_code f) next r)).state cs ≡ x) →
-      led_by front (went mode (coded_within j f mode) c (r ++ cs) v)
+      led_by prefix (went mode (coded_within j f mode) c (r ++ cs) v)
       ≡ led_by (joined (code_within Html (λ next z. record { bytes = []; state = next; fault = None })
-      (after_written front v)) (λ next. all_codes (plain_code f) next r)).bytes x
-  plain_wrote c r cs front (Wrote b s) j x w ih h =
+      (after_written prefix v)) (λ next. all_codes (plain_code f) next r)).bytes x
+  plain_wrote c r cs prefix (Wrote b s) j x w ih h =
       let rest = all_codes (plain_code f) s r in
-      led_by_led_by front b (coded_within j f mode s (r ++ cs)) ∙ ap (led_by (front ++ b)) (ih s h)
-      ∙ led_by_led_by (front ++ b) rest.bytes x
-  plain_wrote c r cs front (Again b s) j x w ih h = absurd w
-  plain_wrote c r cs front (Lacks b s d) j x w ih h = absurd w
+      led_by_led_by prefix b (coded_within j f mode s (r ++ cs)) ∙ ap (led_by (prefix ++ b)) (ih s h)
+      ∙ led_by_led_by (prefix ++ b) rest.bytes x
+  plain_wrote c r cs prefix (Again b s) j x w ih h = absurd w
+  plain_wrote c r cs prefix (Lacks b s d) j x w ih h = absurd w
 
   plain_case : (c : ℕ) (r cs : List ℕ) (w : Written) (i : ℕ) (x : Coded) → IsWrote (settled f c w) → 2 * length r ≤ i →
       ((j : ℕ) (s : Shift) → 2 * length r ≤ j

@@ -116,7 +116,7 @@ module _ {S : Type 0} (h : Handler S) where
   whole : Bool → Run S → Run S
   whole ended r = after r.text (ending h ended r.state)
 
-  -- A byte's answer, and then what it restores, put back in front.
+  -- A byte's answer, and then what it restores, put back at the start.
   pub steps_cons : IsCalm h → (ended : Bool) (s : S) (b : ℕ) (bytes : List ℕ) →
       steps h ended s (b ∷ bytes)
       ≡ (let t = h s (Some b) in after (said t.answer) (steps h ended t.state (t.restored ++ bytes)))

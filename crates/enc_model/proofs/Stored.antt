@@ -10,9 +10,9 @@ use Rattle.enc_model.specs.BatchLaws.{batch_sink}
 use Rattle.enc_model.proofs.Gathered.{ascii_chars, ascii_utf8, text_more, took_text}
 
 -- some of what was stored after the first n bytes
-pub front_kept : (old new bytes : List ℕ) (n k m : ℕ) → n ≤ length old → k ≤ m → m ≤ length bytes
+pub prefix_kept : (old new bytes : List ℕ) (n k m : ℕ) → n ≤ length old → k ≤ m → m ≤ length bytes
     → take (n + length (take m bytes)) new ≡ take n old ++ take m bytes → take (n + k) new ≡ take n old ++ take k bytes
-front_kept old new bytes n k m long few many e =
+prefix_kept old new bytes n k m long few many e =
     let first = take n old in
     let more = take m bytes in
     let count : length first ≡ n = length-take-le n old long in
@@ -24,9 +24,9 @@ front_kept old new bytes n k m long few many e =
     ∙ ap (λ z. first ++ z) (take-take k m bytes few)
 
 -- ASCII that was stored
-pub took_front : (old new bytes : List ℕ) → is_utf8 old ≡ true → All (λ b. b < 128) bytes → new ≡ old ++ bytes
+pub took_prefix : (old new bytes : List ℕ) → is_utf8 old ≡ true → All (λ b. b < 128) bytes → new ≡ old ++ bytes
     → BatchTook old bytes new × (is_utf8 new ≡ true)
-took_front old new bytes u a e =
+took_prefix old new bytes u a e =
     let v = ascii_utf8 bytes a in (
       subst (λ z. BatchTook old z new) (ascii_chars bytes a) (took_text old new bytes u v e),
       ap is_utf8 e ∙ text_more old bytes u v,

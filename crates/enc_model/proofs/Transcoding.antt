@@ -55,10 +55,10 @@ module _ (f : Encoder) (steady : IsSteady f) (mode : Mode) where
       let r = coded f mode a.state x in
       let e = coded_both a.state x y p.fault ∙ ap (λ s. led_by r.bytes (coded f mode s y)) (sym p.state) in
       record {
-        front = r.bytes ++ q.front;
+        prefix = r.bytes ++ q.prefix;
         rest = q.rest;
-        parts = ap (λ z. z.bytes) e ∙ ap (λ z. r.bytes ++ z) q.parts ∙ sym (append_assoc r.bytes q.front q.rest);
-        out = q.out ∙ ap (λ z. z ++ q.front) p.out ∙ append_assoc a.out r.bytes q.front;
+        parts = ap (λ z. z.bytes) e ∙ ap (λ z. r.bytes ++ z) q.parts ∙ sym (append_assoc r.bytes q.prefix q.rest);
+        out = q.out ∙ ap (λ z. z ++ q.prefix) p.out ∙ append_assoc a.out r.bytes q.prefix;
         reason = subst (λ z. IsReason w z) (sym e) (reason_after w r.bytes (coded f mode b.state y) q.reason);
       }
 
@@ -77,16 +77,17 @@ module _ (f : Encoder) (steady : IsSteady f) (mode : Mode) where
           let both = coded_both a.state x y e in
           let more = coded f mode r.state y in
           record {
-            front = q.front;
+            prefix = q.prefix;
             rest = q.rest ++ more.bytes;
-            parts = ap (λ z. z.bytes) both ∙ ap (λ z. z ++ more.bytes) q.parts ∙ append_assoc q.front q.rest more.bytes;
+            parts = ap (λ z. z.bytes) both ∙ ap (λ z. z ++ more.bytes) q.parts
+                ∙ append_assoc q.prefix q.rest more.bytes;
             out = q.out;
             reason = none_reason w r (coded f mode a.state (x ++ y)) e q.reason;
           }
       go (Some c) e =
           let same = coded_fault a.state x y c e in
           record {
-            front = q.front;
+            prefix = q.prefix;
             rest = q.rest;
             parts = ap (λ z. z.bytes) same ∙ q.parts;
             out = q.out;

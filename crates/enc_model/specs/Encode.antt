@@ -161,7 +161,7 @@ went mode go c cs (Again bytes s) = led_by bytes (go s (c ∷ cs))
 went Html go c cs (Lacks bytes s d) = led_by bytes (go s (reference d ++ cs))
 went Fatal go c cs (Lacks bytes s d) = record { bytes = bytes; state = s; fault = Some d }
 
--- The encoder over the whole list, a reference's characters put in front; at most so many calls.
+-- The encoder over the whole list, a reference's characters put at the start; at most so many calls.
 unfoldable pub coded_within : ℕ → Encoder → Mode → Shift → List ℕ → Coded
 coded_within zero f mode s cs = record { bytes = []; state = s; fault = None }
 coded_within (suc n) f mode s [] = record { bytes = []; state = s; fault = None }
@@ -183,9 +183,9 @@ all_codes g s [] = record { bytes = []; state = s; fault = None }
 all_codes g s (c ∷ cs) = joined (g s c) (λ next. all_codes g next cs)
 
 abbrev pub after_written : List ℕ → Written → Written
-after_written front (Wrote bytes s) = Wrote (front ++ bytes) s
-after_written front (Again bytes s) = Again (front ++ bytes) s
-after_written front (Lacks bytes s d) = Lacks (front ++ bytes) s d
+after_written prefix (Wrote bytes s) = Wrote (prefix ++ bytes) s
+after_written prefix (Again bytes s) = Again (prefix ++ bytes) s
+after_written prefix (Lacks bytes s d) = Lacks (prefix ++ bytes) s d
 
 -- what an encoder gives in the end, where it asks again once
 abbrev pub settled : Encoder → ℕ → Written → Written

@@ -6,7 +6,7 @@ pub mod Japanese
 pub mod Encode
 pub mod Decode
 pub mod Sink
-pub mod Front
+pub mod AsciiPrefix
 pub mod Utf8Chars
 pub mod Batches
 pub mod BatchLaws

@@ -3,9 +3,9 @@ use Rattle.std.specs.Prelude.{ℕ, List, ◌++◌, ◌≡◌}
 use Rattle.std.proofs.Common.{sym, ◌∙◌, ap, append_assoc, append-nil}
 use Rattle.enc_model.specs.Sink.{IsSink}
 
--- new is old and a part of the text's front
+-- new is old and a part of the text's start
 abbrev pub IsPrefix : List ℕ → List ℕ → List ℕ → Type 0
-IsPrefix old text new = (front : List ℕ) × (rest : List ℕ) × (text ≡ front ++ rest) × (new ≡ old ++ front)
+IsPrefix old text new = (prefix : List ℕ) × (rest : List ℕ) × (text ≡ prefix ++ rest) × (new ≡ old ++ prefix)
 
 pub prefix_sink : {E : Type 0} → IsSink {A = List ℕ} {E = E} (λ a x b. b ≡ a ++ x) (λ a x e b. IsPrefix a x b)
 prefix_sink = record {

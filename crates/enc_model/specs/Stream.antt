@@ -37,7 +37,7 @@ said Finished = []
 abbrev pub after : {S : Type 0} → List ℕ → Run S → Run S
 after text run = record { text = text ++ run.text; state = run.state }
 
--- The handler over the whole list, restored bytes put back in front; at most so many calls.
+-- The handler over the whole list, restored bytes put back at the start; at most so many calls.
 unfoldable pub steps_within : {S : Type 0} → ℕ → Handler S → Bool → S → List ℕ → Run S
 steps_within zero h ended s bytes = record { text = []; state = s }
 steps_within (suc n) h ended s (b ∷ bytes) =
@@ -110,7 +110,7 @@ pub record IsCalm {S : Type 0} (h : Handler S) : Type 0 where
   pub quiet : (s : S) (b : ℕ) → IsQuiet h (h s (Some b)).state (h s (Some b)).restored
   pub ends : (s : S) → Ends 4 h s
 
--- THE STANDARD'S OWN FORM: a byte's answer, and then what it restores put back in front.
+-- THE STANDARD'S OWN FORM: a byte's answer, and then what it restores put back at the start.
 abbrev pub PutsBack : {S : Type 0} → Handler S → Type 0
 PutsBack {S} h = (ended : Bool) (s : S) (b : ℕ) (bytes : List ℕ) →
     steps h ended s (b ∷ bytes) ≡ (let t = h s (Some b) in after (said t.answer)

@@ -23,13 +23,13 @@ abbrev pub IsReason : Option ℕ → Coded → Type 0
 IsReason None r = Unit {0}
 IsReason (Some c) r = r.fault ≡ Some c
 
--- it wrote a part of the code's front
+-- it wrote a part of the code's start
 pub record Refused (f : Encoder) (mode : Mode) (old : Coder) (text : List ℕ) (why : Option ℕ) (new : Coder) : Type 0
   where
-    pub front : List ℕ
+    pub prefix : List ℕ
     pub rest : List ℕ
-    pub parts : (coded f mode old.state text).bytes ≡ front ++ rest
-    pub out : new.out ≡ old.out ++ front
+    pub parts : (coded f mode old.state text).bytes ≡ prefix ++ rest
+    pub out : new.out ≡ old.out ++ prefix
     pub reason : IsReason why (coded f mode old.state text)
 
 -- A TRANSCODER
@@ -94,7 +94,7 @@ added_end t s = ended_coded (coded (encoder t s.to) s.mode s.shift (fed_end t s.
 
 -- out has grown by a prefix of what was to come
 pub record GrownByPrefix (old to_come new : List ℕ) : Type 0 where
-  pub front : List ℕ
+  pub prefix : List ℕ
   pub rest : List ℕ
-  pub parts : to_come ≡ front ++ rest
-  pub out : new ≡ old ++ front
+  pub parts : to_come ≡ prefix ++ rest
+  pub out : new ≡ old ++ prefix

@@ -25,7 +25,7 @@ pub const LANES: usize = 32;
 pub trait AsciiFinder {
     /// How many of the first 32 bytes are ASCII before one that isn't, or None where so many aren't that each is better
     /// looked up.
-    fn front(&self, bytes: &[u8]) -> Option<usize>
+    fn prefix(&self, bytes: &[u8]) -> Option<usize>
         requires { LANES ≤ length bytes.now }
         ensures within { IfSome result (λ n. n ≤ LANES) }
         ensures ascii { IfSome result (λ n. All (λ b. b < 128) (take n bytes.now)) };
@@ -108,18 +108,18 @@ fn store_part(room: &mut [u8; ROOM], from: usize, part: &[u8])
 /// Stores the ASCII that these begin with after the first so many bytes, and says how many they are then: 32 bytes are
 /// stored, of which so many count.
 #[inline(always)]
-fn store_front(room: &mut [u8; ROOM], from: usize, bytes: &[u8], front: usize) -> usize
+fn store_prefix(room: &mut [u8; ROOM], from: usize, bytes: &[u8], prefix: usize) -> usize
     requires text { is_utf8 (take from room.old) ≡ true }
     requires many { LANES ≤ length bytes.now }
-    requires within { front ≤ LANES }
-    requires ascii { All (λ b. b < 128) (take front bytes.now) }
+    requires within { prefix ≤ LANES }
+    requires ascii { All (λ b. b < 128) (take prefix bytes.now) }
     requires room { from + LANES ≤ ROOM }
-    ensures took { BatchTook (take from room.old) (take front bytes.now) (take result room.new) }
+    ensures took { BatchTook (take from room.old) (take prefix bytes.now) (take result room.new) }
     ensures text { is_utf8 (take result room.new) ≡ true }
-    ensures end { result ≡ from + front }
+    ensures end { result ≡ from + prefix }
 {
     store_part(room, from, &bytes[..LANES]);
-    from + front
+    from + prefix
 }
 
 /// Stores what some of these stand for after the first so many bytes: ASCII and the byte after it, or else 32 bytes.
@@ -128,7 +128,7 @@ fn store_front(room: &mut [u8; ROOM], from: usize, bytes: &[u8], front: usize) -
 fn store_some<F: AsciiFinder>(
     room: &mut [u8; ROOM],
     from: usize,
-    fronts: &F,
+    prefixes: &F,
     chars: &[Utf8Char],
     bytes: &[u8],
 ) -> (usize, usize)
@@ -144,16 +144,16 @@ fn store_some<F: AsciiFinder>(
     ensures text { is_utf8 (take result.1 room.new) ≡ true }
     ensures few { result.1 ≤ from + 4 * result.0 }
 {
-    let Some(front) = fronts.front(bytes) else {
+    let Some(prefix) = prefixes.prefix(bytes) else {
         return (LANES, store_each(room, from, chars, &bytes[..LANES]));
     };
-    let end = store_front(room, from, bytes, front);
-    if front == LANES {
+    let end = store_prefix(room, from, bytes, prefix);
+    if prefix == LANES {
         return (LANES, end);
     }
     (
-        front + 1,
-        store_code(room, end, &chars[bytes[front] as usize]),
+        prefix + 1,
+        store_code(room, end, &chars[bytes[prefix] as usize]),
     )
 }
 
@@ -185,7 +185,7 @@ impl Room {
 
     /// Stores what bytes stand for. Here and in the next the length is a local of the loop, which a register can hold.
     #[inline(always)]
-    fn store_bytes<F: AsciiFinder>(&mut self, fronts: &F, chars: &[Utf8Char], bytes: &[u8])
+    fn store_bytes<F: AsciiFinder>(&mut self, prefixes: &F, chars: &[Utf8Char], bytes: &[u8])
         requires text { is_utf8 self.old ≡ true }
         requires long { length chars.now ≡ 256 }
         requires own { (b : ℕ) → b < 128 → slice_index chars.now b ≡ b }
@@ -196,7 +196,7 @@ impl Room {
         let mut len = self.len;
         let mut at = 0;
         while bytes.len() - at >= LANES {
-            let (count, end) = store_some(&mut self.bytes, len, fronts, chars, &bytes[at..]);
+            let (count, end) = store_some(&mut self.bytes, len, prefixes, chars, &bytes[at..]);
             len = end;
             at += count;
         }
@@ -234,16 +234,16 @@ impl Room {
 
     /// Stores the ASCII that these begin with, of so many bytes.
     #[inline(always)]
-    fn store_front(&mut self, bytes: &[u8], front: usize)
+    fn store_prefix(&mut self, bytes: &[u8], prefix: usize)
         requires text { is_utf8 self.old ≡ true }
         requires many { LANES ≤ length bytes.now }
-        requires within { front ≤ LANES }
-        requires ascii { All (λ b. b < 128) (take front bytes.now) }
+        requires within { prefix ≤ LANES }
+        requires ascii { All (λ b. b < 128) (take prefix bytes.now) }
         requires room { length self.old + LANES ≤ ROOM }
-        ensures took { BatchTook self.old (take front bytes.now) self.new }
+        ensures took { BatchTook self.old (take prefix bytes.now) self.new }
         ensures text { is_utf8 self.new ≡ true }
     {
-        self.len = store_front(&mut self.bytes, self.len, bytes, front);
+        self.len = store_prefix(&mut self.bytes, self.len, bytes, prefix);
     }
 
     fn append(&mut self, run: &[u8])
@@ -340,25 +340,25 @@ impl Batch {
 
     /// Takes what bytes stand for, those below 80 for themselves.
     #[inline(always)]
-    pub fn push_bytes<F: AsciiFinder>(&mut self, fronts: &F, chars: &[Utf8Char], bytes: &[u8])
+    pub fn push_bytes<F: AsciiFinder>(&mut self, prefixes: &F, chars: &[Utf8Char], bytes: &[u8])
         requires long { length chars.now ≡ 256 }
         requires own { (b : ℕ) → b < 128 → slice_index chars.now b ≡ b }
         requires room { length self.old + 4 * length bytes.now ≤ ROOM }
         ensures { BatchTook self.old (map (λ b. slice_index chars.now b) bytes.now) self.new }
     {
-        self.room.store_bytes(fronts, chars, bytes);
+        self.room.store_bytes(prefixes, chars, bytes);
     }
 
     /// Takes the ASCII that these begin with, of so many bytes, 32 stored at once.
     #[inline(always)]
-    pub fn push_front(&mut self, bytes: &[u8], front: usize)
+    pub fn push_front(&mut self, bytes: &[u8], prefix: usize)
         requires many { LANES ≤ length bytes.now }
-        requires within { front ≤ LANES }
-        requires ascii { All (λ b. b < 128) (take front bytes.now) }
+        requires within { prefix ≤ LANES }
+        requires ascii { All (λ b. b < 128) (take prefix bytes.now) }
         requires room { length self.old + LANES ≤ ROOM }
-        ensures { BatchTook self.old (take front bytes.now) self.new }
+        ensures { BatchTook self.old (take prefix bytes.now) self.new }
     {
-        self.room.store_front(bytes, front);
+        self.room.store_prefix(bytes, prefix);
     }
 
     /// Takes what the pairs that these begin with stand for as long as they are ready, and says how many bytes they

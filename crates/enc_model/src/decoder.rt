@@ -2,7 +2,7 @@
 
 ghost use Rattle.std.specs.Prelude.{◌≡◌, ◌≤◌, length, ◌<◌, [], ◌∷◌, true, false, Option, None, OnOk, IfOk};
 ghost use Rattle.std.specs.Prelude.{IfErr, take, ◌+◌, ◌*◌};
-ghost use Rattle.enc_model.specs.Front.{IsFront};
+ghost use Rattle.enc_model.specs.AsciiPrefix.{IsAsciiPrefix};
 ghost use Rattle.enc_model.specs.Batches.{BatchTook};
 ghost use Rattle.enc_model.specs.Stream.{Handler, IsCalm, restored_bytes, said, steps, quick, all_bytes};
 ghost use Rattle.enc_model.specs.Stream.{end_to};
@@ -11,7 +11,7 @@ ghost use Rattle.enc_model.specs.Sink.{Given};
 use crate::batch::{BLOCK, Batch, ROOM};
 use crate::{Answer, Restored, Sink};
 
-/// From how many bytes on an ASCII front is given to the sink as it is.
+/// From how many bytes on an ASCII prefix is given to the sink as it is.
 const LONG_FRONT: usize = 64;
 
 /// How much of one is given at once: so little that it is still in the nearest cache when the sink copies it.
@@ -36,9 +36,9 @@ pub trait Decoder {
 /// A decoder that reads a block of bytes at once. It stands apart from `Decoder`, since its bodies call functions over
 /// that.
 pub trait BlockDecoder: Decoder {
-    /// How many bytes at the front are ASCII and stand for themselves from here, as far as it looks.
-    fn front(&self, tables: &Self::Tables, bytes: &[u8]) -> usize
-        ensures { IsFront (Self.handler tables.now) self.now bytes.now result };
+    /// How many bytes at the start are ASCII and stand for themselves from here, as far as it looks.
+    fn prefix(&self, tables: &Self::Tables, bytes: &[u8]) -> usize
+        ensures { IsAsciiPrefix (Self.handler tables.now) self.now bytes.now result };
 
     /// The steps over a block, for whose text a batch surely has room. `decode_each` does this for every decoder.
     fn decode_block(&mut self, tables: &Self::Tables, block: &[u8], batch: &mut Batch)
@@ -145,16 +145,16 @@ pub fn decode_each<D: Decoder>(state: &mut D, tables: &D::Tables, bytes: &[u8], 
     }
 }
 
-/// How many bytes at the front, as far as is given at once, are ASCII and stand for themselves from here.
+/// How many bytes at the start, as far as is given at once, are ASCII and stand for themselves from here.
 #[inline(always)]
-fn next_front<D: BlockDecoder>(state: &D, tables: &D::Tables, rest: &[u8]) -> usize
-    ensures { IsFront (D.handler tables.now) state.now rest.now result }
+fn next_prefix<D: BlockDecoder>(state: &D, tables: &D::Tables, rest: &[u8]) -> usize
+    ensures { IsAsciiPrefix (D.handler tables.now) state.now rest.now result }
 {
     let end = FRONT_STEP.min(rest.len());
-    state.front(tables, &rest[..end])
+    state.prefix(tables, &rest[..end])
 }
 
-/// Goes on at the rest of a piece, and says how far: over a long front of ASCII, or else over a block.
+/// Goes on at the rest of a piece, and says how far: over a long prefix of ASCII, or else over a block.
 fn advance<D: BlockDecoder, S: Sink>(
     state: &mut D,
     tables: &D::Tables,
@@ -171,10 +171,10 @@ fn advance<D: BlockDecoder, S: Sink>(
     ensures state { IfOk result
         (λ n. state.new ≡ (steps (D.handler tables.now) false state.old (take n rest.now)).state) }
 {
-    let front = next_front(state, tables, rest);
-    if LONG_FRONT <= front {
-        sink.ascii(&rest[..front])?;
-        return Ok(front);
+    let prefix = next_prefix(state, tables, rest);
+    if LONG_FRONT <= prefix {
+        sink.ascii(&rest[..prefix])?;
+        return Ok(prefix);
     }
     let end = BLOCK.min(rest.len());
     batch.clear();
@@ -183,7 +183,7 @@ fn advance<D: BlockDecoder, S: Sink>(
     Ok(end)
 }
 
-/// The steps over a piece, by long fronts and blocks.
+/// The steps over a piece, by long prefixes and blocks.
 fn feed_blocks<D: BlockDecoder, S: Sink>(
     state: &mut D,
     tables: &D::Tables,
@@ -202,9 +202,10 @@ fn feed_blocks<D: BlockDecoder, S: Sink>(
     Ok(())
 }
 
-/// Gives the sink the long fronts of ASCII that a piece begins with, and one that is all of its rest, and says how long
+/// Gives the sink the long prefixes of ASCII that a piece begins with, and one that is all of its rest, and says how
+/// long
 /// they are together.
-fn give_fronts<D: BlockDecoder, S: Sink>(
+fn give_prefixes<D: BlockDecoder, S: Sink>(
     state: &D,
     tables: &D::Tables,
     piece: &[u8],
@@ -221,12 +222,12 @@ fn give_fronts<D: BlockDecoder, S: Sink>(
     let mut at = 0;
     while at < piece.len() {
         let rest = &piece[at..];
-        let front = next_front(state, tables, rest);
-        if front < LONG_FRONT.min(rest.len()) {
+        let prefix = next_prefix(state, tables, rest);
+        if prefix < LONG_FRONT.min(rest.len()) {
             return Ok(at);
         }
-        sink.ascii(&rest[..front])?;
-        at += front;
+        sink.ascii(&rest[..prefix])?;
+        at += prefix;
     }
     Ok(at)
 }
@@ -242,11 +243,11 @@ pub fn feed<D: BlockDecoder, S: Sink>(
         sink.new result }
     ensures state { OnOk result (state.new ≡ (steps (D.handler tables.now) false state.old piece.now).state) }
 {
-    let front = give_fronts(state, tables, piece, sink)?;
-    if front == piece.len() {
+    let prefix = give_prefixes(state, tables, piece, sink)?;
+    if prefix == piece.len() {
         return Ok(());
     }
-    feed_blocks(state, tables, &piece[front..], sink)
+    feed_blocks(state, tables, &piece[prefix..], sink)
 }
 
 /// The end, with so many answers at most.

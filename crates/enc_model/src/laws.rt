@@ -11,8 +11,8 @@ ghost use Rattle.enc_model.specs.Encode.{Tables};
 ghost use Rattle.enc_model.specs.Decode.{Decoding, decoding, after_run, decoded, advance, conclude};
 ghost use Rattle.enc_model.specs.Transcode.{Transcoder, IsAt, stepped, added, so_far};
 
-/// A byte's answer, and then what it restores, put back in front.
-pub fn restored_in_front()
+/// A byte's answer, and then what it restores, put back at the start.
+pub fn restored_first()
     ensures utf8 { PutsBack utf8 }
     ensures utf16 { (big : Bool) → PutsBack (utf16 big) }
     ensures single { (index : Index) → PutsBack (single index) }

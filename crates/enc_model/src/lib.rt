@@ -12,7 +12,7 @@ ghost use Rattle.enc_model.specs.Sink.{Given, IsSink};
 
 pub use batch::{AsciiFinder, BLOCK, Batch, LANES, PairReader, ROOM};
 pub use decoder::{BlockDecoder, Decoder, decode_each, feed, feed_each, finish};
-pub use laws::{in_any_cut, restored_in_front, text_grows, with_a_bom};
+pub use laws::{in_any_cut, restored_first, text_grows, with_a_bom};
 pub use utf8_char::Utf8Char;
 
 /// An encoding of the profile.

@@ -39,8 +39,8 @@ five (a ∷ b ∷ c ∷ []) rest = refl
 five (a ∷ b ∷ c ∷ d ∷ []) rest = refl
 five (a ∷ b ∷ c ∷ d ∷ e ∷ xs) rest = refl
 
-twelve : (xs : List ℕ) → length xs ≤ 5 → (let front = padded 5 xs in
-    padded 12 xs ≡ get_or front 0 0 ∷ get_or front 1 0 ∷ get_or front 2 0 ∷ get_or front 3 0 ∷ get_or front 4
+twelve : (xs : List ℕ) → length xs ≤ 5 → (let prefix = padded 5 xs in
+    padded 12 xs ≡ get_or prefix 0 0 ∷ get_or prefix 1 0 ∷ get_or prefix 2 0 ∷ get_or prefix 3 0 ∷ get_or prefix 4
     0 ∷ 0 ∷ 0 ∷ 0 ∷ 0 ∷ 0 ∷ 0 ∷ 0 ∷ [])
 twelve [] h = refl
 twelve (a ∷ []) h = refl

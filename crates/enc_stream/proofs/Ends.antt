@@ -12,7 +12,7 @@ use Rattle.enc_stream.specs.declared.error.TranscodeError.{TranscodeError}
 use Rattle.enc_stream.specs.declared.error.TranscodeError.TheVariants.{NoMemory, Unencodable, Spent}
 use Rattle.enc_stream.specs.Standing.{Stops, IsStopped, IsWritten}
 
--- what stands in front stays in front
+-- what stands at the start stays at the start
 ended_after : (x : List ℕ) (r : Coded) → ended_coded (led_by x r) ≡ led_by x (ended_coded r)
 ended_after x r = go r.fault refl
   where
@@ -87,7 +87,7 @@ module _ {Z : Type 0} (r : Coded) (old mid new : Vec ℕ Z) where
       record {
         reason = subst (λ (z : Coded). vec_capacity old < length old.items + length z.bytes) (sym n) room;
         items = record {
-          front = r.bytes;
+          prefix = r.bytes;
           rest = encoder_end r.state;
           parts = ap (λ z. z.bytes) n;
           out = same ∙ p.items;
@@ -111,9 +111,9 @@ module _ {Z : Type 0} (r : Coded) (old mid new : Vec ℕ Z) where
       go None h = rw (ended_none r h) (record {
         reason = reason e h p.reason;
         items = record {
-          front = p.items.front;
+          prefix = p.items.prefix;
           rest = p.items.rest ++ encoder_end r.state;
-          parts = ap (λ z. z ++ encoder_end r.state) p.items.parts ∙ append_assoc p.items.front p.items.rest
+          parts = ap (λ z. z ++ encoder_end r.state) p.items.parts ∙ append_assoc p.items.prefix p.items.rest
               (encoder_end r.state);
           out = p.items.out;
         };

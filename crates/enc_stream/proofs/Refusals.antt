@@ -34,7 +34,7 @@ pub sink_stopped : (a b : SinkState) (x : List ℕ) (e : EncodeError) → SinkRe
     → IsStopped (error_of e) (code_from (tables a.set) a.encoder x) a.out b.out
 sink_stopped a b x e p = record {
   reason = stops a b x e p;
-  items = record { front = p.refused.front; rest = p.refused.rest; parts = p.refused.parts; out = p.refused.out };
+  items = record { prefix = p.refused.prefix; rest = p.refused.rest; parts = p.refused.parts; out = p.refused.out };
 }
 
 pub stopped_answers : {Z : Type 0} (e : TranscodeError) (code : Coded) (old new : Vec ℕ Z) (before after : Standing)

@@ -8,7 +8,7 @@ use lane_kernels::{
 use std::process::Abort;
 
 /// The longest prefix below 80 without some, a byte at a time.
-fn slow_front(bytes: &[u8], without: &[u8]) -> usize {
+fn slow_prefix(bytes: &[u8], without: &[u8]) -> usize {
     for i in 0..bytes.len() {
         let byte = bytes[i];
         if byte >= 0x80 || without.contains(&byte) {
@@ -40,16 +40,20 @@ fn filled(fill: u8, place: usize, stop: u8) -> [u8; 200] {
 }
 
 #[test]
-fn fronts(rt: HostRuntime) {
+fn prefixes(rt: HostRuntime) {
     for place in PLACES {
         for stop in [0x00, 0x0E, 0x0F, 0x1B, 0x7F, 0x80, 0xA0, 0xA1, 0xFE, 0xFF] {
             let bytes = filled(0x61, place, stop);
             for length in 0..201 {
-                let front = &bytes[..length];
-                assert_eq!(rt; ascii_front(front), slow_front(front, &[]), "of {length}");
+                let prefix = &bytes[..length];
                 assert_eq!(rt;
-                    plain_front_2022(front),
-                    slow_front(front, &[0x0E, 0x0F, 0x1B]),
+                    ascii_front(prefix),
+                    slow_prefix(prefix, &[]),
+                    "of {length}"
+                );
+                assert_eq!(rt;
+                    plain_front_2022(prefix),
+                    slow_prefix(prefix, &[0x0E, 0x0F, 0x1B]),
                     "of {length}"
                 );
             }
@@ -72,9 +76,9 @@ fn ranges(rt: HostRuntime) {
         for place in PLACES {
             let bytes = filled(fill, place, stop);
             for length in 0..201 {
-                let front = &bytes[..length];
+                let prefix = &bytes[..length];
                 assert!(rt;
-                    range_front(front, lo, hi) == slow_range(front, lo, hi),
+                    range_front(prefix, lo, hi) == slow_range(prefix, lo, hi),
                     "{lo:X} to {hi:X}, {stop:X} at {place} of {length}"
                 );
             }
@@ -82,7 +86,7 @@ fn ranges(rt: HostRuntime) {
     }
 }
 
-/// The units below 80 at the front as bytes, one at a time.
+/// The units below 80 at the start as bytes, one at a time.
 fn slow_narrow(units: &[u16], out: &mut [u8]) -> usize {
     for i in 0..units.len() {
         if i >= out.len() || units[i] >= 0x80 {
@@ -283,9 +287,9 @@ fn tails(rt: HostRuntime) {
 }
 
 #[test]
-fn fronts_of_scalars(rt: HostRuntime) {
+fn prefixes_of_scalars(rt: HostRuntime) {
     for place in 0..32 {
-        for (unit, front) in [
+        for (unit, prefix) in [
             (0xD7FF, 32),
             (0xD800, place),
             (0xDBFF, place),
@@ -294,7 +298,7 @@ fn fronts_of_scalars(rt: HostRuntime) {
         ] {
             let mut units = [0xE000; 32];
             units[place] = unit;
-            assert!(rt; scalar_front(&units) == front, "{unit:X} at {place}");
+            assert!(rt; scalar_front(&units) == prefix, "{unit:X} at {place}");
         }
     }
 }

@@ -9,9 +9,9 @@ use std::alloc::Global;
 use std::process::Abort;
 
 /// The state bytes that begin with these, zeros after them.
-fn with_zeros(front: &[u8]) -> [u8; 32] {
+fn with_zeros(prefix: &[u8]) -> [u8; 32] {
     let mut bytes = [0; 32];
-    for (place, byte) in bytes.iter_mut().zip(front.iter()) {
+    for (place, byte) in bytes.iter_mut().zip(prefix.iter()) {
         *place = *byte;
     }
     bytes
@@ -19,12 +19,12 @@ fn with_zeros(front: &[u8]) -> [u8; 32] {
 
 /// Packs after a piece, and goes on from the bytes to the text of all.
 fn goes_on(rt: &impl Abort, alloc: Global, set: &IndexSet, mut first: Transcoder, line: &str) {
-    let (front, rest) = word(rt, line);
+    let (prefix, rest) = word(rt, line);
     let (state, rest) = word(rt, rest);
     let (back, text) = word(rt, rest);
     let mut out = Vec::new(alloc);
     first
-        .feed(set, &bytes_of(rt, alloc, front), &mut out)
+        .feed(set, &bytes_of(rt, alloc, prefix), &mut out)
         .expect(rt, "each character has a code");
     let bytes = first.pack();
     assert!(rt; bytes == with_zeros(&bytes_of(rt, alloc, state)), "{line}");
@@ -76,7 +76,7 @@ fn state_bytes_of_no_state(rt: HostRuntime) {
         &[0, 0, 0, 2, 1],
         // an encoding in effect that is neither the source's nor a BOM's
         &[0, 0, 0, 1, 3],
-        // no front of a character
+        // no prefix of a character
         &[0, 0, 0, 1, 0, 2, 0xE0, 0x80],
         &[0, 0, 0, 1, 0, 4, 0xF0, 0x9F, 0x98, 0x80],
         &[0, 0, 0, 1, 0, 0, 0x80],
@@ -97,8 +97,8 @@ fn state_bytes_of_no_state(rt: HostRuntime) {
         &[0, 5, 0, 2, 0, 0, 0, 0, 0, 0, 0, 0, 0, 0, 0, 0, 1],
         &[0, 5, 0, 1, 0, 0, 0, 0, 0, 0, 0, 0, 0, 0, 0, 0, 3],
     ];
-    for front in none {
-        assert!(rt; Transcoder::unpack(&with_zeros(front)).is_none());
+    for prefix in none {
+        assert!(rt; Transcoder::unpack(&with_zeros(prefix)).is_none());
     }
     let ended = Transcoder::ended(Encoding::Koi8R, Encoding::Utf8, Mode::Fatal);
     assert!(rt; ended.pack() == with_zeros(&[10, 0, 1, 2]));

@@ -1,4 +1,4 @@
--- What is read at the front of a piece: a text, or a byte.
+-- What is read at the start of a piece: a text, or a byte.
 use Rattle.std.proofs.Common.{ℕ, ◌+◌, ◌-◌, ◌≤◌, ◌≡◌, List, Result, Ok, Err, OnOk, false, refl, sym, ◌∙◌, ap, subst}
 use Rattle.std.proofs.Common.{take, drop, take-append-drop, length, arith}
 use Rattle.std.proofs.lemmas.List.{length-take, take_rest}
@@ -56,7 +56,7 @@ pub text_state : (s : Utf8) (rest text : List ℕ) → s ≡ utf8_start → IsUt
     s ≡ (steps utf8 false s (take (length text) rest)).state
 text_state s rest text e u is = e ∙ sym (ap (λ (z : Run Utf8). z.state) (text_steps s rest text e u is))
 
--- a text at the front of what is left ends within all
+-- a text at the start of what is left ends within all
 pub text_within_rest : (bytes text : List ℕ) (at : ℕ) → at ≤ length bytes
     → text ≡ take (length text) (take (length bytes - at) (drop at bytes)) →
     at + length text ≤ length bytes
@@ -66,7 +66,7 @@ text_within_rest bytes text at inside is =
     let long = length-take (length bytes - at) (drop at bytes) in
     omega (arith, inside, short, long)
 
--- what is after the texts at a piece's front, given or refused
+-- what is after the texts at a piece's start, given or refused
 pub rest_given : {A X E : Type 0} (takes : A → List ℕ → A → Type 0) (refuses : A → List ℕ → E → A → Type 0)
     (sink : IsSink takes refuses)
     (s next : Utf8) (piece rest : List ℕ) (n : ℕ) (a m c : A) (res : Result X E)

@@ -56,7 +56,7 @@ char_cut lead n x ts ys is l a e =
     steps_cons utf8 utf8_calm false utf8_start lead (ts ++ x ∷ ys) ∙ (rw is refl)
     ∙ trails_cut ts n (utf8_first lead).state.point x (lead ∷ []) ys l a e
 
--- a character in front that is cut
+-- a character at the start that is cut
 pub one_cut : (bytes : List ℕ) (n t : ℕ) → IsLead (get_or bytes 0 0) n → t < n → 1 + t < length bytes
     → ((k : ℕ) → k < t → IsTrail (get_or (take (length bytes - 1) (drop 1 bytes)) k 0))
     → within 0x80 0xBF (get_or (take (length bytes - 1) (drop 1 bytes)) t 0) ≡ false → AreCut bytes (1 + t) (0xFFFD ∷

@@ -55,7 +55,7 @@ fault_more bytes at old now new inside e state took more =
           (sym (ap (λ (r : Run Utf8). r.state) run)),
     )
 
--- ASCII in front
+-- ASCII at the start
 pub ascii_steps : (bytes : List ℕ) (n : ℕ) → All (λ b. b < 128) (take n bytes) →
     steps utf8 false utf8_start (take n bytes) ≡ record { text = take n bytes; state = utf8_start }
 ascii_steps bytes n a =

@@ -176,15 +176,15 @@ pub picks_written : (text row bytes code : List ℕ) (from n : ℕ) → length r
 picks_written text row bytes code from n wide below few room is =
     let out = swz_l w8 16 bytes 0 row in
     let whole = put_chunk from code out in
-    let front = take from code in
+    let prefix = take from code in
     let out_long : length out ≡ 16 = length-swz_l w8 16 bytes 0 row ∙ wide in
-    let front_long : length front ≡ from = length-take-le from code (omega (arith, room)) in
+    let prefix_long : length prefix ≡ from = length-take-le from code (omega (arith, room)) in
     let picked : take n out ≡ text =
     ap (take n) (swz_picks bytes 0 row (omega (arith, wide)) below) ∙ take-map (λ j. get_or bytes j 0) n row ∙ is in
     sym (take-take (from + n) (from + 16) whole (omega (arith, few)))
     ∙ ap (take (from + n)) (take_more_put_chunk from code out (from + 16) (omega (arith, out_long)) room)
-    ∙ subst (λ k. take (k + n) (front ++ out) ≡ front ++ take n out) front_long (take-append-add front out n)
-    ∙ ap (λ z. front ++ z) picked
+    ∙ subst (λ k. take (k + n) (prefix ++ out) ≡ prefix ++ take n out) prefix_long (take-append-add prefix out n)
+    ∙ ap (λ z. prefix ++ z) picked
 
 -- four units after the first so many bytes
 pub four_written : (units row bytes code : List ℕ) (from : ℕ) → length units ≡ 4 → Each1 (λ u. u < 65536) units →

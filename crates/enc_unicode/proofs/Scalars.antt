@@ -58,15 +58,15 @@ whole_unit lead unit e =
     let y : is_trail unit ≡ false = grind (arith, nat_tests, e) in
     (rw (x, y) refl, rw x refl)
 
-pub whole_front : (b : Bool) (n k : ℕ) → cond b (1 + n) 0 ≡ suc k → (b ≡ true) × (n ≡ k)
-whole_front true n k e = (refl, omega (arith, e))
-whole_front false n k e = absurd (omega (arith, e))
+pub whole_prefix : (b : Bool) (n k : ℕ) → cond b (1 + n) 0 ≡ suc k → (b ≡ true) × (n ≡ k)
+whole_prefix true n k e = (refl, omega (arith, e))
+whole_prefix false n k e = absurd (omega (arith, e))
 
 pub whole_scalars : (lead : Option ℕ) (units : List ℕ) → prefix_len is_scalar_unit units ≡ length units
     → scalars_of lead units ≡ units
 whole_scalars lead [] whole = refl
 whole_scalars lead (unit ∷ units) whole =
-    let f = whole_front (is_scalar_unit unit) (prefix_len is_scalar_unit units) (length units) whole in
+    let f = whole_prefix (is_scalar_unit unit) (prefix_len is_scalar_unit units) (length units) whole in
     let s = whole_unit lead unit f.0 in
     rw (s.0, s.1) (ap (λ z. unit ∷ z) (whole_scalars None units f.1))
 

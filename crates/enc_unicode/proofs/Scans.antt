@@ -10,7 +10,7 @@ use Rattle.std.specs.Char.{IsScalar, is_ascii}
 use Rattle.std.specs.List.{prefix_len}
 use Rattle.std.specs.Str.{IsUtf8}
 use Rattle.enc_model.specs.Index.{within}
-use Rattle.enc_model.proofs.Fronts.{front_all}
+use Rattle.enc_model.proofs.Prefixes.{prefix_all}
 use Rattle.enc_model.proofs.Gathered.{ascii_utf8, two_bytes, three_bytes}
 
 low_scalar : (c : ℕ) → c < 0xD800 → IsScalar c
@@ -55,7 +55,7 @@ pub ascii_text : (bs : List ℕ) (n : ℕ) → n ≡ prefix_len is_ascii bs → 
 ascii_text bs n e = (
   omega (arith, e, prefix_len-le-length is_ascii bs),
   subst (λ k. IsUtf8 (take k bs)) (sym e)
-      (ascii_utf8 (take (prefix_len is_ascii bs) bs) (front_all bs)),
+      (ascii_utf8 (take (prefix_len is_ascii bs) bs) (prefix_all bs)),
 )
 
 -- a text, and one after it
@@ -63,10 +63,10 @@ pub text_goes_on : (bs : List ℕ) (at n : ℕ) → IsUtf8 (take at bs) → IsUt
     → IsUtf8 (take (at + n) bs)
 text_goes_on bs at n t u = subst IsUtf8 (sym (take-add at n bs)) (IsUtf8-append (take at bs) (take n (drop at bs)) t u)
 
--- the front of a front
-pub front_of_front : (bs window text : List ℕ) → window ≡ take (length window) bs → text ≡ take (length text) window →
+-- the prefix of a prefix
+pub prefix_of_prefix : (bs window text : List ℕ) → window ≡ take (length window) bs → text ≡ take (length text) window →
     (length text ≤ length bs) × (text ≡ take (length text) bs)
-front_of_front bs window text w t =
+prefix_of_prefix bs window text w t =
     let n = length text in
     let k = length window in
     let short = ap length t ∙ length-take n window in

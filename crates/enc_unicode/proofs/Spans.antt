@@ -25,7 +25,7 @@ use Rattle.lane_kernels.proofs.Made.{length-units_of, none_left}
 use Rattle.lane_kernels.proofs.Walks.{paired_decode}
 use Rattle.enc_unicode.specs.WroteUnits.{WroteUnits}
 use Rattle.lane_kernels.specs.Steps.{scalars_of}
-use Rattle.enc_unicode.proofs.Scalars.{whole_front, whole_scalars}
+use Rattle.enc_unicode.proofs.Scalars.{whole_prefix, whole_scalars}
 
 low : (limit u : ℕ) → u < 65536 → not (within limit 0xFFFF u) ≡ true → u < limit
 low limit u small e = grind (arith, nat_tests, small, e)
@@ -67,7 +67,7 @@ all_scalars : (units : List ℕ) → Each1 (λ u. u < 65536) units → prefix_le
     → scalars units ≡ true
 all_scalars [] small whole = refl
 all_scalars (u ∷ units) small whole =
-    let f = whole_front (is_scalar_unit u) (prefix_len is_scalar_unit units) (length units) whole in
+    let f = whole_prefix (is_scalar_unit u) (prefix_len is_scalar_unit units) (length units) whole in
     and_from (scalar u) (scalars units) (scalar_unit u small.0 f.0) (all_scalars units small.1 f.1)
 
 -- units without surrogates, encoded one after the other

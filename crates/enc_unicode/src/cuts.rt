@@ -8,7 +8,7 @@ ghost use Rattle.enc_unicode.specs.Cuts.{AreCut, IsLead};
 use crate::well_formed::follows;
 use enc_model::{Batch, ROOM};
 
-/// How many of these bytes in front may go on with a character, at most so many.
+/// How many of these bytes at the start may go on with a character, at most so many.
 #[inline(always)]
 pub fn trail_len(bytes: &[u8], most: usize) -> usize
     ensures within { result ≤ length bytes.now }
@@ -52,7 +52,7 @@ fn cut_len(bytes: &[u8]) -> usize
     }
 }
 
-/// Takes U+FFFD for each of the characters in front that are cut, and says how many bytes there are of them.
+/// Takes U+FFFD for each of the characters at the start that are cut, and says how many bytes there are of them.
 #[inline(always)]
 pub fn push_cuts(bytes: &[u8], batch: &mut Batch) -> usize
     requires some { 0 < length bytes.now }

@@ -20,7 +20,7 @@ fn begins_none(b: u8) -> bool
     matches!(b, 0x80..=0xC1 | 0xF5..=0xFF)
 }
 
-/// Takes U+FFFD for each of the bytes in front with which no character begins, and says how many they are.
+/// Takes U+FFFD for each of the bytes at the start with which no character begins, and says how many they are.
 #[inline(always)]
 fn push_faults(bytes: &[u8], batch: &mut Batch) -> usize
     requires { length batch.old + 12 * length bytes.now ≤ ROOM }
@@ -37,7 +37,7 @@ fn push_faults(bytes: &[u8], batch: &mut Batch) -> usize
     at
 }
 
-/// Takes the ASCII in front where it is little, and says how much it is.
+/// Takes the ASCII at the start where it is little, and says how much it is.
 #[inline(always)]
 fn push_little_ascii(bytes: &[u8], batch: &mut Batch) -> usize
     requires { length batch.old + 12 * length bytes.now ≤ ROOM }
@@ -49,15 +49,15 @@ fn push_little_ascii(bytes: &[u8], batch: &mut Batch) -> usize
     if bytes.len() < LANES {
         return 0;
     }
-    let front = ascii_lanes(bytes);
-    if front == 0 || FEW < front {
+    let prefix = ascii_lanes(bytes);
+    if prefix == 0 || FEW < prefix {
         return 0;
     }
-    batch.push_front(bytes, front);
-    front
+    batch.push_front(bytes, prefix);
+    prefix
 }
 
-/// Takes faults or a little ASCII in front, and says how many bytes they are. Where they are none, the batch is
+/// Takes faults or a little ASCII at the start, and says how many bytes they are. Where they are none, the batch is
 /// unchanged.
 #[inline(always)]
 pub fn push_few(bytes: &[u8], batch: &mut Batch) -> usize

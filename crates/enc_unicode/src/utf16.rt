@@ -122,8 +122,8 @@ impl Decoder for Units {
 }
 
 impl BlockDecoder for Units {
-    #[tactic(auto, using(enc_model::proofs::Fronts::front_none))]
-    fn front(&self, _order: &Order, _bytes: &[u8]) -> usize {
+    #[tactic(auto, using(enc_model::proofs::Prefixes::prefix_none))]
+    fn prefix(&self, _order: &Order, _bytes: &[u8]) -> usize {
         0
     }
 
@@ -156,7 +156,7 @@ impl Units {
         wanted.min(rest.len())
     }
 
-    /// Goes on at the rest of a piece, and says how far: over the run without surrogates at its front, or over a block
+    /// Goes on at the rest of a piece, and says how far: over the run without surrogates at its prefix, or over a block
     /// where there is none.
     fn advance<S: Sink>(
         &mut self,

@@ -68,7 +68,7 @@ impl Utf8State {
         }
     }
 
-    /// The bytes that are kept: the front of a character that isn't whole yet, empty between characters. The state is
+    /// The bytes that are kept: the prefix of a character that isn't whole yet, empty between characters. The state is
     /// the one that they lead to from the start.
     pub fn kept(&self) -> &[u8]
         ensures bytes { result.now ≡ self.now.kept }
@@ -229,11 +229,11 @@ impl Utf8State {
         ensures given { Given S.takes S.refuses sink.old (steps utf8 false self.old piece.now).text sink.new result }
         ensures state { OnOk result (self.new ≡ (steps utf8 false self.old piece.now).state) }
     {
-        let front = self.give_texts(piece, sink)?;
-        if front == piece.len() {
+        let prefix = self.give_texts(piece, sink)?;
+        if prefix == piece.len() {
             return Ok(());
         }
-        self.feed_parts(&piece[front..], sink)
+        self.feed_parts(&piece[prefix..], sink)
     }
 
     /// Gives the sink the texts that bytes begin with, one window after the other, and says how far they go: none where
@@ -248,7 +248,7 @@ impl Utf8State {
         let mut at = 0;
         let mut look = Look::first();
         'by_windows: while at < bytes.len() && !self.faulty {
-            let found = self.text_in_front(&bytes[at..], look);
+            let found = self.text_at_start(&bytes[at..], look);
             if found.is_empty() {
                 break;
             }
@@ -259,7 +259,7 @@ impl Utf8State {
         Ok(at)
     }
 
-    /// The steps over a piece, at whose front a text was looked for already where nothing is kept. Where no text
+    /// The steps over a piece, at whose prefix a text was looked for already where nothing is kept. Where no text
     /// begins, a block is gathered first.
     fn feed_parts<S: Sink>(&mut self, piece: &[u8], sink: &mut S) -> Result<(), S::Refusal>
         ensures given { Given S.takes S.refuses sink.old (steps utf8 false self.old piece.now).text sink.new result }
@@ -270,7 +270,7 @@ impl Utf8State {
         let mut look = self.first_look();
         let mut faulty = false;
         while at < piece.len() {
-            let text = self.text_in_front(&piece[at..], look);
+            let text = self.text_at_start(&piece[at..], look);
             faulty = faulty || self.is_fault(text, &piece[at..]);
             let start = at;
             at += self.advance(&piece[at..], text, look, &mut batch, sink)?;
@@ -298,8 +298,8 @@ impl Utf8State {
     }
 
     /// A well-formed text that bytes begin with, empty within a character.
-    fn text_in_front<'a>(&self, bytes: &'a [u8], look: Look) -> &'a str
-        ensures front { result.now ≡ take (length result.now) bytes.now }
+    fn text_at_start<'a>(&self, bytes: &'a [u8], look: Look) -> &'a str
+        ensures prefix { result.now ≡ take (length result.now) bytes.now }
         ensures start { 0 < length result.now → self.now ≡ utf8_start }
     {
         if self.needed == 0 {
@@ -309,7 +309,7 @@ impl Utf8State {
         }
     }
 
-    /// Goes on at the rest of a piece, and says how far: over the text at its front, or over a block where that is
+    /// Goes on at the rest of a piece, and says how far: over the text at its prefix, or over a block where that is
     /// empty.
     fn advance<S: Sink>(
         &mut self,
@@ -320,7 +320,7 @@ impl Utf8State {
         sink: &mut S,
     ) -> Result<usize, S::Refusal>
         requires some { 0 < length rest.now }
-        requires front { text.now ≡ take (length text.now) rest.now }
+        requires prefix { text.now ≡ take (length text.now) rest.now }
         requires start { 0 < length text.now → self.old ≡ utf8_start }
         ensures some { IfOk result (λ n. (0 < n) × (n ≤ length rest.now)) }
         ensures taken { IfOk result
@@ -363,7 +363,7 @@ impl Utf8State {
         }
     }
 
-    /// Goes on in a block, and says how far: over the well-formed text at its front, or else over characters that are
+    /// Goes on in a block, and says how far: over the well-formed text at its prefix, or else over characters that are
     /// cut and a byte.
     fn decode_some(&mut self, rest: &[u8], batch: &mut Batch) -> usize
         requires some { 0 < length rest.now }

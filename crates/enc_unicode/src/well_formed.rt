@@ -152,7 +152,7 @@ fn fault_len(bytes: &[u8]) -> usize
     at
 }
 
-/// How many bytes a block has at the front of these, so that it cuts no character.
+/// How many bytes a block has at the start of these, so that it cuts no character.
 fn block_len(bytes: &[u8]) -> usize
     requires { 0 < length bytes.now }
     ensures some { (0 < result) × (result ≤ length bytes.now) }

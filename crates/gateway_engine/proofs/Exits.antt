@@ -29,7 +29,7 @@ limits_none : (moment : ℕ) (left_only : Option ℕ → ℕ → List Store → 
     → LimitsTo moment moment left_only left_only stores
 limits_none moment left_only stores = record { later = omega arith; limits = λ n t ms le left among. left }
 
-pub begins : {C : Type 0} (v : View C) → v.before ≡ v.now → v.u.stands v.now true v.st → v.held ≡ v.front
+pub begins : {C : Type 0} (v : View C) → v.before ≡ v.now → v.u.stands v.now true v.st → v.held ≡ v.prefix
     → IsAt v (run_from v.st [])
 begins v same stands is = record {
   keeps = stands;
@@ -87,16 +87,17 @@ module _ {U B C : Type 0} (u : Ghosts U B) (v : View C) (before store : U) (byte
       → the_script v.st (p.0 ++ []) bytes ≡ ended_as (with_marks s []) exit
   ends_as s exit p = script_is v.st (p.0 ++ []) bytes ∙ p.1 []
 
-  ended_so : (s : Run) (exit : Exit) → (p : Reaches lines begun (λ x. ended_as x exit) s) → Appends v.front v.held s.out
+  ended_so : (s : Run) (exit : Exit) → (p : Reaches lines begun (λ x. ended_as x exit) s)
+      → Appends v.prefix v.held s.out
       → IsHistory v s
-      → EndedSo u before store v.st (the_script v.st (p.0 ++ []) bytes) v.held v.front exit
+      → EndedSo u before store v.st (the_script v.st (p.0 ++ []) bytes) v.held v.prefix exit
   ended_so s exit p wrote is =
-      let now : EndedSo u before store v.st (ended_as (with_marks s []) exit) v.held v.front exit =
+      let now : EndedSo u before store v.st (ended_as (with_marks s []) exit) v.held v.prefix exit =
       record { exits = refl; wrote = wrote; output = is.output; state = is.state; shows = shows s.past is.images } in
-      subst (λ r. EndedSo u before store v.st r v.held v.front exit) (sym (ends_as s exit p)) now
+      subst (λ r. EndedSo u before store v.st r v.held v.prefix exit) (sym (ends_as s exit p)) now
 
   rests_so : (s : Run) (exit : Exit) → (p : Reaches lines begun (λ x. ended_as x exit) s) → IsAt v s
-      → (marks : List Mark) × RestsSo u before store v.st (the_script v.st marks bytes) v.held v.front exit
+      → (marks : List Mark) × RestsSo u before store v.st (the_script v.st marks bytes) v.held v.prefix exit
   rests_so s exit p at = (
     p.0 ++ [],
     record {
@@ -106,7 +107,7 @@ module _ {U B C : Type 0} (u : Ghosts U B) (v : View C) (before store : U) (byte
   )
 
   failed_so : (s : Run) → (p : Reaches lines begun (λ x. ended_as x Faulted) s) → IsDown v s
-      → (marks : List Mark) × FailedSo u before store v.st (the_script v.st marks bytes) v.held v.front
+      → (marks : List Mark) × FailedSo u before store v.st (the_script v.st marks bytes) v.held v.prefix
   failed_so s p down = (
     p.0 ++ [],
     record {
@@ -117,7 +118,7 @@ module _ {U B C : Type 0} (u : Ghosts U B) (v : View C) (before store : U) (byte
   )
 
   stopped_so : (fault : CallFault) → Stops v fault script_past lines begun
-      → (marks : List Mark) × StoppedSo u before store v.st (the_script v.st marks bytes) v.held v.front fault
+      → (marks : List Mark) × StoppedSo u before store v.st (the_script v.st marks bytes) v.held v.prefix fault
   stopped_so fault p = (
     p.1.0 ++ [],
     record {
@@ -131,11 +132,11 @@ module _ {U B C : Type 0} (u : Ghosts U B) (v : View C) (before store : U) (byte
     },
   )
 
-  pub ran : Ends v (Ok (tt {0})) lines begun → HasRun u before (Ok store) v.held v.front v.st bytes
+  pub ran : Ends v (Ok (tt {0})) lines begun → HasRun u before (Ok store) v.held v.prefix v.st bytes
   ran p = rests_so p.0 Ran p.1 p.2
 
   pub stopped : (fault : ScriptFault) → Ends v (Err fault) lines begun → HasRun u before (Err (store, fault)) v.held
-      v.front v.st bytes
+      v.prefix v.st bytes
   stopped runs.NoMemory p = stopped_so faults.NoMemory p
   stopped runs.DiskFault p = failed_so p.0 p.1 p.2
   stopped (runs.Script n) p = rests_so p.0 (AtLine n) p.1 p.2

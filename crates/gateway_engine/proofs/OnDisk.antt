@@ -39,7 +39,7 @@ shows_one n m image one = elim one.among [
 
 -- an image of now is one that might have been left since any moment that isn't to come
 abbrev pub CountsNow : {D : Type 0} → Ghosts D → D → Type 0
-CountsNow disk d = (t : ℕ) (image : ℕ → ℕ) → t ≤ disk.moment d → IsImage (disk.seen d) (disk.loose d) image
+CountsNow disk d = (t : ℕ) (image : ℕ → ℕ) → t ≤ disk.moment d → IsImage (disk.seen d) (disk.unsynced d) image
     → disk.left_since d t image
 
 -- where one of these is left since such a moment, each image of now shows one of them
@@ -134,7 +134,7 @@ module _ {D U B : Type 0} (disk : Ghosts D) (disk_of : U → D) (size_of : U →
 
     module _ (counts_now : CountsNow disk (disk_of now))
         (rests : (st : State) → Rests u now st → AllShow disk (disk_of now) (size_of now) st.world.store)
-        (held front : Option (List ℕ)) where
+        (held prefix : Option (List ℕ)) where
       -- with as many blocks as it was opened with
       rests_all : (past : List Marked) (st' : State) → Shows u opened now st past → Rests u now st'
           → AllShow disk (disk_of now) n st'.world.store
@@ -142,8 +142,8 @@ module _ {D U B : Type 0} (disk : Ghosts D) (disk_of : U → D) (size_of : U →
           subst (λ (k : ℕ). AllShow disk (disk_of now) k st'.world.store) (same_size n (size_of now) shows.since.0)
           (rests st' is)
 
-      ended_on : (r : script.Result) (exit : Exit) → EndedSo u opened now st r held front exit
-          → EndedOn disk before (disk_of now) n st r held front exit
+      ended_on : (r : script.Result) (exit : Exit) → EndedSo u opened now st r held prefix exit
+          → EndedOn disk before (disk_of now) n st r held prefix exit
       ended_on r exit is = record {
         exits = is.exits;
         wrote = is.wrote;
@@ -152,15 +152,15 @@ module _ {D U B : Type 0} (disk : Ghosts D) (disk_of : U → D) (size_of : U →
         lasts = lasts_over r.run.past is.shows;
       }
 
-      rests_on : (r : script.Result) (exit : Exit) → RestsSo u opened now st r held front exit
-          → RestsOn disk before (disk_of now) n st r held front exit
+      rests_on : (r : script.Result) (exit : Exit) → RestsSo u opened now st r held prefix exit
+          → RestsOn disk before (disk_of now) n st r held prefix exit
       rests_on r exit is = record {
         ended = ended_on r exit is.ended;
         shows = rests_all r.run.past r.run.state is.ended.shows is.rests;
       }
 
-      failed_on : (r : script.Result) → FailedSo u opened now st r held front
-          → FailedOn disk before (disk_of now) n st r held front
+      failed_on : (r : script.Result) → FailedSo u opened now st r held prefix
+          → FailedOn disk before (disk_of now) n st r held prefix
       failed_on r is =
           let size : size_of now ≡ n = same_size n (size_of now) is.ended.shows.since.0 in
           let stores : List Store = last_stores st r.run.past in
@@ -170,8 +170,8 @@ module _ {D U B : Type 0} (disk : Ghosts D) (disk_of : U → D) (size_of : U →
                 (subst (λ (k : ℕ). LeftOnly disk (disk_of now) k is.last.since stores) size is.last.left.1);
           }
 
-      stopped_on : (r : script.Result) (fault : CallFault) → StoppedSo u opened now st r held front fault
-          → StoppedOn disk before (disk_of now) n st r held front fault
+      stopped_on : (r : script.Result) (fault : CallFault) → StoppedSo u opened now st r held prefix fault
+          → StoppedOn disk before (disk_of now) n st r held prefix fault
       stopped_on r fault is = record {
         past = is.past;
         first = is.first;
@@ -182,12 +182,12 @@ module _ {D U B : Type 0} (disk : Ghosts D) (disk_of : U → D) (size_of : U →
         lasts = lasts_over is.past is.shows;
       }
 
-      pub ran_on : (bytes : List ℕ) → HasRun u opened (Ok now) held front st bytes
-          → HasRunOn disk before (Ok (disk_of now)) held front n st bytes
+      pub ran_on : (bytes : List ℕ) → HasRun u opened (Ok now) held prefix st bytes
+          → HasRunOn disk before (Ok (disk_of now)) held prefix n st bytes
       ran_on bytes has = (has.0, rests_on _ _ has.1)
 
-      pub broke_on : (bytes : List ℕ) (fault : ScriptFault) → HasRun u opened (Err (now, fault)) held front st bytes
-          → HasRunOn disk before (Err (disk_of now, run_fault fault)) held front n st bytes
+      pub broke_on : (bytes : List ℕ) (fault : ScriptFault) → HasRun u opened (Err (now, fault)) held prefix st bytes
+          → HasRunOn disk before (Err (disk_of now, run_fault fault)) held prefix n st bytes
       broke_on bytes runs.NoMemory has = (has.0, stopped_on _ _ has.1)
       broke_on bytes runs.DiskFault has = (has.0, failed_on _ has.1)
       broke_on bytes (runs.Script line) has = (has.0, rests_on _ _ has.1)
@@ -237,11 +237,11 @@ refused_as done done' opens.Version refused = refused
 refused_as done done' opens.NoMemory refused = tt {0}
 
 pub unopened_on : {D : Type 0} (S : Type 0) (done : S → Type 0) (disk : Ghosts D) (before now : D) (fault : OpenFault)
-    (held front : Option (List ℕ)) (n : ℕ) (m : Store) (bytes : List ℕ) → LoadsAs {T = S} (Err fault) done
-    → UnopenedOn disk before now n m → HasRunOn disk before (Err (now, Open fault)) held front n (beginning m (Some n))
+    (held prefix : Option (List ℕ)) (n : ℕ) (m : Store) (bytes : List ℕ) → LoadsAs {T = S} (Err fault) done
+    → UnopenedOn disk before now n m → HasRunOn disk before (Err (now, Open fault)) held prefix n (beginning m (Some n))
     bytes
-unopened_on S done disk before now opens.NotASpool held front n m bytes refused lasts = refused
-unopened_on S done disk before now opens.DiskFault held front n m bytes refused lasts = lasts
-unopened_on S done disk before now opens.Damaged held front n m bytes refused lasts = refused
-unopened_on S done disk before now opens.Version held front n m bytes refused lasts = refused
-unopened_on S done disk before now opens.NoMemory held front n m bytes refused lasts = lasts
+unopened_on S done disk before now opens.NotASpool held prefix n m bytes refused lasts = refused
+unopened_on S done disk before now opens.DiskFault held prefix n m bytes refused lasts = lasts
+unopened_on S done disk before now opens.Damaged held prefix n m bytes refused lasts = refused
+unopened_on S done disk before now opens.Version held prefix n m bytes refused lasts = refused
+unopened_on S done disk before now opens.NoMemory held prefix n m bytes refused lasts = lasts

@@ -27,33 +27,33 @@ Rests u store st = u.stands store true (at_rest st.world.store st.world.blocks)
 -- The script ended so, by the marks of its calls, and this was written after what was there: the output of all its
 -- events.
 pub record EndedSo {U B : Type 0} (u : Ghosts U B) (before now : U) (st : State) (r : script.Result)
-    (held front : Option (List ℕ)) (exit : Exit) : Type 0 where
+    (held prefix : Option (List ℕ)) (exit : Exit) : Type 0 where
   pub exits : r.exit ≡ exit
-  pub wrote : Appends front held r.run.out
+  pub wrote : Appends prefix held r.run.out
   pub output : r.run.out ≡ output_of st r.run.past
   pub state : r.run.state ≡ history st r.run.past
   pub shows : Shows u before now st r.run.past
 
 -- the script ended so, and the store has the uploads of its history, no draft open
 pub record RestsSo {U B : Type 0} (u : Ghosts U B) (before now : U) (st : State) (r : script.Result)
-    (held front : Option (List ℕ)) (exit : Exit) : Type 0 where
-  pub ended : EndedSo u before now st r held front exit
+    (held prefix : Option (List ℕ)) (exit : Exit) : Type 0 where
+  pub ended : EndedSo u before now st r held prefix exit
   pub rests : Rests u now r.run.state
 
 -- the script ended at an event at which the disk failed: images show the uploads after it, or before it
 pub record FailedSo {U B : Type 0} (u : Ghosts U B) (before now : U) (st : State) (r : script.Result)
-    (held front : Option (List ℕ)) : Type 0 where
-  pub ended : EndedSo u before now st r held front Faulted
+    (held prefix : Option (List ℕ)) : Type 0 where
+  pub ended : EndedSo u before now st r held prefix Faulted
   pub last : ShowsLast (u.moment now) (u.left_only now) st r.run.past
 
 -- The run was broken off after these events, the first of the script's. The store has the uploads of their history, no
 -- draft open
 pub record StoppedSo {U B : Type 0} (u : Ghosts U B) (before now : U) (st : State) (r : script.Result)
-    (held front : Option (List ℕ)) (fault : CallFault) : Type 0 where
+    (held prefix : Option (List ℕ)) (fault : CallFault) : Type 0 where
   pub past : List Marked
   pub first : IsFirst past r.run.past
   pub out : List ℕ
-  pub wrote : Appends front held out
+  pub wrote : Appends prefix held out
   pub most : WroteMost fault st past out
   pub rests : Rests u now (history st past)
   pub shows : Shows u before now st past
@@ -61,16 +61,16 @@ pub record StoppedSo {U B : Type 0} (u : Ghosts U B) (before now : U) (st : Stat
 -- after a disk fault nothing is known of the store but its images
 abbrev pub HasRun : {U B : Type 0} → Ghosts U B → U → Result U (U × ScriptFault) → Option (List ℕ) → Option (List ℕ)
     → State → List ℕ → Type 0
-HasRun u before (Ok store) held front st bytes =
-    (marks : List Mark) × RestsSo u before store st (the_script st marks bytes) held front Ran
-HasRun u before (Err (store, Script n)) held front st bytes =
-    (marks : List Mark) × RestsSo u before store st (the_script st marks bytes) held front (AtLine n)
-HasRun u before (Err (store, DiskFault)) held front st bytes =
-    (marks : List Mark) × FailedSo u before store st (the_script st marks bytes) held front
-HasRun u before (Err (store, NoMemory)) held front st bytes =
-    (marks : List Mark) × StoppedSo u before store st (the_script st marks bytes) held front calls.NoMemory
-HasRun u before (Err (store, Io)) held front st bytes =
-    (marks : List Mark) × StoppedSo u before store st (the_script st marks bytes) held front calls.Io
+HasRun u before (Ok store) held prefix st bytes =
+    (marks : List Mark) × RestsSo u before store st (the_script st marks bytes) held prefix Ran
+HasRun u before (Err (store, Script n)) held prefix st bytes =
+    (marks : List Mark) × RestsSo u before store st (the_script st marks bytes) held prefix (AtLine n)
+HasRun u before (Err (store, DiskFault)) held prefix st bytes =
+    (marks : List Mark) × FailedSo u before store st (the_script st marks bytes) held prefix
+HasRun u before (Err (store, NoMemory)) held prefix st bytes =
+    (marks : List Mark) × StoppedSo u before store st (the_script st marks bytes) held prefix calls.NoMemory
+HasRun u before (Err (store, Io)) held prefix st bytes =
+    (marks : List Mark) × StoppedSo u before store st (the_script st marks bytes) held prefix calls.Io
 
 -- the disk failed
 abbrev pub HasFailed : {U : Type 0} → Result U (U × ScriptFault) → Type 0

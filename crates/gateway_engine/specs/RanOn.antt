@@ -25,7 +25,7 @@ use Rattle.gateway_engine.specs.declared.faults.RunFault.TheVariants.{Open, NoMe
 pub record AllShowOne {D : Type 0} (disk : Ghosts D) (d : D) (n : ℕ) (stores : List Store) : Type 0 where
   pub honest : disk.honest d
   pub room : 4096 * all_pages n ≤ disk.size d
-  pub each : (image : ℕ → ℕ) → IsImage (disk.seen d) (disk.loose d) image → ShowsOne n stores image
+  pub each : (image : ℕ → ℕ) → IsImage (disk.seen d) (disk.unsynced d) image → ShowsOne n stores image
 
 -- From the disk before to the disk now, by way of the disk once it was opened. From then on a crash at any moment
 -- leaves one of these stores and so many blocks; and from any earlier moment it leaves what it was limited to before,
@@ -45,33 +45,33 @@ pub record LastsOver {D : Type 0} (disk : Ghosts D) (before now : D) (n : ℕ) (
 -- The script ended so, by the marks of its calls, and this was written after what was there: the output of all its
 -- events. Images show the uploads after all of them, all but the latest, and so on
 pub record EndedOn {D : Type 0} (disk : Ghosts D) (before now : D) (n : ℕ) (st : State) (r : script.Result)
-    (held front : Option (List ℕ)) (exit : Exit) : Type 0 where
+    (held prefix : Option (List ℕ)) (exit : Exit) : Type 0 where
   pub exits : r.exit ≡ exit
-  pub wrote : Appends front held r.run.out
+  pub wrote : Appends prefix held r.run.out
   pub output : r.run.out ≡ output_of st r.run.past
   pub state : r.run.state ≡ history st r.run.past
   pub lasts : LastsOver disk before now n st.world.store (stores_of st r.run.past)
 
 -- the script ended so, and the disk has the uploads of its history
 pub record RestsOn {D : Type 0} (disk : Ghosts D) (before now : D) (n : ℕ) (st : State) (r : script.Result)
-    (held front : Option (List ℕ)) (exit : Exit) : Type 0 where
-  pub ended : EndedOn disk before now n st r held front exit
+    (held prefix : Option (List ℕ)) (exit : Exit) : Type 0 where
+  pub ended : EndedOn disk before now n st r held prefix exit
   pub shows : AllShow disk now n r.run.state.world.store
 
 -- the script ended at an event at which the disk failed, and the disk has the uploads after all events, or after
 -- all but this latest one
 pub record FailedOn {D : Type 0} (disk : Ghosts D) (before now : D) (n : ℕ) (st : State) (r : script.Result)
-    (held front : Option (List ℕ)) : Type 0 where
-  pub ended : EndedOn disk before now n st r held front Faulted
+    (held prefix : Option (List ℕ)) : Type 0 where
+  pub ended : EndedOn disk before now n st r held prefix Faulted
   pub shows : AllShowOne disk now n (last_stores st r.run.past)
 
 -- The run was broken off after these events, the first of the script's. The disk has the uploads of their history
 pub record StoppedOn {D : Type 0} (disk : Ghosts D) (before now : D) (n : ℕ) (st : State) (r : script.Result)
-    (held front : Option (List ℕ)) (fault : CallFault) : Type 0 where
+    (held prefix : Option (List ℕ)) (fault : CallFault) : Type 0 where
   pub past : List Marked
   pub first : IsFirst past r.run.past
   pub out : List ℕ
-  pub wrote : Appends front held out
+  pub wrote : Appends prefix held out
   pub most : WroteMost fault st past out
   pub shows : AllShow disk now n (history st past).world.store
   pub lasts : LastsOver disk before now n st.world.store (stores_of st past)
@@ -86,19 +86,19 @@ pub record UnopenedOn {D : Type 0} (disk : Ghosts D) (before now : D) (n : ℕ) 
 abbrev pub HasRunOn : {D : Type 0} → Ghosts D → D → Result D (D × RunFault) → Option (List ℕ) → Option (List ℕ) → ℕ
     → State
     → List ℕ → Type 0
-HasRunOn disk before (Ok d) held front n st bytes =
-    (marks : List Mark) × RestsOn disk before d n st (the_script st marks bytes) held front Ran
-HasRunOn disk before (Err (d, Script line)) held front n st bytes =
-    (marks : List Mark) × RestsOn disk before d n st (the_script st marks bytes) held front (AtLine line)
-HasRunOn disk before (Err (d, DiskFault)) held front n st bytes =
-    (marks : List Mark) × FailedOn disk before d n st (the_script st marks bytes) held front
-HasRunOn disk before (Err (d, NoMemory)) held front n st bytes =
-    (marks : List Mark) × StoppedOn disk before d n st (the_script st marks bytes) held front calls.NoMemory
-HasRunOn disk before (Err (d, Io)) held front n st bytes =
-    (marks : List Mark) × StoppedOn disk before d n st (the_script st marks bytes) held front calls.Io
-HasRunOn disk before (Err (d, Open opens.NoMemory)) held front n st bytes = UnopenedOn disk before d n st.world.store
-HasRunOn disk before (Err (d, Open opens.DiskFault)) held front n st bytes = UnopenedOn disk before d n st.world.store
-HasRunOn disk before (Err (d, Open _)) held front n st bytes = ⊥
+HasRunOn disk before (Ok d) held prefix n st bytes =
+    (marks : List Mark) × RestsOn disk before d n st (the_script st marks bytes) held prefix Ran
+HasRunOn disk before (Err (d, Script line)) held prefix n st bytes =
+    (marks : List Mark) × RestsOn disk before d n st (the_script st marks bytes) held prefix (AtLine line)
+HasRunOn disk before (Err (d, DiskFault)) held prefix n st bytes =
+    (marks : List Mark) × FailedOn disk before d n st (the_script st marks bytes) held prefix
+HasRunOn disk before (Err (d, NoMemory)) held prefix n st bytes =
+    (marks : List Mark) × StoppedOn disk before d n st (the_script st marks bytes) held prefix calls.NoMemory
+HasRunOn disk before (Err (d, Io)) held prefix n st bytes =
+    (marks : List Mark) × StoppedOn disk before d n st (the_script st marks bytes) held prefix calls.Io
+HasRunOn disk before (Err (d, Open opens.NoMemory)) held prefix n st bytes = UnopenedOn disk before d n st.world.store
+HasRunOn disk before (Err (d, Open opens.DiskFault)) held prefix n st bytes = UnopenedOn disk before d n st.world.store
+HasRunOn disk before (Err (d, Open _)) held prefix n st bytes = ⊥
 
 -- WHATEVER THE DISK
 

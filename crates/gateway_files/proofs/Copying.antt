@@ -16,73 +16,74 @@ use Rattle.gateway_files.specs.Transcoding.{CopiesOn, EndsOn, IsStored}
 use Rattle.gateway_files.specs.declared.transcoding.Conversion.{Conversion}
 
 -- so many bytes were read, and their text so far was written
-pub record Copied (t : Tables) (c : Conversion) (s : Standing) (left left' front held : Option (List ℕ)) : Type 0 where
+pub record Copied (t : Tables) (c : Conversion) (s : Standing) (left left' prefix held : Option (List ℕ)) : Type 0 where
   pub bytes : List ℕ
   pub from : s.transcoder.from ≡ c.from
   pub to : s.transcoder.to ≡ c.to
   pub mode : s.transcoder.mode ≡ c.mode
   pub at : IsAt t s.transcoder bytes
   pub read : Consumes left left' bytes
-  pub wrote : Appends front held (so_far t s.transcoder bytes).bytes
+  pub wrote : Appends prefix held (so_far t s.transcoder bytes).bytes
 
 no_code : (f : Encoder) (mode : Mode) (s : Shift) → (coded f mode s []).bytes ≡ []
 unfolding coded coded_within
 no_code f mode s = refl
 
-pub copied_none : (t : Tables) (c : Conversion) (s : Standing) (left front : Option (List ℕ))
-    → s ≡ start c.from c.to c.mode → Copied t c s left left front front
-copied_none t c s left front is =
-    subst (λ (x : Standing). Copied t c x left left front front) (sym is) (record {
+pub copied_none : (t : Tables) (c : Conversion) (s : Standing) (left prefix : Option (List ℕ))
+    → s ≡ start c.from c.to c.mode → Copied t c s left left prefix prefix
+copied_none t c s left prefix is =
+    subst (λ (x : Standing). Copied t c x left left prefix prefix) (sym is) (record {
       bytes = [];
       from = refl;
       to = refl;
       mode = refl;
       at = start_at t c.from c.to c.mode;
       read = Consumes-nil left;
-      wrote = subst (λ (x : List ℕ). Appends front front x)
+      wrote = subst (λ (x : List ℕ). Appends prefix prefix x)
           (sym (ap (λ x. (coded (encoder t c.to) c.mode InAscii (decoded_text x)).bytes) (decoded_none t c.from)
           ∙ no_code (encoder t c.to) c.mode InAscii))
-          (Appends-nil front);
+          (Appends-nil prefix);
     })
 
-pub copied_more : (t : Tables) (c : Conversion) (s s' : Standing) (left mid left' front on held : Option (List ℕ))
-    → Copied t c s left mid front on → CopiesOn t s s' mid left' on held → Copied t c s' left left' front held
-copied_more t c s s' left mid left' front on held is more =
+pub copied_more : (t : Tables) (c : Conversion) (s s' : Standing) (left mid left' prefix on held : Option (List ℕ))
+    → Copied t c s left mid prefix on → CopiesOn t s s' mid left' on held → Copied t c s' left left' prefix held
+copied_more t c s s' left mid left' prefix on held is more =
     let a = s.transcoder in
     let old = (so_far t a is.bytes).bytes in
     let next = grows t a (stepped t a more.piece) more.piece old (old ++ (added t a more.piece).bytes) refl more.fault
     refl is.bytes is.at in
-    subst (λ (x : Standing). Copied t c x left left' front held) (sym more.next) (record {
+    subst (λ (x : Standing). Copied t c x left left' prefix held) (sym more.next) (record {
       bytes = is.bytes ++ more.piece;
       from = is.from;
       to = is.to;
       mode = is.mode;
       at = next.0;
       read = Consumes-trans left mid left' is.bytes more.piece is.read more.read;
-      wrote = subst (λ (x : List ℕ). Appends front held x) (next.1 [] refl)
-          (Appends-trans front on held old (added t a more.piece).bytes is.wrote more.wrote);
+      wrote = subst (λ (x : List ℕ). Appends prefix held x) (next.1 [] refl)
+          (Appends-trans prefix on held old (added t a more.piece).bytes is.wrote more.wrote);
     })
 
-stored_with : (t : Tables) (c : Conversion) (s : Standing) (bytes : List ℕ) (front held : Option (List ℕ))
+stored_with : (t : Tables) (c : Conversion) (s : Standing) (bytes : List ℕ) (prefix held : Option (List ℕ))
     → s.transcoder.from ≡ c.from → s.transcoder.to ≡ c.to → s.transcoder.mode ≡ c.mode
     → IsStored t (record { from = s.transcoder.from; to = s.transcoder.to; mode = s.transcoder.mode }) (Some bytes)
-    front held
-    → IsStored t c (Some bytes) front held
-stored_with t c s bytes front held from to mode is = rw (← from, ← to, ← mode) is
+    prefix held
+    → IsStored t c (Some bytes) prefix held
+stored_with t c s bytes prefix held from to mode is = rw (← from, ← to, ← mode) is
 
-known : (t : Tables) (c : Conversion) (left left' front held : Option (List ℕ)) (bytes : List ℕ)
-    → Consumes left left' bytes → IsAtEnd left' → IsStored t c (Some bytes) front held → IsStored t c left front held
-known t c None left' front held bytes read end is = tt
-known t c (Some x) None front held bytes read end is = absurd read
-known t c (Some x) (Some y) front held bytes read end is =
-    subst (λ (z : List ℕ). IsStored t c (Some z) front held)
+known : (t : Tables) (c : Conversion) (left left' prefix held : Option (List ℕ)) (bytes : List ℕ)
+    → Consumes left left' bytes → IsAtEnd left' → IsStored t c (Some bytes) prefix held → IsStored t c left prefix held
+known t c None left' prefix held bytes read end is = tt
+known t c (Some x) None prefix held bytes read end is = absurd read
+known t c (Some x) (Some y) prefix held bytes read end is =
+    subst (λ (z : List ℕ). IsStored t c (Some z) prefix held)
     (sym (read ∙ ap (λ z. bytes ++ z) end ∙ append-nil bytes)) is
 
 -- nothing was read, and nothing written
-pub copied_still : (t : Tables) (c : Conversion) (s s' : Standing) (left mid left' front on held : Option (List ℕ))
-    → Copied t c s left mid front on → s' ≡ s → Consumes mid left' [] → held ≡ on → Copied t c s' left left' front held
-copied_still t c s s' left mid left' front on held is same none kept =
-    subst (λ (x : Standing). Copied t c x left left' front held) (sym same) (record {
+pub copied_still : (t : Tables) (c : Conversion) (s s' : Standing) (left mid left' prefix on held : Option (List ℕ))
+    → Copied t c s left mid prefix on → s' ≡ s → Consumes mid left' [] → held ≡ on
+    → Copied t c s' left left' prefix held
+copied_still t c s s' left mid left' prefix on held is same none kept =
+    subst (λ (x : Standing). Copied t c x left left' prefix held) (sym same) (record {
       bytes = is.bytes;
       from = is.from;
       to = is.to;
@@ -90,26 +91,27 @@ copied_still t c s s' left mid left' front on held is same none kept =
       at = is.at;
       read = subst (λ (x : List ℕ). Consumes left left' x) (append-nil is.bytes)
           (Consumes-trans left mid left' is.bytes [] is.read none);
-      wrote = subst (λ (x : Option (List ℕ)). Appends front x (so_far t s.transcoder is.bytes).bytes) (sym kept)
+      wrote = subst (λ (x : Option (List ℕ)). Appends prefix x (so_far t s.transcoder is.bytes).bytes) (sym kept)
           is.wrote;
     })
 
-ended : (t : Tables) (c : Conversion) (s : Standing) (left left' front on held : Option (List ℕ))
-    → Copied t c s left left' front on → IsAtEnd left' → EndsOn t s on held → IsStored t c left front held
-ended t c s left left' front on held is end ends =
+ended : (t : Tables) (c : Conversion) (s : Standing) (left left' prefix on held : Option (List ℕ))
+    → Copied t c s left left' prefix on → IsAtEnd left' → EndsOn t s on held → IsStored t c left prefix held
+ended t c s left left' prefix on held is end ends =
     let a = s.transcoder in
     let old = (so_far t a is.bytes).bytes in
     let done = grows_end t a old (old ++ (added_end t a).bytes) ends.fault refl is.bytes is.at in
-    known t c left left' front held is.bytes is.read end
-    (stored_with t c s is.bytes front held is.from is.to is.mode (
+    known t c left left' prefix held is.bytes is.read end
+    (stored_with t c s is.bytes prefix held is.from is.to is.mode (
       done.0,
-      subst (λ (x : List ℕ). Appends front held x) (done.1 [] refl)
-          (Appends-trans front on held old (added_end t a).bytes is.wrote ends.wrote),
+      subst (λ (x : List ℕ). Appends prefix held x) (done.1 [] refl)
+          (Appends-trans prefix on held old (added_end t a).bytes is.wrote ends.wrote),
     ))
 
 -- all was read, and the end taken
-pub copied_all : {E : Type 0} (t : Tables) (c : Conversion) (s : Standing) (left left' front on held : Option (List ℕ))
-    (result : Result (Unit {0}) E) → Copied t c s left left' front on → IsAtEnd left' → OnOk result (EndsOn t s on held)
-    → OnOk result (IsStored t c left front held)
-copied_all t c s left left' front on held (Ok x) is end ends = ended t c s left left' front on held is end ends
-copied_all t c s left left' front on held (Err e) is end ends = tt
+pub copied_all : {E : Type 0} (t : Tables) (c : Conversion) (s : Standing) (left left' prefix on held : Option (List ℕ))
+    (result : Result (Unit {0}) E) → Copied t c s left left' prefix on → IsAtEnd left'
+    → OnOk result (EndsOn t s on held)
+    → OnOk result (IsStored t c left prefix held)
+copied_all t c s left left' prefix on held (Ok x) is end ends = ended t c s left left' prefix on held is end ends
+copied_all t c s left left' prefix on held (Err e) is end ends = tt

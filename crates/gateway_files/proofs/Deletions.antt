@@ -91,12 +91,12 @@ and_true false = refl
 
 -- ON THE WAY: the store, what was written, and what is still to be deleted
 pub record Halfway {U B : Type 0} (u : Ghosts U B) (w : World) (before now : U) (numbers rest : List ℕ)
-    (front held : Option (List ℕ)) (all : Bool) : Type 0 where
+    (prefix held : Option (List ℕ)) (all : Bool) : Type 0 where
   pub store : Store
   pub stands : u.stands now true (record w { store = store })
   pub remains : left store rest ≡ left w.store numbers
   pub out : List ℕ
-  pub wrote : Appends front held out
+  pub wrote : Appends prefix held out
   pub lines : out ++ deletion_lines store rest ≡ deletion_lines w.store numbers
   pub there : all && all_there store rest ≡ all_there w.store numbers
   pub passed : AllAmong (stages store rest) (stages w.store numbers)
@@ -104,22 +104,22 @@ pub record Halfway {U B : Type 0} (u : Ghosts U B) (w : World) (before now : U) 
       (stages w.store numbers)
 
 module _ {U B : Type 0} (u : Ghosts U B) (w : World) (numbers : List ℕ) where
-  pub begun : (now : U) (front : Option (List ℕ)) → u.stands now true w
-      → Halfway u w now now numbers numbers front front true
-  begun now front stands = record {
+  pub begun : (now : U) (prefix : Option (List ℕ)) → u.stands now true w
+      → Halfway u w now now numbers numbers prefix prefix true
+  begun now prefix stands = record {
     store = w.store;
     stands = stands;
     remains = refl;
     out = [];
-    wrote = Appends-nil front;
+    wrote = Appends-nil prefix;
     lines = refl;
     there = refl;
     passed = λ m among. among;
     limits = record { later = omega arith; limits = λ blocks t ms le left among. left };
   }
 
-  module _ (before now next : U) (n : ℕ) (rest : List ℕ) (front held : Option (List ℕ)) (all : Bool)
-      (is : Halfway u w before now numbers (n ∷ rest) front held all)
+  module _ (before now next : U) (n : ℕ) (rest : List ℕ) (prefix held : Option (List ℕ)) (all : Bool)
+      (is : Halfway u w before now numbers (n ∷ rest) prefix held all)
       (crash : Limits (u.moment now) (u.moment next) (u.left_only now) (u.left_only next) is.store
       (deleted_store is.store n)) where
     pub limits_more : LimitsTo (u.moment before) (u.moment next) (u.left_only before) (u.left_only next)
@@ -137,13 +137,13 @@ module _ {U B : Type 0} (u : Ghosts U B) (w : World) (numbers : List ℕ) where
     pub further : (on : Option (List ℕ)) (there : Bool)
         → u.stands next true (terminated (record w { store = is.store }) n)
         → there ≡ is_there (upload_of is.store n) → Appends held on (deletion_line there n)
-        → Halfway u w before next numbers rest front on (all && there)
+        → Halfway u w before next numbers rest prefix on (all && there)
     further on there stands same line = record {
       store = deleted_store is.store n;
       stands = stands;
       remains = left_deleted is.store n rest ∙ is.remains;
       out = is.out ++ deletion_line there n;
-      wrote = Appends-trans front held on is.out (deletion_line there n) is.wrote line;
+      wrote = Appends-trans prefix held on is.out (deletion_line there n) is.wrote line;
       lines = append_assoc is.out (deletion_line there n) (deletion_lines (deleted_store is.store n) rest)
           ∙ (ap (λ b. is.out ++ (deletion_line b n ++ deletion_lines (deleted_store is.store n) rest)) same
           ∙ is.lines);
@@ -153,14 +153,14 @@ module _ {U B : Type 0} (u : Ghosts U B) (w : World) (numbers : List ℕ) where
       limits = limits_more;
     }
 
-  module _ (before now : U) (front held : Option (List ℕ)) (all : Bool)
-      (is : Halfway u w before now numbers [] front held all) where
+  module _ (before now : U) (prefix held : Option (List ℕ)) (all : Bool)
+      (is : Halfway u w before now numbers [] prefix held all) where
     pub done_stands : u.stands now true (record w { store = left w.store numbers })
     done_stands = subst (λ s. u.stands now true (record w { store = s })) (sym (left_all is.store) ∙ is.remains)
         is.stands
 
-    pub done_lines : Appends front held (deletion_lines w.store numbers)
-    done_lines = subst (λ (x : List ℕ). Appends front held x) (sym (append-nil is.out) ∙ is.lines) is.wrote
+    pub done_lines : Appends prefix held (deletion_lines w.store numbers)
+    done_lines = subst (λ (x : List ℕ). Appends prefix held x) (sym (append-nil is.out) ∙ is.lines) is.wrote
 
     pub done_all : all ≡ all_there w.store numbers
     done_all = sym (and_true all) ∙ is.there

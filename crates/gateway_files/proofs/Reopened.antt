@@ -19,21 +19,21 @@ use Rattle.spool_load.proofs.Opens.{same_function}
 use Rattle.spool_load.proofs.Refused.{found_back, known_stands, opened_on, says_on, says_one}
 use Rattle.spool_image.specs.Opening.{ReadsSame, Unwritten}
 
-module _ (size size' : ℕ) (found : Found) (old seen : ℕ → ℕ) (loose : ℕ → Type 0) (room : size' ≡ size)
-    (is : FoundOn size old found) (settled : Settled (journal_pages found.layout) (overlaid old) seen loose) where
+module _ (size size' : ℕ) (found : Found) (old seen : ℕ → ℕ) (unsynced : ℕ → Type 0) (room : size' ≡ size)
+    (is : FoundOn size old found) (settled : Settled (journal_pages found.layout) (overlaid old) seen unsynced) where
   says : SaysBlocks size' seen found.layout
-  says = says_on found.layout old seen loose settled is.journal size size' room is.says
+  says = says_on found.layout old seen unsynced settled is.journal size size' room is.says
 
   -- behind a closed gate the plain reading is what a read gives
   plain : (p : ℕ) → overlaid seen p ≡ seen p
   plain p = shut_view seen p settled.closed
 
-  plain_from : (j : ℕ) → Settled j (overlaid seen) seen loose
-  plain_from j = record { firm = settled.firm; closed = settled.closed; same = λ p outside. sym (plain p) }
+  plain_from : (j : ℕ) → Settled j (overlaid seen) seen unsynced
+  plain_from j = record { is_synced = settled.is_synced; closed = settled.closed; same = λ p outside. sym (plain p) }
 
-  plain_to : (j : ℕ) → Settled j seen (overlaid seen) loose
+  plain_to : (j : ℕ) → Settled j seen (overlaid seen) unsynced
   plain_to j = record {
-    firm = settled.firm;
+    is_synced = settled.is_synced;
     closed = λ ajar. settled.closed (sym (plain 4096) ∙ ajar);
     same = λ p outside. plain p;
   }
@@ -41,7 +41,7 @@ module _ (size size' : ℕ) (found : Found) (old seen : ℕ → ℕ) (loose : �
   pub opened_back : (kept : Holding) → OpenedFrom size' seen kept → OpenedFrom size old kept
   opened_back kept opened =
       let v = opened.view in
-      opened_on found.layout old seen loose settled is.journal size kept is.says (record {
+      opened_on found.layout old seen unsynced settled is.journal size kept is.says (record {
         view = v;
         sound = opened.sound;
         blocks = says_one size' seen v.blocks found.layout
@@ -59,7 +59,7 @@ module _ (size size' : ℕ) (found : Found) (old seen : ℕ → ℕ) (loose : �
       subst (λ (k : ℕ). HasKnownVersion k (overlaid seen)) (sym same)
       (subst (λ (f : ℕ → ℕ). HasKnownVersion found.layout f) (sym (same_function (overlaid seen) seen plain))
       (known_stands seen _ 12 found.version found.next (omega arith)
-      (found_back size found old seen loose settled is).fields))
+      (found_back size found old seen unsynced settled is).fields))
 
   pub refused_back : (e : OpenFault) → RefusedFor size' seen e → RefusedFor size old e
   refused_back NotASpool why = absurd (why found.layout says)
@@ -83,21 +83,21 @@ module _ (size size' : ℕ) (found : Found) (old seen : ℕ → ℕ) (loose : �
   refused_back DiskFault why = tt
 
 -- no journal is to be replayed twice
-none_again : (j size : ℕ) (bytes seen : ℕ → ℕ) (loose : ℕ → Type 0) → Settled j bytes seen loose
+none_again : (j size : ℕ) (bytes seen : ℕ → ℕ) (unsynced : ℕ → Type 0) → Settled j bytes seen unsynced
     → NeedsReplay size seen → ⊥
-none_again j size bytes seen loose settled needs = settled.closed needs.gate
+none_again j size bytes seen unsynced settled needs = settled.closed needs.gate
 
 module _ {D : Type 0} (disk : Ghosts D) (old mid new : D) (j : ℕ) (bytes : ℕ → ℕ)
-    (settled : Settled j bytes (disk.seen mid) (disk.loose mid))
-    (keeps : Keeps (disk.seen old) (disk.seen mid) (disk.loose old) (disk.loose mid)) where
-  pub unwritten_on : Lasts disk old mid (IsImage (disk.seen old) (disk.loose old)) → Unwritten disk mid new
-      → Lasts disk old new (IsImage (disk.seen old) (disk.loose old))
+    (settled : Settled j bytes (disk.seen mid) (disk.unsynced mid))
+    (keeps : Keeps (disk.seen old) (disk.seen mid) (disk.unsynced old) (disk.unsynced mid)) where
+  pub unwritten_on : Lasts disk old mid (IsImage (disk.seen old) (disk.unsynced old)) → Unwritten disk mid new
+      → Lasts disk old new (IsImage (disk.seen old) (disk.unsynced old))
   unwritten_on first last =
       lasts_on first
-      (lasts_more (last (none_again j (disk.size mid) bytes (disk.seen mid) (disk.loose mid) settled))
+      (lasts_more (last (none_again j (disk.size mid) bytes (disk.seen mid) (disk.unsynced mid) settled))
       (λ image here. keeps_image keeps here))
 
   pub same_on : (failed : Type 0) → ReadsSame disk mid new failed → (failed → ⊥)
-      → Keeps (disk.seen old) (disk.seen new) (disk.loose old) (disk.loose new)
+      → Keeps (disk.seen old) (disk.seen new) (disk.unsynced old) (disk.unsynced new)
   same_on failed last fine =
-      keeps_on keeps (last (none_again j (disk.size mid) bytes (disk.seen mid) (disk.loose mid) settled) fine)
+      keeps_on keeps (last (none_again j (disk.size mid) bytes (disk.seen mid) (disk.unsynced mid) settled) fine)

@@ -7,7 +7,7 @@ use Rattle.tus_request.specs.Reading.{before, after}
 use Rattle.tus_request.specs.Texts.{parts, skipped}
 use Rattle.tus_request.specs.Value.{value_of}
 
--- a pair of metadata without the spaces in front
+-- a pair of metadata without the spaces at the start
 abbrev pub pair : List ℕ → List ℕ
 pair part = skipped (32 ∷ []) part
 

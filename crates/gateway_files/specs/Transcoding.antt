@@ -20,23 +20,23 @@ stored_as t c input = text t c.from c.to c.mode input true
 
 -- the code of all that was there to be read was written, and it has no fault, where it is known what was there
 abbrev pub IsStored : Tables → Conversion → Option (List ℕ) → Option (List ℕ) → Option (List ℕ) → Type 0
-IsStored t c None front held = ⊤
-IsStored t c (Some input) front held =
-    ((stored_as t c input).fault ≡ None) × Appends front held (stored_as t c input).bytes
+IsStored t c None prefix held = ⊤
+IsStored t c (Some input) prefix held =
+    ((stored_as t c input).fault ≡ None) × Appends prefix held (stored_as t c input).bytes
 
 -- why it isn't: for memory, for the reader or the writer, or since a character has no code
 abbrev pub IsTextFault : Fault → Type 0
 IsTextFault f = (f ≡ NoMemory) ⊎ (f ≡ Io) ⊎ (f ≡ Unencodable)
 
 -- ONE PIECE was read, and what it adds to the text was written
-pub record CopiesOn (t : Tables) (before after : Standing) (left left' front held : Option (List ℕ)) : Type 0 where
+pub record CopiesOn (t : Tables) (before after : Standing) (left left' prefix held : Option (List ℕ)) : Type 0 where
   pub piece : List ℕ
   pub read : Consumes left left' piece
   pub next : after ≡ stepped_on t before piece
   pub fault : (added t before.transcoder piece).fault ≡ None
-  pub wrote : Appends front held (added t before.transcoder piece).bytes
+  pub wrote : Appends prefix held (added t before.transcoder piece).bytes
 
 -- and what the end adds
-pub record EndsOn (t : Tables) (s : Standing) (front held : Option (List ℕ)) : Type 0 where
+pub record EndsOn (t : Tables) (s : Standing) (prefix held : Option (List ℕ)) : Type 0 where
   pub fault : (added_end t s.transcoder).fault ≡ None
-  pub wrote : Appends front held (added_end t s.transcoder).bytes
+  pub wrote : Appends prefix held (added_end t s.transcoder).bytes

@@ -62,7 +62,7 @@ pub fn list_on<D: Disk + Drop, W: Write>(
     // Where no journal is to be replayed, nothing is written to the disk: a crash leaves what it might have left
     // before.
     ensures unwritten { D.honest disk → (NeedsReplay (D.size disk) (D.seen disk) → ⊥)
-        → Lasts D.Disk disk result.0 (IsImage (D.seen disk) (D.loose disk)) }
+        → Lasts D.Disk disk result.0 (IsImage (D.seen disk) (D.unsynced disk)) }
 
     // A spool is listed, unless memory, the disk or the writer refuses it.
     ensures listed { (n : ℕ) (m : Store) → IsSpool D.Disk disk n m → Lists result.1 }

@@ -9,7 +9,7 @@ ghost use Rattle.gateway_files.specs.Naming.{is_safe_name, pair, text_in};
 use base64::DecodeAllocError;
 use base64::engine::general_purpose::STANDARD;
 use std::alloc::{AllocError, Global};
-use tus_request::texts::{after, front};
+use tus_request::texts::{after, prefix};
 
 // The most bytes of a name.
 const LONGEST: usize = 255;
@@ -19,7 +19,7 @@ pub fn given_name(alloc: Global, metadata: &[u8]) -> Result<Option<String>, Allo
     ensures { IfOk result (λ name. option_map string_bytes name ≡ given_name metadata.now) }
 {
     match named_part(metadata) {
-        Some(part) => text_in(alloc, front(after(pair(part), b' '), b' ')),
+        Some(part) => text_in(alloc, prefix(after(pair(part), b' '), b' ')),
         None => Ok(None),
     }
 }
@@ -35,10 +35,10 @@ fn named_part(metadata: &[u8]) -> Option<&[u8]>
 fn is_named(part: &[u8]) -> bool
     ensures { result ≡ is_named part.now }
 {
-    front(pair(part), b' ') == b"filename".as_slice()
+    prefix(pair(part), b' ') == b"filename".as_slice()
 }
 
-// A pair without the spaces in front.
+// A pair without the spaces at the start.
 fn pair(part: &[u8]) -> &[u8]
     ensures { result.now ≡ pair part.now }
 {
@@ -73,7 +73,8 @@ fn text_of(bytes: Vec<u8>) -> Option<String>
     }
 }
 
-/// Whether a file may have the name: at most 255 bytes, no control character and no path separator, no dot in front,
+/// Whether a file may have the name: at most 255 bytes, no control character and no path separator, no dot at the
+/// start,
 /// and no number before the first dot, since uploads have these.
 pub fn is_safe_name(name: &str) -> bool
     ensures { result ≡ is_safe_name name.now }
@@ -85,7 +86,7 @@ pub fn is_safe_name(name: &str) -> bool
 fn is_numbered(name: &[u8]) -> bool
     ensures { result ≡ is_numbered name.now }
 {
-    front(name, b'.').iter().all(|b| is_digit(*b))
+    prefix(name, b'.').iter().all(|b| is_digit(*b))
 }
 
 fn is_digit(byte: u8) -> bool

@@ -91,12 +91,12 @@ fn find_whole<D: Disk>(disk: &mut D) -> Result<Found, OpenFault>
     ensures on { D.honest disk.old → IfOk result (FoundOn (D.size disk.old) (D.seen disk.old)) }
     ensures refused { D.honest disk.old → IfErr result (NotFoundFor (D.size disk.old) (D.seen disk.old)) }
     ensures settled { D.honest disk.old → IfOk result (λ found.
-        Settled (journal_pages found.layout) (overlaid (D.seen disk.old)) (D.seen disk.new) (D.loose disk.new)) }
+        Settled (journal_pages found.layout) (overlaid (D.seen disk.old)) (D.seen disk.new) (D.unsynced disk.new)) }
     ensures unwritten { D.honest disk.old → (NeedsReplay (D.size disk.old) (D.seen disk.old) → ⊥)
-        → Lasts D.Disk disk.old disk.new (IsImage (D.seen disk.old) (D.loose disk.old)) }
+        → Lasts D.Disk disk.old disk.new (IsImage (D.seen disk.old) (D.unsynced disk.old)) }
     ensures same { D.honest disk.old → (NeedsReplay (D.size disk.old) (D.seen disk.old) → ⊥)
         → (result ≡ Err OpenFault.DiskFault → ⊥)
-        → Keeps (D.seen disk.old) (D.seen disk.new) (D.loose disk.old) (D.loose disk.new) }
+        → Keeps (D.seen disk.old) (D.seen disk.new) (D.unsynced disk.old) (D.unsynced disk.new) }
     ensures found { (n : ℕ) (m : Store) → IsSpool D.Disk disk.old n m → LoadsAs result (λ found. found.layout ≡ n) }
     ensures shows { (n : ℕ) (m : Store) → IsSpool D.Disk disk.old n m → OnOk result (AllShow D.Disk disk.new n m) }
     ensures lasts { (n : ℕ) (m : Store) → IsSpool D.Disk disk.old n m

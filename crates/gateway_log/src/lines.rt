@@ -22,9 +22,9 @@ impl Line {
     /// The next piece of the line passes.
     pub(crate) fn add(&mut self, piece: &[u8]) {
         let room = MOST_KEPT.saturating_sub(self.kept.len());
-        let front = &piece[..piece.len().min(room)];
+        let prefix = &piece[..piece.len().min(room)];
         // Out of memory, the piece isn't kept.
-        let kept = self.kept.extend_from_slice(front);
+        let kept = self.kept.extend_from_slice(prefix);
         drop(kept);
     }
 

@@ -42,23 +42,24 @@ use Rattle.gateway_rounds.specs.Rounds.{Passes, UpgradeEnds, UpgradeLeaves}
 all_first : (past : List Marked) → IsFirst past past
 all_first past = ([], refl)
 
--- the output of all events but the latest stands in front
-output_front : (st : State) (past : List Marked) → output_of st past ≡ output_of st (drop 1 past) ++ last_output st past
-output_front st [] = refl
-output_front st (e ∷ past) = refl
+-- the output of all events but the latest stands at the start
+output_prefix : (st : State) (past : List Marked)
+    → output_of st past ≡ output_of st (drop 1 past) ++ last_output st past
+output_prefix st [] = refl
+output_prefix st (e ∷ past) = refl
 
 -- what a run that was broken off wrote is the prefix of what its events gave
-most_front : (st : State) (past : List Marked) (out : List ℕ)
+most_prefix : (st : State) (past : List Marked) (out : List ℕ)
     → WroteMost calls.NoMemory st past out → (rest : List ℕ) × (output_of st past ≡ out ++ rest)
-most_front st past out (inl all) = ([], sym all ∙ sym (append-nil out))
-most_front st past out (inr but_last) =
-    (last_output st past, output_front st past ∙ ap (λ (xs : List ℕ). xs ++ last_output st past) (sym but_last))
+most_prefix st past out (inl all) = ([], sym all ∙ sym (append-nil out))
+most_prefix st past out (inr but_last) =
+    (last_output st past, output_prefix st past ∙ ap (λ (xs : List ℕ). xs ++ last_output st past) (sym but_last))
 
-part_front : (st : State) (past : List Marked) (out : List ℕ)
+part_prefix : (st : State) (past : List Marked) (out : List ℕ)
     → WroteMost calls.Io st past out → (rest : List ℕ) × (output_of st past ≡ out ++ rest)
-part_front st past out (part, missing, is, wrote) = (
+part_prefix st past out (part, missing, is, wrote) = (
   missing,
-  output_front st past ∙ (ap (λ (xs : List ℕ). output_of st (drop 1 past) ++ xs) is
+  output_prefix st past ∙ (ap (λ (xs : List ℕ). output_of st (drop 1 past) ++ xs) is
       ∙ (sym (append_assoc (output_of st (drop 1 past)) part missing) ∙ ap (λ (xs : List ℕ). xs ++ missing)
       (sym wrote))),
 )
@@ -78,7 +79,7 @@ all_one disk d n m all = record {
 pub read_opens : {D : Type 0} (disk : Ghosts D) (d : D) (n : ℕ) (stores : List Store) → AllShowOne disk d n stores
     → (m : Store) × OpensWith disk d n stores m
 read_opens disk d n stores all =
-    let one = all.each (disk.seen d) (record { same = λ p firm. refl }) in
+    let one = all.each (disk.seen d) (record { same = λ p is_synced. refl }) in
     (one.store, record { among = one.among; shows = one.shows })
 
 pub is_spool : {D : Type 0} (disk : Ghosts D) (d : D) (n : ℕ) (stores : List Store) (m : Store)
@@ -87,10 +88,10 @@ is_spool disk d n stores m all opened = record { honest = all.honest; room = all
 
 -- FROM THE DISK BEFORE TO THE DISK THAT CAME BACK
 module _ {D : Type 0} (disk : Ghosts D) (given back : D) (n : ℕ) (before : List Store) (m : Store)
-    (now : (t : ℕ) (image : ℕ → ℕ) → t ≤ disk.moment back → IsImage (disk.seen back) (disk.loose back) image
+    (now : (t : ℕ) (image : ℕ → ℕ) → t ≤ disk.moment back → IsImage (disk.seen back) (disk.unsynced back) image
     → disk.left_since back t image)
     (only : (image : ℕ → ℕ) → disk.left_since given (disk.moment given) image
-    → IsImage (disk.seen given) (disk.loose given) image)
+    → IsImage (disk.seen given) (disk.unsynced given) image)
     (shown : AllShowOne disk given n before) (opened : OpensWith disk given n before m) where
   abbrev st : State
   st = beginning m (Some n)
@@ -124,21 +125,21 @@ module _ {D : Type 0} (disk : Ghosts D) (given back : D) (n : ℕ) (before : Lis
   }
 
   -- the bytes that were there, and those that a run of this script with this fault wrote after them
-  module _ (front held bytes : List ℕ) where
+  module _ (prefix held bytes : List ℕ) where
     abbrev Lived : Option RunFault → Type 0
     Lived fault =
-        (left : List Store) × AllShowOne disk back n left × (out : List ℕ) × (held ≡ front ++ out)
+        (left : List Store) × AllShowOne disk back n left × (out : List ℕ) × (held ≡ prefix ++ out)
         × Passes n m bytes fault out before left
 
-    whole : {exit : Exit} (r : script.Result) → EndedOn disk given back n st r (Some held) (Some front) exit
+    whole : {exit : Exit} (r : script.Result) → EndedOn disk given back n st r (Some held) (Some prefix) exit
         → IsWhole st r r.run.past r.run.out
     whole r is = record { events = refl; output = is.output }
 
-    written_whole : {exit : Exit} (r : script.Result) → EndedOn disk given back n st r (Some held) (Some front) exit
+    written_whole : {exit : Exit} (r : script.Result) → EndedOn disk given back n st r (Some held) (Some prefix) exit
         → (rest : List ℕ) × (output_of st r.run.past ≡ r.run.out ++ rest)
     written_whole r is = ([], sym is.output ∙ sym (append-nil r.run.out))
 
-    pub ran : HasRunOn disk given (Ok back) (Some held) (Some front) n st bytes → Lived None
+    pub ran : HasRunOn disk given (Ok back) (Some held) (Some prefix) n st bytes → Lived None
     ran (marks, is) =
         let r = the_script st marks bytes in (
           r.run.state.world.store ∷ [],
@@ -150,7 +151,7 @@ module _ {D : Type 0} (disk : Ghosts D) (given back : D) (n : ℕ) (before : Lis
               (is.ended.exits, whole r is.ended),
         )
 
-    at_line : (line : ℕ) → HasRunOn disk given (Err (back, Script line)) (Some held) (Some front) n st bytes
+    at_line : (line : ℕ) → HasRunOn disk given (Err (back, Script line)) (Some held) (Some prefix) n st bytes
         → Lived (Some (Script line))
     at_line line (marks, is) =
         let r = the_script st marks bytes in (
@@ -163,7 +164,7 @@ module _ {D : Type 0} (disk : Ghosts D) (given back : D) (n : ℕ) (before : Lis
               (ap (λ (s : State). s.world.store ∷ []) is.ended.state) (is.ended.exits, whole r is.ended),
         )
 
-    failed : HasRunOn disk given (Err (back, DiskFault)) (Some held) (Some front) n st bytes → Lived (Some DiskFault)
+    failed : HasRunOn disk given (Err (back, DiskFault)) (Some held) (Some prefix) n st bytes → Lived (Some DiskFault)
     failed (marks, is) =
         let r = the_script st marks bytes in (
           last_stores st r.run.past,
@@ -174,7 +175,7 @@ module _ {D : Type 0} (disk : Ghosts D) (given back : D) (n : ℕ) (before : Lis
               (written_whole r is.ended) refl (is.ended.exits, whole r is.ended),
         )
 
-    out_of_memory : HasRunOn disk given (Err (back, NoMemory)) (Some held) (Some front) n st bytes
+    out_of_memory : HasRunOn disk given (Err (back, NoMemory)) (Some held) (Some prefix) n st bytes
         → Lived (Some NoMemory)
     out_of_memory (marks, is) = (
       (history st is.past).world.store ∷ [],
@@ -182,38 +183,38 @@ module _ {D : Type 0} (disk : Ghosts D) (given back : D) (n : ℕ) (before : Lis
       is.out,
       is.wrote,
       passed marks is.past bytes (Some NoMemory) is.out ((history st is.past).world.store ∷ []) is.first
-          (most_front st is.past is.out is.most) refl is.most,
+          (most_prefix st is.past is.out is.most) refl is.most,
     )
 
-    broken_off : HasRunOn disk given (Err (back, Io)) (Some held) (Some front) n st bytes → Lived (Some Io)
+    broken_off : HasRunOn disk given (Err (back, Io)) (Some held) (Some prefix) n st bytes → Lived (Some Io)
     broken_off (marks, is) = (
       (history st is.past).world.store ∷ [],
       all_one disk back n (history st is.past).world.store is.shows,
       is.out,
       is.wrote,
       passed marks is.past bytes (Some Io) is.out ((history st is.past).world.store ∷ []) is.first
-          (part_front st is.past is.out is.most) refl is.most,
+          (part_prefix st is.past is.out is.most) refl is.most,
     )
 
     none_first : (past : List Marked) → IsFirst [] past
     none_first past = (past, sym (append-nil past))
 
-    unopened : (fault : RunFault) → held ≡ front → before ≡ left_by_run (Some fault) st [] before
+    unopened : (fault : RunFault) → held ≡ prefix → before ≡ left_by_run (Some fault) st [] before
         → EndsAs (Some fault) st (the_script st [] bytes) [] []
         → UnopenedOn disk given back n m → Lived (Some fault)
     unopened fault same leaves ends is = (
       before,
       still_shown is.lasts is.honest is.room,
       [],
-      same ∙ sym (append-nil front),
+      same ∙ sym (append-nil prefix),
       passed [] [] bytes (Some fault) [] before (none_first (the_script st [] bytes).run.past) ([], refl) leaves ends,
     )
 
-    same_bytes : {R : Type 0} → R × (Some held ≡ Some front) → held ≡ front
+    same_bytes : {R : Type 0} → R × (Some held ≡ Some prefix) → held ≡ prefix
     same_bytes (same, is) = cc
 
-    pub refused : (R : Type 0) (fault : RunFault) → Unopened {D = D} (Err (back, fault)) (R × (Some held ≡ Some front))
-        → HasRunOn disk given (Err (back, fault)) (Some held) (Some front) n st bytes → Lived (Some fault)
+    pub refused : (R : Type 0) (fault : RunFault) → Unopened {D = D} (Err (back, fault)) (R × (Some held ≡ Some prefix))
+        → HasRunOn disk given (Err (back, fault)) (Some held) (Some prefix) n st bytes → Lived (Some fault)
     refused R (Open opens.NoMemory) same has = unopened (Open opens.NoMemory) (same_bytes same) refl refl has
     refused R (Open opens.DiskFault) same has = unopened (Open opens.DiskFault) (same_bytes same) refl refl has
     refused R (Open opens.NotASpool) same has = absurd has
@@ -266,21 +267,21 @@ refusals_told back Io v w c = writer_alone (λ e. tt) (λ is. refl) c
 pub crashed : {D C : Type 0} (disk : Ghosts D) (chosen : C → D → D → Type 0) (how : C) (back after : D) (n : ℕ)
     (left : List Store) → AllShowOne disk back n left → chosen how back after → disk.size after ≡ disk.size back
     → (disk.honest back → disk.honest after)
-    → (disk.honest back → IsImage (disk.seen back) (disk.loose back) (disk.seen after))
-    → (disk.honest back → (p : ℕ) → disk.loose after p → ⊥) → disk.failures after ≡ disk.failures back
+    → (disk.honest back → IsImage (disk.seen back) (disk.unsynced back) (disk.seen after))
+    → (disk.honest back → (p : ℕ) → disk.unsynced after p → ⊥) → disk.failures after ≡ disk.failures back
     → (next : List Store) × AllShowOne disk after n next × Crashes disk chosen how back after left next
-crashed disk chosen how back after n left all is size keeps image firm failures =
+crashed disk chosen how back after n left all is size keeps image is_synced failures =
     let one = all.each (disk.seen after) (image all.honest) in (
       one.store ∷ [],
       all_one disk after n one.store (synced_shows disk after n one.store (record {
         honest = keeps all.honest;
         room = subst (λ (k : ℕ). 4096 * all_pages n ≤ k) (sym size) all.room;
         shows = one.shows;
-      }) (firm all.honest)),
+      }) (is_synced all.honest)),
       record {
         is = is;
         image = image all.honest;
-        synced = firm all.honest;
+        synced = is_synced all.honest;
         failures = failures;
         store = one.store;
         among = one.among;
@@ -297,8 +298,8 @@ upgrade_ends e (inl new) = subst (λ (x : UpgradeError). UpgradeEnds (Some x)) (
 upgrade_ends e (inr (inl is)) = subst (λ (x : UpgradeError). UpgradeEnds (Some x)) (sym is) tt
 upgrade_ends e (inr (inr is)) = subst (λ (x : UpgradeError). UpgradeEnds (Some x)) (sym is) tt
 
-pub done_leaves : {seen : ℕ → ℕ} {loose : ℕ → Type 0} (size : ℕ) (before image : ℕ → ℕ)
-    → UpgradedFrom size before seen loose → IsImage seen loose image → IsNewest image
+pub done_leaves : {seen : ℕ → ℕ} {unsynced : ℕ → Type 0} (size : ℕ) (before image : ℕ → ℕ)
+    → UpgradedFrom size before seen unsynced → IsImage seen unsynced image → IsNewest image
 done_leaves size before image from here = record {
   view = upgraded from.view;
   sound = upgraded_sound from.view from.sound;
@@ -309,10 +310,10 @@ done_leaves size before image from here = record {
 not_device : (e : UpgradeError) → e ≡ upgrades.AlreadyNew → e ≡ upgrades.Open opens.DiskFault → ⊥
 not_device e new device = cc
 
-pub refused_leaves : {seen : ℕ → ℕ} {loose : ℕ → Type 0} (e : UpgradeError) (v : View) (image : ℕ → ℕ) → IsSound v
+pub refused_leaves : {seen : ℕ → ℕ} {unsynced : ℕ → Type 0} (e : UpgradeError) (v : View) (image : ℕ → ℕ) → IsSound v
     → ((v.version ≡ Two) × (e ≡ upgrades.AlreadyNew)) ⊎ (e ≡ upgrades.Open opens.NoMemory)
     ⊎ (e ≡ upgrades.Open opens.DiskFault)
-    → ((e ≡ upgrades.Open opens.DiskFault → ⊥) → Rests v seen loose) → IsImage seen loose image
+    → ((e ≡ upgrades.Open opens.DiskFault → ⊥) → Rests v seen unsynced) → IsImage seen unsynced image
     → UpgradeLeaves (Some e) image
 refused_leaves e v image sound (inl new) rests here =
     subst (λ (x : UpgradeError). UpgradeLeaves (Some x) image) (sym new.1) (record {

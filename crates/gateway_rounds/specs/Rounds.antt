@@ -123,7 +123,7 @@ pub record IsUpgrade {D : Type 0} (disk : Ghosts D) (n : ℕ) (given back : D) (
   pub store : Store
   pub opened : OpensWith disk given n before store
   pub same : left ≡ left_by_upgrade told store before
-  pub leaves : (image : ℕ → ℕ) → IsImage (disk.seen back) (disk.loose back) image → UpgradeLeaves told image
+  pub leaves : (image : ℕ → ℕ) → IsImage (disk.seen back) (disk.unsynced back) image → UpgradeLeaves told image
   pub counts : Counts (told ≡ Some (upgrades.Open opens.DiskFault)) (disk.failures given) (disk.failures back)
 
 -- THE END OF A ROUND
@@ -133,8 +133,8 @@ pub record IsUpgrade {D : Type 0} (disk : Ghosts D) (n : ℕ) (given back : D) (
 pub record Crashes {D C : Type 0} (disk : Ghosts D) (chosen : C → D → D → Type 0) (how : C) (back after : D)
     (left next : List Store) : Type 0 where
   pub is : chosen how back after
-  pub image : IsImage (disk.seen back) (disk.loose back) (disk.seen after)
-  pub synced : (p : ℕ) → disk.loose after p → ⊥
+  pub image : IsImage (disk.seen back) (disk.unsynced back) (disk.seen after)
+  pub synced : (p : ℕ) → disk.unsynced after p → ⊥
   pub failures : disk.failures after ≡ disk.failures back
   pub store : Store
   pub among : Among store left
@@ -169,7 +169,7 @@ pub record IsRound {D C : Type 0} (disk : Ghosts D) (chosen : C → D → D → 
   pub same_end : told.end ≡ round.end
   pub end : IsEnd disk chosen round.end back after left next
   pub shows : AllShowOne disk after n next
-  pub texts : (image : ℕ → ℕ) (m : Store) → ImageShows n image m → IsImage (disk.seen after) (disk.loose after) image
+  pub texts : (image : ℕ → ℕ) (m : Store) → ImageShows n image m → IsImage (disk.seen after) (disk.unsynced after) image
       → HasTexts image m
 
 -- ALL ROUNDS
@@ -191,6 +191,6 @@ pub record HasLived {D C : Type 0} (disk : Ghosts D) (chosen : C → D → D →
   pub size : disk.size made ≡ disk.size given
   pub failures : disk.failures made ≡ disk.failures given
   pub shows : AllShow disk made n m
-  pub newest : (image : ℕ → ℕ) → IsImage (disk.seen made) (disk.loose made) image → IsNewest image
+  pub newest : (image : ℕ → ℕ) → IsImage (disk.seen made) (disk.unsynced made) image → IsNewest image
   pub end : List Store
   pub lives : Lives disk chosen n made (m ∷ []) rounds told last end

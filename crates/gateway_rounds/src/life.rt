@@ -50,11 +50,11 @@ pub fn endure<D: CrashDisk>(
     ensures size { IfErr result (λ e. D.size e.0 ≡ D.size disk) }
     ensures honest { IfErr result (λ e. D.honest disk ↔ D.honest e.0) }
     ensures same { D.honest disk → IfErr result (λ e. IsUnwritten e.1
-        → Keeps (D.seen disk) (D.seen e.0) (D.loose disk) (D.loose e.0)) }
+        → Keeps (D.seen disk) (D.seen e.0) (D.unsynced disk) (D.unsynced e.0)) }
     ensures lasts { D.honest disk → IfErr result (λ e. IsUnwritten e.1
-        → Lasts D.Disk disk e.0 (IsImage (D.seen disk) (D.loose disk))) }
+        → Lasts D.Disk disk e.0 (IsImage (D.seen disk) (D.unsynced disk))) }
     ensures crash { D.honest disk → IfErr result (λ e.
-        Lasts D.Disk disk e.0 (LeftByFormat blocks indexes.now (D.seen disk) (D.loose disk))) }
+        Lasts D.Disk disk e.0 (LeftByFormat blocks indexes.now (D.seen disk) (D.unsynced disk))) }
 {
     let mut disk = disk;
     match format(&mut disk, blocks, indexes) {

@@ -335,9 +335,9 @@ line_both : (bytes : List ℕ) → take_through 10 bytes ++ after 10 bytes ≡ b
 line_both [] = refl
 line_both (b ∷ bytes) = both_case b bytes (b == 10) (line_both bytes)
 
--- the bytes in front of what is after the first line
-pub line_front : (bytes : List ℕ) → take (length bytes - length (after 10 bytes)) bytes ≡ take_through 10 bytes
-line_front bytes =
+-- the bytes before what is after the first line
+pub line_prefix : (bytes : List ℕ) → take (length bytes - length (after 10 bytes)) bytes ≡ take_through 10 bytes
+line_prefix bytes =
     let n : length (take_through 10 bytes) + length (after 10 bytes) ≡ length bytes =
     sym (length-append (take_through 10 bytes) (after 10 bytes)) ∙ ap length (line_both bytes) in
     let e : length bytes - length (after 10 bytes) ≡ length (take_through 10 bytes) = omega arith in

@@ -36,14 +36,14 @@ appends_both (Some a) (Some b) None x y p q = q
 appends_both (Some a) None c x y p q = absurd p
 
 -- a part of the rest was written
-pub wrote_more : (a b c : Option (List ℕ)) (bytes front rest next : List ℕ) (n : ℕ) → bytes ≡ front ++ rest
-    → Appends a b front → Appends b c (take n rest)
+pub wrote_more : (a b c : Option (List ℕ)) (bytes prefix rest next : List ℕ) (n : ℕ) → bytes ≡ prefix ++ rest
+    → Appends a b prefix → Appends b c (take n rest)
     → next ≡ drop n rest → (more : List ℕ) × (bytes ≡ more ++ next) × Appends a c more
-wrote_more a b c bytes front rest next n parts before now is = (
-  front ++ take n rest,
-  parts ∙ (ap (λ z. front ++ z) (sym (take-append-drop n rest))
-      ∙ (sym (append_assoc front (take n rest) (drop n rest)) ∙ ap (λ z. (front ++ take n rest) ++ z) (sym is))),
-  appends_both a b c front (take n rest) before now,
+wrote_more a b c bytes prefix rest next n parts before now is = (
+  prefix ++ take n rest,
+  parts ∙ (ap (λ z. prefix ++ z) (sym (take-append-drop n rest))
+      ∙ (sym (append_assoc prefix (take n rest) (drop n rest)) ∙ ap (λ z. (prefix ++ take n rest) ++ z) (sym is))),
+  appends_both a b c prefix (take n rest) before now,
 )
 
 -- the list isn't empty

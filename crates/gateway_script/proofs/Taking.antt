@@ -35,7 +35,7 @@ whole_case most bytes rest script is few end = elim (cases_lt (length script) mo
       sym (ap (λ k. take k bytes) n ∙ (ap (take (length script)) is ∙ take-append_seam script rest))
 ]
 
--- so many bytes, or all to the end, are the front of what there was
+-- so many bytes, or all to the end, are the prefix of what there was
 pub script_read : (old new : Option (List ℕ)) (script : List ℕ) → Consumes old new script → length script ≤ 1073741825
     → (length script < 1073741825 → IsAtEnd new) → IsScript old script
 script_read None new script is few end = tt {0}

@@ -71,7 +71,7 @@ module _ {C : Type 0} (v : View C) (now : C) (held : Option (List ℕ)) (r : Run
       → Appends v.held held (written (conn_in e) outcome) → IsAt (seen_after v now held) (stepped r (conn_in e) e m)
   stays_at outcome stands is up appends = record {
     keeps = stands;
-    wrote = appends_both v.front v.held held r.out (written (conn_in e) (step r.state e m).outcome) at.wrote
+    wrote = appends_both v.prefix v.held held r.out (written (conn_in e) (step r.state e m).outcome) at.wrote
         (subst (λ o. Appends v.held held (written (conn_in e) o)) (sym is) appends);
     up = ap is_fault is ∙ up;
     history = history_on v now held r e m at.history leaves;
@@ -81,8 +81,8 @@ module _ {C : Type 0} (v : View C) (now : C) (held : Option (List ℕ)) (r : Run
   goes_down : OnDevice v r → held ≡ v.held → v.u.down now ≡ true → (step r.state e m).outcome ≡ Refused errors.DiskFault
       → IsDown (seen_after v now held) (stepped r (conn_in e) e m)
   goes_down durable same fell is = record {
-    wrote = subst (λ h. Appends v.front h (r.out ++ written (conn_in e) (step r.state e m).outcome)) (sym same)
-        (subst (Appends v.front v.held) (sym (ap (λ o. r.out ++ written (conn_in e) o) is ∙ append-nil r.out))
+    wrote = subst (λ h. Appends v.prefix h (r.out ++ written (conn_in e) (step r.state e m).outcome)) (sym same)
+        (subst (Appends v.prefix v.held) (sym (ap (λ o. r.out ++ written (conn_in e) o) is ∙ append-nil r.out))
         at.wrote);
     down = ap is_fault is;
     fell = fell;
@@ -96,19 +96,19 @@ module _ {C : Type 0} (v : View C) (now : C) (held : Option (List ℕ)) (r : Run
   wants_memory stands same = record {
     keeps = stands;
     out = r.out;
-    wrote = subst (λ h. Appends v.front h r.out) (sym same) at.wrote;
+    wrote = subst (λ h. Appends v.prefix h r.out) (sym same) at.wrote;
     replies = inr at.history.output;
     history = history_on v now held r e m at.history leaves;
   }
 
-  -- a front part of the reply was written
+  -- a prefix part of the reply was written
   breaks_off : (outcome : Outcome) → v.u.stands now true (step r.state e m).state → (step r.state e m).outcome ≡ outcome
       → AppendsPart v.held held (written (conn_in e) outcome)
       → IsStopped (seen_after v now held) faults.Io (stepped r (conn_in e) e m)
   breaks_off outcome stands is wrote = record {
     keeps = stands;
     out = r.out ++ wrote.0;
-    wrote = appends_both v.front v.held held r.out wrote.0 at.wrote wrote.3;
+    wrote = appends_both v.prefix v.held held r.out wrote.0 at.wrote wrote.3;
     replies = (
       wrote.0,
       wrote.1,

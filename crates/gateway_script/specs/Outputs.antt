@@ -22,7 +22,7 @@ abbrev pub IsFirst : List Marked → List Marked → Type 0
 IsFirst first all = (later : List Marked) × (all ≡ later ++ first)
 
 -- What was written of these events by a run that was broken off: all, but nothing of the latest where memory was
--- wanting, or of the latest a front part, where the writer failed
+-- wanting, or of the latest a prefix part, where the writer failed
 abbrev pub WroteMost : CallFault → State → List Marked → List ℕ → Type 0
 WroteMost NoMemory st past out = (out ≡ output_of st past) ⊎ (out ≡ output_of st (drop 1 past))
 WroteMost Io st past out =
@@ -30,7 +30,7 @@ WroteMost Io st past out =
     (drop 1 past) ++ part)
 WroteMost DiskFault st past out = ⊥
 
--- a front part of the bytes was put after what was there
+-- a prefix part of the bytes was put after what was there
 abbrev pub AppendsPart : Option (List ℕ) → Option (List ℕ) → List ℕ → Type 0
 AppendsPart old new bytes = (part : List ℕ) × (missing : List ℕ) × (bytes ≡ part ++ missing) × Appends old new part
 

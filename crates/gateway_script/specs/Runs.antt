@@ -22,17 +22,17 @@ abbrev pub with_marks : Run → List Mark → Run
 with_marks r marks = record r { marks = marks }
 
 -- A run as it is seen: the connections before it and now, where the history was before it, and what the writer holds
--- now, and held in front of it
+-- now, and held before it
 pub record View (C : Type 0) : Type 1 where
   pub u : Ghosts C
   pub before : C
   pub now : C
   pub st : State
   pub held : Option (List ℕ)
-  pub front : Option (List ℕ)
+  pub prefix : Option (List ℕ)
 
 abbrev pub view : {C : Type 0} → Ghosts C → C → C → State → Option (List ℕ) → Option (List ℕ) → View C
-view u before now st held front = record { u = u; before = before; now = now; st = st; held = held; front = front }
+view u before now st held prefix = record { u = u; before = before; now = now; st = st; held = held; prefix = prefix }
 
 -- The run is at the history of its events, and its output is theirs. Since its beginning images are limited to its
 -- uploads
@@ -46,13 +46,13 @@ pub record IsHistory {C : Type 0} (v : View C) (r : Run) : Type 0 where
 -- hasn't failed
 pub record IsAt {C : Type 0} (v : View C) (r : Run) : Type 0 where
   pub keeps : v.u.stands v.now true r.state
-  pub wrote : Appends v.front v.held r.out
+  pub wrote : Appends v.prefix v.held r.out
   pub up : r.down ≡ false
   pub history : IsHistory v r
 
 -- the disk failed at the latest event, after what the run wrote, and so the connections are down
 pub record IsDown {C : Type 0} (v : View C) (r : Run) : Type 0 where
-  pub wrote : Appends v.front v.held r.out
+  pub wrote : Appends v.prefix v.held r.out
   pub down : r.down ≡ true
   pub fell : v.u.down v.now ≡ true
   pub history : IsHistory v r
@@ -63,7 +63,7 @@ pub record IsDown {C : Type 0} (v : View C) (r : Run) : Type 0 where
 pub record IsStopped {C : Type 0} (v : View C) (fault : CallFault) (r : Run) : Type 0 where
   pub keeps : v.u.stands v.now true r.state
   pub out : List ℕ
-  pub wrote : Appends v.front v.held out
+  pub wrote : Appends v.prefix v.held out
   pub replies : WroteMost fault v.st r.past out
   pub history : IsHistory v r
 

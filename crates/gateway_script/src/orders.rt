@@ -6,7 +6,7 @@ ghost use Rattle.gateway_script.specs.Shown.{order_shown, say_of, came_of};
 use hex::FromHexError;
 use std::alloc::{AllocError, Global};
 use tus_request::number::number;
-use tus_request::texts::{after, front};
+use tus_request::texts::{after, prefix};
 
 /// What a line of a script asks for.
 #[derive(Drop)]
@@ -47,7 +47,7 @@ fn connection(text: &[u8]) -> Option<u64>
 fn say(alloc: Global, rest: &[u8]) -> Result<Order, AllocError>
     ensures { IfOk result (λ o. order_shown o ≡ say_of rest.now) }
 {
-    let Some(conn) = connection(front(rest, b' ')) else {
+    let Some(conn) = connection(prefix(rest, b' ')) else {
         return Ok(Order::Bad);
     };
     let text = after(rest, b' ');
@@ -61,7 +61,7 @@ fn say(alloc: Global, rest: &[u8]) -> Result<Order, AllocError>
 fn came(alloc: Global, rest: &[u8]) -> Result<Order, AllocError>
     ensures { IfOk result (λ o. order_shown o ≡ came_of rest.now) }
 {
-    let Some(conn) = connection(front(rest, b' ')) else {
+    let Some(conn) = connection(prefix(rest, b' ')) else {
         return Ok(Order::Bad);
     };
     match hex::decode(alloc, after(rest, b' ')) {
@@ -82,7 +82,7 @@ pub(crate) fn read_order(alloc: Global, line: &[u8]) -> Result<Order, AllocError
     let line = bare(line);
     match line.first() {
         None | Some(b'#') => Ok(Order::Skip),
-        Some(_) => read_word(alloc, front(line, b' '), after(line, b' ')),
+        Some(_) => read_word(alloc, prefix(line, b' '), after(line, b' ')),
     }
 }
 

@@ -13,7 +13,7 @@ use crate::lines::give;
 use crate::orders::{Order, read_order};
 use crate::streams::CountedWrite;
 use std::alloc::Global;
-use tus_request::texts::{after, front};
+use tus_request::texts::{after, prefix};
 use tus_session::{Connections, MOST_OPEN, SessionError};
 
 /// The most bytes of a line: a CR counts, the LF doesn't.
@@ -29,9 +29,9 @@ fn obey<C: Connections, W: CountedWrite>(
     writer: &mut W,
     order: &Order,
 ) -> Result<(), CallFault>
-    ensures does { (before : C) (st : State) (r : Run) (front : Option (List ℕ))
-        → IsAt (view C.Connections before core.old st (W.contents writer.old) front) r
-        → Went (view C.Connections before core.new st (W.contents writer.new) front) result
+    ensures does { (before : C) (st : State) (r : Run) (prefix : Option (List ℕ))
+        → IsAt (view C.Connections before core.old st (W.contents writer.old) prefix) r
+        → Went (view C.Connections before core.new st (W.contents writer.new) prefix) result
         (obeyed (order_shown order.now)) r }
     ensures counts { Counts (IsErrOf result CallFault.DiskFault) (C.failures core.old) (C.failures core.new) }
     ensures io { Counts (IsErrOf result CallFault.Io) (W.refusals writer.old) (W.refusals writer.new) }
@@ -51,9 +51,9 @@ fn cut_open<C: Connections, W: CountedWrite>(
     writer: &mut W,
     conn: usize,
 ) -> Result<(), CallFault>
-    ensures does { (before : C) (st : State) (r : Run) (front : Option (List ℕ)) (k : ℕ)
-        → IsAt (view C.Connections before core.old st (W.contents writer.old) front) r
-        → CutOne (view C.Connections before core.new st (W.contents writer.new) front) result k conn r }
+    ensures does { (before : C) (st : State) (r : Run) (prefix : Option (List ℕ)) (k : ℕ)
+        → IsAt (view C.Connections before core.old st (W.contents writer.old) prefix) r
+        → CutOne (view C.Connections before core.new st (W.contents writer.new) prefix) result k conn r }
     ensures counts { Counts (IsErrOf result CallFault.DiskFault) (C.failures core.old) (C.failures core.new) }
     ensures io { Counts (IsErrOf result CallFault.Io) (W.refusals writer.old) (W.refusals writer.new) }
 {
@@ -79,7 +79,7 @@ fn first_line(script: &[u8]) -> &[u8]
 fn too_long(start: u64, line: &[u8]) -> bool
     ensures { result ≡ is_long start line.now }
 {
-    front(line, b'\n').len() > MAX_LINE || start.saturating_add(line.len() as u64) > MAX_SCRIPT
+    prefix(line, b'\n').len() > MAX_LINE || start.saturating_add(line.len() as u64) > MAX_SCRIPT
 }
 
 /// Whether a line asks for nothing that there is.
@@ -98,9 +98,9 @@ fn run_line<C: Connections, W: CountedWrite>(
     start: u64,
     line: &[u8],
 ) -> Result<(), ScriptFault>
-    ensures does { (before : C) (st : State) (r : Run) (front : Option (List ℕ)) (lines : List (List ℕ))
-        → IsAt (view C.Connections before core.old st (W.contents writer.old) front) r
-        → LineRan (view C.Connections before core.new st (W.contents writer.new) front) result number start line.now
+    ensures does { (before : C) (st : State) (r : Run) (prefix : Option (List ℕ)) (lines : List (List ℕ))
+        → IsAt (view C.Connections before core.old st (W.contents writer.old) prefix) r
+        → LineRan (view C.Connections before core.new st (W.contents writer.new) prefix) result number start line.now
         lines r }
     ensures counts { Counts (IsErrOf result ScriptFault.DiskFault) (C.failures core.old) (C.failures core.new) }
     ensures io { Counts (IsErrOf result ScriptFault.Io) (W.refusals writer.old) (W.refusals writer.new) }
@@ -108,7 +108,7 @@ fn run_line<C: Connections, W: CountedWrite>(
     if too_long(start, line) {
         return Err(ScriptFault::Script(number));
     }
-    let order = read_order(alloc, front(line, b'\n'))?;
+    let order = read_order(alloc, prefix(line, b'\n'))?;
     if is_no_order(&order) {
         return Err(ScriptFault::Script(number));
     }
@@ -122,9 +122,9 @@ fn cut_all<C: Connections, W: CountedWrite>(
     core: &mut C,
     writer: &mut W,
 ) -> Result<(), CallFault>
-    ensures does { (before : C) (st : State) (r : Run) (front : Option (List ℕ))
-        → IsAt (view C.Connections before core.old st (W.contents writer.old) front) r
-        → Went (view C.Connections before core.new st (W.contents writer.new) front) result (cut_from most_open 0) r }
+    ensures does { (before : C) (st : State) (r : Run) (prefix : Option (List ℕ))
+        → IsAt (view C.Connections before core.old st (W.contents writer.old) prefix) r
+        → Went (view C.Connections before core.new st (W.contents writer.new) prefix) result (cut_from most_open 0) r }
     ensures counts { Counts (IsErrOf result CallFault.DiskFault) (C.failures core.old) (C.failures core.new) }
     ensures io { Counts (IsErrOf result CallFault.Io) (W.refusals writer.old) (W.refusals writer.new) }
 {
@@ -143,9 +143,9 @@ pub fn run_script<C: Connections, W: CountedWrite>(
     writer: &mut W,
     script: &[u8],
 ) -> Result<(), ScriptFault>
-    ensures does { (before : C) (st : State) (r : Run) (front : Option (List ℕ))
-        → IsAt (view C.Connections before core.old st (W.contents writer.old) front) r
-        → Ends (view C.Connections before core.new st (W.contents writer.new) front) result
+    ensures does { (before : C) (st : State) (r : Run) (prefix : Option (List ℕ))
+        → IsAt (view C.Connections before core.old st (W.contents writer.old) prefix) r
+        → Ends (view C.Connections before core.new st (W.contents writer.new) prefix) result
         (run_lines 1 0 (script_lines script.now)) r }
     ensures counts { Counts (IsErrOf result ScriptFault.DiskFault) (C.failures core.old) (C.failures core.new) }
     ensures io { Counts (IsErrOf result ScriptFault.Io) (W.refusals writer.old) (W.refusals writer.new) }

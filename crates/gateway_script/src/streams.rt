@@ -18,7 +18,7 @@ pub trait CountedRead {
     /// How many calls it refused, or 2^64 - 1 where they were more or weren't counted.
     ghost refusals: { Self → ℕ };
 
-    /// Reads into the front of the piece: how many bytes, none only at the end.
+    /// Reads into the prefix of the piece: how many bytes, none only at the end.
     fn read_piece(&mut self, piece: &mut [u8]) -> Result<usize, Refused>
         ensures bound { ReadsAtMost result piece.new }
         ensures within { IfOk result (λ count. count ≤ length piece.old) }
@@ -36,7 +36,7 @@ pub trait CountedWrite {
     /// How many calls it refused, or 2^64 - 1 where they were more or weren't counted.
     ghost refusals: { Self → ℕ };
 
-    /// Writes a front part of the piece: how many bytes, none only where the piece is empty.
+    /// Writes a prefix part of the piece: how many bytes, none only where the piece is empty.
     fn write_piece(&mut self, piece: &[u8]) -> Result<usize, Refused>
         ensures bound { WritesAtMost result piece.now }
         ensures bytes { WriteAppends (contents self.old) (contents self.new) result piece.now }

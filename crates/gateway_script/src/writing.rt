@@ -26,7 +26,7 @@ pub(crate) fn write_out<W: CountedWrite>(writer: &mut W, bytes: &[u8]) -> Result
     Ok(())
 }
 
-/// The line in front of the bytes that a call gave.
+/// The line before the bytes that a call gave.
 fn report_count(
     alloc: Global,
     conn: usize,

@@ -18,8 +18,8 @@ use Rattle.gateway_serve.specs.declared.links.Stage.TheVariants as stages
 use Rattle.gateway_serve.proofs.Steps.{Shuts, came_shuts, came_lost, came_failed, more_shuts, more_lost, more_failed}
 use Rattle.gateway_serve.proofs.Talks.{talks_here}
 
-shorter : (front rest all : List ℕ) → all ≡ front ++ rest → length all ≤ 4096 → length rest ≤ 4096
-shorter front rest all e few = omega (arith, ap length e, length-append front rest, few)
+shorter : (prefix rest all : List ℕ) → all ≡ prefix ++ rest → length all ≤ 4096 → length rest ≤ 4096
+shorter prefix rest all e few = omega (arith, ap length e, length-append prefix rest, few)
 
 closing : (closes more : Bool)
     → is_last (if closes then stages.Closed else if more then stages.Giving else stages.Taking) ≡ true → closes ≡ true

@@ -25,7 +25,7 @@ seen_of n [] = []
 seen_of n (s ∷ seen) = if n == s.conn then s ∷ seen_of n seen else seen_of n seen
 
 abbrev pub IsAllBut : ℕ → List ℕ → List ℕ → Type 0
-IsAllBut most front all = (rest : List ℕ) × (all ≡ front ++ rest) × (length rest ≤ most)
+IsAllBut most prefix all = (rest : List ℕ) × (all ≡ prefix ++ rest) × (length rest ≤ most)
 
 -- THE REASONS for which a socket ends only once all is written: the session closed its connection, or that was late
 -- between requests or in one

@@ -25,7 +25,7 @@ const MOST_WAITING: usize = 65_536;
 /// So much memory a buffer of which all is written keeps, in bytes: a piece of a text needs none anew.
 const MOST_KEPT: usize = 131_072;
 
-/// What was read from a socket: the session took a front part of it.
+/// What was read from a socket: the session took a prefix part of it.
 #[derive(Drop)]
 pub(crate) struct Input {
     bytes: [u8; PIECE],
@@ -99,7 +99,7 @@ impl Input {
     }
 }
 
-/// What a session gave for a socket: a front part of it is written.
+/// What a session gave for a socket: a prefix part of it is written.
 #[derive(Drop)]
 pub(crate) struct Output {
     bytes: Vec<u8>,
@@ -141,7 +141,7 @@ impl Output {
         self.left().len() < MOST_WAITING
     }
 
-    /// Writes a front part of what is left: how many bytes.
+    /// Writes a prefix part of what is left: how many bytes.
     pub(crate) fn write<S: Read + Write>(&mut self, socket: &mut Socket<S>) -> io::Result<usize>
         ensures count { IfOk result (λ n. length (take n self.old) ≡ n) }
         ensures rest { IfOk result (λ n. self.new ≡ drop n self.old) }

@@ -78,7 +78,7 @@ impl<S: Read + Write> Socket<S> {
         }
     }
 
-    /// Reads into the front of `buf`: how many bytes.
+    /// Reads into the prefix of `buf`: how many bytes.
     pub(crate) fn read(&mut self, buf: &mut [u8]) -> io::Result<usize>
         ensures bound { ReadsAtMost result buf.new }
         ensures came { IfOk result (λ n. came_of self.new ≡ came_of self.old ++ take n buf.new) }
@@ -101,7 +101,7 @@ impl<S: Read + Write> Socket<S> {
         }
     }
 
-    /// Writes a front part of the bytes: how many.
+    /// Writes a prefix part of the bytes: how many.
     pub(crate) fn write(&mut self, bytes: &[u8]) -> io::Result<usize>
         ensures bound { WritesAtMost result bytes.now }
         ensures went { IfOk result (λ n. went_of self.new ≡ went_of self.old ++ take n bytes.now) }

@@ -94,7 +94,7 @@ enum Passes {
     Out(&'static [u8]),
 }
 
-/// What passes until the connection ends, and what is logged of it, without the time at the front of each line. Where
+/// What passes until the connection ends, and what is logged of it, without the time at the start of each line. Where
 /// nothing else is said, a line's `ms` are the readings of the clock since the request's first byte.
 const TALKS: [(&[Passes], &str); 7] = [
     // nothing

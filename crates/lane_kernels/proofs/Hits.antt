@@ -7,7 +7,7 @@ use Rattle.std.specs.List.{prefix_len}
 use Rattle.std.specs.Int.{Width, w8, w16, w32, w64, w128}
 use lib.Lanes.{zip2, mask_l, top}
 use mir.Val.{bits, hbits}
-use Rattle.lane_kernels.specs.Front.{first_set}
+use Rattle.lane_kernels.specs.Classes.{first_set}
 
 -- a lane of a comparison: all ones, or zero
 abbrev pub hit : Width → Bool → ℕ

@@ -1,5 +1,5 @@
 pub mod Hits
-pub mod Fronts
+pub mod Prefixes
 pub mod Written
 pub mod Made
 pub mod Pairs

@@ -64,23 +64,23 @@ module _ (bytes : List ℕ) (long : length bytes ≡ 64) where
   split_last : bytes ≡ take 63 bytes ++ get_or bytes 63 0 ∷ []
   split_last = sym (take_all 64 bytes (omega (arith, long))) ∙ take_more bytes 63 0 (omega (arith, long))
 
-  front_long : (first : ℕ) → length (first ∷ take 63 bytes) ≡ 2 * 32
-  front_long first = omega (arith, length-take-le 63 bytes (omega (arith, long)))
+  prefix_long : (first : ℕ) → length (first ∷ take 63 bytes) ≡ 2 * 32
+  prefix_long first = omega (arith, length-take-le 63 bytes (omega (arith, long)))
 
   pub joined_units : (big : Bool) (odd : Option ℕ) → units_of big (take 64 (with_carried odd bytes)) ≡ units_of big
       (with_carried odd bytes)
   joined_units big None = ap (units_of big) (take_all 64 bytes (omega (arith, long)))
   joined_units big (Some first) =
       sym (ap (λ rest. units_of big (first ∷ rest)) split_last ∙ one_more big 32 (first ∷ take 63 bytes)
-      (get_or bytes 63 0) (front_long first))
+      (get_or bytes 63 0) (prefix_long first))
 
   pub joined_long : (odd : Option ℕ) → length (take 64 (with_carried odd bytes)) ≡ 2 * 32
   joined_long None = length-take-le 64 bytes (omega (arith, long)) ∙ omega arith
-  joined_long (Some first) = front_long first
+  joined_long (Some first) = prefix_long first
 
   pub left_of_none : left_over bytes ≡ None
   left_of_none = none_left 32 bytes (omega (arith, long))
 
   pub left_of_one : (first : ℕ) → left_over (first ∷ bytes) ≡ Some (get_or bytes 63 0)
   left_of_one first = ap (λ rest. left_over (first ∷ rest)) split_last ∙ one_left 32 (first ∷ take 63 bytes)
-      (get_or bytes 63 0) (front_long first)
+      (get_or bytes 63 0) (prefix_long first)

@@ -9,7 +9,7 @@ use Rattle.std.proofs.lemmas.Bool.Decides.{nat_tests}
 use Rattle.std.proofs.lemmas.List.Sums.{prefix_len_passes}
 use Rattle.std.specs.List.{prefix_len}
 use Rattle.enc_model.specs.Index.{within}
-use Rattle.lane_kernels.specs.Front.{first_set}
+use Rattle.lane_kernels.specs.Classes.{first_set}
 use Rattle.std.specs.Option.{is_some}
 use mir.Val.{bool_byte}
 use lib.Lanes.{mask_l}
@@ -51,9 +51,9 @@ bit_small : (b : Bool) → bool_byte b < 2 ^ 1
 bit_small true = lit< tt
 bit_small false = lit< tt
 
-added_front : (b : Bool) (leads : List Bool) → mask_l leads * 2 ^ 1 + bool_byte b ≡ mask_l (b ∷ leads)
-added_front true leads = omega arith
-added_front false leads = omega arith
+added_prefix : (b : Bool) (leads : List Bool) → mask_l leads * 2 ^ 1 + bool_byte b ≡ mask_l (b ∷ leads)
+added_prefix true leads = omega arith
+added_prefix false leads = omega arith
 
 pub mask_after : (carried : Option ℕ) (units : List ℕ) → length units ≡ 32 →
     bit_or (mask_l (map is_lead units) * 2 % 2 ^ 64) (bool_byte (is_some carried)) % 2 ^ 32 ≡ mask_l
@@ -66,7 +66,7 @@ mask_after carried units long =
     let bit : bool_byte (is_some carried) < 2 ^ 1 = bit_small (is_some carried) in
     let shifted : mask_l leads * 2 % 2 ^ 64 ≡ mask_l leads * 2 ^ 1 = omega (arith, bound) in
     ap (λ m. m % 2 ^ 32) (ap (λ m. bit_or m (bool_byte (is_some carried))) shifted
-    ∙ or_shifted (mask_l leads) 1 (bool_byte (is_some carried)) bit ∙ added_front (is_some carried) leads)
+    ∙ or_shifted (mask_l leads) 1 (bool_byte (is_some carried)) bit ∙ added_prefix (is_some carried) leads)
     ∙ low_mask 32 (is_some carried ∷ leads) (omega (arith, many))
 
 -- by place

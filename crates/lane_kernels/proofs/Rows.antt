@@ -4,7 +4,7 @@ use Rattle.std.proofs.Common.{suc}
 use Rattle.std.proofs.lemmas.Bool.{true≢false}
 use Rattle.std.specs.List.{prefix_len}
 use Rattle.std.specs.Char.{is_ascii}
-use Rattle.lane_kernels.specs.Front.{is_plain_2022}
+use Rattle.lane_kernels.specs.Classes.{is_plain_2022}
 use Rattle.lane_kernels.specs.Units.{ArePaired, is_lead, is_trail, last_lead, left_over, units_of}
 use Rattle.lane_kernels.specs.Steps.{scalars_of}
 

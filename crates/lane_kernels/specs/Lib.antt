@@ -1,4 +1,4 @@
-pub mod Front
+pub mod Classes
 pub mod Orders
 pub mod Units
 pub mod Steps

@@ -21,10 +21,10 @@ abbrev pub IsCarried : Option ℕ → Type 0
 IsCarried None = Unit {0}
 IsCarried (Some unit) = is_lead unit ≡ true
 
--- PAIRED UNITS, after a carried lead or none: a unit is a trail just where a lead stands right in front of it. So each
+-- PAIRED UNITS, after a carried lead or none: a unit is a trail just where a lead stands right before it. So each
 -- trail stands right after a lead, and each lead has a trail right after it, but for a lead that is the last unit.
 pub record ArePaired (carried : Option ℕ) (units : List ℕ) : Type 0 where
-  -- in front of the first unit stands the carried lead
+  -- before the first unit stands the carried lead
   pub first : 0 < length units → is_trail (slice_index units 0) ≡ is_some carried
   pub next : (k : ℕ) → k + 1 < length units → is_trail (slice_index units (k + 1)) ≡ is_lead (slice_index units k)
 
@@ -36,7 +36,7 @@ lead_of unit = if is_lead unit then Some unit else None
 abbrev pub last_lead : List ℕ → Option ℕ
 last_lead units = lead_of (slice_index units (length units - 1))
 
--- the bytes, with what is carried in front
+-- the bytes, with what is carried at the start
 abbrev pub with_carried : Option ℕ → List ℕ → List ℕ
 with_carried None bytes = bytes
 with_carried (Some byte) bytes = byte ∷ bytes

@@ -25,7 +25,7 @@ fn are_dense(bytes: &[u8]) -> bool
 
 impl AsciiFinder for AsciiLanes {
     #[inline(always)]
-    fn front(&self, bytes: &[u8]) -> Option<usize> {
+    fn prefix(&self, bytes: &[u8]) -> Option<usize> {
         if are_dense(bytes) {
             return None;
         }

@@ -4,7 +4,7 @@ ghost use Rattle.std.specs.Prelude.{◌≡◌, ◌≤◌, ◌+◌, length, drop,
 ghost use Rattle.std.specs.List.{prefix_len};
 ghost use Rattle.std.specs.Char.{is_ascii};
 ghost use Rattle.enc_model.specs.Index.{within};
-ghost use Rattle.lane_kernels.specs.Front.{is_plain_2022};
+ghost use Rattle.lane_kernels.specs.Classes.{is_plain_2022};
 
 use crate::lanes::{
     Ascii, Class, LANES, LONGEST, Plain2022, Range, WIDE, WIDEST, are_ascii, are_long_ascii,
@@ -76,7 +76,7 @@ fn skip_pairs_of_runs(bytes: &[u8]) -> usize
     at
 }
 
-/// The same where a run is in front, and else nothing: two runs are looked at together only past a first.
+/// The same where a run is at the start, and else nothing: two runs are looked at together only past a first.
 #[inline(always)]
 fn skip_long_ascii(bytes: &[u8]) -> usize
     ensures within { result ≤ length bytes.now }

@@ -6,7 +6,7 @@ ghost use Rattle.std.specs.Simd.Lanes.{chunk};
 ghost use Rattle.std.specs.List.{prefix_len};
 ghost use Rattle.std.specs.Char.{is_ascii};
 ghost use Rattle.enc_model.specs.Index.{within};
-ghost use Rattle.lane_kernels.specs.Front.{is_plain_2022, first_set};
+ghost use Rattle.lane_kernels.specs.Classes.{is_plain_2022, first_set};
 
 pub(crate) use enc_model::LANES;
 use std::simd::prelude::*;

@@ -12,23 +12,23 @@ apart_at at n at' n' p (inl before) here there = omega (arith, here.below, there
 apart_at at n at' n' p (inr after) here there = omega (arith, here.from, there.below)
 
 -- what was written stands there once it is synced
-pub written_firm : {seen mid seen' : ℕ → ℕ} {loose between loose' : ℕ → Type 0} {at : ℕ} {bytes : List ℕ}
-    {wrote synced : Type 0} → Writes at bytes wrote seen mid loose between → Syncs synced mid seen' between loose'
-    → wrote → synced → Firm seen' loose' at bytes
-written_firm {mid = mid} {seen' = seen'} {at = at} {bytes = bytes} writes syncs wrote synced = record {
+pub written_synced : {seen mid seen' : ℕ → ℕ} {unsynced between unsynced' : ℕ → Type 0} {at : ℕ} {bytes : List ℕ}
+    {wrote synced : Type 0} → Writes at bytes wrote seen mid unsynced between → Syncs synced mid seen' between unsynced'
+    → wrote → synced → Firm seen' unsynced' at bytes
+written_synced {mid = mid} {seen' = seen'} {at = at} {bytes = bytes} writes syncs wrote synced = record {
   reads = span_same seen' mid at (length bytes) (λ p here. syncs.same synced p) ∙ writes.inside wrote;
-  firm = λ p here. syncs.firm synced p;
+  is_synced = λ p here. syncs.is_synced synced p;
 }
 
-pub firm_image : {seen image : ℕ → ℕ} {loose : ℕ → Type 0} {at : ℕ} {xs : List ℕ} → Firm seen loose at xs
-    → IsImage seen loose image → span image at (length xs) ≡ xs
-firm_image {seen = seen} {image = image} {at = at} {xs = xs} has is =
-    span_same image seen at (length xs) (λ p here. is.same p (has.firm p here)) ∙ has.reads
+pub synced_image : {seen image : ℕ → ℕ} {unsynced : ℕ → Type 0} {at : ℕ} {xs : List ℕ} → Firm seen unsynced at xs
+    → IsImage seen unsynced image → span image at (length xs) ≡ xs
+synced_image {seen = seen} {image = image} {at = at} {xs = xs} has is =
+    span_same image seen at (length xs) (λ p here. is.same p (has.is_synced p here)) ∙ has.reads
 
 module _ {D : Type 0} {disk : Ghosts D} where
   pub lasts_call : {old new : D} {P : (ℕ → ℕ) → Type 0} → Elapses (disk.moment old) (disk.moment new)
-      (disk.left_since old) (disk.left_since new) (disk.seen new) (disk.loose new)
-      → ((image : ℕ → ℕ) → IsImage (disk.seen new) (disk.loose new) image → P image) → Lasts disk old new P
+      (disk.left_since old) (disk.left_since new) (disk.seen new) (disk.unsynced new)
+      → ((image : ℕ → ℕ) → IsImage (disk.seen new) (disk.unsynced new) image → P image) → Lasts disk old new P
   lasts_call elapses here = record {
     later = elapses.later;
     nothing_else = λ t image le left. ⊎_elim inl (λ now. inr (here image now)) (elapses.nothing_else t image le left);
@@ -75,8 +75,9 @@ counts_as counts f g = record {
   nothing_else = λ _. g;
 }
 
-pub reads_writes : {seen seen' : ℕ → ℕ} {loose loose' : ℕ → Type 0} {at at' : ℕ} {bytes xs : List ℕ} {done : Type 0}
-    → Reads seen at xs → Writes at' bytes done seen seen' loose loose' → Apart at (length xs) at' (length bytes)
+pub reads_writes : {seen seen' : ℕ → ℕ} {unsynced unsynced' : ℕ
+    → Type 0} {at at' : ℕ} {bytes xs : List ℕ} {done : Type 0}
+    → Reads seen at xs → Writes at' bytes done seen seen' unsynced unsynced' → Apart at (length xs) at' (length bytes)
     → Reads seen' at xs
 reads_writes {seen = seen} {seen' = seen'} {at = at} {at' = at'} {bytes = bytes} {xs = xs} gives writes apart = record {
   reads = span_same seen' seen at (length xs)
@@ -84,15 +85,15 @@ reads_writes {seen = seen} {seen' = seen'} {at = at} {at' = at'} {bytes = bytes}
       ∙ gives.reads;
 }
 
-pub reads_firm : {seen seen' : ℕ → ℕ} {loose loose' : ℕ → Type 0} {at : ℕ} {xs : List ℕ} {done : Type 0}
-    → Reads seen at xs → Syncs done seen seen' loose loose' → done → Firm seen' loose' at xs
-reads_firm {seen = seen} {seen' = seen'} {at = at} {xs = xs} gives syncs done = record {
+pub reads_synced : {seen seen' : ℕ → ℕ} {unsynced unsynced' : ℕ → Type 0} {at : ℕ} {xs : List ℕ} {done : Type 0}
+    → Reads seen at xs → Syncs done seen seen' unsynced unsynced' → done → Firm seen' unsynced' at xs
+reads_synced {seen = seen} {seen' = seen'} {at = at} {xs = xs} gives syncs done = record {
   reads = span_same seen' seen at (length xs) (λ p here. syncs.same done p) ∙ gives.reads;
-  firm = λ p here. syncs.firm done p;
+  is_synced = λ p here. syncs.is_synced done p;
 }
 
-pub reads_keeps : {seen seen' : ℕ → ℕ} {loose loose' : ℕ → Type 0} {at : ℕ} {xs : List ℕ} → Reads seen at xs
-    → Keeps seen seen' loose loose' → Reads seen' at xs
+pub reads_keeps : {seen seen' : ℕ → ℕ} {unsynced unsynced' : ℕ → Type 0} {at : ℕ} {xs : List ℕ} → Reads seen at xs
+    → Keeps seen seen' unsynced unsynced' → Reads seen' at xs
 reads_keeps {seen = seen} {seen' = seen'} {at = at} {xs = xs} gives keeps = record {
   reads = span_same seen' seen at (length xs) (λ p here. keeps.same p) ∙ gives.reads;
 }

@@ -15,5 +15,5 @@ abbrev pub synced_of : MemoryDisk → ℕ → ℕ
 synced_of disk p = get_or disk.synced.items p 0
 
 -- it was written since the last sync
-abbrev pub loose_of : MemoryDisk → ℕ → Type 0
-loose_of disk p = get_or disk.unsynced.items p false ≡ true
+abbrev pub unsynced_of : MemoryDisk → ℕ → Type 0
+unsynced_of disk p = get_or disk.unsynced.items p false ≡ true

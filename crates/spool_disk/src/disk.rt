@@ -30,7 +30,7 @@ pub trait Disk {
     ghost seen: { Self → ℕ → ℕ };
 
     /// The places where a crash may leave any byte.
-    ghost loose: { Self → ℕ → Type 0 };
+    ghost unsynced: { Self → ℕ → Type 0 };
 
     /// The moment that is now. No call goes back in time.
     ghost moment: { Self → ℕ };
@@ -54,10 +54,11 @@ pub trait Disk {
         ensures size { size self.new ≡ size self.old }
         ensures honest { honest self.old ↔ honest self.new }
         ensures bytes { honest self.old → IsOk result → buf.new ≡ span (seen self.old) at (length buf.old) }
-        ensures keeps { honest self.old → Keeps (seen self.old) (seen self.new) (loose self.old) (loose self.new) }
+        ensures keeps { honest self.old → Keeps (seen self.old) (seen self.new) (unsynced self.old)
+            (unsynced self.new) }
         ensures later { moment self.old ≤ moment self.new }
         ensures time { honest self.old → Elapses (moment self.old) (moment self.new) (left_since self.old)
-            (left_since self.new) (seen self.new) (loose self.new) }
+            (left_since self.new) (seen self.new) (unsynced self.new) }
         ensures counts { Counts (IsErr result) (failures self.old) (failures self.new) }
         ensures tells { tells (IsErr result) self.old self.new };
 
@@ -68,10 +69,10 @@ pub trait Disk {
         ensures size { size self.new ≡ size self.old }
         ensures honest { honest self.old ↔ honest self.new }
         ensures writes { honest self.old → Writes at bytes.now (IsOk result) (seen self.old) (seen self.new)
-            (loose self.old) (loose self.new) }
+            (unsynced self.old) (unsynced self.new) }
         ensures later { moment self.old ≤ moment self.new }
         ensures time { honest self.old → Elapses (moment self.old) (moment self.new) (left_since self.old)
-            (left_since self.new) (seen self.new) (loose self.new) }
+            (left_since self.new) (seen self.new) (unsynced self.new) }
         ensures counts { Counts (IsErr result) (failures self.old) (failures self.new) }
         ensures tells { tells (IsErr result) self.old self.new };
 
@@ -79,19 +80,20 @@ pub trait Disk {
     fn sync(&mut self) -> Result<(), DiskFault>
         ensures size { size self.new ≡ size self.old }
         ensures honest { honest self.old ↔ honest self.new }
-        ensures syncs { honest self.old → Syncs (IsOk result) (seen self.old) (seen self.new) (loose self.old)
-            (loose self.new) }
+        ensures syncs { honest self.old → Syncs (IsOk result) (seen self.old) (seen self.new) (unsynced self.old)
+            (unsynced self.new) }
         ensures later { moment self.old ≤ moment self.new }
         ensures time { honest self.old → Elapses (moment self.old) (moment self.new) (left_since self.old)
-            (left_since self.new) (seen self.new) (loose self.new) }
+            (left_since self.new) (seen self.new) (unsynced self.new) }
         ensures counts { Counts (IsErr result) (failures self.old) (failures self.new) }
         ensures tells { tells (IsErr result) self.old self.new };
 
     /// This moment is one of those since an earlier one.
-    ghost counts_now: { (disk : Self) (t : ℕ) (image : ℕ → ℕ) → t ≤ moment disk → IsImage (seen disk) (loose disk) image
+    ghost counts_now: { (disk : Self) (t : ℕ) (image : ℕ → ℕ) → t ≤ moment disk
+        → IsImage (seen disk) (unsynced disk) image
         → left_since disk t image };
 
     /// Since this moment there is no other.
     ghost only_now: { (disk : Self) (image : ℕ → ℕ) → left_since disk (moment disk) image
-        → IsImage (seen disk) (loose disk) image };
+        → IsImage (seen disk) (unsynced disk) image };
 }

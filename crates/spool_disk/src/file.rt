@@ -145,7 +145,7 @@ impl<F: Positioned> Disk for PositionedDisk<F> {
     ghost seen = { λ d p. 0 };
 
     // and so a crash may leave anything
-    ghost loose = { λ d p. Unit {0} };
+    ghost unsynced = { λ d p. Unit {0} };
 
     ghost moment = { λ d. 0 };
 

@@ -20,14 +20,14 @@ pub struct MemoryDisk {
 }
 
 impl MemoryDisk {
-    ghost use Rattle.spool_disk.specs.Memory.{size_of, bytes_of, synced_of, loose_of};
+    ghost use Rattle.spool_disk.specs.Memory.{size_of, bytes_of, synced_of, unsynced_of};
 
     /// So many zeros, all of them synced. Its calls take no memory later.
     pub fn new(alloc: Global, len: usize) -> Result<Self, AllocError>
         ensures size { IfOk result (λ disk. size_of disk ≡ len) }
         ensures zeros { IfOk result (λ disk. (p : ℕ) → bytes_of disk p ≡ 0) }
         ensures synced { IfOk result (λ disk. (p : ℕ) → synced_of disk p ≡ 0) }
-        ensures firm { IfOk result (λ disk. (p : ℕ) → loose_of disk p → ⊥) }
+        ensures is_synced { IfOk result (λ disk. (p : ℕ) → unsynced_of disk p → ⊥) }
     {
         let synced = vec![in alloc; 0; len]?;
         let written = vec![in alloc; 0; len]?;
@@ -42,12 +42,12 @@ impl MemoryDisk {
     /// What a crash of this kind leaves: one of the disk's images, with all of it synced.
     pub fn crash(self, kind: Crash) -> Self
         ensures size { size_of result ≡ size_of self }
-        ensures image { IsImage (bytes_of self) (loose_of self) (bytes_of result) }
-        ensures left { (p : ℕ) → loose_of self p → bytes_of result p
+        ensures image { IsImage (bytes_of self) (unsynced_of self) (bytes_of result) }
+        ensures left { (p : ℕ) → unsynced_of self p → bytes_of result p
             ≡ left_by kind (synced_of self p) (bytes_of self p) }
         ensures old { kind ≡ Crash.Old → (p : ℕ) → bytes_of result p ≡ synced_of self p }
         ensures synced { (p : ℕ) → synced_of result p ≡ bytes_of result p }
-        ensures firm { (p : ℕ) → loose_of result p → ⊥ }
+        ensures is_synced { (p : ℕ) → unsynced_of result p → ⊥ }
     {
         let MemoryDisk {
             mut synced,
@@ -117,7 +117,7 @@ fn mark(marks: &mut [bool], at: usize, n: usize)
 }
 
 impl Disk for MemoryDisk {
-    ghost use Rattle.spool_disk.specs.Memory.{size_of, bytes_of, loose_of};
+    ghost use Rattle.spool_disk.specs.Memory.{size_of, bytes_of, unsynced_of};
 
     ghost size = { size_of };
 
@@ -125,11 +125,11 @@ impl Disk for MemoryDisk {
 
     ghost seen = { bytes_of };
 
-    ghost loose = { loose_of };
+    ghost unsynced = { unsynced_of };
 
     ghost moment = { λ d. 0 };
 
-    ghost left_since = { λ d t image. IsImage (bytes_of d) (loose_of d) image };
+    ghost left_since = { λ d t image. IsImage (bytes_of d) (unsynced_of d) image };
 
     ghost failures = { λ d. 0 };
 
@@ -165,11 +165,11 @@ impl Disk for MemoryDisk {
 }
 
 impl CrashDisk for MemoryDisk {
-    ghost use Rattle.spool_disk.specs.Memory.{bytes_of, synced_of, loose_of};
+    ghost use Rattle.spool_disk.specs.Memory.{bytes_of, synced_of, unsynced_of};
 
     type How = Crash;
 
-    ghost chosen = { λ how old new. (p : ℕ) → loose_of old p → bytes_of new p ≡ left_by how (synced_of old p)
+    ghost chosen = { λ how old new. (p : ℕ) → unsynced_of old p → bytes_of new p ≡ left_by how (synced_of old p)
         (bytes_of old p) };
 
     fn restart(self, how: &Crash) -> Self {

@@ -17,7 +17,7 @@ use Rattle.spool_drafts.specs.Growth.{HoldsLen, GrowsTo, list_on}
 use Rattle.spool_drafts.specs.declared.draft.SpoolDraft.{SpoolDraft}
 use Rattle.spool_drafts.specs.declared.growth.Growth.{Growth}
 use Rattle.spool_drafts.proofs.Lengths.{is_open}
-use Rattle.spool_drafts.proofs.Patches.{no_fault, value_before, in_front, wants_is, need_roomy, need_short, need_fault}
+use Rattle.spool_drafts.proofs.Patches.{no_fault, value_before, in_prefix, wants_is, need_roomy, need_short, need_fault}
 use Rattle.spool_drafts.proofs.Patches.{open_grows}
 use Rattle.spool_drafts.proofs.Standings.{value_of}
 
@@ -130,16 +130,16 @@ module _ (x : IndexSet) (p : Patch) (d : SpoolDraft) (held : Holds x p d) (piece
     added_is Unencodable away here is = absurd (away refl)
     added_is Complete away here is = absurd (both_ways (is_complete p.began) still here)
 
-    front : length (text_of x p.began) ≤ length (patch_text x p false).bytes
-    front = omega (
+    prefix : length (text_of x p.began) ≤ length (patch_text x p false).bytes
+    prefix = omega (
       arith,
       ap (λ r. length r.bytes) (patch_is false),
-      in_front x p.began p.body false still
+      in_prefix x p.began p.body false still
           (sym (ap (λ r. r.fault) (patch_is false)) ∙ encodable_before),
     )
 
     pub open_longer : open_text x longer false ≡ open_text x p false ++ text
-    open_longer = open_grows x p piece text false false front (added_is fresh other stands adds)
+    open_longer = open_grows x p piece text false false prefix (added_is fresh other stands adds)
 
     pub kept_before : d.growth.short ≡ false → IsKept x p d
     kept_before roomy = record { roomy = roomy; encodable = encodable_before; incomplete = still }

@@ -138,8 +138,8 @@ module _ (x : IndexSet) (u : Upload) (n count : ℕ) (declare : Option ℕ) wher
       → text_on seen page list len ≡ text_of x u → len ≡ length (text_of x u)
       → is_complete u ≡ false → tail ≡ open_text x first false
   begins_bytes seen page len list tail long both is size still =
-      let front = text_on seen page list (4096 * (len / 4096)) in
-      let k : length front ≡ 4096 * (len / 4096) =
+      let prefix = text_on seen page list (4096 * (len / 4096)) in
+      let k : length prefix ≡ 4096 * (len / 4096) =
       omega (
         arith,
         long,
@@ -147,6 +147,6 @@ module _ (x : IndexSet) (u : Upload) (n count : ℕ) (declare : Option ℕ) wher
         length-blocks_on seen page
             list,
       ) in
-      sym (drop-append_seam front tail)
-      ∙ ap (λ (m : ℕ). drop m (front ++ tail)) (k ∙ ap (λ (t : ℕ). 4096 * (t / 4096)) size)
+      sym (drop-append_seam prefix tail)
+      ∙ ap (λ (m : ℕ). drop m (prefix ++ tail)) (k ∙ ap (λ (t : ℕ). 4096 * (t / 4096)) size)
       ∙ ap (drop (4096 * (length (text_of x u) / 4096))) (both ∙ is ∙ sym (same_text still))

@@ -8,7 +8,7 @@ use Rattle.spool_disk.proofs.Span.{length-span}
 use Rattle.spool_texts.proofs.Shown.{length-blocks_on, text_joined}
 use Rattle.spool_texts.specs.Drafts.{Draft, bytes_with, content_on, full_count, held_count}
 use Rattle.spool_texts.specs.TextOn.{blocks_on, text_on}
-use Rattle.spool_drafts.specs.Growth.{front_on, bytes_on, count_with}
+use Rattle.spool_drafts.specs.Growth.{prefix_on, bytes_on, count_with}
 use Rattle.spool_drafts.specs.declared.growth.Growth.{Growth}
 
 -- a draft that reserved no block holds what is unfinished
@@ -21,16 +21,16 @@ content_empty seen first d text none is =
 
 -- one that begins holds the committed text's last bytes
 pub begun_bytes : (seen seen' : ℕ → ℕ) (first : ℕ) (g h : Growth) (text : Draft) → g.on ≡ None → h.on ≡ Some text
-    → text.blocks ≡ [] → text.unfinished ≡ front_on seen first g.tail (g.text_len % 4096)
+    → text.blocks ≡ [] → text.unfinished ≡ prefix_on seen first g.tail (g.text_len % 4096)
     → bytes_on seen' first h h.on ≡ bytes_on seen first g g.on
 begun_bytes seen seen' first g h text none some empty is =
     ap (bytes_on seen' first h) some ∙ content_empty seen' first text _ empty is ∙ sym (ap (bytes_on seen first g) none)
 
 -- the first bytes of a block, whatever is after it
-front_of : (seen : ℕ → ℕ) (first b n : ℕ) (rest : List ℕ) → n ≤ 4096 → text_on seen first (b ∷ rest) n ≡ text_on seen
+prefix_of : (seen : ℕ → ℕ) (first b n : ℕ) (rest : List ℕ) → n ≤ 4096 → text_on seen first (b ∷ rest) n ≡ text_on seen
     first (b ∷ []) n
 unfolding blocks_on
-front_of seen first b n rest le =
+prefix_of seen first b n rest le =
     let fits : n ≤ length (span seen (4096 * (first + b)) 4096) =
     omega (arith, le, length-span seen (4096 * (first + b)) 4096) in
     take-append-le n (span seen (4096 * (first + b)) 4096) (blocks_on seen first rest) fits
@@ -46,7 +46,7 @@ tail_on seen first len list fits some =
     let cut : drop n list ≡ get_or list n 0 ∷ drop (n + 1) list = rw (add-one, drop-cons list n 0) in
     ap (λ (xs : List ℕ). text_on seen first list (4096 * n) ++ xs)
     (sym (ap (λ (xs : List ℕ). text_on seen first xs (len % 4096)) cut
-    ∙ front_of seen first (get_or list n 0) (len % 4096) (drop (n + 1) list) (omega arith)))
+    ∙ prefix_of seen first (get_or list n 0) (len % 4096) (drop (n + 1) list) (omega arith)))
     ∙ sym (text_joined seen first n (len % 4096) list (drop n list) (omega (arith, lt)))
     ∙ ap (λ (xs : List ℕ). text_on seen first xs (4096 * n + len % 4096)) (take-append-drop n list)
     ∙ ap (λ (k : ℕ). text_on seen first list k) (omega arith)
@@ -61,9 +61,9 @@ no_tail_on seen first len list whole =
 
 -- HOW MANY THEY ARE
 
-length-front : (seen : ℕ → ℕ) (first n : ℕ) (list rest : List ℕ) → n ≤ length list
+length-prefix : (seen : ℕ → ℕ) (first n : ℕ) (list rest : List ℕ) → n ≤ length list
     → length (blocks_on seen first (take n list) ++ rest) ≡ 4096 * n + length rest
-length-front seen first n list rest le =
+length-prefix seen first n list rest le =
     omega (
       arith,
       length-append (blocks_on seen first (take n list)) rest,
@@ -80,7 +80,7 @@ count_ended seen first d list last bytes is =
     omega (
       arith,
       ap length is,
-      length-front seen first (length list - (length last + 4095) / 4096) list last (omega arith),
+      length-prefix seen first (length list - (length last + 4095) / 4096) list last (omega arith),
       length-append (content_on seen first d) bytes,
-      length-front seen first (full_count d) d.blocks d.unfinished (omega arith),
+      length-prefix seen first (full_count d) d.blocks d.unfinished (omega arith),
     )

@@ -9,25 +9,26 @@ use Rattle.spool_disk.proofs.Firm.{lasts_on, lasts_more}
 use Rattle.spool_texts.specs.Drafts.{IsReserved, Takes, GivesBack}
 use Rattle.spool_texts.specs.Written.{WritesIn, IsImageBut, aside_blocks}
 use Rattle.spool_texts.proofs.Asides.{aside_blocks_else, image_aside}
-use Rattle.spool_texts.proofs.Fronts.{writes_none, writes_on, idle_in, image_in, but_more, but_on}
+use Rattle.spool_texts.proofs.Prefixes.{writes_none, writes_on, idle_in, image_in, but_more, but_on}
 use Rattle.spool_texts.proofs.Reserves.{takes_none}
 use Rattle.spool_drafts.specs.Effect.{Regrasps, OnlyWrites}
 use Rattle.spool_journal.specs.Image.{area_end}
 
 -- an image that is one from before with the blocks as they were is one but for them
-but_aside : {seen image : ℕ → ℕ} {loose : ℕ → Type 0} {first : ℕ} {own : List ℕ}
-    → IsImage seen loose (aside_blocks first own seen image) → IsImageBut first own seen loose image
+but_aside : {seen image : ℕ → ℕ} {unsynced : ℕ → Type 0} {first : ℕ} {own : List ℕ}
+    → IsImage seen unsynced (aside_blocks first own seen image) → IsImageBut first own seen unsynced image
 but_aside {seen = seen} {image = image} {first = first} {own = own} is = record {
-  same = λ p away firm. sym (aside_blocks_else first own seen image p away) ∙ is.same p firm;
+  same = λ p away is_synced. sym (aside_blocks_else first own seen image p away) ∙ is.same p is_synced;
 }
 
-writes_keeps : {seen seen' : ℕ → ℕ} {loose loose' : ℕ → Type 0} (first : ℕ) (own : List ℕ)
-    → Keeps seen seen' loose loose' → WritesIn first own seen seen' loose loose'
-writes_keeps first own keeps = record { outside = λ p away. keeps.same p; loosens = λ p l. inl (keeps.loosens p l) }
+writes_keeps : {seen seen' : ℕ → ℕ} {unsynced unsynced' : ℕ → Type 0} (first : ℕ) (own : List ℕ)
+    → Keeps seen seen' unsynced unsynced' → WritesIn first own seen seen' unsynced unsynced'
+writes_keeps first own keeps = record { outside = λ p away. keeps.same p; unsyncs = λ p l. inl (keeps.unsyncs p l) }
 
 module _ {D : Type 0} {disk : Ghosts D} {j : ℕ} where
-  pub only : {own : List ℕ} {old new : D} → WritesIn (area_end j) own (disk.seen old) (disk.seen new) (disk.loose old)
-      (disk.loose new) → Lasts disk old new (IsImageBut (area_end j) own (disk.seen old) (disk.loose old))
+  pub only : {own : List ℕ} {old new : D} → WritesIn (area_end j) own (disk.seen old) (disk.seen new)
+      (disk.unsynced old)
+      (disk.unsynced new) → Lasts disk old new (IsImageBut (area_end j) own (disk.seen old) (disk.unsynced old))
       → OnlyWrites disk j own old new
   only writes lasts = record {
     writes = writes;
@@ -41,10 +42,12 @@ module _ {D : Type 0} {disk : Ghosts D} {j : ℕ} where
   only_none own d = only (writes_none _ _) record { later = omega arith; nothing_else = λ t image le left. inl left }
 
   -- only read
-  pub only_read : (own : List ℕ) {old new : D} → Keeps (disk.seen old) (disk.seen new) (disk.loose old) (disk.loose new)
-      → Lasts disk old new (IsImage (disk.seen old) (disk.loose old)) → OnlyWrites disk j own old new
+  pub only_read : (own : List ℕ) {old new : D}
+      → Keeps (disk.seen old) (disk.seen new) (disk.unsynced old) (disk.unsynced new)
+      → Lasts disk old new (IsImage (disk.seen old) (disk.unsynced old)) → OnlyWrites disk j own old new
   only_read own keeps lasts =
-      only (writes_keeps _ _ keeps) (lasts_more lasts (λ image is. record { same = λ p away firm. is.same p firm }))
+      only (writes_keeps _ _ keeps) (lasts_more lasts
+      (λ image is. record { same = λ p away is_synced. is.same p is_synced }))
 
   -- one call and then another
   pub only_on : {own own' : List ℕ} {old mid new : D} (more : List ℕ) → own' ≡ own ++ more

@@ -20,7 +20,7 @@ use Rattle.spool_drafts.specs.declared.draft.DraftEnd.{DraftEnd}
 use Rattle.spool_drafts.specs.declared.draft.SpoolDraft.{SpoolDraft}
 use Rattle.spool_drafts.specs.declared.growth.Growth.{Growth}
 use Rattle.spool_drafts.proofs.Lengths.{need_some}
-use Rattle.spool_drafts.proofs.Patches.{value_before, in_front, wants_is, open_grows}
+use Rattle.spool_drafts.proofs.Patches.{value_before, in_prefix, wants_is, open_grows}
 
 -- where no block is needed nothing was added
 need_none : (t n : ℕ) → need_of t (n - t % 4096) ≡ 0 → n ≤ t % 4096
@@ -67,26 +67,26 @@ module _ (x : IndexSet) (p : Patch) (d : SpoolDraft) (held : Holds x p d) (still
     encodable_open = ap (λ r. r.fault) (patch_is false) ∙ value_before x p.began p.body [] done
         (ap (λ (b : List ℕ). (text_with x p.began b done).fault) at_nil ∙ finished.encodable)
 
-    front : length (text_of x p.began) ≤ length (patch_text x p false).bytes
-    front = omega (
+    prefix : length (text_of x p.began) ≤ length (patch_text x p false).bytes
+    prefix = omega (
       arith,
       ap (λ r. length r.bytes) (patch_is false),
-      in_front x p.began p.body false still
+      in_prefix x p.began p.body false still
           (sym (ap (λ r. r.fault) (patch_is false)) ∙ encodable_open),
     )
 
-    end_front : length (text_of x p.began) ≤ length (patch_text x p done).bytes
-    end_front = omega (
+    end_prefix : length (text_of x p.began) ≤ length (patch_text x p done).bytes
+    end_prefix = omega (
       arith,
       ap (λ r. length r.bytes) (patch_is done),
-      in_front x p.began p.body done still
+      in_prefix x p.began p.body done still
           finished.encodable,
     )
 
     pub open_ended : open_text x p done ≡ open_text x p false ++ text
     open_ended =
         ap (λ (b : List ℕ). open_text x (record p { body = b }) done) (sym at_nil)
-        ∙ open_grows x p [] text false done front
+        ∙ open_grows x p [] text false done prefix
         (finished.adds ∙ ap (λ (b : List ℕ). (text_with x p.began b done).bytes) (sym at_nil))
 
     pub kept_end : d.growth.short ≡ false → IsKept x p d
@@ -126,7 +126,7 @@ module _ (x : IndexSet) (p : Patch) (d : SpoolDraft) (held : Holds x p d) (still
                 (listed n holds) nothing more (count n holds),
             ap (λ (k : ℕ). 4096 * (k / 4096)) held.committed,
             length-drop (4096 * (t / 4096)) (patch_text x p done).bytes,
-            end_front,
+            end_prefix,
           );
         }
 

@@ -32,11 +32,11 @@ value_before x u bytes piece done none =
     (both_ways (is_there (text_with x u (bytes ++ piece) done).fault) (no_fault _ none)
     (stays_unencodable x u bytes piece done there))) (fault_cases (text_with x u bytes false).fault)
 
--- the text of an upload that isn't complete is in front of its text with more bytes
-pub in_front : (x : IndexSet) (u : Upload) (bytes : List ℕ) (done : Bool) → is_complete u ≡ false
+-- the text of an upload that isn't complete is a prefix of its text with more bytes
+pub in_prefix : (x : IndexSet) (u : Upload) (bytes : List ℕ) (done : Bool) → is_complete u ≡ false
     → (text_with x u bytes done).fault ≡ None → length (text_of x u) ≤ length (text_with x u bytes done).bytes
 unfolding text_of
-in_front x u bytes done still none =
+in_prefix x u bytes done still none =
     let at : u.accepted ++ [] ≡ u.accepted = append-nil u.accepted in
     let first : (text_with x u [] false).fault ≡ None = value_before x u [] bytes done none in
     let both = text_after (tables x) u.from u.to u.mode (u.accepted ++ []) bytes done first in
@@ -83,6 +83,6 @@ pub open_grows : (x : IndexSet) (p : Patch) (piece text : List ℕ) (done done' 
     → (text_with x p.began p.body done).bytes ++ text ≡ (text_with x p.began (p.body ++ piece) done').bytes
     → open_text x (with_piece p piece) done' ≡ open_text x p done ++ text
 unfolding patch_text
-open_grows x p piece text done done' front adds =
+open_grows x p piece text done done' prefix adds =
     let n = 4096 * (length (text_of x p.began) / 4096) in
-    ap (drop n) (sym adds) ∙ drop-append-le n (text_with x p.began p.body done).bytes text (omega (arith, front))
+    ap (drop n) (sym adds) ∙ drop-append-le n (text_with x p.began p.body done).bytes text (omega (arith, prefix))

@@ -1,4 +1,4 @@
--- The new text of a draft, with the committed text's bytes after its last full block in front.
+-- The new text of a draft, with the committed text's bytes after its last full block at the start.
 use Rattle.std.specs.Prelude.{◌≡◌, ◌⊎◌, ◌≤◌, ◌<◌, ◌*◌, ◌+◌, ◌-◌, ◌/◌, ◌%◌, ℕ, List, [], ◌∷◌, Option, None, Some, true}
 use Rattle.std.specs.Prelude.{false, length, get_or, replicate, Result, Ok, Err}
 use Rattle.upload_rules.specs.declared.errors.UploadError.{UploadError}
@@ -43,13 +43,13 @@ pub record HoldsLen (g : Growth) (n : ℕ) : Type 0 where
   pub count : HoldsCount g.on n
 
 -- the committed text's last n bytes: those on the block, and zeros without one
-abbrev pub front_on : (ℕ → ℕ) → ℕ → Option ℕ → ℕ → List ℕ
-front_on seen first None n = replicate n 0
-front_on seen first (Some block) n = text_on seen first (block ∷ []) n
+abbrev pub prefix_on : (ℕ → ℕ) → ℕ → Option ℕ → ℕ → List ℕ
+prefix_on seen first None n = replicate n 0
+prefix_on seen first (Some block) n = text_on seen first (block ∷ []) n
 
 -- these bytes: before the first new one they are the committed text's last
 abbrev pub bytes_on : (ℕ → ℕ) → ℕ → Growth → Option Draft → List ℕ
-bytes_on seen first g None = front_on seen first g.tail (g.text_len % 4096)
+bytes_on seen first g None = prefix_on seen first g.tail (g.text_len % 4096)
 bytes_on seen first g (Some text) = content_on seen first text
 
 -- nothing is held any more

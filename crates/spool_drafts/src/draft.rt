@@ -251,9 +251,9 @@ impl SpoolDraft {
         // Nothing is written, and nothing is read where the committed text has no unfinished block.
         ensures unread { tail_of self.old ≡ [] → disk.new ≡ disk.old }
         ensures keeps { D.honest disk.old
-            → OnlyRead (D.seen disk.old) (D.seen disk.new) (D.loose disk.old) (D.loose disk.new) }
+            → OnlyRead (D.seen disk.old) (D.seen disk.new) (D.unsynced disk.old) (D.unsynced disk.new) }
         ensures lasts { D.honest disk.old
-            → Lasts D.Disk disk.old disk.new (IsImage (D.seen disk.old) (D.loose disk.old)) }
+            → Lasts D.Disk disk.old disk.new (IsImage (D.seen disk.old) (D.unsynced disk.old)) }
 
         // After an upload that wasn't complete: the text's end, and the bytes on the blocks, with those that are still
         // to be written.

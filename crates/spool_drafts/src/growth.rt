@@ -7,7 +7,7 @@ ghost use Rattle.spool_journal.specs.Image.{journal_pages, all_pages, text_page}
 ghost use Rattle.spool_texts.specs.Drafts.{IsReserved, GivesBack, bytes_with, content_on};
 ghost use Rattle.spool_texts.specs.TextOn.{AllBelow, text_on};
 ghost use Rattle.spool_drafts.specs.Effect.{Effect, Regrasps};
-ghost use Rattle.spool_drafts.specs.Growth.{list_on, tail_list, front_on, bytes_on, count_with, IsTailed, HoldsLen};
+ghost use Rattle.spool_drafts.specs.Growth.{list_on, tail_list, prefix_on, bytes_on, count_with, IsTailed, HoldsLen};
 ghost use Rattle.spool_drafts.specs.Growth.{GrowsTo, ClosesAs};
 ghost use Rattle.upload_rules.specs.declared.errors.UploadRefusal.{UploadRefusal as Refusal};
 
@@ -177,9 +177,9 @@ impl Growth {
         // Nothing is written, and nothing is read where the committed text has no unfinished block.
         ensures unread { tail_list self.old.tail ≡ [] → disk.new ≡ disk.old }
         ensures keeps { D.honest disk.old
-            → Keeps (D.seen disk.old) (D.seen disk.new) (D.loose disk.old) (D.loose disk.new) }
+            → Keeps (D.seen disk.old) (D.seen disk.new) (D.unsynced disk.old) (D.unsynced disk.new) }
         ensures lasts { D.honest disk.old
-            → Lasts D.Disk disk.old disk.new (IsImage (D.seen disk.old) (D.loose disk.old)) }
+            → Lasts D.Disk disk.old disk.new (IsImage (D.seen disk.old) (D.unsynced disk.old)) }
     {
         if self.short {
             return Err(UploadError::Refused(UploadRefusal::Full));
@@ -252,9 +252,9 @@ impl Growth {
             → bytes_on (D.seen disk.new) (text_page layout.now) self.new self.new.on
             ≡ bytes_on (D.seen disk.old) (text_page layout.now) self.old self.old.on }
         ensures keeps { D.honest disk.old
-            → Keeps (D.seen disk.old) (D.seen disk.new) (D.loose disk.old) (D.loose disk.new) }
+            → Keeps (D.seen disk.old) (D.seen disk.new) (D.unsynced disk.old) (D.unsynced disk.new) }
         ensures lasts { D.honest disk.old
-            → Lasts D.Disk disk.old disk.new (IsImage (D.seen disk.old) (D.loose disk.old)) }
+            → Lasts D.Disk disk.old disk.new (IsImage (D.seen disk.old) (D.unsynced disk.old)) }
     {
         if self.on.is_some() {
             return Ok(());
@@ -327,11 +327,12 @@ fn begun<D: Disk>(
     ensures none { IfOk result (λ text. text.blocks ≡ []) }
     ensures tail { D.honest disk.old
         → IfOk result (λ text. text.unfinished
-        ≡ front_on (D.seen disk.old) (text_page layout.now) tail (text_len % 4096)) }
+        ≡ prefix_on (D.seen disk.old) (text_page layout.now) tail (text_len % 4096)) }
     ensures tail_size { IfOk result (λ text. length text.unfinished ≡ text_len % 4096) }
     ensures keeps { D.honest disk.old
-        → Keeps (D.seen disk.old) (D.seen disk.new) (D.loose disk.old) (D.loose disk.new) }
-    ensures lasts { D.honest disk.old → Lasts D.Disk disk.old disk.new (IsImage (D.seen disk.old) (D.loose disk.old)) }
+        → Keeps (D.seen disk.old) (D.seen disk.new) (D.unsynced disk.old) (D.unsynced disk.new) }
+    ensures lasts { D.honest disk.old → Lasts D.Disk disk.old disk.new
+        (IsImage (D.seen disk.old) (D.unsynced disk.old)) }
 {
     let len = text_len % PAGE as u64;
     let begun = match tail {

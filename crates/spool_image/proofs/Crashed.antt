@@ -9,12 +9,12 @@ use Rattle.upload_rules.specs.Store.{Store, Upload, upload_of}
 
 -- where all of a disk is synced, each image shows what a read does
 pub synced_shows : {D : Type 0} (disk : Ghosts D) (d : D) (n : ℕ) (m : Store) → IsSpool disk d n m
-    → ((p : ℕ) → disk.loose d p → ⊥) → AllShow disk d n m
-synced_shows disk d n m is firm = record {
+    → ((p : ℕ) → disk.unsynced d p → ⊥) → AllShow disk d n m
+synced_shows disk d n m is is_synced = record {
   honest = is.honest;
   room = is.room;
   each = λ image left.
-      let same : (p : ℕ) → image p ≡ disk.seen d p = λ p. left.same p (firm p) in
+      let same : (p : ℕ) → image p ≡ disk.seen d p = λ p. left.same p (is_synced p) in
       subst (λ (f : ℕ → ℕ). ImageShows n f m) (sym (same_function image (disk.seen d) same)) is.shows;
 }
 

@@ -8,65 +8,72 @@ use Rattle.spool_disk.specs.declared.disk.Disk.{Ghosts}
 use Rattle.spool_disk.proofs.Firm.{lasts_more, lasts_on}
 use Rattle.spool_journal.specs.Image.{all_pages}
 use Rattle.spool_journal.specs.Phases.{Still}
-use Rattle.spool_image.specs.Format.{FormatsTo, FrontStays, LeftByFormat}
-use Rattle.spool_image.specs.Fresh.{IsFreshTo, KeepsFront}
+use Rattle.spool_image.specs.Format.{FormatsTo, PrefixStays, LeftByFormat}
+use Rattle.spool_image.specs.Fresh.{IsFreshTo, KeepsPrefix}
 use Rattle.spool_image.proofs.NoUploads.{fresh_shows}
 
 -- PAGE 0
 
 pub read_only : {D : Type 0} (disk : Ghosts D) (a b : D) (n : ℕ) (x : IndexSet)
-    → Lasts disk a b (IsImage (disk.seen a) (disk.loose a))
-    → Lasts disk a b (LeftByFormat n x (disk.seen a) (disk.loose a))
-read_only disk a b n x lasts = lasts_more lasts (λ image is. inl (record { same = λ p lt firm. is.same p firm }))
+    → Lasts disk a b (IsImage (disk.seen a) (disk.unsynced a))
+    → Lasts disk a b (LeftByFormat n x (disk.seen a) (disk.unsynced a))
+read_only disk a b n x lasts = lasts_more lasts (λ image is. inl
+    (record { same = λ p lt is_synced. is.same p is_synced }))
 
-pub front_kept : (seen : ℕ → ℕ) (loose : ℕ → Type 0) → KeepsFront seen seen loose loose
-front_kept seen loose = record { same = λ p lt firm. refl; loosens = λ p lt l. l }
+pub prefix_kept : (seen : ℕ → ℕ) (unsynced : ℕ → Type 0) → KeepsPrefix seen seen unsynced unsynced
+prefix_kept seen unsynced = record { same = λ p lt is_synced. refl; unsyncs = λ p lt l. l }
 
-module _ {seen seen' : ℕ → ℕ} {loose loose' : ℕ → Type 0} where
+module _ {seen seen' : ℕ → ℕ} {unsynced unsynced' : ℕ → Type 0} where
   -- after page 0 anything may be written
-  pub front_written : {at : ℕ} {bytes : List ℕ} {done : Type 0} → 4096 ≤ at
-      → Writes at bytes done seen seen' loose loose' → KeepsFront seen seen' loose loose'
-  front_written from writes = record {
-    same = λ p lt firm. writes.outside p (λ within. omega (arith, within.from, from, lt));
-    loosens = λ p lt l. ⊎_elim (λ was. was) (λ within. absurd (omega (arith, within.from, from, lt)))
-        (writes.loosens p l);
+  pub prefix_written : {at : ℕ} {bytes : List ℕ} {done : Type 0} → 4096 ≤ at
+      → Writes at bytes done seen seen' unsynced unsynced' → KeepsPrefix seen seen' unsynced unsynced'
+  prefix_written from writes = record {
+    same = λ p lt is_synced. writes.outside p (λ within. omega (arith, within.from, from, lt));
+    unsyncs = λ p lt l. ⊎_elim (λ was. was) (λ within. absurd (omega (arith, within.from, from, lt)))
+        (writes.unsyncs p l);
   }
 
-  pub front_synced : {done : Type 0} → Syncs done seen seen' loose loose' → KeepsFront seen seen' loose loose'
-  front_synced syncs = record { same = λ p lt firm. syncs.outside p firm; loosens = λ p lt l. syncs.loosens p l }
-
-  pub front_image : KeepsFront seen seen' loose loose' → (image : ℕ → ℕ) → IsImage seen' loose' image
-      → FrontStays seen loose image
-  front_image keeps image is = record {
-    same = λ p lt firm. is.same p (λ l. firm (keeps.loosens p lt l)) ∙ keeps.same p lt firm;
+  pub prefix_synced : {done : Type 0} → Syncs done seen seen' unsynced unsynced'
+      → KeepsPrefix seen seen' unsynced unsynced'
+  prefix_synced syncs = record {
+    same = λ p lt is_synced. syncs.outside p is_synced;
+    unsyncs = λ p lt l.
+        syncs.unsyncs p l;
   }
 
-pub front_on : {a b c : ℕ → ℕ} {la lb lc : ℕ → Type 0} → KeepsFront a b la lb → KeepsFront b c lb lc
-    → KeepsFront a c la lc
-front_on first then = record {
-  same = λ p lt firm. then.same p lt (λ l. firm (first.loosens p lt l)) ∙ first.same p lt firm;
-  loosens = λ p lt l. first.loosens p lt (then.loosens p lt l);
+  pub prefix_image : KeepsPrefix seen seen' unsynced unsynced' → (image : ℕ → ℕ) → IsImage seen' unsynced' image
+      → PrefixStays seen unsynced image
+  prefix_image keeps image is = record {
+    same = λ p lt is_synced. is.same p (λ l. is_synced (keeps.unsyncs p lt l)) ∙ keeps.same p lt is_synced;
+  }
+
+pub prefix_on : {a b c : ℕ → ℕ} {la lb lc : ℕ → Type 0} → KeepsPrefix a b la lb → KeepsPrefix b c lb lc
+    → KeepsPrefix a c la lc
+prefix_on first then = record {
+  same = λ p lt is_synced. then.same p lt (λ l. is_synced (first.unsyncs p lt l)) ∙ first.same p lt is_synced;
+  unsyncs = λ p lt l. first.unsyncs p lt (then.unsyncs p lt l);
 }
 
-pub front_stays : {seen seen' : ℕ → ℕ} {loose loose' : ℕ → Type 0} → KeepsFront seen seen' loose loose'
-    → (image : ℕ → ℕ) → FrontStays seen' loose' image → FrontStays seen loose image
-front_stays keeps image stays = record {
-  same = λ p lt firm. stays.same p lt (λ l. firm (keeps.loosens p lt l)) ∙ keeps.same p lt firm;
+pub prefix_stays : {seen seen' : ℕ → ℕ} {unsynced unsynced' : ℕ → Type 0} → KeepsPrefix seen seen' unsynced unsynced'
+    → (image : ℕ → ℕ) → PrefixStays seen' unsynced' image → PrefixStays seen unsynced image
+prefix_stays keeps image stays = record {
+  same = λ p lt is_synced. stays.same p lt (λ l. is_synced (keeps.unsyncs p lt l)) ∙ keeps.same p lt is_synced;
 }
 
-pub front_read : {seen seen' : ℕ → ℕ} {loose loose' : ℕ → Type 0} → Keeps seen seen' loose loose'
-    → KeepsFront seen seen' loose loose'
-front_read keeps = record { same = λ p lt firm. keeps.same p; loosens = λ p lt l. keeps.loosens p l }
+pub prefix_read : {seen seen' : ℕ → ℕ} {unsynced unsynced' : ℕ → Type 0} → Keeps seen seen' unsynced unsynced'
+    → KeepsPrefix seen seen' unsynced unsynced'
+prefix_read keeps = record { same = λ p lt is_synced. keeps.same p; unsyncs = λ p lt l. keeps.unsyncs p l }
 
 -- a call that only reads, and then what is made
 pub read_then : {D : Type 0} (disk : Ghosts D) (a b c : D) (n : ℕ) (x : IndexSet)
-    → Lasts disk a b (IsImage (disk.seen a) (disk.loose a))
-    → Keeps (disk.seen a) (disk.seen b) (disk.loose a) (disk.loose b)
-    → Lasts disk b c (LeftByFormat n x (disk.seen b) (disk.loose b))
-    → Lasts disk a c (LeftByFormat n x (disk.seen a) (disk.loose a))
+    → Lasts disk a b (IsImage (disk.seen a) (disk.unsynced a))
+    → Keeps (disk.seen a) (disk.seen b) (disk.unsynced a) (disk.unsynced b)
+    → Lasts disk b c (LeftByFormat n x (disk.seen b) (disk.unsynced b))
+    → Lasts disk a c (LeftByFormat n x (disk.seen a) (disk.unsynced a))
 read_then disk a b c n x lasts keeps then =
     lasts_on (read_only disk a b n x lasts)
-    (lasts_more then (λ image one. ⊎_elim (λ stays. inl (front_stays (front_read keeps) image stays)) (λ made. inr made)
+    (lasts_more then (λ image one. ⊎_elim (λ stays. inl (prefix_stays (prefix_read keeps) image stays))
+    (λ made. inr made)
     one))
 
 -- nothing has happened
@@ -81,7 +88,7 @@ pub fresh_image : {n end : ℕ} {x : IndexSet} {a b c : ℕ → ℕ} {lb lc : �
 fresh_image {bytes = bytes} fresh still writes long image is = record {
   each = λ p from below.
       let apart : In 0 (length bytes) p → ⊥ = λ within. omega (arith, within.below, from, long) in
-      is.same p (λ l. ⊎_elim (still.firm p) apart (writes.loosens p l)) ∙ writes.outside p apart ∙ still.reads p
+      is.same p (λ l. ⊎_elim (still.is_synced p) apart (writes.unsyncs p l)) ∙ writes.outside p apart ∙ still.reads p
       ∙ fresh.each p from below;
 }
 
@@ -90,12 +97,12 @@ pub fresh_image_synced : {n end : ℕ} {x : IndexSet} {a b c d : ℕ → ℕ} {l
     → length bytes ≡ 4096 → (image : ℕ → ℕ) → IsImage d ld image → IsFreshTo n x end image
 fresh_image_synced fresh still writes again long image is =
     fresh_image fresh still writes long image (record {
-      same = λ p firm. is.same p (λ l. firm (again.loosens p l)) ∙ again.outside p firm;
+      same = λ p is_synced. is.same p (λ l. is_synced (again.unsyncs p l)) ∙ again.outside p is_synced;
     })
 
 -- where page 0 is whole then, the image shows no uploads
 pub formats_to : (n : ℕ) (x : IndexSet) (image : ℕ → ℕ) → 16 ≤ n → n ≤ 65536 → IsIndexSet x
     → IsFreshTo n x (4096 * all_pages n) image → FormatsTo n x image
 formats_to n x image least most valid fresh = record {
-  shows = λ front. fresh_shows n x image (record { front = front; after = fresh }) least most valid;
+  shows = λ prefix. fresh_shows n x image (record { prefix = prefix; after = fresh }) least most valid;
 }

@@ -22,9 +22,9 @@ no : (a b : ℕ) → b ≤ a → ltb a b ≡ false
 no a b h = grind (arith, nat_tests)
 
 module _ (n : ℕ) (x : IndexSet) (p : ℕ) where
-  pub fresh_front : p < index_place n → fresh_byte n x p ≡ 0
+  pub fresh_prefix : p < index_place n → fresh_byte n x p ≡ 0
   unfolding fresh_byte
-  fresh_front below = rw (yes p (index_place n) below)
+  fresh_prefix below = rw (yes p (index_place n) below)
 
   pub fresh_area : index_place n ≤ p → p < state_place n → fresh_byte n x p ≡ area_byte x (p - index_place n)
   unfolding fresh_byte
@@ -43,8 +43,10 @@ fresh_zeros n x p from =
     ∙ get_or-eq_default (state_page Two 1) 0 (omega (arith, length-state Two 1, from))
 
 -- a page more
-pub fresh_more : {seen seen' : ℕ → ℕ} {loose loose' : ℕ → Type 0} {done : Type 0} (n : ℕ) (x : IndexSet) (page : ℕ)
-    (bytes : List ℕ) → IsFreshTo n x (4096 * page) seen → Writes (4096 * page) bytes done seen seen' loose loose' → done
+pub fresh_more : {seen seen' : ℕ → ℕ} {unsynced unsynced' : ℕ
+    → Type 0} {done : Type 0} (n : ℕ) (x : IndexSet) (page : ℕ)
+    (bytes : List ℕ) → IsFreshTo n x (4096 * page) seen
+    → Writes (4096 * page) bytes done seen seen' unsynced unsynced' → done
     → length bytes ≡ 4096 → ((i : ℕ) → i < 4096 → get_or bytes i 0 ≡ fresh_byte n x (4096 * page + i))
     → IsFreshTo n x (4096 * (page + 1)) seen'
 fresh_more {seen = seen} {seen' = seen'} n x page bytes was writes done long here = record {
@@ -60,17 +62,17 @@ fresh_more {seen = seen} {seen' = seen'} n x page bytes was writes done long her
   ];
 }
 
--- after a sync that succeeded the bytes are the same, and none is loose
+-- after a sync that succeeded the bytes are the same, and none is unsynced
 pub synced_still : {a b : ℕ → ℕ} {la lb : ℕ → Type 0} {synced : Type 0} → Syncs synced a b la lb → synced
     → Still a b lb
-synced_still syncs done = record { reads = syncs.same done; firm = syncs.firm done }
+synced_still syncs done = record { reads = syncs.same done; is_synced = syncs.is_synced done }
 
 -- the first page before them
 pub fresh_all : {a b c d : ℕ → ℕ} {lb lc ld : ℕ → Type 0} {done : Type 0} (n : ℕ) (x : IndexSet) (bytes : List ℕ)
     → Still a b lb → Writes 0 bytes done b c lb lc → done → Still c d ld → length bytes ≡ 4096
     → ((i : ℕ) → get_or bytes i 0 ≡ get_or (first_page n) i 0) → IsFreshTo n x (4096 * all_pages n) a → IsFresh n x d
 fresh_all {c = c} n x bytes first writes two second long is was = record {
-  front = λ i lt.
+  prefix = λ i lt.
       let at : 0 + i ≡ i = omega arith in
       let there : c i ≡ get_or bytes i 0 =
       subst (λ (q : ℕ). c q ≡ get_or bytes i 0) at
@@ -82,10 +84,10 @@ fresh_all {c = c} n x bytes first writes two second long is was = record {
   };
 }
 
--- an image where nothing is loose
-pub fresh_on : {n : ℕ} {x : IndexSet} {seen image : ℕ → ℕ} {loose : ℕ → Type 0} → IsImage seen loose image
-    → ((p : ℕ) → loose p → ⊥) → IsFresh n x seen → IsFresh n x image
-fresh_on is firm fresh = record {
-  front = λ i lt. is.same i (firm i) ∙ fresh.front i lt;
-  after = record { each = λ p from below. is.same p (firm p) ∙ fresh.after.each p from below };
+-- an image where nothing is unsynced
+pub fresh_on : {n : ℕ} {x : IndexSet} {seen image : ℕ → ℕ} {unsynced : ℕ → Type 0} → IsImage seen unsynced image
+    → ((p : ℕ) → unsynced p → ⊥) → IsFresh n x seen → IsFresh n x image
+fresh_on is is_synced fresh = record {
+  prefix = λ i lt. is.same i (is_synced i) ∙ fresh.prefix i lt;
+  after = record { each = λ p from below. is.same p (is_synced p) ∙ fresh.after.each p from below };
 }

@@ -17,7 +17,7 @@ use Rattle.spool_pages.specs.View.{slot_place, row_place, state_page, first_page
 use Rattle.spool_kept.specs.Shows.{IsSound, ImageShows}
 use Rattle.spool_image.specs.Format.{IsNewest}
 use Rattle.spool_image.specs.Fresh.{IsFresh}
-use Rattle.spool_image.proofs.Fresh.{fresh_front, fresh_area, fresh_state, fresh_zeros}
+use Rattle.spool_image.proofs.Fresh.{fresh_prefix, fresh_area, fresh_state, fresh_zeros}
 use Rattle.spool_pages.proofs.Says.{some_journal, all_is, says_same}
 
 abbrev nothing : (A : Type 0) → Option A
@@ -70,7 +70,7 @@ module _ (n : ℕ) (x : IndexSet) (image : ℕ → ℕ) (fresh : IsFresh n x ima
         first = record {
           each = λ i lt.
               let at : i ≡ 0 + i = omega arith in
-              subst (λ (p : ℕ). image p ≡ byte_of (first_page n) i) at (fresh.front i lt);
+              subst (λ (p : ℕ). image p ≡ byte_of (first_page n) i) at (fresh.prefix i lt);
         };
         area = λ i lt.
             let at : index_place n + i - index_place n ≡ i = omega arith in
@@ -109,7 +109,7 @@ module _ (n : ℕ) (x : IndexSet) (image : ℕ → ℕ) (fresh : IsFresh n x ima
   gate_shut : image 4096 ≡ 165 → ⊥
   gate_shut ajar =
       let zero_there : image 4096 ≡ 0 =
-      fresh.after.each 4096 (omega arith) (omega (arith, all_is n)) ∙ fresh_front n x 4096 (omega arith) in
+      fresh.after.each 4096 (omega arith) (omega (arith, all_is n)) ∙ fresh_prefix n x 4096 (omega arith) in
       omega (arith, zero_there, ajar)
 
   fresh_is : IsViewOf image (fresh_view n x)

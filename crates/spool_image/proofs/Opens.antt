@@ -37,7 +37,7 @@ view_room disk d n m is = subst (λ (k : ℕ). 4096 * all_pages k ≤ disk.size 
 -- what reads the same while a disk is opened shows the same
 pub lasts_shown : {D : Type 0} (disk : Ghosts D) (d d' : D) (n : ℕ) (m : Store) (is : IsSpool disk d n m)
     → ((v : View) → IsSound v → IsViewOf (disk.seen d) v → 4096 * all_pages v.blocks ≤ disk.size d
-    → Lasts disk d d' (λ image. IsImage (disk.seen d) (disk.loose d) image
+    → Lasts disk d d' (λ image. IsImage (disk.seen d) (disk.unsynced d) image
     ⊎ ReadsAs (journal_pages v.blocks) image (overlaid (disk.seen d))))
     → Lasts disk d d' (LeftOrShows disk d n m)
 lasts_shown disk d d' n m is lasts =

@@ -44,7 +44,7 @@ begun_any number count declare (Some u) = tt
 
 module _ {D : Type 0} (disk : Ghosts D) (d d' : D) (h : Holding) (drafts : List (Option SpoolDraft)) (w : World) where
   pub stands_read : {sure : Bool} → (disk.honest d ↔ disk.honest d')
-      → (disk.honest d → Keeps (disk.seen d) (disk.seen d') (disk.loose d) (disk.loose d'))
+      → (disk.honest d → Keeps (disk.seen d) (disk.seen d') (disk.unsynced d) (disk.unsynced d'))
       → StandsFor sure disk d h drafts w → StandsFor sure disk d' h drafts w
   stands_read {sure = sure} honest keeps s = record {
     stored = record {
@@ -98,7 +98,7 @@ none_stands x seen first h m v keeps shows = record {
 pub stands_opened : {D : Type 0} {sure : Bool} (disk : Ghosts D) (d' : D) (was : ℕ → ℕ) (h : Holding)
     (drafts : List (Option SpoolDraft)) (m : Store) (v : View) → drafts ≡ [] → (sure ≡ true → disk.honest d')
     → (sure ≡ true → IsViewOf was v) → KeepsAlone h v → Shows v m
-    → (sure ≡ true → Settled (journal_pages h.layout) (overlaid was) (disk.seen d') (disk.loose d'))
+    → (sure ≡ true → Settled (journal_pages h.layout) (overlaid was) (disk.seen d') (disk.unsynced d'))
     → StandsFor sure disk d' h drafts (at_rest m (Some v.blocks))
 stands_opened {sure = sure} disk d' was h drafts m v none honest is keeps shows settled = record {
   stored = record {

@@ -36,14 +36,14 @@ use Rattle.spool_image.specs.declared.error.UpgradeError.TheVariants.{Open}
 use Rattle.spool_image.proofs.Opens.{view_room}
 
 -- a recovered spool rests
-pub settled_rests : {was seen : ℕ → ℕ} {loose : ℕ → Type 0} (v : View) (n : ℕ) → n ≡ v.blocks
-    → Settled (journal_pages n) (overlaid was) seen loose → IsViewOf was v → Rests v seen loose
-settled_rests {was = was} {seen = seen} {loose = loose} v n same settled is =
-    let J : ℕ → Type 0 = λ k. Settled (journal_pages k) (overlaid was) seen loose in
+pub settled_rests : {was seen : ℕ → ℕ} {unsynced : ℕ → Type 0} (v : View) (n : ℕ) → n ≡ v.blocks
+    → Settled (journal_pages n) (overlaid was) seen unsynced → IsViewOf was v → Rests v seen unsynced
+settled_rests {was = was} {seen = seen} {unsynced = unsynced} v n same settled is =
+    let J : ℕ → Type 0 = λ k. Settled (journal_pages k) (overlaid was) seen unsynced in
     let here = subst J same settled in
     record {
       closed = here.closed;
-      firm = λ p l. absurd (here.firm p l);
+      is_synced = λ p l. absurd (here.is_synced p l);
       is = shut_is seen v here.closed (settled_says v here is.says);
     }
 
@@ -83,7 +83,7 @@ other_err r e fault is fine bad = fine (same_Some _ _ (ap result_err (sym is ∙
 
 -- what shows after it
 pub rests_show : {D : Type 0} (disk : Ghosts D) (d' : D) (n : ℕ) (m : Store) (v : View) → v.blocks ≡ n
-    → disk.honest d' → 4096 * all_pages n ≤ disk.size d' → Rests v (disk.seen d') (disk.loose d')
+    → disk.honest d' → 4096 * all_pages n ≤ disk.size d' → Rests v (disk.seen d') (disk.unsynced d')
     → ((image : ℕ → ℕ) → IsViewOf image v → ImageShows n image m) → AllShow disk d' n m
 rests_show disk d' n m v same honest room rests shows = record {
   honest = honest;
@@ -107,7 +107,7 @@ upgraded_view_shows n m was image shown is = record {
 
 pub crash_shown : {D : Type 0} (disk : Ghosts D) (d d' : D) (n : ℕ) (m : Store) (is : IsSpool disk d n m)
     → ((v : View) → IsSound v → IsViewOf (disk.seen d) v → 4096 * all_pages v.blocks ≤ disk.size d
-    → Lasts disk d d' (λ image. IsImage (disk.seen d) (disk.loose d) image ⊎ IsViewOf image v
+    → Lasts disk d d' (λ image. IsImage (disk.seen d) (disk.unsynced d) image ⊎ IsViewOf image v
     ⊎ IsViewOf image (upgraded v)))
     → Lasts disk d d' (LeftOrShows disk d n m)
 crash_shown disk d d' n m is lasts =
@@ -190,8 +190,8 @@ other_old Two not = absurd (not refl)
 pub after_shows : {D : Type 0} (disk : Ghosts D) (d' : D) (n : ℕ) (m : Store) (v : View)
     (r : Result (Unit {0}) UpgradeError) → v.blocks ≡ n → disk.honest d' → 4096 * all_pages n ≤ disk.size d'
     → (r ≡ Err (Open DiskFault) → ⊥)
-    → OnOk r (Rests (upgraded v) (disk.seen d') (disk.loose d'))
-    → IfErr r (λ e. (e ≡ Open DiskFault → ⊥) → Rests v (disk.seen d') (disk.loose d'))
+    → OnOk r (Rests (upgraded v) (disk.seen d') (disk.unsynced d'))
+    → IfErr r (λ e. (e ≡ Open DiskFault → ⊥) → Rests v (disk.seen d') (disk.unsynced d'))
     → ((image : ℕ → ℕ) → IsViewOf image v → ImageShows n image m)
     → ((image : ℕ → ℕ) → IsViewOf image (upgraded v) → ImageShows n image m) → AllShow disk d' n m
 after_shows disk d' n m v (Ok t) same honest room fine done stays old new =
@@ -203,16 +203,16 @@ after_shows disk d' n m v (Err e) same honest room fine done stays old new =
     old
 
 -- the same commit, over bytes that agree outside gate and journal
-pub commit_over : {seen : ℕ → ℕ} {loose : ℕ → Type 0} (v : View) (bytes bytes' : ℕ → ℕ)
+pub commit_over : {seen : ℕ → ℕ} {unsynced : ℕ → Type 0} (v : View) (bytes bytes' : ℕ → ℕ)
     → ((p : ℕ) → Outside (journal_pages v.blocks) p → bytes p ≡ bytes' p)
-    → CommitOfUpgrade v bytes seen loose → CommitOfUpgrade v bytes' seen loose
+    → CommitOfUpgrade v bytes seen unsynced → CommitOfUpgrade v bytes' seen unsynced
 commit_over v bytes bytes' same commit = record {
   pages = commit.pages;
   count = commit.count;
   area = commit.area;
   changes = commit.changes;
   settled = record {
-    firm = commit.settled.firm;
+    is_synced = commit.settled.is_synced;
     closed = commit.settled.closed;
     same = λ p outside. commit.settled.same p outside
         ∙ over_same (page_number commit.pages) (page_number commit.pages) (page_byte commit.pages)

@@ -13,7 +13,7 @@ use Rattle.spool_image.specs.declared.error.FormatError.TheVariants.{AlreadySpoo
 -- a disk of this size begins with the first bytes of a spool
 pub record HasMagic (size : ℕ) (seen : ℕ → ℕ) : Type 0 where
   pub room : 8 ≤ size
-  pub front : span seen 0 8 ≡ magic
+  pub prefix : span seen 0 8 ≡ magic
 
 -- there are so many text blocks, and the disk has room for all pages
 pub record FitsSpool (blocks size : ℕ) : Type 0 where
@@ -22,8 +22,8 @@ pub record FitsSpool (blocks size : ℕ) : Type 0 where
   pub room : 4096 * all_pages blocks ≤ size
 
 -- what its page 0 holds is as a crash might have left it before
-pub record FrontStays (seen : ℕ → ℕ) (loose : ℕ → Type 0) (image : ℕ → ℕ) : Type 0 where
-  pub same : (p : ℕ) → p < 4096 → (loose p → ⊥) → image p ≡ seen p
+pub record PrefixStays (seen : ℕ → ℕ) (unsynced : ℕ → Type 0) (image : ℕ → ℕ) : Type 0 where
+  pub same : (p : ℕ) → p < 4096 → (unsynced p → ⊥) → image p ≡ seen p
 
 -- where its page 0 is whole, it shows no uploads, these indexes and so many text blocks
 pub record FormatsTo (n : ℕ) (x : IndexSet) (image : ℕ → ℕ) : Type 0 where
@@ -38,7 +38,7 @@ pub record IsNewest (image : ℕ → ℕ) : Type 0 where
 
 -- What a crash may leave while a spool is made: page 0 as before, or a torn one, or the spool without uploads
 abbrev pub LeftByFormat : ℕ → IndexSet → (ℕ → ℕ) → (ℕ → Type 0) → (ℕ → ℕ) → Type 0
-LeftByFormat n x seen loose image = FrontStays seen loose image ⊎ FormatsTo n x image
+LeftByFormat n x seen unsynced image = PrefixStays seen unsynced image ⊎ FormatsTo n x image
 
 -- nothing was written
 abbrev pub IsRefusal : {T : Type 0} → Result T FormatError → Type 0

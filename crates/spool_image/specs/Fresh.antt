@@ -17,12 +17,12 @@ fresh_byte n x p =
 pub record IsFreshTo (n : ℕ) (x : IndexSet) (end : ℕ) (image : ℕ → ℕ) : Type 0 where
   pub each : (p : ℕ) → 4096 ≤ p → p < end → image p ≡ fresh_byte n x p
 
--- what page 0 holds is as before, or is firm and was loose
-pub record KeepsFront (seen seen' : ℕ → ℕ) (loose loose' : ℕ → Type 0) : Type 0 where
-  pub same : (p : ℕ) → p < 4096 → (loose p → ⊥) → seen' p ≡ seen p
-  pub loosens : (p : ℕ) → p < 4096 → loose' p → loose p
+-- what page 0 holds is as before, or is synced and was unsynced
+pub record KeepsPrefix (seen seen' : ℕ → ℕ) (unsynced unsynced' : ℕ → Type 0) : Type 0 where
+  pub same : (p : ℕ) → p < 4096 → (unsynced p → ⊥) → seen' p ≡ seen p
+  pub unsyncs : (p : ℕ) → p < 4096 → unsynced' p → unsynced p
 
 -- and all of its pages
 pub record IsFresh (n : ℕ) (x : IndexSet) (image : ℕ → ℕ) : Type 0 where
-  pub front : (i : ℕ) → i < 4096 → image i ≡ byte_of (first_page n) i
+  pub prefix : (i : ℕ) → i < 4096 → image i ≡ byte_of (first_page n) i
   pub after : IsFreshTo n x (4096 * all_pages n) image

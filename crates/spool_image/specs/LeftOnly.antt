@@ -20,11 +20,11 @@ pub record IsSpool {D : Type 0} (disk : Ghosts D) (d : D) (n : ℕ) (m : Store) 
 pub record AllShow {D : Type 0} (disk : Ghosts D) (d : D) (n : ℕ) (m : Store) : Type 0 where
   pub honest : disk.honest d
   pub room : 4096 * all_pages n ≤ disk.size d
-  pub each : (image : ℕ → ℕ) → IsImage (disk.seen d) (disk.loose d) image → ImageShows n image m
+  pub each : (image : ℕ → ℕ) → IsImage (disk.seen d) (disk.unsynced d) image → ImageShows n image m
 
 -- what a crash may leave while a disk is opened: what it may have left before, or what shows the same
 abbrev pub LeftOrShows : {D : Type 0} → Ghosts D → D → ℕ → Store → (ℕ → ℕ) → Type 0
-LeftOrShows disk before n m image = IsImage (disk.seen before) (disk.loose before) image ⊎ ImageShows n image m
+LeftOrShows disk before n m image = IsImage (disk.seen before) (disk.unsynced before) image ⊎ ImageShows n image m
 
 -- SINCE SOME MOMENT
 

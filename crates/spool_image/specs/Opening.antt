@@ -45,9 +45,9 @@ pub record OpensExactly (size : ℕ) (seen : ℕ → ℕ) (refusal : Option Open
 -- every image is one from before
 abbrev pub Unwritten : {D : Type 0} → Ghosts D → D → D → Type 0
 Unwritten disk before after = (NeedsReplay (disk.size before) (disk.seen before) → ⊥)
-    → Lasts disk before after (IsImage (disk.seen before) (disk.loose before))
+    → Lasts disk before after (IsImage (disk.seen before) (disk.unsynced before))
 
 -- and a read gives what it gave, unless the disk failed
 abbrev pub ReadsSame : {D : Type 0} → Ghosts D → D → D → Type 0 → Type 0
 ReadsSame disk before after failed = (NeedsReplay (disk.size before) (disk.seen before) → ⊥) → (failed → ⊥)
-    → Keeps (disk.seen before) (disk.seen after) (disk.loose before) (disk.loose after)
+    → Keeps (disk.seen before) (disk.seen after) (disk.unsynced before) (disk.unsynced after)

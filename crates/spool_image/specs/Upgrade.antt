@@ -16,22 +16,22 @@ use Rattle.spool_image.specs.declared.error.UpgradeError.TheVariants.{Open, Alre
 
 -- ONE COMMIT of 257 pages, which say this view in version 2: laid over the bytes of before they are what a read gives
 -- now outside gate and journal, all of it synced
-pub record CommitOfUpgrade (view : View) (bytes seen : ℕ → ℕ) (loose : ℕ → Type 0) : Type 0 where
+pub record CommitOfUpgrade (view : View) (bytes seen : ℕ → ℕ) (unsynced : ℕ → Type 0) : Type 0 where
   pub pages : List (ℕ × List ℕ)
   pub count : length pages ≡ 257
   pub area : InArea (journal_pages view.blocks) pages
   pub changes : Changes pages view (upgraded view)
-  pub settled : Settled (journal_pages view.blocks) (laid pages bytes) seen loose
+  pub settled : Settled (journal_pages view.blocks) (laid pages bytes) seen unsynced
 
 -- a read gave a sound view of version 1, and now each image says the same in version 2, by one commit
-pub record UpgradedFrom (size : ℕ) (before seen : ℕ → ℕ) (loose : ℕ → Type 0) : Type 0 where
+pub record UpgradedFrom (size : ℕ) (before seen : ℕ → ℕ) (unsynced : ℕ → Type 0) : Type 0 where
   pub view : View
   pub sound : IsSound view
   pub old : view.version ≡ One
   pub was : IsViewOf before view
   pub room : 4096 * all_pages view.blocks ≤ size
-  pub rests : Rests (upgraded view) seen loose
-  pub commit : CommitOfUpgrade view (overlaid before) seen loose
+  pub rests : Rests (upgraded view) seen unsynced
+  pub commit : CommitOfUpgrade view (overlaid before) seen unsynced
 
 -- WHY NOT
 

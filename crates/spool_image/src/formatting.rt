@@ -7,8 +7,8 @@ ghost use Rattle.spool_disk.specs.Views.{Lasts};
 ghost use Rattle.spool_journal.specs.Image.{all_pages};
 ghost use Rattle.upload_rules.specs.Store.{no_uploads};
 ghost use Rattle.spool_pages.specs.View.{index_place, state_place};
-ghost use Rattle.spool_image.specs.Format.{FitsSpool, FrontStays, HasMagic, IsNewest, IsRefusal, LeftByFormat};
-ghost use Rattle.spool_image.specs.Fresh.{fresh_byte, IsFreshTo, IsFresh, KeepsFront};
+ghost use Rattle.spool_image.specs.Format.{FitsSpool, PrefixStays, HasMagic, IsNewest, IsRefusal, LeftByFormat};
+ghost use Rattle.spool_image.specs.Fresh.{fresh_byte, IsFreshTo, IsFresh, KeepsPrefix};
 ghost use Rattle.spool_image.specs.LeftOnly.{AllShow};
 
 use crate::FormatError;
@@ -46,10 +46,10 @@ fn write_pages<D: Disk>(disk: &mut D, layout: &Layout, indexes: &IndexSet) -> Re
     ensures fresh { D.honest disk.old → OnOk result
         (IsFreshTo layout.now indexes.now (4096 * all_pages layout.now) (D.seen disk.new)) }
     ensures valid { OnOk result (IsIndexSet indexes.now) }
-    ensures front { D.honest disk.old
-        → KeepsFront (D.seen disk.old) (D.seen disk.new) (D.loose disk.old) (D.loose disk.new) }
+    ensures prefix { D.honest disk.old
+        → KeepsPrefix (D.seen disk.old) (D.seen disk.new) (D.unsynced disk.old) (D.unsynced disk.new) }
     ensures crash { D.honest disk.old
-        → Lasts D.Disk disk.old disk.new (FrontStays (D.seen disk.old) (D.loose disk.old)) }
+        → Lasts D.Disk disk.old disk.new (PrefixStays (D.seen disk.old) (D.unsynced disk.old)) }
 {
     for page in 1..layout.pages() {
         disk.write_at(4096 * page as u64, &fresh_page(layout, indexes, page))?;
@@ -63,7 +63,7 @@ fn write_first<D: Disk>(disk: &mut D, layout: &Layout) -> Result<(), DiskFault>
     ensures size { D.size disk.new ≡ D.size disk.old }
     ensures honest { D.honest disk.old ↔ D.honest disk.new }
     ensures counts { Counts (IsErr result) (D.failures disk.old) (D.failures disk.new) }
-    ensures firm { D.honest disk.old → OnOk result ((p : ℕ) → D.loose disk.new p → ⊥) }
+    ensures is_synced { D.honest disk.old → OnOk result ((p : ℕ) → D.unsynced disk.new p → ⊥) }
     ensures fresh { D.honest disk.old → OnOk result
         ((x : Indexes) → IsFreshTo layout.now x (4096 * all_pages layout.now) (D.seen disk.old)
         → IsFresh layout.now x (D.seen disk.new)) }
@@ -71,11 +71,11 @@ fn write_first<D: Disk>(disk: &mut D, layout: &Layout) -> Result<(), DiskFault>
     ensures most { layout.now ≤ 65536 }
     ensures crash { D.honest disk.old → (x : Indexes) → IsIndexSet x
         → IsFreshTo layout.now x (4096 * all_pages layout.now) (D.seen disk.old)
-        → Lasts D.Disk disk.old disk.new (LeftByFormat layout.now x (D.seen disk.old) (D.loose disk.old)) }
+        → Lasts D.Disk disk.old disk.new (LeftByFormat layout.now x (D.seen disk.old) (D.unsynced disk.old)) }
 {
-    let front = first_page(layout.blocks());
+    let prefix = first_page(layout.blocks());
     disk.sync()?;
-    disk.write_at(0, &front)?;
+    disk.write_at(0, &prefix)?;
     disk.sync()
 }
 
@@ -85,17 +85,18 @@ fn is_spool<D: Disk>(disk: &mut D) -> Result<bool, DiskFault>
     ensures honest { D.honest disk.old ↔ D.honest disk.new }
     ensures counts { Counts (IsErr result) (D.failures disk.old) (D.failures disk.new) }
     ensures keeps { D.honest disk.old
-        → Keeps (D.seen disk.old) (D.seen disk.new) (D.loose disk.old) (D.loose disk.new) }
-    ensures lasts { D.honest disk.old → Lasts D.Disk disk.old disk.new (IsImage (D.seen disk.old) (D.loose disk.old)) }
+        → Keeps (D.seen disk.old) (D.seen disk.new) (D.unsynced disk.old) (D.unsynced disk.new) }
+    ensures lasts { D.honest disk.old → Lasts D.Disk disk.old disk.new
+        (IsImage (D.seen disk.old) (D.unsynced disk.old)) }
     ensures yes { D.honest disk.old → IfOk result (λ is. is ≡ true → HasMagic (D.size disk.old) (D.seen disk.old)) }
     ensures no { D.honest disk.old → IfOk result (λ is. is ≡ false → HasMagic (D.size disk.old) (D.seen disk.old) → ⊥) }
 {
     if disk.len() < 8 {
         return Ok(false);
     }
-    let mut front = [0; 8];
-    disk.read(0, &mut front)?;
-    Ok(front == MAGIC)
+    let mut prefix = [0; 8];
+    disk.read(0, &mut prefix)?;
+    Ok(prefix == MAGIC)
 }
 
 /// Makes a spool of version 2 without uploads, of so many text blocks. It writes all pages but page 0 and syncs, and
@@ -117,19 +118,19 @@ pub fn format<D: Disk>(disk: &mut D, blocks: u32, indexes: &IndexSet) -> Result<
 
     // Then every image is one from before.
     ensures same { D.honest disk.old → IsRefusal result
-        → Keeps (D.seen disk.old) (D.seen disk.new) (D.loose disk.old) (D.loose disk.new) }
+        → Keeps (D.seen disk.old) (D.seen disk.new) (D.unsynced disk.old) (D.unsynced disk.new) }
     ensures lasts { D.honest disk.old → IsRefusal result
-        → Lasts D.Disk disk.old disk.new (IsImage (D.seen disk.old) (D.loose disk.old)) }
+        → Lasts D.Disk disk.old disk.new (IsImage (D.seen disk.old) (D.unsynced disk.old)) }
 
     // A crash at any moment of it leaves page 0 as it might have been before, or torn, or a whole spool.
     ensures crash { D.honest disk.old → Lasts D.Disk disk.old disk.new
-        (LeftByFormat blocks indexes.now (D.seen disk.old) (D.loose disk.old)) }
+        (LeftByFormat blocks indexes.now (D.seen disk.old) (D.unsynced disk.old)) }
 
     // Else every image shows no uploads, these indexes and so many blocks, in version 2.
     ensures shows { D.honest disk.old → OnOk result (AllShow D.Disk disk.new blocks (no_uploads indexes.now)) }
     ensures newest { D.honest disk.old → OnOk result
-        ((image : ℕ → ℕ) → IsImage (D.seen disk.new) (D.loose disk.new) image → IsNewest image) }
-    ensures firm { D.honest disk.old → OnOk result ((p : ℕ) → D.loose disk.new p → ⊥) }
+        ((image : ℕ → ℕ) → IsImage (D.seen disk.new) (D.unsynced disk.new) image → IsNewest image) }
+    ensures is_synced { D.honest disk.old → OnOk result ((p : ℕ) → D.unsynced disk.new p → ⊥) }
 {
     if is_spool(disk)? {
         return Err(FormatError::AlreadySpool);
@@ -150,12 +151,12 @@ fn make<D: Disk>(disk: &mut D, layout: &Layout, indexes: &IndexSet) -> Result<()
     ensures size { D.size disk.new ≡ D.size disk.old }
     ensures honest { D.honest disk.old ↔ D.honest disk.new }
     ensures counts { Counts (IsErr result) (D.failures disk.old) (D.failures disk.new) }
-    ensures firm { D.honest disk.old → OnOk result ((p : ℕ) → D.loose disk.new p → ⊥) }
+    ensures is_synced { D.honest disk.old → OnOk result ((p : ℕ) → D.unsynced disk.new p → ⊥) }
     ensures shows { D.honest disk.old → OnOk result (AllShow D.Disk disk.new layout.now (no_uploads indexes.now)) }
     ensures newest { D.honest disk.old → OnOk result
-        ((image : ℕ → ℕ) → IsImage (D.seen disk.new) (D.loose disk.new) image → IsNewest image) }
+        ((image : ℕ → ℕ) → IsImage (D.seen disk.new) (D.unsynced disk.new) image → IsNewest image) }
     ensures crash { D.honest disk.old → Lasts D.Disk disk.old disk.new
-        (LeftByFormat layout.now indexes.now (D.seen disk.old) (D.loose disk.old)) }
+        (LeftByFormat layout.now indexes.now (D.seen disk.old) (D.unsynced disk.old)) }
 {
     write_pages(disk, layout, indexes)?;
     write_first(disk, layout)

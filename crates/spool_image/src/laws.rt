@@ -15,8 +15,8 @@ use spool_disk::Disk;
 pub fn images_open<D: Disk>()
     ensures now { (d : D) (n : ℕ) (m : Store) → AllShow D.Disk d n m → IsSpool D.Disk d n m }
     ensures crashed { (d left : D) (n : ℕ) (m : Store) → AllShow D.Disk d n m → D.honest left → D.size left ≡ D.size d
-        → IsImage (D.seen d) (D.loose d) (D.seen left) → IsSpool D.Disk left n m }
-    ensures synced { (d : D) (n : ℕ) (m : Store) → IsSpool D.Disk d n m → ((p : ℕ) → D.loose d p → ⊥)
+        → IsImage (D.seen d) (D.unsynced d) (D.seen left) → IsSpool D.Disk left n m }
+    ensures synced { (d : D) (n : ℕ) (m : Store) → IsSpool D.Disk d n m → ((p : ℕ) → D.unsynced d p → ⊥)
         → AllShow D.Disk d n m }
 {}
 

@@ -83,7 +83,7 @@ impl<D: Disk> Spool<D> {
 
         // And so a commit may be made.
         ensures idle { D.honest disk → IfOk result
-            (λ s. Idle (journal_pages (size_of s)) (D.seen (disk_of s)) (D.loose (disk_of s))) }
+            (λ s. Idle (journal_pages (size_of s)) (D.seen (disk_of s)) (D.unsynced (disk_of s))) }
 
         // A crash during it leaves what it might have left before, or what shows the same uploads and so many blocks.
         ensures lasts { (n : ℕ) (m : Store) → IsSpool D.Disk disk n m

@@ -41,20 +41,20 @@ fn load_old<D: Disk>(alloc: Global, disk: &mut D) -> Result<Kept, UpgradeError>
     ensures version { IfOk result (λ kept. kept.version ≡ Known.One) }
     ensures refused { D.honest disk.old → IfErr result (UpgradeRefusedFor (D.size disk.old) (D.seen disk.old)) }
     ensures settled { D.honest disk.old → IfOk result (λ kept.
-        Settled (journal_pages kept.layout) (overlaid (D.seen disk.old)) (D.seen disk.new) (D.loose disk.new)) }
+        Settled (journal_pages kept.layout) (overlaid (D.seen disk.old)) (D.seen disk.new) (D.unsynced disk.new)) }
     ensures stays { D.honest disk.old → (v : View) → IsSound v → IsViewOf (D.seen disk.old) v
         → 4096 * all_pages v.blocks ≤ D.size disk.old
         → IfErr result (λ e. (e ≡ UpgradeError.Open Fault.DiskFault → ⊥)
-        → Rests v (D.seen disk.new) (D.loose disk.new)) }
+        → Rests v (D.seen disk.new) (D.unsynced disk.new)) }
     ensures lasts { D.honest disk.old → (v : View) → IsSound v → IsViewOf (D.seen disk.old) v
         → 4096 * all_pages v.blocks ≤ D.size disk.old → Lasts D.Disk disk.old disk.new (λ image.
-        IsImage (D.seen disk.old) (D.loose disk.old) image
+        IsImage (D.seen disk.old) (D.unsynced disk.old) image
         ⊎ ReadsAs (journal_pages v.blocks) image (overlaid (D.seen disk.old))) }
     ensures unwritten { D.honest disk.old → (NeedsReplay (D.size disk.old) (D.seen disk.old) → ⊥)
-        → Lasts D.Disk disk.old disk.new (IsImage (D.seen disk.old) (D.loose disk.old)) }
+        → Lasts D.Disk disk.old disk.new (IsImage (D.seen disk.old) (D.unsynced disk.old)) }
     ensures same { D.honest disk.old → (NeedsReplay (D.size disk.old) (D.seen disk.old) → ⊥)
         → (result ≡ Err (UpgradeError.Open Fault.DiskFault) → ⊥)
-        → Keeps (D.seen disk.old) (D.seen disk.new) (D.loose disk.old) (D.loose disk.new) }
+        → Keeps (D.seen disk.old) (D.seen disk.new) (D.unsynced disk.old) (D.unsynced disk.new) }
 {
     let found = find(disk)?;
     if found.version == Version::Two {
@@ -72,14 +72,14 @@ fn rewrite<D: Disk>(alloc: Global, disk: &mut D, kept: &Kept) -> Result<(), Upgr
     ensures counts { Counts (result ≡ Err (UpgradeError.Open Fault.DiskFault)) (D.failures disk.old)
         (D.failures disk.new) }
     ensures done { D.honest disk.old → (v : View) → KeepsView kept.now v
-        → Rests v (D.seen disk.old) (D.loose disk.old)
-        → OnOk result (Rests (upgraded v) (D.seen disk.new) (D.loose disk.new)) }
+        → Rests v (D.seen disk.old) (D.unsynced disk.old)
+        → OnOk result (Rests (upgraded v) (D.seen disk.new) (D.unsynced disk.new)) }
     ensures commit { D.honest disk.old → (v : View) → KeepsView kept.now v
-        → Rests v (D.seen disk.old) (D.loose disk.old)
-        → OnOk result (CommitOfUpgrade v (D.seen disk.old) (D.seen disk.new) (D.loose disk.new)) }
+        → Rests v (D.seen disk.old) (D.unsynced disk.old)
+        → OnOk result (CommitOfUpgrade v (D.seen disk.old) (D.seen disk.new) (D.unsynced disk.new)) }
     ensures late { IfErr result IsLateRefusal }
     ensures lasts { D.honest disk.old → (v : View) → KeepsView kept.now v
-        → Rests v (D.seen disk.old) (D.loose disk.old)
+        → Rests v (D.seen disk.old) (D.unsynced disk.old)
         → Lasts D.Disk disk.old disk.new (λ image. IsViewOf image v ⊎ IsViewOf image (upgraded v)) }
     ensures untouched { IfErr result (λ e. (e ≡ UpgradeError.Open Fault.DiskFault → ⊥) → disk.new ≡ disk.old) }
 {
@@ -109,7 +109,7 @@ pub fn upgrade<D: Disk>(alloc: Global, disk: &mut D) -> Result<(), UpgradeError>
     // What was brought to version 2 was a sound spool of version 1, and each image now says the same in version 2: by
     // one commit of 257 pages, which changed nothing else that a plain reading gives.
     ensures sound { D.honest disk.old
-        → OnOk result (UpgradedFrom (D.size disk.old) (D.seen disk.old) (D.seen disk.new) (D.loose disk.new)) }
+        → OnOk result (UpgradedFrom (D.size disk.old) (D.seen disk.old) (D.seen disk.new) (D.unsynced disk.new)) }
 
     // Each refusal has its reason, and each reason is answered so, unless memory or the disk refuses it.
     ensures refused { D.honest disk.old → IfErr result (UpgradeRefusedFor (D.size disk.old) (D.seen disk.old)) }
@@ -126,20 +126,20 @@ pub fn upgrade<D: Disk>(alloc: Global, disk: &mut D) -> Result<(), UpgradeError>
     ensures stays { D.honest disk.old → (v : View) → IsSound v → IsViewOf (D.seen disk.old) v
         → 4096 * all_pages v.blocks ≤ D.size disk.old
         → IfErr result (λ e. (e ≡ UpgradeError.Open Fault.DiskFault → ⊥)
-        → Rests v (D.seen disk.new) (D.loose disk.new)) }
+        → Rests v (D.seen disk.new) (D.unsynced disk.new)) }
 
     // A refusal of a spool of which no journal is to be replayed has written nothing, whatever is on the disk.
     ensures unwritten { D.honest disk.old → (NeedsReplay (D.size disk.old) (D.seen disk.old) → ⊥)
         → IfErr result (λ e. (e ≡ UpgradeError.Open Fault.DiskFault → ⊥)
-        → Lasts D.Disk disk.old disk.new (IsImage (D.seen disk.old) (D.loose disk.old))) }
+        → Lasts D.Disk disk.old disk.new (IsImage (D.seen disk.old) (D.unsynced disk.old))) }
     ensures same { D.honest disk.old → (NeedsReplay (D.size disk.old) (D.seen disk.old) → ⊥)
         → IfErr result (λ e. (e ≡ UpgradeError.Open Fault.DiskFault → ⊥)
-        → Keeps (D.seen disk.old) (D.seen disk.new) (D.loose disk.old) (D.loose disk.new)) }
+        → Keeps (D.seen disk.old) (D.seen disk.new) (D.unsynced disk.old) (D.unsynced disk.new)) }
 
     // A crash during it leaves what it might have left before, or the same in the old version or in version 2.
     ensures lasts { D.honest disk.old → (v : View) → IsSound v → IsViewOf (D.seen disk.old) v
         → 4096 * all_pages v.blocks ≤ D.size disk.old → Lasts D.Disk disk.old disk.new (λ image.
-        IsImage (D.seen disk.old) (D.loose disk.old) image ⊎ IsViewOf image v ⊎ IsViewOf image (upgraded v)) }
+        IsImage (D.seen disk.old) (D.unsynced disk.old) image ⊎ IsViewOf image v ⊎ IsViewOf image (upgraded v)) }
 
     // And so it leaves what it might have left before, or what shows the same uploads and so many blocks.
     ensures crash { (n : ℕ) (m : Store) → IsSpool D.Disk disk.old n m

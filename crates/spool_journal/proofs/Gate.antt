@@ -61,8 +61,8 @@ pub hit_from : (j : ℕ) (image : ℕ → ℕ) (p : ℕ) → InForm j (count ima
     → 4096 * (25 + j) ≤ p
 hit_from j image p form hit = let h = form.inside hit.k hit.below in omega (arith, h.from, hit.here)
 
-module _ {j : ℕ} {opened seen image : ℕ → ℕ} {loose : ℕ → Type 0} where
-  pub placing_image : j ≤ 385 → Placing j opened seen loose → IsImage seen loose image
+module _ {j : ℕ} {opened seen image : ℕ → ℕ} {unsynced : ℕ → Type 0} where
+  pub placing_image : j ≤ 385 → Placing j opened seen unsynced → IsImage seen unsynced image
       → ReadsAs j image (replayed opened)
   placing_image few placing is =
       record {
@@ -72,7 +72,7 @@ module _ {j : ℕ} {opened seen image : ℕ → ℕ} {loose : ℕ → Type 0} wh
       }
     where
       at : (p : ℕ) → (Hit opened p → ⊥) → image p ≡ opened p
-      at p miss = is.same p (λ l. miss (placing.firm p l)) ∙ placing.same p miss
+      at p miss = is.same p (λ l. miss (placing.is_synced p l)) ∙ placing.same p miss
 
       gate : image 4096 ≡ 165
       gate = at 4096 (λ hit. omega (arith, hit_from j opened 4096 placing.form hit)) ∙ placing.gate
@@ -82,7 +82,7 @@ module _ {j : ℕ} {opened seen image : ℕ → ℕ} {loose : ℕ → Type 0} wh
         same = λ p within. at p (λ hit. omega (arith, hit_from j opened p placing.form hit, within.below));
       }
 
-  pub closing_image : j ≤ 385 → Placed j opened seen loose → ((p : ℕ) → (p ≡ 4096 → ⊥) → image p ≡ seen p)
+  pub closing_image : j ≤ 385 → Placed j opened seen unsynced → ((p : ℕ) → (p ≡ 4096 → ⊥) → image p ≡ seen p)
       → ReadsAs j image (replayed opened)
   closing_image few placed same =
       record {
@@ -113,8 +113,8 @@ module _ {j : ℕ} {opened seen image : ℕ → ℕ} {loose : ℕ → Type 0} wh
       }
 
 -- while the gate opens
-pub opening_image : {j : ℕ} {pages : List (ℕ × List ℕ)} {was seen image : ℕ → ℕ} {loose free : ℕ → Type 0} → j ≤ 385
-    → Ready j pages was seen loose → ((p : ℕ) → (p ≡ 4096 → ⊥) → image p ≡ seen p)
+pub opening_image : {j : ℕ} {pages : List (ℕ × List ℕ)} {was seen image : ℕ → ℕ} {unsynced free : ℕ → Type 0} → j ≤ 385
+    → Ready j pages was seen unsynced → ((p : ℕ) → (p ≡ 4096 → ⊥) → image p ≡ seen p)
     → IsBefore j was free image ⊎ ReadsAs j image (laid pages was)
 opening_image {j = j} {pages = pages} {was = was} {seen = seen} {image = image} few ready same =
     ⊎_elim
@@ -148,37 +148,39 @@ opening_image {j = j} {pages = pages} {was = was} {seen = seen} {image = image} 
         (λ _. ready.same p (away p outside))
 
 -- the gate's byte alone was written
-pub gate_step : {seen seen' : ℕ → ℕ} {loose loose' : ℕ → Type 0} {done : Type 0} (v : ℕ)
-    → Writes 4096 (v ∷ []) done seen seen' loose loose' → (p : ℕ) → (p ≡ 4096 → ⊥) → seen' p ≡ seen p
+pub gate_step : {seen seen' : ℕ → ℕ} {unsynced unsynced' : ℕ → Type 0} {done : Type 0} (v : ℕ)
+    → Writes 4096 (v ∷ []) done seen seen' unsynced unsynced' → (p : ℕ) → (p ≡ 4096 → ⊥) → seen' p ≡ seen p
 gate_step v writes p away = writes.outside p (λ here. away (alone p here))
   where
     alone : (p : ℕ) → In 4096 1 p → p ≡ 4096
     alone p here = omega (arith, here.from, here.below)
 
-pub gate_image : {seen seen' image : ℕ → ℕ} {loose loose' : ℕ → Type 0} {done : Type 0} (v : ℕ)
-    → ((p : ℕ) → loose p → ⊥) → Writes 4096 (v ∷ []) done seen seen' loose loose' → IsImage seen' loose' image → (p : ℕ)
+pub gate_image : {seen seen' image : ℕ → ℕ} {unsynced unsynced' : ℕ → Type 0} {done : Type 0} (v : ℕ)
+    → ((p : ℕ) → unsynced p → ⊥) → Writes 4096 (v ∷ []) done seen seen' unsynced unsynced'
+    → IsImage seen' unsynced' image → (p : ℕ)
     → (p ≡ 4096 → ⊥) → image p ≡ seen p
-gate_image v firm writes is p away =
-    is.same p (λ l. ⊎_elim (firm p) (λ here. away (alone p here)) (writes.loosens p l)) ∙ gate_step v writes p away
+gate_image v is_synced writes is p away =
+    is.same p (λ l. ⊎_elim (is_synced p) (λ here. away (alone p here)) (writes.unsyncs p l)) ∙ gate_step v writes p away
   where
     alone : (p : ℕ) → In 4096 1 p → p ≡ 4096
     alone p here = omega (arith, here.from, here.below)
 
-pub gate_now : {seen seen' seen'' : ℕ → ℕ} {loose loose' loose'' : ℕ → Type 0} {done synced : Type 0} (v : ℕ)
-    → Writes 4096 (v ∷ []) done seen seen' loose loose' → done → Syncs synced seen' seen'' loose' loose'' → synced
+pub gate_now : {seen seen' seen'' : ℕ → ℕ} {unsynced unsynced' unsynced'' : ℕ → Type 0} {done synced : Type 0} (v : ℕ)
+    → Writes 4096 (v ∷ []) done seen seen' unsynced unsynced' → done
+    → Syncs synced seen' seen'' unsynced' unsynced'' → synced
     → seen'' 4096 ≡ v
 unfolding span
 gate_now {seen' = seen'} v writes wrote syncs synced =
     syncs.same synced 4096 ∙ span_at seen' 4096 (v ∷ []) 0 (writes.inside wrote) (omega arith)
 
 -- the gate is open
-pub opened : {j : ℕ} {pages : List (ℕ × List ℕ)} {was seen seen' : ℕ → ℕ} {loose loose' : ℕ → Type 0} → j ≤ 385
-    → Ready j pages was seen loose → ((p : ℕ) → (p ≡ 4096 → ⊥) → seen' p ≡ seen p) → seen' 4096 ≡ 165
-    → ((p : ℕ) → loose' p → ⊥) → Opened j pages was seen' loose'
-opened {j = j} {pages = pages} {was = was} {seen = seen} {seen' = seen'} few ready same gate firm = record {
+pub opened : {j : ℕ} {pages : List (ℕ × List ℕ)} {was seen seen' : ℕ → ℕ} {unsynced unsynced' : ℕ → Type 0} → j ≤ 385
+    → Ready j pages was seen unsynced → ((p : ℕ) → (p ≡ 4096 → ⊥) → seen' p ≡ seen p) → seen' 4096 ≡ 165
+    → ((p : ℕ) → unsynced' p → ⊥) → Opened j pages was seen' unsynced'
+opened {j = j} {pages = pages} {was = was} {seen = seen} {seen' = seen'} few ready same gate is_synced = record {
   gate = gate;
   form = form_on few some journal ready.form;
-  firm = firm;
+  is_synced = is_synced;
   matches = record {
     size = same_count some journal ∙ ready.matches.size;
     numbers = λ k lt. same_number few some journal k (omega (arith, lt, fits)) ∙ ready.matches.numbers k lt;
@@ -213,11 +215,11 @@ opened {j = j} {pages = pages} {was = was} {seen = seen} {seen' = seen'} few rea
         ready.matches.numbers (λ k x lt below. ready.matches.contents k x lt below)
         (λ _. ready.same p (away p outside))
 
-pub settled : {j : ℕ} {opened seen seen' : ℕ → ℕ} {loose loose' : ℕ → Type 0} → Placed j opened seen loose
-    → ((p : ℕ) → (p ≡ 4096 → ⊥) → seen' p ≡ seen p) → seen' 4096 ≡ 0 → ((p : ℕ) → loose' p → ⊥)
-    → Settled j (replayed opened) seen' loose'
-settled {j = j} placed same gate firm = record {
-  firm = firm;
+pub settled : {j : ℕ} {opened seen seen' : ℕ → ℕ} {unsynced unsynced' : ℕ → Type 0} → Placed j opened seen unsynced
+    → ((p : ℕ) → (p ≡ 4096 → ⊥) → seen' p ≡ seen p) → seen' 4096 ≡ 0 → ((p : ℕ) → unsynced' p → ⊥)
+    → Settled j (replayed opened) seen' unsynced'
+settled {j = j} placed same gate is_synced = record {
+  is_synced = is_synced;
   closed = λ e. omega (arith, e, gate);
   same = λ p outside. same p (gateless p outside) ∙ placed.all p;
 }
@@ -226,24 +228,24 @@ settled {j = j} placed same gate firm = record {
     gateless p (inl lt) e = omega (arith, lt, e)
     gateless p (inr le) e = omega (arith, le, e)
 
-module _ {j : ℕ} {opened seen seen' : ℕ → ℕ} {loose loose' : ℕ → Type 0} {done : Type 0} where
-  pub placing_writes : (i page : ℕ) (bytes : List ℕ) → Placing j opened seen loose → i < count opened
-      → number opened i ≡ page → length bytes ≡ 4096 → Writes (4096 * page) bytes done seen seen' loose loose'
-      → Placing j opened seen' loose'
+module _ {j : ℕ} {opened seen seen' : ℕ → ℕ} {unsynced unsynced' : ℕ → Type 0} {done : Type 0} where
+  pub placing_writes : (i page : ℕ) (bytes : List ℕ) → Placing j opened seen unsynced → i < count opened
+      → number opened i ≡ page → length bytes ≡ 4096 → Writes (4096 * page) bytes done seen seen' unsynced unsynced'
+      → Placing j opened seen' unsynced'
   placing_writes i page bytes placing lt e size writes = record {
     gate = placing.gate;
     form = placing.form;
     same = λ p miss. writes.outside p (λ here. miss (hit p here)) ∙ placing.same p miss;
-    firm = λ p l. ⊎_elim (placing.firm p) (hit p) (writes.loosens p l);
+    is_synced = λ p l. ⊎_elim (placing.is_synced p) (hit p) (writes.unsyncs p l);
   }
     where
       hit : (p : ℕ) → In (4096 * page) (length bytes) p → Hit opened p
       hit p here = record { k = i; below = lt; here = omega (arith, here.from, here.below, e, size) }
 
-pub upto_writes : {seen seen' : ℕ → ℕ} {loose loose' : ℕ → Type 0} {done : Type 0} (opened : ℕ → ℕ) (i page : ℕ)
+pub upto_writes : {seen seen' : ℕ → ℕ} {unsynced unsynced' : ℕ → Type 0} {done : Type 0} (opened : ℕ → ℕ) (i page : ℕ)
     (bytes : List ℕ) → Upto opened seen i → number opened i ≡ page → length bytes ≡ 4096
-    → ((x : ℕ) → x < 4096 → content opened i x ≡ byte_of bytes x) → Writes (4096 * page) bytes done seen seen' loose
-    loose' → done → Upto opened seen' (i + 1)
+    → ((x : ℕ) → x < 4096 → content opened i x ≡ byte_of bytes x) → Writes (4096 * page) bytes done seen seen' unsynced
+    unsynced' → done → Upto opened seen' (i + 1)
 upto_writes {seen' = seen'} opened i page bytes upto e size same writes wrote p =
     let more : suc i ≡ i + 1 = omega arith in
     subst (λ (n : ℕ). seen' p ≡ over (number opened) (content opened) opened n p) more
@@ -262,42 +264,53 @@ upto_writes {seen' = seen'} opened i page bytes upto e size same writes wrote p 
         (span_at seen' (4096 * page) bytes (p % 4096) (writes.inside wrote) (omega (arith, below, size))
         ∙ sym (same (p % 4096) below))
 
-pub placed_syncs : {j : ℕ} {opened seen seen' : ℕ → ℕ} {loose loose' : ℕ → Type 0} {done : Type 0}
-    → Placing j opened seen loose → Upto opened seen (count opened) → Syncs done seen seen' loose loose' → done
-    → Placed j opened seen' loose'
+pub placed_syncs : {j : ℕ} {opened seen seen' : ℕ → ℕ} {unsynced unsynced' : ℕ → Type 0} {done : Type 0}
+    → Placing j opened seen unsynced → Upto opened seen (count opened) → Syncs done seen seen' unsynced unsynced' → done
+    → Placed j opened seen' unsynced'
 placed_syncs placing upto syncs done = record {
   gate = placing.gate;
   form = placing.form;
   all = λ p. syncs.same done p ∙ upto p;
-  firm = syncs.firm done;
+  is_synced = syncs.is_synced done;
 }
 
 pub upto_none : (opened : ℕ → ℕ) → Upto opened opened 0
 unfolding over
 upto_none opened p = refl
 
-pub opened_placing : {j : ℕ} {pages : List (ℕ × List ℕ)} {was seen : ℕ → ℕ} {loose : ℕ → Type 0}
-    → Opened j pages was seen loose → Placing j seen seen loose
+pub opened_placing : {j : ℕ} {pages : List (ℕ × List ℕ)} {was seen : ℕ → ℕ} {unsynced : ℕ → Type 0}
+    → Opened j pages was seen unsynced → Placing j seen seen unsynced
 opened_placing opened = record {
   gate = opened.gate;
   form = opened.form;
   same = λ p miss. refl;
-  firm = λ p l. absurd (opened.firm p l);
+  is_synced = λ p l. absurd (opened.is_synced p l);
 }
 
 pub reads_more : {j : ℕ} {image a b : ℕ → ℕ} → ((p : ℕ) → Outside j p → a p ≡ b p) → ReadsAs j image a
     → ReadsAs j image b
 reads_more same reads = record { form = reads.form; same = λ p outside. reads.same p outside ∙ same p outside }
 
-pub settled_more : {j : ℕ} {seen a b : ℕ → ℕ} {loose : ℕ → Type 0} → ((p : ℕ) → Outside j p → a p ≡ b p)
-    → Settled j a seen loose → Settled j b seen loose
-settled_more same s = record { firm = s.firm; closed = s.closed; same = λ p outside. s.same p outside ∙ same p outside }
+pub settled_more : {j : ℕ} {seen a b : ℕ → ℕ} {unsynced : ℕ → Type 0} → ((p : ℕ) → Outside j p → a p ≡ b p)
+    → Settled j a seen unsynced → Settled j b seen unsynced
+settled_more same s = record {
+  is_synced = s.is_synced;
+  closed = s.closed;
+  same = λ p outside. s.same p outside
+      ∙ same p outside;
+}
 
--- where nothing was loose before the gate opened, the images before it are older images too
+-- where nothing was unsynced before the gate opened, the images before it are older images too
 pub ready_before : {j : ℕ} {was image : ℕ → ℕ} {risk free : ℕ → Type 0} → ((p : ℕ) → free p → ⊥)
     → IsBefore j was free image → IsBefore j was risk image
 ready_before none before = record { closed = before.closed; same = λ p outside _. before.same p outside (none p) }
 
 -- where all is settled, the gate is closed and the metadata is what a read gives
-pub settled_idle : {j : ℕ} {bytes seen : ℕ → ℕ} {loose : ℕ → Type 0} → Settled j bytes seen loose → Idle j seen loose
-settled_idle settled = record { gate = settled.firm 4096; closed = settled.closed; area = λ p inside. settled.firm p }
+pub settled_idle : {j : ℕ} {bytes seen : ℕ → ℕ} {unsynced : ℕ → Type 0} → Settled j bytes seen unsynced
+    → Idle j seen unsynced
+settled_idle settled = record {
+  gate = settled.is_synced 4096;
+  closed = settled.closed;
+  area = λ p inside.
+      settled.is_synced p;
+}

@@ -26,25 +26,27 @@ get_span f at (suc n) zero lt = let e : at ≡ at + 0 = omega arith in ap f e
 get_span f at (suc n) (suc x) lt = let e : at + 1 + x ≡ at + suc x =
     omega arith in get_span f (at + 1) n x (omega (arith, lt)) ∙ ap f e
 
-module _ {seen seen' : ℕ → ℕ} {loose loose' : ℕ → Type 0} where
-  pub placing_keeps : {j : ℕ} {opened : ℕ → ℕ} → Placing j opened seen loose → Keeps seen seen' loose loose'
-      → Placing j opened seen' loose'
+module _ {seen seen' : ℕ → ℕ} {unsynced unsynced' : ℕ → Type 0} where
+  pub placing_keeps : {j : ℕ} {opened : ℕ → ℕ} → Placing j opened seen unsynced → Keeps seen seen' unsynced unsynced'
+      → Placing j opened seen' unsynced'
   placing_keeps placing keeps = record {
     gate = placing.gate;
     form = placing.form;
     same = λ p miss. keeps.same p ∙ placing.same p miss;
-    firm = λ p l. placing.firm p (keeps.loosens p l);
+    is_synced = λ p l. placing.is_synced p (keeps.unsyncs p l);
   }
 
-  pub still_keeps : {bytes : ℕ → ℕ} → Still bytes seen loose → Keeps seen seen' loose loose' → Still bytes seen' loose'
+  pub still_keeps : {bytes : ℕ → ℕ} → Still bytes seen unsynced → Keeps seen seen' unsynced unsynced'
+      → Still bytes seen' unsynced'
   still_keeps still keeps = record {
     reads = λ p. keeps.same p ∙ still.reads p;
-    firm = λ p l. still.firm p (keeps.loosens p l);
+    is_synced = λ p l. still.is_synced p (keeps.unsyncs p l);
   }
 
-pub still_image : {bytes seen image : ℕ → ℕ} {loose : ℕ → Type 0} → Still bytes seen loose → IsImage seen loose image
+pub still_image : {bytes seen image : ℕ → ℕ} {unsynced : ℕ → Type 0} → Still bytes seen unsynced
+    → IsImage seen unsynced image
     → (p : ℕ) → image p ≡ bytes p
-still_image still is p = is.same p (still.firm p) ∙ still.reads p
+still_image still is p = is.same p (still.is_synced p) ∙ still.reads p
 
 -- the bytes of a read page
 pub page_read : (f g : ℕ → ℕ) (at : ℕ) (bytes : List ℕ) (n : ℕ) → n ≡ 4096 → bytes ≡ span f at n → (x : ℕ) → x < 4096
@@ -53,22 +55,22 @@ page_read f g at bytes n size e x lt same =
     ap (λ (l : List ℕ). get_or l x 0) e ∙ get_span f at n x (omega (arith, size, lt)) ∙ same
 
 -- the journal is as it was when the gate opened
-pub placing_content : {j : ℕ} {opened seen : ℕ → ℕ} {loose : ℕ → Type 0} → Placing j opened seen loose → (i x : ℕ)
+pub placing_content : {j : ℕ} {opened seen : ℕ → ℕ} {unsynced : ℕ → Type 0} → Placing j opened seen unsynced → (i x : ℕ)
     → i < count opened → x < 4096 → content seen i x ≡ content opened i x
 placing_content {j = j} {opened = opened} placing i x lt below =
     placing.same (4096 * (3 + i) + x)
     (λ hit. omega (arith, hit_from j opened _ placing.form hit, lt, below, placing.form.few))
 
-pub still_placing : {j : ℕ} {bytes seen : ℕ → ℕ} {loose : ℕ → Type 0} → Still bytes seen loose → bytes 4096 ≡ 165
-    → InForm j (count bytes) (number bytes) → Placing j bytes seen loose
+pub still_placing : {j : ℕ} {bytes seen : ℕ → ℕ} {unsynced : ℕ → Type 0} → Still bytes seen unsynced → bytes 4096 ≡ 165
+    → InForm j (count bytes) (number bytes) → Placing j bytes seen unsynced
 still_placing still gate form = record {
   gate = gate;
   form = form;
   same = λ p miss. still.reads p;
-  firm = λ p l. absurd (still.firm p l);
+  is_synced = λ p l. absurd (still.is_synced p l);
 }
 
-pub still_upto : (bytes seen : ℕ → ℕ) {loose : ℕ → Type 0} → Still bytes seen loose → Upto bytes seen 0
+pub still_upto : (bytes seen : ℕ → ℕ) {unsynced : ℕ → Type 0} → Still bytes seen unsynced → Upto bytes seen 0
 unfolding over
 still_upto bytes seen still p = still.reads p
 
@@ -99,10 +101,11 @@ form_head j bytes head few here form =
     (λ k lt. sym (head_number bytes head here k (omega (arith, few, lt, form.few)))) form
 
 -- a gate that is closed from the first
-pub still_settled : {j : ℕ} {bytes seen : ℕ → ℕ} {loose : ℕ → Type 0} → Still bytes seen loose → (bytes 4096 ≡ 165 → ⊥)
-    → Settled j (overlaid bytes) seen loose
+pub still_settled : {j : ℕ} {bytes seen : ℕ → ℕ} {unsynced : ℕ → Type 0} → Still bytes seen unsynced
+    → (bytes 4096 ≡ 165 → ⊥)
+    → Settled j (overlaid bytes) seen unsynced
 still_settled {bytes = bytes} still closed = record {
-  firm = still.firm;
+  is_synced = still.is_synced;
   closed = λ e. closed (sym (still.reads 4096) ∙ e);
   same = λ p outside. still.reads p ∙ sym (shut_view bytes p closed);
 }
@@ -132,12 +135,12 @@ items_room n items pages size e inside room k lt =
 pub in_items : (i j : ℕ) (items pages : List (ℕ × List ℕ)) → i ≡ j → items ≡ pages → InArea j pages → InArea i items
 in_items i j items pages e f inside = subst (λ (n : ℕ). InArea n items) (sym e) (subst (InArea j) (sym f) inside)
 
-pub lasts_laid : {D : Type 0} {disk : Ghosts D} {old new : D} {i j : ℕ} {seen : ℕ → ℕ} {loose : ℕ → Type 0}
+pub lasts_laid : {D : Type 0} {disk : Ghosts D} {old new : D} {i j : ℕ} {seen : ℕ → ℕ} {unsynced : ℕ → Type 0}
     {items pages : List (ℕ × List ℕ)} → i ≡ j → items ≡ pages
-    → Lasts disk old new (λ image. IsBefore i seen loose image ⊎ ReadsAs i image (laid items seen))
-    → Lasts disk old new (λ image. IsBefore j seen loose image ⊎ ReadsAs j image (laid pages seen))
-lasts_laid {j = j} {seen = seen} {loose = loose} {items = items} same e lasts = lasts_more lasts (λ image either.
-    ⊎_elim (λ before. inl (subst (λ (n : ℕ). IsBefore n seen loose image) same before))
+    → Lasts disk old new (λ image. IsBefore i seen unsynced image ⊎ ReadsAs i image (laid items seen))
+    → Lasts disk old new (λ image. IsBefore j seen unsynced image ⊎ ReadsAs j image (laid pages seen))
+lasts_laid {j = j} {seen = seen} {unsynced = unsynced} {items = items} same e lasts = lasts_more lasts (λ image either.
+    ⊎_elim (λ before. inl (subst (λ (n : ℕ). IsBefore n seen unsynced image) same before))
     (λ reads. inr (subst (λ (l : List (ℕ × List ℕ)). ReadsAs j image (laid l seen)) e
     (subst (λ (n : ℕ). ReadsAs n image (laid items seen)) same reads))) either)
 

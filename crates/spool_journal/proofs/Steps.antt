@@ -30,73 +30,77 @@ word_same f g a b same =
     omega arith in ap f (sym z) ∙ same 0 (omega arith) ∙ ap g y in
     omega (arith, e0, same 1 (omega arith), same 2 (omega arith), same 3 (omega arith))
 
-module _ {was seen : ℕ → ℕ} {risk loose : ℕ → Type 0} {j : ℕ} where
-  pub staged_before : {image : ℕ → ℕ} → Idle j was risk → Staging j was risk seen loose → IsImage seen loose image
+module _ {was seen : ℕ → ℕ} {risk unsynced : ℕ → Type 0} {j : ℕ} where
+  pub staged_before : {image : ℕ → ℕ} → Idle j was risk → Staging j was risk seen unsynced → IsImage seen unsynced image
       → IsBefore j was risk image
   staged_before idle staging is =
       let gate : InJournal j 4096 → ⊥ = λ within. omega (arith, within.from) in
       record {
         closed = λ opened. idle.closed
-            (sym (is.same 4096 (λ l. idle.gate (staging.firm 4096 gate l)) ∙ staging.same 4096 gate) ∙ opened);
-        same = λ p outside firm. let away =
-            outside_journal p outside in is.same p (λ l. firm (staging.firm p away l)) ∙ staging.same p away;
+            (sym (is.same 4096 (λ l. idle.gate (staging.is_synced 4096 gate l)) ∙ staging.same 4096 gate) ∙ opened);
+        same = λ p outside is_synced. let away =
+            outside_journal p outside in is.same p (λ l. is_synced (staging.is_synced p away l)) ∙ staging.same p away;
       }
     where
       outside_journal : (p : ℕ) → Outside j p → InJournal j p → ⊥
       outside_journal p (inl e) within = omega (arith, within.from, e)
       outside_journal p (inr e) within = omega (arith, within.below, e)
 
-  pub idle_on : Idle j was risk → Staging j was risk seen loose → Idle j seen loose
+  pub idle_on : Idle j was risk → Staging j was risk seen unsynced → Idle j seen unsynced
   idle_on idle staging =
       let gate : InJournal j 4096 → ⊥ = λ within. omega (arith, within.from) in
       record {
-        gate = λ l. idle.gate (staging.firm 4096 gate l);
+        gate = λ l. idle.gate (staging.is_synced 4096 gate l);
         closed = λ opened. idle.closed (sym (staging.same 4096 gate) ∙ opened);
         area = λ p within l. idle.area p within
-            (staging.firm p (λ in_journal. omega (arith, within.from, in_journal.below)) l);
+            (staging.is_synced p (λ in_journal. omega (arith, within.from, in_journal.below)) l);
       }
 
-  pub staging_writes : {seen' : ℕ → ℕ} {loose' : ℕ → Type 0} {at : ℕ} {bytes : List ℕ} {done : Type 0}
-      → Staging j was risk seen loose → Writes at bytes done seen seen' loose loose' → 8192 ≤ at
-      → at + length bytes ≤ 4096 * (3 + j) → Staging j was risk seen' loose'
+  pub staging_writes : {seen' : ℕ → ℕ} {unsynced' : ℕ → Type 0} {at : ℕ} {bytes : List ℕ} {done : Type 0}
+      → Staging j was risk seen unsynced → Writes at bytes done seen seen' unsynced unsynced' → 8192 ≤ at
+      → at + length bytes ≤ 4096 * (3 + j) → Staging j was risk seen' unsynced'
   staging_writes {seen' = seen'} {at = at} {bytes = bytes} staging writes from below = record {
     same = λ p away. writes.outside p (λ here. away record {
       from = omega (arith, here.from, from);
       below = omega (arith, here.below, below);
     }) ∙ staging.same p away;
-    firm = λ p away l. ⊎_elim (λ before. staging.firm p away before)
+    is_synced = λ p away l. ⊎_elim (λ before. staging.is_synced p away before)
         (λ here. absurd (away record
-        { from = omega (arith, here.from, from); below = omega (arith, here.below, below) })) (writes.loosens p l);
+        { from = omega (arith, here.from, from); below = omega (arith, here.below, below) })) (writes.unsyncs p l);
   }
 
-pub staging_syncs : {was seen seen' : ℕ → ℕ} {risk loose loose' : ℕ → Type 0} {j : ℕ} {done : Type 0}
-    → Staging j was risk seen loose → Syncs done seen seen' loose loose' → done → Staging j was risk seen' loose'
+pub staging_syncs : {was seen seen' : ℕ → ℕ} {risk unsynced unsynced' : ℕ → Type 0} {j : ℕ} {done : Type 0}
+    → Staging j was risk seen unsynced → Syncs done seen seen' unsynced unsynced' → done
+    → Staging j was risk seen' unsynced'
 staging_syncs staging syncs done = record {
   same = λ p away. syncs.same done p ∙ staging.same p away;
-  firm = λ p away l. absurd (syncs.firm done p l);
+  is_synced = λ p away l. absurd (syncs.is_synced done p l);
 }
 
 -- an image of a sync is one from before it
-pub sync_image : {seen seen' image : ℕ → ℕ} {loose loose' : ℕ → Type 0} {done : Type 0}
-    → Syncs done seen seen' loose loose' → IsImage seen' loose' image → IsImage seen loose image
-sync_image syncs is = record { same = λ p firm. is.same p (λ l. firm (syncs.loosens p l)) ∙ syncs.outside p firm }
+pub sync_image : {seen seen' image : ℕ → ℕ} {unsynced unsynced' : ℕ → Type 0} {done : Type 0}
+    → Syncs done seen seen' unsynced unsynced' → IsImage seen' unsynced' image → IsImage seen unsynced image
+sync_image syncs is = record {
+  same = λ p is_synced. is.same p (λ l. is_synced (syncs.unsyncs p l))
+      ∙ syncs.outside p is_synced;
+}
 
 pub staging_start : {was : ℕ → ℕ} {risk : ℕ → Type 0} {j : ℕ} → Staging j was risk was risk
-staging_start = record { same = λ p away. refl; firm = λ p away l. l }
+staging_start = record { same = λ p away. refl; is_synced = λ p away l. l }
 
-pub staging_on : {was mid seen : ℕ → ℕ} {risk between loose : ℕ → Type 0} {j : ℕ} → Staging j was risk mid between
-    → Staging j mid between seen loose → Staging j was risk seen loose
+pub staging_on : {was mid seen : ℕ → ℕ} {risk between unsynced : ℕ → Type 0} {j : ℕ} → Staging j was risk mid between
+    → Staging j mid between seen unsynced → Staging j was risk seen unsynced
 staging_on a b = record {
   same = λ p away. b.same p away ∙ a.same p away;
-  firm = λ p away l. a.firm p away (b.firm p away l);
+  is_synced = λ p away l. a.is_synced p away (b.is_synced p away l);
 }
 
 pub before_on : {was mid image : ℕ → ℕ} {risk between : ℕ → Type 0} {j : ℕ} → Staging j was risk mid between
     → IsBefore j mid between image → IsBefore j was risk image
 before_on {j = j} a b = record {
   closed = b.closed;
-  same = λ p outside firm. let away =
-      outside_journal p outside in b.same p outside (λ l. firm (a.firm p away l)) ∙ a.same p away;
+  same = λ p outside is_synced. let away =
+      outside_journal p outside in b.same p outside (λ l. is_synced (a.is_synced p away l)) ∙ a.same p away;
 }
   where
     outside_journal : (p : ℕ) → Outside j p → InJournal j p → ⊥
@@ -104,8 +108,9 @@ before_on {j = j} a b = record {
     outside_journal p (inr e) within = omega (arith, within.below, e)
 
 -- one page more in the journal
-pub copied_more : {seen seen' : ℕ → ℕ} {loose loose' : ℕ → Type 0} {done : Type 0} (pages : List (ℕ × List ℕ)) (n : ℕ)
-    (bytes : List ℕ) → Copied pages seen n → Writes (4096 * (3 + n)) bytes done seen seen' loose loose' → done
+pub copied_more : {seen seen' : ℕ → ℕ} {unsynced unsynced' : ℕ
+    → Type 0} {done : Type 0} (pages : List (ℕ × List ℕ)) (n : ℕ)
+    (bytes : List ℕ) → Copied pages seen n → Writes (4096 * (3 + n)) bytes done seen seen' unsynced unsynced' → done
     → length bytes ≡ 4096 → ((x : ℕ) → page_byte pages n x ≡ get_or bytes x 0) → Copied pages seen' (n + 1)
 copied_more {seen = seen} {seen' = seen'} pages n bytes copied writes done size same k x lt below =
     ⊎_elim
@@ -124,9 +129,9 @@ no_failure {a = a} {b = b} counts not =
     (cases_lt a b)
 
 -- what was written and synced, by index
-pub head_at : {seen mid seen' : ℕ → ℕ} {loose between loose' : ℕ → Type 0} {wrote synced : Type 0} (at : ℕ)
-    (bytes : List ℕ) → length bytes ≡ 4096 → Writes at bytes wrote seen mid loose between → wrote
-    → Syncs synced mid seen' between loose' → synced → (i : ℕ) → i < 4096 → seen' (at + i) ≡ byte_of bytes i
+pub head_at : {seen mid seen' : ℕ → ℕ} {unsynced between unsynced' : ℕ → Type 0} {wrote synced : Type 0} (at : ℕ)
+    (bytes : List ℕ) → length bytes ≡ 4096 → Writes at bytes wrote seen mid unsynced between → wrote
+    → Syncs synced mid seen' between unsynced' → synced → (i : ℕ) → i < 4096 → seen' (at + i) ≡ byte_of bytes i
 head_at {mid = mid} at bytes size writes wrote syncs synced i lt =
     syncs.same synced (at + i) ∙ span_at mid at bytes i (writes.inside wrote) (omega (arith, lt, size))
 
@@ -167,15 +172,16 @@ form_same j n n' num num' e same form = record {
 }
 
 -- the journal is written whole
-pub ready : {was mid seen : ℕ → ℕ} {risk between loose : ℕ → Type 0} {j : ℕ} (pages : List (ℕ × List ℕ)) (head : List ℕ)
+pub ready : {was mid seen : ℕ → ℕ} {risk between unsynced : ℕ
+    → Type 0} {j : ℕ} (pages : List (ℕ × List ℕ)) (head : List ℕ)
     → 1 ≤ length pages → length pages ≤ 385 → length pages ≤ j → InArea j pages → Ascends pages
     → Staging j was risk mid between → Copied pages mid (length pages) → word (byte_of head) 0 ≡ length pages
     → ((k : ℕ) → k < length pages → word (byte_of head) (4 + 4 * k) ≡ page_number pages k)
-    → Staging j mid between seen loose → ((i : ℕ) → i < 4096 → seen (8192 + i) ≡ byte_of head i)
-    → ((p : ℕ) → 12288 ≤ p → seen p ≡ mid p) → ((p : ℕ) → loose p → ⊥) → Ready j pages was seen loose
-ready {seen = seen} {j = j} pages head some few fits inside ascends a copied counted numbered b here kept firm =
+    → Staging j mid between seen unsynced → ((i : ℕ) → i < 4096 → seen (8192 + i) ≡ byte_of head i)
+    → ((p : ℕ) → 12288 ≤ p → seen p ≡ mid p) → ((p : ℕ) → unsynced p → ⊥) → Ready j pages was seen unsynced
+ready {seen = seen} {j = j} pages head some few fits inside ascends a copied counted numbered b here kept is_synced =
     record {
-      firm = firm;
+      is_synced = is_synced;
       same = λ p away. b.same p away ∙ a.same p away;
       matches = record {
         size = size;

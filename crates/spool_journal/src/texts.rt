@@ -24,16 +24,16 @@ pub fn write_block<D: Disk>(
     ensures honest { D.honest disk.old ↔ D.honest disk.new }
     ensures counts { Counts (IsErr result) (D.failures disk.old) (D.failures disk.new) }
     ensures writes { D.honest disk.old → Writes (4096 * (text_page layout.now + block) + offset) bytes.now
-        (IsOk result) (D.seen disk.old) (D.seen disk.new) (D.loose disk.old) (D.loose disk.new) }
-    ensures idle { D.honest disk.old → Idle (journal_pages layout.now) (D.seen disk.old) (D.loose disk.old)
-        → Idle (journal_pages layout.now) (D.seen disk.new) (D.loose disk.new) }
+        (IsOk result) (D.seen disk.old) (D.seen disk.new) (D.unsynced disk.old) (D.unsynced disk.new) }
+    ensures idle { D.honest disk.old → Idle (journal_pages layout.now) (D.seen disk.old) (D.unsynced disk.old)
+        → Idle (journal_pages layout.now) (D.seen disk.new) (D.unsynced disk.new) }
 
     // But for the block, every image is one from before.
-    ensures image { D.honest disk.old → (image : ℕ → ℕ) → IsImage (D.seen disk.new) (D.loose disk.new) image
-        → IsImage (D.seen disk.old) (D.loose disk.old)
+    ensures image { D.honest disk.old → (image : ℕ → ℕ) → IsImage (D.seen disk.new) (D.unsynced disk.new) image
+        → IsImage (D.seen disk.old) (D.unsynced disk.old)
         (aside (text_page layout.now + block) (D.seen disk.old) image) }
     ensures lasts { D.honest disk.old → Lasts D.Disk disk.old disk.new
-        (λ image. IsImage (D.seen disk.old) (D.loose disk.old)
+        (λ image. IsImage (D.seen disk.old) (D.unsynced disk.old)
         (aside (text_page layout.now + block) (D.seen disk.old) image)) }
 
     // And where no row owns the block, the two show the same.

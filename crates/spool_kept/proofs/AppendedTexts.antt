@@ -56,9 +56,9 @@ module _ (seen : ℕ → ℕ) (first : ℕ) (old new : List Row) (slot len : ℕ
   was : List ℕ
   was = text_shown seen first old slot len
 
-  front : text_on seen first list (4096 * (len / 4096)) ≡ take (4096 * (len / 4096)) was
+  prefix : text_on seen first list (4096 * (len / 4096)) ≡ take (4096 * (len / 4096)) was
   unfolding was
-  front =
+  prefix =
       let low : 4096 * (len / 4096) ≤ len = omega arith in
       sym (take-take (4096 * (len / 4096)) len (blocks_on seen first list) low)
       ∙ ap (λ (xs : List ℕ). take (4096 * (len / 4096)) xs) (shown seen first old slot len list listed size)
@@ -85,7 +85,7 @@ module _ (seen : ℕ → ℕ) (first : ℕ) (old new : List Row) (slot len : ℕ
       sym (shown seen first new slot len' (take (len / 4096) list ++ more) listed' all)
       ∙ ap (text_on seen first (take (len / 4096) list ++ more)) long
       ∙ text_joined seen first (len / 4096) more_len list more low
-      ∙ ap (λ (xs : List ℕ). xs ++ text_on seen first more more_len) front
+      ∙ ap (λ (xs : List ℕ). xs ++ text_on seen first more more_len) prefix
       ∙ ap (λ (xs : List ℕ). take (4096 * (len / 4096)) was ++ xs) (on ∙ ap (λ (n : ℕ). drop n was ++ added) whole)
       ∙ sym (append_assoc (take (4096 * (len / 4096)) was) (drop (4096 * (len / 4096)) was) added)
       ∙ ap (λ (xs : List ℕ). xs ++ added) (take-append-drop (4096 * (len / 4096)) was)

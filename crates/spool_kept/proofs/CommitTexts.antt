@@ -12,7 +12,7 @@ use Rattle.upload_rules.specs.States.{state_with, transcoder_with}
 use Rattle.upload_rules.specs.Store.{Upload, text_of, text_with, with_length, patched, is_complete}
 use Rattle.upload_rules.specs.World.{Patch, reached, patch_text}
 use Rattle.upload_rules.proofs.Commits.{state_patched, text_patched, transcoder_patched, whole_patched}
-use Rattle.upload_rules.proofs.Longer.{text_in_front}
+use Rattle.upload_rules.proofs.Longer.{text_at_start}
 use Rattle.spool_drafts.specs.Drafts.{IsWhole, list_of, open_text}
 use Rattle.spool_drafts.specs.declared.draft.DraftEnd.{DraftEnd}
 use Rattle.spool_drafts.specs.declared.draft.SpoolDraft.{SpoolDraft}
@@ -67,7 +67,7 @@ module _ (x : IndexSet) (p : Patch) (since : Option ℕ) (o : SpoolDraft) (end :
   -- what the body adds to the text
   pub grown : (more : List ℕ) × (text_of x (patched (with_length p.began since) p.declare p.body) ≡ text_of x
       (with_length p.began since) ++ more)
-  grown = text_in_front x u p.declare p.body open_still (value_before x u [] p.body done fine)
+  grown = text_at_start x u p.declare p.body open_still (value_before x u [] p.body done fine)
 
   abbrev pub more : List ℕ
   more = grown.0
@@ -130,12 +130,12 @@ module _ (x : IndexSet) (p : Patch) (since : Option ℕ) (o : SpoolDraft) (end :
         content = λ known listed.
             subst (λ (xs : List ℕ). text_on seen first (list_of o) (longer.text_len - full_bytes (length xs)) ≡ drop
             (full_bytes (length xs)) xs ++ more) (sym same_text) (
-            let front : 4096 * (t / 4096) ≡ full_bytes t = omega arith in
+            let prefix : 4096 * (t / 4096) ≡ full_bytes t = omega arith in
             let size : longer.text_len - full_bytes t ≡ length (open_text x p done) =
             omega (arith, total, all_len, length-drop (4096 * (t / 4096)) (patch_text x p done).bytes) in
             let bytes : open_text x p done ≡ drop (full_bytes t) (text_of x p.began) ++ more =
             ap (λ (xs : List ℕ). drop (4096 * (t / 4096)) xs) all_is ∙ drop-append-le (4096 * (t / 4096))
             (text_of x p.began) more (omega arith)
-            ∙ ap (λ (n : ℕ). drop n (text_of x p.began) ++ more) front in
+            ∙ ap (λ (n : ℕ). drop n (text_of x p.began) ++ more) prefix in
             ap (λ (n : ℕ). text_on seen first (list_of o) n) size ∙ content known (omega (arith, listed)) ∙ bytes);
       }

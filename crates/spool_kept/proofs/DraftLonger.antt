@@ -354,7 +354,7 @@ module _ {sure : Type 0} (w : World) (seen seen' : ℕ → ℕ) (first n : ℕ) 
 pub moved : {D : Type 0} {sure : Bool} (disk : Ghosts D) (d d' : D) (old new : Holding) (m : Store) (n : ℕ)
     (s : Stored sure disk d old m) → OnlyReserves old new → (disk.honest d → disk.honest d') → (own : List ℕ)
     → Unowned s.view.rows own → n ≡ old.layout
-    → (sure ≡ true → WritesIn (text_page n) own (disk.seen d) (disk.seen d') (disk.loose d) (disk.loose d'))
+    → (sure ≡ true → WritesIn (text_page n) own (disk.seen d) (disk.seen d') (disk.unsynced d) (disk.unsynced d'))
     → Stored sure disk d' new m
 moved disk d d' old new m n s same honest own unowned size writes = record {
   honest = λ known. honest (s.honest known);

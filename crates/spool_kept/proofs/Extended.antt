@@ -301,7 +301,7 @@ module _ {D : Type 0} {sure : Bool} (disk : Ghosts D) (old : D) (h new : Holding
       known (rests_says (append.stored.rests known)).texts
 
   pub after_stored : (d : D) → (disk.honest old → disk.honest d)
-      → (sure ≡ true → Rests after (disk.seen d) (disk.loose d))
+      → (sure ≡ true → Rests after (disk.seen d) (disk.unsynced d))
       → Stored sure disk d new (patched_store m n declare bytes)
   after_stored d honest rests = record {
     honest = λ known. honest (append.stored.honest known);

@@ -126,7 +126,7 @@ module _ (old : List Row) (slot first : ℕ) (more : List ℕ) (new : List Row) 
       → ((i : ℕ) → i < length list → Owns old (get_or list i 0) slot i)
       → (i : ℕ) → i < length (take first list ++ more) → Owns new (get_or (take first list ++ more) i 0) slot i
   owned_now list low owned i lt = elim (cases_lt i first) [
-    | inl before ↦ subst (λ (b : ℕ). Owns new b slot i) (sym (front i before))
+    | inl before ↦ subst (λ (b : ℕ). Owns new b slot i) (sym (prefix i before))
         (keeps (get_or list i 0) slot i (owned i (omega (arith, before, low))) (λ same. before))
     | inr from ↦
         let at : first + (i - first) ≡ i = omega (arith, from) in
@@ -141,8 +141,8 @@ module _ (old : List Row) (slot first : ℕ) (more : List ℕ) (new : List Row) 
       all : length (take first list ++ more) ≡ first + length more
       all = omega (arith, length-append (take first list) more, short)
 
-      front : (i : ℕ) → i < first → get_or (take first list ++ more) i 0 ≡ get_or list i 0
-      front i lt = get_or_append_left (take first list) more 0 i (omega (arith, short, lt))
+      prefix : (i : ℕ) → i < first → get_or (take first list ++ more) i 0 ≡ get_or list i 0
+      prefix i lt = get_or_append_left (take first list) more 0 i (omega (arith, short, lt))
           ∙ get_or-take first list i 0 lt
 
       after : (i : ℕ) → first ≤ i → get_or (take first list ++ more) i 0 ≡ get_or more (i - first) 0
@@ -217,8 +217,9 @@ room_for rows slot first list more owned low no_owner below distinct =
     first_below : (i : ℕ) → i < length (take first list) → get_or (take first list) i 0 < length rows
     first_below i lt = within rows (get_or (take first list) i 0) (slot, i) (own i lt)
 
-    front : (i : ℕ) → i < length (take first list) → get_or (take first list ++ more) i 0 ≡ get_or (take first list) i 0
-    front i lt = get_or_append_left (take first list) more 0 i lt
+    prefix : (i : ℕ) → i < length (take first list)
+        → get_or (take first list ++ more) i 0 ≡ get_or (take first list) i 0
+    prefix i lt = get_or_append_left (take first list) more 0 i lt
 
     after : (i : ℕ) → length (take first list) ≤ i → get_or (take first list ++ more) i 0 ≡ get_or more
         (i - length (take first list)) 0
@@ -230,12 +231,12 @@ room_for rows slot first list more owned low no_owner below distinct =
       | inl before ↦ elim (cases_lt k (length (take first list))) [
         | inl before' ↦
             let is = same_owner (own i before)
-            (ap (λ (b : ℕ). get_or rows b None) (sym (front i before) ∙ same ∙ front k before') ∙ own k before') in
+            (ap (λ (b : ℕ). get_or rows b None) (sym (prefix i before) ∙ same ∙ prefix k before') ∙ own k before') in
             omega (arith, is.1, lt)
         | inr from ↦
             clash (no_owner (k - length (take first list))
             (omega (arith, inside, from, length-append (take first list) more)))
-            (ap (λ (b : ℕ). get_or rows b None) (sym (after k from) ∙ sym same ∙ front i before) ∙ own i before)
+            (ap (λ (b : ℕ). get_or rows b None) (sym (after k from) ∙ sym same ∙ prefix i before) ∙ own i before)
       ]
       | inr from ↦
           distinct (i - length (take first list)) (k - length (take first list)) (omega (arith, lt, from))

@@ -53,7 +53,7 @@ module _ (h : Holding) (v : View) (m : Store) (new : New) (slot : ℕ) (r : Slot
   shows_new = created_shows v m new slot r shows room.within free (is.number_is ∙ next_is) (is.tells m.indexes) sound
       (omega (arith, room.next, next_is))
 
-  texts_new : {seen : ℕ → ℕ} {loose : ℕ → Type 0} → Rests v seen loose → HasTexts seen (created_view v slot r)
+  texts_new : {seen : ℕ → ℕ} {unsynced : ℕ → Type 0} → Rests v seen unsynced → HasTexts seen (created_view v slot r)
   texts_new {seen = seen} rests =
       created_texts v m new slot r shows room.within free (is.number_is ∙ next_is) (is.tells m.indexes) seen
       ((rests_says rests).texts)
@@ -94,7 +94,7 @@ module _ (h : Holding) (v : View) (m : Store) (new : New) (slot : ℕ) (r : Slot
   })
 
   module _ {D : Type 0} {sure : Bool} (disk : Ghosts D) (before after : D) {pages : List (ℕ × List ℕ)}
-      (rests : sure ≡ true → Rests v (disk.seen before) (disk.loose before))
+      (rests : sure ≡ true → Rests v (disk.seen before) (disk.unsynced before))
       (changes : Changes pages v (record (with_record v slot r) { next = h.next + 1 })) where
     -- a crash leaves the old store or the new one
     pub crash_new : sure ≡ true
@@ -110,7 +110,7 @@ module _ (h : Holding) (v : View) (m : Store) (new : New) (slot : ℕ) (r : Slot
     -- and the new one stands after the change
     pub stored_new : (h' : Holding) → IsTakenIn h slot r h' → (sure ≡ true → disk.honest after)
         → (sure ≡ true → (v' : View) → Changes pages v v' → HasTexts (disk.seen before) v'
-        → Rests v' (disk.seen after) (disk.loose after)) → Stored sure disk after h' (created_store m new)
+        → Rests v' (disk.seen after) (disk.unsynced after)) → Stored sure disk after h' (created_store m new)
     stored_new h' taken honest done = record {
       honest = honest;
       view = created_view v slot r;

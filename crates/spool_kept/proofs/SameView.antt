@@ -62,8 +62,8 @@ module _ (f : ℕ → ℕ) (v v' : View) (sound : IsSound v) (sound' : IsSound v
   number_at : (n : ℕ) → Stands f 0 4096 (first_page n) → Stands f 8 4 (to_be_bytes w32 n)
   unfolding first_page
   number_at n stands =
-      let front : Stands f 0 12 (first_page n) = record { each = λ i lt. stands.each i (omega (arith, lt)) } in
-      stands_beyond magic (to_be_bytes w32 n) 8 4 refl (omega arith) front
+      let prefix : Stands f 0 12 (first_page n) = record { each = λ i lt. stands.each i (omega (arith, lt)) } in
+      stands_beyond magic (to_be_bytes w32 n) 8 4 refl (omega arith) prefix
 
   same_blocks : v.blocks ≡ v'.blocks
   same_blocks = one_number f 8 v.blocks v'.blocks (omega (arith, sound.most)) (omega (arith, sound'.most))
@@ -81,12 +81,12 @@ module _ (f : ℕ → ℕ) (v v' : View) (sound : IsSound v) (sound' : IsSound v
   ]
 
 -- a spool at rest rests with whatever view its bytes have
-pub rests_other : {seen : ℕ → ℕ} {loose : ℕ → Type 0} (v v' : View) → IsSound v → IsSound v' → Says (overlaid seen) v
-    → Rests v seen loose → IsViewOf seen v' → Rests v' seen loose
+pub rests_other : {seen : ℕ → ℕ} {unsynced : ℕ → Type 0} (v v' : View) → IsSound v → IsSound v' → Says (overlaid seen) v
+    → Rests v seen unsynced → IsViewOf seen v' → Rests v' seen unsynced
 rests_other {seen = seen} v v' sound sound' says rests is = record {
   closed = rests.closed;
-  firm = λ p l.
-      let free = rests.firm p l in
+  is_synced = λ p l.
+      let free = rests.is_synced p l in
       record {
         block = free.block;
         here = ap (λ (n : ℕ). text_page n + free.block)
@@ -97,9 +97,9 @@ rests_other {seen = seen} v v' sound sound' says rests is = record {
 }
 
 -- Whatever the resting bytes show, an image shows that differs from them only in blocks that no row owns.
-pub shows_aside : {seen : ℕ → ℕ} {loose : ℕ → Type 0} (v : View) (own : List ℕ) (n : ℕ) (image : ℕ → ℕ) (m : Store)
-    → IsSound v → v.blocks ≡ n → Rests v seen loose → Unowned v.rows own
-    → IsImage seen loose (aside_blocks (text_page n) own seen image) → (k : ℕ) → ImageShows k seen m
+pub shows_aside : {seen : ℕ → ℕ} {unsynced : ℕ → Type 0} (v : View) (own : List ℕ) (n : ℕ) (image : ℕ → ℕ) (m : Store)
+    → IsSound v → v.blocks ≡ n → Rests v seen unsynced → Unowned v.rows own
+    → IsImage seen unsynced (aside_blocks (text_page n) own seen image) → (k : ℕ) → ImageShows k seen m
     → ImageShows k image m
 shows_aside {seen = seen} v own n image m sound size rests unowned is k shown =
     let v' = shown.view in
@@ -116,7 +116,7 @@ shows_aside {seen = seen} v own n image m sound size rests unowned is k shown =
 
 -- and so a call that writes only such blocks leaves what shows
 pub shows_still : {D : Type 0} (disk : Ghosts D) (d d' : D) (v : View) (own : List ℕ) (n : ℕ)
-    → OnlyWrites disk (journal_pages n) own d d' → IsSound v → v.blocks ≡ n → Rests v (disk.seen d) (disk.loose d)
+    → OnlyWrites disk (journal_pages n) own d d' → IsSound v → v.blocks ≡ n → Rests v (disk.seen d) (disk.unsynced d)
     → Unowned v.rows own
     → Lasts disk d d' (λ image. (k : ℕ) (m : Store) → ImageShows k (disk.seen d) m → ImageShows k image m)
 shows_still disk d d' v own n only sound size rests unowned =

@@ -109,7 +109,7 @@ module _ {D : Type 0} {sure : Bool} (disk : Ghosts D) (d : D) (h h' : Holding) (
   -- what the commit of the pages makes of a view
   abbrev Makes : (View → View → Type 0) → Type 0
   Makes Made =
-      (v v' : View) → v.blocks ≡ h'.layout → Rests v (disk.seen d) (disk.loose d)
+      (v v' : View) → v.blocks ≡ h'.layout → Rests v (disk.seen d) (disk.unsynced d)
       → Changes filled v v' → HasTexts (disk.seen d) v' → Made v v'
 
   -- a crash leaves the upload or its deletion
@@ -124,7 +124,7 @@ module _ {D : Type 0} {sure : Bool} (disk : Ghosts D) (d : D) (h h' : Holding) (
       (shows_either h old m number slot stored.keeps stored.shows used h' out))
 
   pub stored_after : (d' : D) → FitsTogether h' → (disk.honest d → disk.honest d')
-      → (sure ≡ true → Makes (λ v v'. Rests v' (disk.seen d') (disk.loose d')))
+      → (sure ≡ true → Makes (λ v v'. Rests v' (disk.seen d') (disk.unsynced d')))
       → Stored sure disk d' h' (deleted_store m number)
   stored_after d' fits honest done = record {
     honest = λ known. honest (stored.honest known);

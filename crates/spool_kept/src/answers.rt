@@ -103,9 +103,9 @@ impl Kept {
             → Answers (no_such (upload_of m number)) result
             (λ n. IsRead (text_at m (upload_of m number)) at n buf.old buf.new) (Unit {0}) }
         ensures keeps { D.honest disk.old
-            → Keeps (D.seen disk.old) (D.seen disk.new) (D.loose disk.old) (D.loose disk.new) }
+            → Keeps (D.seen disk.old) (D.seen disk.new) (D.unsynced disk.old) (D.unsynced disk.new) }
         ensures lasts { D.honest disk.old
-            → Lasts D.Disk disk.old disk.new (IsImage (D.seen disk.old) (D.loose disk.old)) }
+            → Lasts D.Disk disk.old disk.new (IsImage (D.seen disk.old) (D.unsynced disk.old)) }
     {
         let Some(found) = self.upload(number) else {
             return Err(UploadError::Refused(UploadRefusal::NoSuch));

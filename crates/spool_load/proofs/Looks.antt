@@ -16,7 +16,7 @@ use Rattle.spool_pages.specs.View.{SlotRecord, Stands, state_page, slot_bytes, s
 use Rattle.spool_pages.specs.Fits.{FitsSlotOf}
 use Rattle.spool_pages.specs.declared.version.Version.{Version as Known}
 use Rattle.spool_pages.proofs.Says.{all_is}
-use Rattle.spool_load.specs.Reads.{OnlyReads, IsReadAt, IsFrontOf, IsSameTo, StandSlots, StandRows}
+use Rattle.spool_load.specs.Reads.{OnlyReads, IsReadAt, IsPrefixOf, IsSameTo, StandSlots, StandRows}
 use Rattle.std.proofs.lemmas.List.{ext_get_or, get_or-append-add}
 
 pub reads_on : {D : Type 0} {disk : Ghosts D} {a b c : D} → OnlyReads disk a b → OnlyReads disk b c → OnlyReads disk a c
@@ -34,7 +34,7 @@ reads_on first second = record {
 pub before_texts : (n size end : ℕ) → 4096 * all_pages n ≤ size → end ≤ 4096 * text_page n → end ≤ size
 before_texts n size end room few = omega (arith, all_is n, room, few)
 
-pub read_bytes : (seen bytes : ℕ → ℕ) {loose : ℕ → Type 0} (place n : ℕ) (buf : List ℕ) → Still bytes seen loose
+pub read_bytes : (seen bytes : ℕ → ℕ) {unsynced : ℕ → Type 0} (place n : ℕ) (buf : List ℕ) → Still bytes seen unsynced
     → buf ≡ span seen place n → length buf ≡ n → IsReadAt bytes place buf
 read_bytes seen bytes place n buf still is long = record {
   each =
@@ -57,9 +57,9 @@ pub length-state : (version : Known) (next : ℕ) → length (state_page version
 unfolding state_page
 length-state version next = refl
 
-pub front_all : {A : Type 0} (whole front : List (Option A)) → IsFrontOf whole front → length front ≡ length whole
-    → front ≡ whole
-front_all whole front is long = ext_get_or None front whole long (λ i lt. is.each i lt)
+pub prefix_all : {A : Type 0} (whole prefix : List (Option A)) → IsPrefixOf whole prefix → length prefix ≡ length whole
+    → prefix ≡ whole
+prefix_all whole prefix is long = ext_get_or None prefix whole long (λ i lt. is.each i lt)
 
 pub ok_no_fault : {T E : Type 0} (r : Result T E) (t : T) {fault : E} → r ≡ Ok t → r ≡ Err fault → ⊥
 ok_no_fault r t is err = cc

@@ -25,9 +25,9 @@ pub same_function : (f g : ℕ → ℕ) → ((p : ℕ) → f p ≡ g p) → f �
 same_function f g same = λ i p. same p i
 
 -- page 0 is never one of the journal's places
-pub front_plain : (j : ℕ) (image : ℕ → ℕ) → (image 4096 ≡ 165 → InForm j (count image) (number image)) → (p : ℕ)
+pub prefix_plain : (j : ℕ) (image : ℕ → ℕ) → (image 4096 ≡ 165 → InForm j (count image) (number image)) → (p : ℕ)
     → p < 4096 → image p ≡ overlaid image p
-front_plain j image form p lt = elim (cases_eq (image 4096) 165) [
+prefix_plain j image form p lt = elim (cases_eq (image 4096) 165) [
   | inl ajar ↦
       sym (open_view image p ajar ∙ over_none (number image) (content image) image (count image) p
       (λ k below e. omega (arith, ((form ajar).inside k below).from, e, lt)))
@@ -40,7 +40,7 @@ first_plain image v is i lt =
     let at : 0 + i ≡ i = omega arith in
     let there : overlaid image i ≡ get_or (first_page v.blocks) i 0 =
     subst (λ (p : ℕ). overlaid image p ≡ get_or (first_page v.blocks) i 0) at (is.says.first.each i lt) in
-    front_plain (journal_pages v.blocks) image is.form i lt ∙ there
+    prefix_plain (journal_pages v.blocks) image is.form i lt ∙ there
 
 pub view_says_blocks : (size : ℕ) (image : ℕ → ℕ) (v : View) → IsSound v → IsViewOf image v
     → 4096 * all_pages v.blocks ≤ size → SaysBlocks size image v.blocks
@@ -48,39 +48,40 @@ view_says_blocks size image v sound is room = record {
   least = sound.least;
   most = sound.most;
   room = room;
-  front = λ i lt. first_plain image v is i (omega (arith, lt));
+  prefix = λ i lt. first_plain image v is i (omega (arith, lt));
 }
 
--- where the bytes are the same and none is loose, nothing was written
-pub still_as : {seen seen' : ℕ → ℕ} {loose loose' : ℕ → Type 0} → Still seen seen' loose'
-    → Keeps seen seen' loose loose'
-still_as still = record { same = still.reads; loosens = λ p l. absurd (still.firm p l) }
+-- where the bytes are the same and none is unsynced, nothing was written
+pub still_as : {seen seen' : ℕ → ℕ} {unsynced unsynced' : ℕ → Type 0} → Still seen seen' unsynced'
+    → Keeps seen seen' unsynced unsynced'
+still_as still = record { same = still.reads; unsyncs = λ p l. absurd (still.is_synced p l) }
 
-pub still_as_image : {seen : ℕ → ℕ} {loose : ℕ → Type 0} (image : ℕ → ℕ) → ((p : ℕ) → image p ≡ seen p)
-    → IsImage seen loose image
-still_as_image image same = record { same = λ p firm. same p }
+pub still_as_image : {seen : ℕ → ℕ} {unsynced : ℕ → Type 0} (image : ℕ → ℕ) → ((p : ℕ) → image p ≡ seen p)
+    → IsImage seen unsynced image
+still_as_image image same = record { same = λ p is_synced. same p }
 
 pub keeps_on : {a b c : ℕ → ℕ} {la lb lc : ℕ → Type 0} → Keeps a b la lb → Keeps b c lb lc → Keeps a c la lc
 keeps_on first then = record {
   same = λ p. then.same p ∙ first.same p;
-  loosens = λ p l. first.loosens p (then.loosens p l);
+  unsyncs = λ p l. first.unsyncs p (then.unsyncs p l);
 }
 
 -- where no journal is to be replayed the gate is shut, also after a read
-pub gate_shut : {seen seen' : ℕ → ℕ} {loose loose' : ℕ → Type 0} {size n : ℕ} → Keeps seen seen' loose loose'
+pub gate_shut : {seen seen' : ℕ → ℕ} {unsynced unsynced' : ℕ → Type 0} {size n : ℕ}
+    → Keeps seen seen' unsynced unsynced'
     → SaysBlocks size seen n → (NeedsReplay size seen → ⊥) → seen' 4096 ≡ 165 → ⊥
 gate_shut {n = n} keeps says none ajar = none (record { blocks = n; says = says; gate = sym (keeps.same 4096) ∙ ajar })
 
 -- after a recovery
-pub settled_still : {j : ℕ} {bytes seen : ℕ → ℕ} {loose : ℕ → Type 0} → Settled j bytes seen loose
-    → Still seen seen loose
-settled_still settled = record { reads = λ p. refl; firm = settled.firm }
+pub settled_still : {j : ℕ} {bytes seen : ℕ → ℕ} {unsynced : ℕ → Type 0} → Settled j bytes seen unsynced
+    → Still seen seen unsynced
+settled_still settled = record { reads = λ p. refl; is_synced = settled.is_synced }
 
-pub settled_says : {bytes seen : ℕ → ℕ} {loose : ℕ → Type 0} (v : View)
-    → Settled (journal_pages v.blocks) bytes seen loose → Says bytes v → Says seen v
+pub settled_says : {bytes seen : ℕ → ℕ} {unsynced : ℕ → Type 0} (v : View)
+    → Settled (journal_pages v.blocks) bytes seen unsynced → Says bytes v → Says seen v
 settled_says {bytes = bytes} {seen = seen} v settled says = says_same seen bytes v settled.same says
 
-pub settled_reads : {j : ℕ} {bytes seen : ℕ → ℕ} {loose : ℕ → Type 0} (image : ℕ → ℕ) → Settled j bytes seen loose
+pub settled_reads : {j : ℕ} {bytes seen : ℕ → ℕ} {unsynced : ℕ → Type 0} (image : ℕ → ℕ) → Settled j bytes seen unsynced
     → ((p : ℕ) → image p ≡ seen p) → ReadsAs j image bytes
 settled_reads image settled same =
     let shut : image 4096 ≡ 165 → ⊥ = λ ajar. settled.closed (sym (same 4096) ∙ ajar) in
@@ -89,10 +90,10 @@ settled_reads image settled same =
       same = λ p outside. shut_view image p shut ∙ same p ∙ settled.same p outside;
     }
 
-pub settled_on : {j : ℕ} {bytes seen seen' : ℕ → ℕ} {loose loose' : ℕ → Type 0} → Settled j bytes seen loose
-    → Still seen seen' loose' → Settled j bytes seen' loose'
+pub settled_on : {j : ℕ} {bytes seen seen' : ℕ → ℕ} {unsynced unsynced' : ℕ → Type 0} → Settled j bytes seen unsynced
+    → Still seen seen' unsynced' → Settled j bytes seen' unsynced'
 settled_on settled still = record {
-  firm = still.firm;
+  is_synced = still.is_synced;
   closed = λ ajar. settled.closed (sym (still.reads 4096) ∙ ajar);
   same = λ p outside. still.reads p ∙ settled.same p outside;
 }
@@ -102,45 +103,45 @@ if_ok (Ok t) x = x
 if_ok (Err e) x = tt
 
 -- a read before it changes nothing of this
-pub keeps_image : {seen seen' image : ℕ → ℕ} {loose loose' : ℕ → Type 0} → Keeps seen seen' loose loose'
-    → IsImage seen' loose' image → IsImage seen loose image
-keeps_image keeps is = record { same = λ p firm. is.same p (λ l. firm (keeps.loosens p l)) ∙ keeps.same p }
+pub keeps_image : {seen seen' image : ℕ → ℕ} {unsynced unsynced' : ℕ → Type 0} → Keeps seen seen' unsynced unsynced'
+    → IsImage seen' unsynced' image → IsImage seen unsynced image
+keeps_image keeps is = record { same = λ p is_synced. is.same p (λ l. is_synced (keeps.unsyncs p l)) ∙ keeps.same p }
 
 -- A READ AFTER A RECOVERY
 
 -- what was recovered says the view that was on the disk
-pub recovered_says : {was seen : ℕ → ℕ} {loose : ℕ → Type 0} (n : ℕ) (v : View) → n ≡ v.blocks
-    → Settled (journal_pages n) (overlaid was) seen loose → IsViewOf was v → Says seen v
-recovered_says {was = was} {seen = seen} {loose = loose} n v same settled is =
-    let J : ℕ → Type 0 = λ k. Settled (journal_pages k) (overlaid was) seen loose in
+pub recovered_says : {was seen : ℕ → ℕ} {unsynced : ℕ → Type 0} (n : ℕ) (v : View) → n ≡ v.blocks
+    → Settled (journal_pages n) (overlaid was) seen unsynced → IsViewOf was v → Says seen v
+recovered_says {was = was} {seen = seen} {unsynced = unsynced} n v same settled is =
+    let J : ℕ → Type 0 = λ k. Settled (journal_pages k) (overlaid was) seen unsynced in
     settled_says v (subst J same settled) is.says
 
 module _ {D : Type 0} (disk : Ghosts D) (old mid new : D) (n : ℕ) (honest : disk.honest mid)
-    (settled : Settled (journal_pages n) (overlaid (disk.seen old)) (disk.seen mid) (disk.loose mid))
+    (settled : Settled (journal_pages n) (overlaid (disk.seen old)) (disk.seen mid) (disk.unsynced mid))
     (reads : OnlyReads disk mid new) where
-  pub read_settled : Settled (journal_pages n) (overlaid (disk.seen old)) (disk.seen new) (disk.loose new)
+  pub read_settled : Settled (journal_pages n) (overlaid (disk.seen old)) (disk.seen new) (disk.unsynced new)
   read_settled = settled_on settled (reads.still honest _ (settled_still settled))
 
   pub read_lasts : (blocks : ℕ) → n ≡ blocks
-      → Lasts disk old mid (λ image. IsImage (disk.seen old) (disk.loose old) image
+      → Lasts disk old mid (λ image. IsImage (disk.seen old) (disk.unsynced old) image
       ⊎ ReadsAs (journal_pages blocks) image (overlaid (disk.seen old)))
-      → Lasts disk old new (λ image. IsImage (disk.seen old) (disk.loose old) image
+      → Lasts disk old new (λ image. IsImage (disk.seen old) (disk.unsynced old) image
       ⊎ ReadsAs (journal_pages blocks) image (overlaid (disk.seen old)))
   read_lasts blocks equal first =
       let J : ℕ → Type 0 =
-      λ k. Settled (journal_pages k) (overlaid (disk.seen old)) (disk.seen mid) (disk.loose mid) in
+      λ k. Settled (journal_pages k) (overlaid (disk.seen old)) (disk.seen mid) (disk.unsynced mid) in
       lasts_on first
       (lasts_more (reads.lasts honest _ (settled_still settled))
       (λ image same. inr (settled_reads image (subst J equal settled) same)))
 
-  pub read_unwritten : Keeps (disk.seen old) (disk.seen mid) (disk.loose old) (disk.loose mid)
-      → Lasts disk old mid (IsImage (disk.seen old) (disk.loose old))
-      → Lasts disk old new (IsImage (disk.seen old) (disk.loose old))
+  pub read_unwritten : Keeps (disk.seen old) (disk.seen mid) (disk.unsynced old) (disk.unsynced mid)
+      → Lasts disk old mid (IsImage (disk.seen old) (disk.unsynced old))
+      → Lasts disk old new (IsImage (disk.seen old) (disk.unsynced old))
   read_unwritten keeps first =
       lasts_on first
       (lasts_more (reads.lasts honest _ (settled_still settled))
       (λ image same. keeps_image keeps (still_as_image image same)))
 
-  pub read_same : Keeps (disk.seen old) (disk.seen mid) (disk.loose old) (disk.loose mid)
-      → Keeps (disk.seen old) (disk.seen new) (disk.loose old) (disk.loose new)
+  pub read_same : Keeps (disk.seen old) (disk.seen mid) (disk.unsynced old) (disk.unsynced mid)
+      → Keeps (disk.seen old) (disk.seen new) (disk.unsynced old) (disk.unsynced new)
   read_same keeps = keeps_on keeps (still_as (reads.still honest _ (settled_still settled)))

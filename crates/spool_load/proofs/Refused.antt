@@ -11,7 +11,7 @@ use Rattle.spool_pages.specs.View.{View, Stands, IsViewOf, magic, first_page, st
 use Rattle.spool_pages.specs.declared.version.Version.{Version as Known}
 use Rattle.spool_pages.specs.declared.version.Version.TheVariants.{One, Two}
 use Rattle.spool_pages.proofs.Numbers.{four_at}
-use Rattle.spool_pages.proofs.RecordBytes.{stands_front, stands_beyond}
+use Rattle.spool_pages.proofs.RecordBytes.{stands_prefix, stands_beyond}
 use Rattle.spool_pages.proofs.Says.{says_same, some_journal}
 use Rattle.spool_kept.specs.declared.error.CheckError.TheVariants as checks
 use Rattle.spool_kept.specs.declared.error.OpenFault.{OpenFault}
@@ -28,7 +28,7 @@ use Rattle.spool_load.specs.Reads.{IsReadAt, SaysBlocks}
 use Rattle.spool_load.proofs.Looks.{read_back, read_stands}
 use Rattle.spool_load.specs.Refusals.{HasJournal, NotFoundFor, RefusedAt, RefusedFor}
 use Rattle.spool_load.specs.Refusals.{SaysKnownVersion, SaysVersion}
-use Rattle.spool_load.proofs.Opens.{front_plain}
+use Rattle.spool_load.proofs.Opens.{prefix_plain}
 
 -- NUMBERS IN FOUR BYTES
 
@@ -44,7 +44,7 @@ number_stands size seen n says =
     let whole : Stands seen 0 12 (magic ++ to_be_bytes w32 n) = record {
       each = λ i lt.
           let at : i ≡ 0 + i = omega arith in
-          subst (λ (p : ℕ). seen p ≡ get_or (magic ++ to_be_bytes w32 n) i 0) at (says.front i lt);
+          subst (λ (p : ℕ). seen p ≡ get_or (magic ++ to_be_bytes w32 n) i 0) at (says.prefix i lt);
     } in
     stands_beyond magic (to_be_bytes w32 n) 8 4 refl (omega arith) whole
 
@@ -58,7 +58,7 @@ pub version_stands : (f : ℕ → ℕ) (at size : ℕ) (version : Known) (next :
     → Stands f at size (state_page version next) → SaysVersion f at version
 unfolding state_page
 version_stands f at size version next room stands =
-    stands_front (to_be_bytes w32 (version_number version)) _ 4 refl room stands
+    stands_prefix (to_be_bytes w32 (version_number version)) _ 4 refl room stands
 
 pub known_stands : (f : ℕ → ℕ) (at size : ℕ) (version : Known) (next : ℕ) → 4 ≤ size
     → Stands f at size (state_page version next) → SaysKnownVersion f at
@@ -110,7 +110,8 @@ state_read bytes n place buf None read long here same fields rest unknown = λ k
 
 -- AFTER A RECOVERY
 
-module _ (n : ℕ) (old seen : ℕ → ℕ) (loose : ℕ → Type 0) (settled : Settled (journal_pages n) (overlaid old) seen loose)
+module _ (n : ℕ) (old seen : ℕ → ℕ) (unsynced : ℕ
+    → Type 0) (settled : Settled (journal_pages n) (overlaid old) seen unsynced)
     (journal : HasJournal n old) where
   pub state_same : (i : ℕ) → seen (state_place n + i) ≡ overlaid old (state_place n + i)
   state_same i = let j = some_journal n in settled.same (state_place n + i) (inr (omega arith))
@@ -160,9 +161,9 @@ module _ (n : ℕ) (old seen : ℕ → ℕ) (loose : ℕ → Type 0) (settled : 
     least = says.least;
     most = says.most;
     room = subst (λ (k : ℕ). 4096 * all_pages n ≤ k) (sym same) says.room;
-    front = λ i lt.
+    prefix = λ i lt.
         let inside : i < 4096 = omega (arith, lt) in
-        settled.same i (inl inside) ∙ sym (front_plain (journal_pages n) old journal i inside) ∙ says.front i lt;
+        settled.same i (inl inside) ∙ sym (prefix_plain (journal_pages n) old journal i inside) ∙ says.prefix i lt;
   }
 
   pub opened_on : (size : ℕ) (kept : Holding) → SaysBlocks size old n → LoadedFrom seen n kept
@@ -170,8 +171,8 @@ module _ (n : ℕ) (old seen : ℕ → ℕ) (loose : ℕ → Type 0) (settled : 
   opened_on size kept says loaded =
       let v = loaded.view in
       let J : ℕ → Type 0 = λ k. HasJournal k old in
-      let S : ℕ → Type 0 = λ k. Settled (journal_pages k) (overlaid old) seen loose in
-      let here : Settled (journal_pages v.blocks) (overlaid old) seen loose = subst S (sym loaded.blocks) settled in
+      let S : ℕ → Type 0 = λ k. Settled (journal_pages k) (overlaid old) seen unsynced in
+      let here : Settled (journal_pages v.blocks) (overlaid old) seen unsynced = subst S (sym loaded.blocks) settled in
       record {
         view = v;
         sound = loaded.sound;
@@ -184,13 +185,14 @@ module _ (n : ℕ) (old seen : ℕ → ℕ) (loose : ℕ → Type 0) (settled : 
       }
 
 -- and of what was found
-pub found_back : (size : ℕ) (found : Found) (old seen : ℕ → ℕ) (loose : ℕ → Type 0)
-    → Settled (journal_pages found.layout) (overlaid old) seen loose → FoundOn size old found → StandsFound seen found
-found_back size found old seen loose settled is =
+pub found_back : (size : ℕ) (found : Found) (old seen : ℕ → ℕ) (unsynced : ℕ → Type 0)
+    → Settled (journal_pages found.layout) (overlaid old) seen unsynced → FoundOn size old found
+    → StandsFound seen found
+found_back size found old seen unsynced settled is =
     let n = found.layout in
     let said = state_page found.version found.next in
-    let back = λ (many : ℕ). state_back n old seen loose settled is.journal many said in
-    let on = λ (many : ℕ). state_on n old seen loose settled is.journal many said in
+    let back = λ (many : ℕ). state_back n old seen unsynced settled is.journal many said in
+    let on = λ (many : ℕ). state_on n old seen unsynced settled is.journal many said in
     record {
       fields = back 12 is.state.fields;
       rest = (λ blank. back 4096 (is.state.rest.0 blank), λ there. is.state.rest.1 (on 4096 there));

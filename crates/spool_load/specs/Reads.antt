@@ -17,9 +17,9 @@ pub record OnlyReads {D : Type 0} (disk : Ghosts D) (old new : D) : Type 0 where
   pub size : disk.size new ≡ disk.size old
   pub honest : disk.honest old → disk.honest new
   pub back : disk.honest new → disk.honest old
-  pub still : disk.honest old → (bytes : ℕ → ℕ) → Still bytes (disk.seen old) (disk.loose old)
-      → Still bytes (disk.seen new) (disk.loose new)
-  pub lasts : disk.honest old → (bytes : ℕ → ℕ) → Still bytes (disk.seen old) (disk.loose old)
+  pub still : disk.honest old → (bytes : ℕ → ℕ) → Still bytes (disk.seen old) (disk.unsynced old)
+      → Still bytes (disk.seen new) (disk.unsynced new)
+  pub lasts : disk.honest old → (bytes : ℕ → ℕ) → Still bytes (disk.seen old) (disk.unsynced old)
       → Lasts disk old new (λ image. (p : ℕ) → image p ≡ bytes p)
 
 -- the disk begins as a spool of so many text blocks does, and has room for it
@@ -27,7 +27,7 @@ pub record SaysBlocks (size : ℕ) (seen : ℕ → ℕ) (blocks : ℕ) : Type 0 
   pub least : 16 ≤ blocks
   pub most : blocks ≤ 65536
   pub room : 4096 * all_pages blocks ≤ size
-  pub front : (i : ℕ) → i < 12 → seen i ≡ get_or (first_page blocks) i 0
+  pub prefix : (i : ℕ) → i < 12 → seen i ≡ get_or (first_page blocks) i 0
 
 -- and after it the gate is open: a journal is to be replayed
 pub record NeedsReplay (size : ℕ) (seen : ℕ → ℕ) : Type 0 where
@@ -39,10 +39,10 @@ pub record NeedsReplay (size : ℕ) (seen : ℕ → ℕ) : Type 0 where
 pub record IsReadAt (bytes : ℕ → ℕ) (place : ℕ) (buf : List ℕ) : Type 0 where
   pub each : (i : ℕ) → i < length buf → get_or buf i 0 ≡ bytes (place + i)
 
--- the list is the front of another
-pub record IsFrontOf {A : Type 0} (whole front : List (Option A)) : Type 0 where
-  pub few : length front ≤ length whole
-  pub each : (k : ℕ) → k < length front → get_or front k None ≡ get_or whole k None
+-- the list is the prefix of another
+pub record IsPrefixOf {A : Type 0} (whole prefix : List (Option A)) : Type 0 where
+  pub few : length prefix ≤ length whole
+  pub each : (k : ℕ) → k < length prefix → get_or prefix k None ≡ get_or whole k None
 
 -- two lists agree below a place
 pub record IsSameTo {A : Type 0} (end : ℕ) (whole list : List (Option A)) : Type 0 where

@@ -34,19 +34,21 @@ pub struct Found {
 }
 
 // Reads the first twelve bytes.
-fn read_front<D: Disk>(disk: &mut D) -> Result<[u8; 12], DiskFault>
+fn read_prefix<D: Disk>(disk: &mut D) -> Result<[u8; 12], DiskFault>
     requires { 12 ≤ D.size disk.old }
     ensures size { D.size disk.new ≡ D.size disk.old }
     ensures honest { D.honest disk.old ↔ D.honest disk.new }
     ensures counts { Counts (IsErr result) (D.failures disk.old) (D.failures disk.new) }
     ensures keeps { D.honest disk.old
-        → Keeps (D.seen disk.old) (D.seen disk.new) (D.loose disk.old) (D.loose disk.new) }
-    ensures lasts { D.honest disk.old → Lasts D.Disk disk.old disk.new (IsImage (D.seen disk.old) (D.loose disk.old)) }
-    ensures bytes { D.honest disk.old → IfOk result (λ front. (i : ℕ) → i < 12 → get_or front i 0 ≡ D.seen disk.old i) }
+        → Keeps (D.seen disk.old) (D.seen disk.new) (D.unsynced disk.old) (D.unsynced disk.new) }
+    ensures lasts { D.honest disk.old → Lasts D.Disk disk.old disk.new
+        (IsImage (D.seen disk.old) (D.unsynced disk.old)) }
+    ensures bytes { D.honest disk.old → IfOk result (λ prefix. (i : ℕ) → i < 12
+        → get_or prefix i 0 ≡ D.seen disk.old i) }
 {
-    let mut front = [0; 12];
-    disk.read(0, &mut front)?;
-    Ok(front)
+    let mut prefix = [0; 12];
+    disk.read(0, &mut prefix)?;
+    Ok(prefix)
 }
 
 // The layout that page 0 says, none where the disk is no spool.
@@ -55,8 +57,9 @@ fn find_layout<D: Disk>(disk: &mut D) -> Result<Option<Layout>, DiskFault>
     ensures honest { D.honest disk.old ↔ D.honest disk.new }
     ensures counts { Counts (IsErr result) (D.failures disk.old) (D.failures disk.new) }
     ensures keeps { D.honest disk.old
-        → Keeps (D.seen disk.old) (D.seen disk.new) (D.loose disk.old) (D.loose disk.new) }
-    ensures lasts { D.honest disk.old → Lasts D.Disk disk.old disk.new (IsImage (D.seen disk.old) (D.loose disk.old)) }
+        → Keeps (D.seen disk.old) (D.seen disk.new) (D.unsynced disk.old) (D.unsynced disk.new) }
+    ensures lasts { D.honest disk.old → Lasts D.Disk disk.old disk.new
+        (IsImage (D.seen disk.old) (D.unsynced disk.old)) }
     ensures room { IfOk result (λ found. IfSome found (λ layout. 4096 * all_pages layout ≤ D.size disk.old)) }
     ensures found { D.honest disk.old → IfOk result (λ found. MatchOption found
         (IsNoSpool (D.size disk.old) (D.seen disk.old)) (SaysBlocks (D.size disk.old) (D.seen disk.old))) }
@@ -64,8 +67,8 @@ fn find_layout<D: Disk>(disk: &mut D) -> Result<Option<Layout>, DiskFault>
     if disk.len() < 12 {
         return Ok(None);
     }
-    let front = read_front(disk)?;
-    let Some(blocks) = blocks_said(&front) else {
+    let prefix = read_prefix(disk)?;
+    let Some(blocks) = blocks_said(&prefix) else {
         return Ok(None);
     };
     let Some(layout) = Layout::of(blocks) else {
@@ -102,11 +105,11 @@ fn load_state<D: Disk>(disk: &mut D, layout: Layout) -> Result<Option<Found>, Di
     ensures reads { OnlyReads D.Disk disk.old disk.new }
     ensures counts { Counts (IsErr result) (D.failures disk.old) (D.failures disk.new) }
     ensures layout { IfOk result (λ said. IfSome said (λ found. found.layout ≡ layout)) }
-    ensures said { D.honest disk.old → (bytes : ℕ → ℕ) → Still bytes (D.seen disk.old) (D.loose disk.old)
+    ensures said { D.honest disk.old → (bytes : ℕ → ℕ) → Still bytes (D.seen disk.old) (D.unsynced disk.old)
         → (version : Known) (next : ℕ) → next < 2 ^ 64
         → Stands bytes (state_place layout) 4096 (state_page version next)
         → IfOk result (λ said. IsSomeAnd said (SaysState version next)) }
-    ensures found { D.honest disk.old → (bytes : ℕ → ℕ) → Still bytes (D.seen disk.old) (D.loose disk.old)
+    ensures found { D.honest disk.old → (bytes : ℕ → ℕ) → Still bytes (D.seen disk.old) (D.unsynced disk.old)
         → IfOk result (λ said. MatchOption said (SaysKnownVersion bytes (state_place layout) → ⊥) (StandsFound bytes)) }
 {
     let mut page = [0; PAGE];
@@ -127,14 +130,14 @@ fn restore<D: Disk>(disk: &mut D, layout: Layout) -> Result<Found, OpenFault>
         → IfOk result (FoundOn (D.size disk.old) (D.seen disk.old)) }
     ensures refused { D.honest disk.old → IfErr result (RefusedAt layout (D.seen disk.old)) }
     ensures settled { D.honest disk.old → IfOk result
-        (λ found. Settled (journal_pages layout) (overlaid (D.seen disk.old)) (D.seen disk.new) (D.loose disk.new)) }
+        (λ found. Settled (journal_pages layout) (overlaid (D.seen disk.old)) (D.seen disk.new) (D.unsynced disk.new)) }
     ensures lasts { D.honest disk.old → Lasts D.Disk disk.old disk.new (λ image.
-        IsImage (D.seen disk.old) (D.loose disk.old) image
+        IsImage (D.seen disk.old) (D.unsynced disk.old) image
         ⊎ ReadsAs (journal_pages layout) image (overlaid (D.seen disk.old))) }
     ensures unwritten { D.honest disk.old → (D.seen disk.old 4096 ≡ 165 → ⊥)
-        → Lasts D.Disk disk.old disk.new (IsImage (D.seen disk.old) (D.loose disk.old)) }
+        → Lasts D.Disk disk.old disk.new (IsImage (D.seen disk.old) (D.unsynced disk.old)) }
     ensures same { D.honest disk.old → (D.seen disk.old 4096 ≡ 165 → ⊥) → (result ≡ Err OpenFault.DiskFault → ⊥)
-        → Keeps (D.seen disk.old) (D.seen disk.new) (D.loose disk.old) (D.loose disk.new) }
+        → Keeps (D.seen disk.old) (D.seen disk.new) (D.unsynced disk.old) (D.unsynced disk.new) }
 {
     recover(disk, &layout)?;
     load_state(disk, layout)?.ok_or(OpenFault::Version)
@@ -162,21 +165,21 @@ pub fn find<D: Disk>(disk: &mut D) -> Result<Found, OpenFault>
 
     // And it stands on the disk, all of it synced, behind a closed gate.
     ensures settled { D.honest disk.old → IfOk result (λ found.
-        Settled (journal_pages found.layout) (overlaid (D.seen disk.old)) (D.seen disk.new) (D.loose disk.new)) }
+        Settled (journal_pages found.layout) (overlaid (D.seen disk.old)) (D.seen disk.new) (D.unsynced disk.new)) }
 
     // A crash during it leaves what it might have left before, or what reads the same.
     ensures lasts { D.honest disk.old → (v : View) → IsSound v → IsViewOf (D.seen disk.old) v
         → 4096 * all_pages v.blocks ≤ D.size disk.old → Lasts D.Disk disk.old disk.new (λ image.
-        IsImage (D.seen disk.old) (D.loose disk.old) image
+        IsImage (D.seen disk.old) (D.unsynced disk.old) image
         ⊎ ReadsAs (journal_pages v.blocks) image (overlaid (D.seen disk.old))) }
 
     // Where no journal is to be replayed it writes nothing: every image is one from before, and so is what a read
     // gives.
     ensures unwritten { D.honest disk.old → (NeedsReplay (D.size disk.old) (D.seen disk.old) → ⊥)
-        → Lasts D.Disk disk.old disk.new (IsImage (D.seen disk.old) (D.loose disk.old)) }
+        → Lasts D.Disk disk.old disk.new (IsImage (D.seen disk.old) (D.unsynced disk.old)) }
     ensures same { D.honest disk.old → (NeedsReplay (D.size disk.old) (D.seen disk.old) → ⊥)
         → (result ≡ Err OpenFault.DiskFault → ⊥)
-        → Keeps (D.seen disk.old) (D.seen disk.new) (D.loose disk.old) (D.loose disk.new) }
+        → Keeps (D.seen disk.old) (D.seen disk.new) (D.unsynced disk.old) (D.unsynced disk.new) }
 {
     match find_layout(disk)? {
         Some(layout) => restore(disk, layout),

@@ -15,7 +15,7 @@ ghost use Rattle.spool_pages.specs.View.{View, Says, first_page};
 
 use crate::checks::{are_rows_sound, are_sound};
 use crate::owners::load_rows;
-use crate::reading::{check_front, load_indexes};
+use crate::reading::{check_prefix, load_indexes};
 use crate::slots::load_slots;
 use crate::{Found, LoadError};
 use enc_index::IndexSet;
@@ -31,14 +31,14 @@ fn load_fields<D: Disk>(alloc: Global, disk: &mut D, layout: &Layout) -> Result<
     requires { 4096 * all_pages layout.now ≤ D.size disk.old }
     ensures reads { OnlyReads D.Disk disk.old disk.new }
     ensures counts { Counts (IsErrOf result LoadError.DiskFault) (D.failures disk.old) (D.failures disk.new) }
-    ensures said { D.honest disk.old → (bytes : ℕ → ℕ) → Still bytes (D.seen disk.old) (D.loose disk.old)
+    ensures said { D.honest disk.old → (bytes : ℕ → ℕ) → Still bytes (D.seen disk.old) (D.unsynced disk.old)
         → (v : View) → IsSound v → v.blocks ≡ layout.now → Says bytes v
         → Loads result (λ indexes. indexes ≡ v.indexes) }
-    ensures sound { D.honest disk.old → (bytes : ℕ → ℕ) → Still bytes (D.seen disk.old) (D.loose disk.old)
+    ensures sound { D.honest disk.old → (bytes : ℕ → ℕ) → Still bytes (D.seen disk.old) (D.unsynced disk.old)
         → ((i : ℕ) → i < 12 → bytes i ≡ get_or (first_page layout.now) i 0)
         → IfOk result (StandFields bytes layout.now) }
 {
-    check_front(disk, layout)?;
+    check_prefix(disk, layout)?;
     load_indexes(alloc, disk, layout)
 }
 
@@ -55,10 +55,10 @@ fn load_blocks<D: Disk>(
     ensures fits { IfOk result (λ blocks. (b : ℕ) → FitsRow (get_or blocks.rows b None)) }
     ensures reads { OnlyReads D.Disk disk.old disk.new }
     ensures counts { Counts (IsErrOf result LoadError.DiskFault) (D.failures disk.old) (D.failures disk.new) }
-    ensures said { D.honest disk.old → (bytes : ℕ → ℕ) → Still bytes (D.seen disk.old) (D.loose disk.old)
+    ensures said { D.honest disk.old → (bytes : ℕ → ℕ) → Still bytes (D.seen disk.old) (D.unsynced disk.old)
         → (v : View) → IsSound v → v.blocks ≡ layout.now → Says bytes v → slots.now ≡ v.slots
         → Loads result (λ blocks. (blocks.rows ≡ v.rows) × (blocks.reserved ≡ replicate v.blocks false)) }
-    ensures sound { D.honest disk.old → (bytes : ℕ → ℕ) → Still bytes (D.seen disk.old) (D.loose disk.old)
+    ensures sound { D.honest disk.old → (bytes : ℕ → ℕ) → Still bytes (D.seen disk.old) (D.unsynced disk.old)
         → IfOk result (λ blocks. StandRows bytes layout.now (512 * (journal_pages layout.now - 257)) blocks.rows) }
     ensures owners { IfOk result (λ blocks. RowsPass slots.now blocks.rows) }
     ensures reserved { IfOk result (λ blocks. blocks.reserved ≡ replicate layout.now false) }
@@ -86,11 +86,11 @@ pub fn read<D: Disk>(alloc: Global, disk: &mut D, found: Found) -> Result<Kept, 
     ensures version { IfOk result (λ kept. kept.version ≡ found.version) }
 
     // A sound spool is read, or memory or the disk refuses it.
-    ensures said { D.honest disk.old → (bytes : ℕ → ℕ) → Still bytes (D.seen disk.old) (D.loose disk.old)
+    ensures said { D.honest disk.old → (bytes : ℕ → ℕ) → Still bytes (D.seen disk.old) (D.unsynced disk.old)
         → (v : View) → IsSound v → IsFoundOf v found → Says bytes v → Loads result (λ kept. KeepsAlone kept v) }
 
     // What is read is sound, and stands there.
-    ensures sound { D.honest disk.old → (bytes : ℕ → ℕ) → Still bytes (D.seen disk.old) (D.loose disk.old)
+    ensures sound { D.honest disk.old → (bytes : ℕ → ℕ) → Still bytes (D.seen disk.old) (D.unsynced disk.old)
         → SaysBlocks (D.size disk.old) bytes found.layout
         → StandsFound bytes found
         → IfOk result (LoadedFrom bytes found.layout) }

@@ -42,21 +42,21 @@ pub fn load<D: Disk>(alloc: Global, disk: &mut D) -> Result<Kept, OpenFault>
 
     // And it stands on the disk, all of it synced, behind a closed gate.
     ensures settled { D.honest disk.old → IfOk result (λ kept.
-        Settled (journal_pages kept.layout) (overlaid (D.seen disk.old)) (D.seen disk.new) (D.loose disk.new)) }
+        Settled (journal_pages kept.layout) (overlaid (D.seen disk.old)) (D.seen disk.new) (D.unsynced disk.new)) }
 
     // A crash during it leaves what it might have left before, or what reads the same.
     ensures lasts { D.honest disk.old → (v : View) → IsSound v → IsViewOf (D.seen disk.old) v
         → 4096 * all_pages v.blocks ≤ D.size disk.old → Lasts D.Disk disk.old disk.new (λ image.
-        IsImage (D.seen disk.old) (D.loose disk.old) image
+        IsImage (D.seen disk.old) (D.unsynced disk.old) image
         ⊎ ReadsAs (journal_pages v.blocks) image (overlaid (D.seen disk.old))) }
 
     // Where no journal is to be replayed it writes nothing: every image is one from before, and so is what a read
     // gives.
     ensures unwritten { D.honest disk.old → (NeedsReplay (D.size disk.old) (D.seen disk.old) → ⊥)
-        → Lasts D.Disk disk.old disk.new (IsImage (D.seen disk.old) (D.loose disk.old)) }
+        → Lasts D.Disk disk.old disk.new (IsImage (D.seen disk.old) (D.unsynced disk.old)) }
     ensures same { D.honest disk.old → (NeedsReplay (D.size disk.old) (D.seen disk.old) → ⊥)
         → (result ≡ Err OpenFault.DiskFault → ⊥)
-        → Keeps (D.seen disk.old) (D.seen disk.new) (D.loose disk.old) (D.loose disk.new) }
+        → Keeps (D.seen disk.old) (D.seen disk.new) (D.unsynced disk.old) (D.unsynced disk.new) }
 {
     let found = find(disk)?;
     let kept = read(alloc, disk, found)?;

@@ -1,4 +1,4 @@
--- Zeros after what stands at the front of a page.
+-- Zeros after what stands at the start of a page.
 use Rattle.std.proofs.Common.{◌≡◌, ℕ, ◌+◌, ◌-◌, ◌<◌, ◌≤◌, List, [], length, get_or, take, drop}
 use Rattle.std.proofs.Common.{inl, inr, sym, ◌∙◌, subst, arith}
 use Rattle.std.proofs.Math.ListN.{get_or-eq_default, length-take}
@@ -38,11 +38,11 @@ module _ (page : List ℕ) (n m : ℕ) (all : n + m ≡ length page) where
 
   module _ (xs : List ℕ) (long : length xs ≡ n) where
     pub with_blank_rest : Stands (byte_of page) 0 n xs → IsPadded (take m (drop n page)) [] → IsPadded page xs
-    with_blank_rest front rest = record {
+    with_blank_rest prefix rest = record {
       each = λ i. elim (cases_lt i n) [
         | inl below ↦
             let at : 0 + i ≡ i = omega arith in
-            subst (λ (p : ℕ). get_or page p 0 ≡ get_or xs i 0) at (front.each i below)
+            subst (λ (p : ℕ). get_or page p 0 ≡ get_or xs i 0) at (prefix.each i below)
         | inr from ↦
             let at : n + (i - n) ≡ i = omega (arith, from) in
             let here : get_or page (n + (i - n)) 0 ≡ 0 = sym (rest_byte (i - n)) ∙ rest.each (i - n) in

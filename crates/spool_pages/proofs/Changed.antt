@@ -109,8 +109,8 @@ module _ {none first both : List (ℕ × List ℕ)} {state place : ℕ} {state_b
 module _ (pages : List (ℕ × List ℕ)) {none first : List (ℕ × List ℕ)} {place : ℕ} {bytes : List ℕ} where
   pub room_some : (j : ℕ) → none ≡ [] → IsPut none place bytes first
       → ((page : ℕ) → page < j → page_in page pages ≡ page_in page first) → place < j → 1 ≤ length pages
-  room_some j empty put front below =
-      some_length place pages bytes (front place below ∙ in_put put (in_none place none empty))
+  room_some j empty put prefix below =
+      some_length place pages bytes (prefix place below ∙ in_put put (in_none place none empty))
 
   pub room_changes : none ≡ [] → IsPut none place bytes first
       → (v : View) (slot : ℕ) (kept : Option SlotRecord) (blocks : List ℕ) (rows : List Row)
@@ -121,7 +121,7 @@ module _ (pages : List (ℕ × List ℕ)) {none first : List (ℕ × List ℕ)} 
       → SaysSlot (neighbour slot) bytes (v.version, slot_at v (neighbour slot))
       → SameRowsBut blocks v.rows rows
       → ChangesButRows pages v (record (with_slot v slot kept) { rows = rows })
-  room_changes empty put v slot kept blocks rows front there place_is few long says beside same = record {
+  room_changes empty put v slot kept blocks rows prefix there place_is few long says beside same = record {
     blocks = refl;
     indexes = refl;
     state = subst (λ (o : Option (List ℕ)). Said o SaysState (v.version, v.next) (v.version, v.next))
@@ -137,11 +137,11 @@ module _ (pages : List (ℕ × List ℕ)) {none first : List (ℕ × List ℕ)} 
   }
     where
       none_else : (q : ℕ) → q < 282 + journal_pages v.blocks → (place ≡ q → ⊥) → page_in q pages ≡ None
-      none_else q below not_slot = front q below ∙ in_put_else put q not_slot ∙ in_none q none empty
+      none_else q below not_slot = prefix q below ∙ in_put_else put q not_slot ∙ in_none q none empty
 
       slot_in : page_in (record_number v.blocks slot) pages ≡ Some bytes
       slot_in = subst (λ (q : ℕ). page_in q pages ≡ Some bytes) place_is
-          (front place (omega (arith, place_is, few)) ∙ in_put put (in_none place none empty))
+          (prefix place (omega (arith, place_is, few)) ∙ in_put put (in_none place none empty))
 
 -- THE ROWS
 

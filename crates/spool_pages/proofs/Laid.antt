@@ -23,10 +23,10 @@ record PageAt (n : ℕ) (pages : List (ℕ × List ℕ)) (bytes : List ℕ) : Ty
   number : page_number pages at ≡ n
   bytes_are : (get_or pages at (0, [])).1 ≡ bytes
 
-in_front : (n : ℕ) (entry : ℕ × List ℕ) (pages : List (ℕ × List ℕ)) → entry.0 ≡ n
+in_prefix : (n : ℕ) (entry : ℕ × List ℕ) (pages : List (ℕ × List ℕ)) → entry.0 ≡ n
     → page_in n (entry ∷ pages) ≡ Some entry.1
 unfolding page_in
-in_front n entry pages e = ap (λ (b : Bool). cond b (Some entry.1) (page_in n pages)) (yes entry.0 n e)
+in_prefix n entry pages e = ap (λ (b : Bool). cond b (Some entry.1) (page_in n pages)) (yes entry.0 n e)
 
 after : (n : ℕ) (entry : ℕ × List ℕ) (pages : List (ℕ × List ℕ)) → (entry.0 ≡ n → ⊥)
     → page_in n (entry ∷ pages) ≡ page_in n pages
@@ -36,9 +36,9 @@ after n entry pages e = ap (λ (b : Bool). cond b (Some entry.1) (page_in n page
 page_none : (n : ℕ) (pages : List (ℕ × List ℕ)) → page_in n pages ≡ None → (k : ℕ) → k < length pages
     → page_number pages k ≡ n → ⊥
 page_none n [] e k lt is = omega (arith, lt)
-page_none n (entry ∷ pages) e zero lt is = let front = in_front n entry pages is in cc
+page_none n (entry ∷ pages) e zero lt is = let prefix = in_prefix n entry pages is in cc
 page_none n (entry ∷ pages) e (suc k) lt is = elim (cases_eq entry.0 n) [
-  | inl here ↦ let front = in_front n entry pages here in cc
+  | inl here ↦ let prefix = in_prefix n entry pages here in cc
   | inr other ↦ page_none n pages (sym (after n entry pages other) ∙ e) k (omega (arith, lt)) is
 ]
 
@@ -50,7 +50,7 @@ page_some n (entry ∷ pages) bytes e = elim (cases_eq entry.0 n) [
     at = 0;
     below = omega arith;
     number = here;
-    bytes_are = some_is (sym (in_front n entry pages here) ∙ e);
+    bytes_are = some_is (sym (in_prefix n entry pages here) ∙ e);
   }
   | inr other ↦
       let rest = page_some n pages bytes (sym (after n entry pages other) ∙ e) in
@@ -193,8 +193,9 @@ module _ (pages : List (ℕ × List ℕ)) (seen : ℕ → ℕ) (v v' : View)
           ∙ ap (λ (x : IndexSet). area_byte x i) (sym changes.others.indexes))
 
 -- a commit of them makes the new view of the old one
-pub changed_says : {n : ℕ} {pages : List (ℕ × List ℕ)} {seen : ℕ → ℕ} {loose : ℕ → Type 0} {v v' : View} → v.blocks ≡ n
-    → InArea (journal_pages n) pages → Rests v seen loose → Ascends pages → Changes pages v v'
+pub changed_says : {n : ℕ} {pages : List (ℕ × List ℕ)} {seen : ℕ → ℕ} {unsynced : ℕ → Type 0} {v v' : View}
+    → v.blocks ≡ n
+    → InArea (journal_pages n) pages → Rests v seen unsynced → Ascends pages → Changes pages v v'
     → HasTexts seen v' → Says (laid pages seen) v'
 changed_says {pages = pages} {seen = seen} {v = v} {v' = v'} size inside rests ascends changes texts =
     laid_says pages seen v v' (subst (λ (m : ℕ). InArea (journal_pages m) pages) (sym size) inside) ascends

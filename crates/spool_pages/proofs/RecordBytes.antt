@@ -86,9 +86,9 @@ module _ (version : Version) (r : SlotRecord) where
 
 -- PARTS
 
-pub stands_front : {f : ℕ → ℕ} {place size : ℕ} (xs ys : List ℕ) (k : ℕ) → length xs ≡ k → k ≤ size
+pub stands_prefix : {f : ℕ → ℕ} {place size : ℕ} (xs ys : List ℕ) (k : ℕ) → length xs ≡ k → k ≤ size
     → Stands f place size (xs ++ ys) → Stands f place k xs
-stands_front xs ys k long fits stands =
+stands_prefix xs ys k long fits stands =
     record {
       each = λ i lt.
           stands.each i (omega (arith, lt, fits)) ∙ get_or-append xs ys 0 i (omega (arith, lt, long));
@@ -181,16 +181,16 @@ module _ (f : ℕ → ℕ) (version : Version) (r : SlotRecord) (size : length r
       let all : Stands f 0 2048 (room_end version r ++ length_tag version r.declared ∷ []) =
       subst (λ (xs : List ℕ). Stands f 0 2048 xs) (sym (record_is version r)) whole in
       let long = length-metadata_end version r size in
-      let room = stands_front (room_end version r) _ 1602 (length-room_end version r size few) (omega arith) all in
-      let metadata = stands_front (metadata_end version r) _ (66 + length r.metadata) long (omega (arith, few)) room in
-      let head = stands_front (head_of version r) _ 66 (length-head version r size) (omega arith) metadata in
-      let state = stands_front (state_end version r) _ 64 (length-state_end version r size) (omega arith) head in
-      let four = stands_front (four_of version r) _ 32 refl (omega arith) state in
-      let three = stands_front (three_of version r) _ 24 refl (omega arith) four in
-      let two = stands_front (two_of version r) _ 16 refl (omega arith) three in
+      let room = stands_prefix (room_end version r) _ 1602 (length-room_end version r size few) (omega arith) all in
+      let metadata = stands_prefix (metadata_end version r) _ (66 + length r.metadata) long (omega (arith, few)) room in
+      let head = stands_prefix (head_of version r) _ 66 (length-head version r size) (omega arith) metadata in
+      let state = stands_prefix (state_end version r) _ 64 (length-state_end version r size) (omega arith) head in
+      let four = stands_prefix (four_of version r) _ 32 refl (omega arith) state in
+      let three = stands_prefix (three_of version r) _ 24 refl (omega arith) four in
+      let two = stands_prefix (two_of version r) _ 16 refl (omega arith) three in
       let tag = stands_beyond (room_end version r) _ 1602 1 (length-room_end version r size few) (omega arith) all in
       record {
-        number = stands_front (to_be_bytes w64 r.number) _ 8 refl (omega arith) two;
+        number = stands_prefix (to_be_bytes w64 r.number) _ 8 refl (omega arith) two;
         declared = stands_beyond (to_be_bytes w64 r.number) _ 8 8 refl (omega arith) two;
         accepted = stands_beyond (two_of version r) _ 16 8 refl (omega arith) three;
         text_len = stands_beyond (three_of version r) _ 24 8 refl (omega arith) four;

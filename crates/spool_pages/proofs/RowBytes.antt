@@ -7,7 +7,7 @@ use Rattle.spool_journal.specs.Image.{byte_of}
 use Rattle.spool_pages.specs.Bytes.{IsPadded}
 use Rattle.spool_pages.specs.View.{Stands, row_bytes}
 use Rattle.spool_pages.proofs.Bytes.{padded_zeros}
-use Rattle.spool_pages.proofs.RecordBytes.{stands_front, stands_beyond, stands_both}
+use Rattle.spool_pages.proofs.RecordBytes.{stands_prefix, stands_beyond, stands_both}
 
 pub owned_is : (slot ordinal : ℕ)
     → to_be_bytes w32 (slot + 1) ++ to_be_bytes w32 ordinal ≡ row_bytes (Some (slot, ordinal))
@@ -22,7 +22,7 @@ module _ (f : ℕ → ℕ) (at : ℕ) where
   pub slot_at : (slot ordinal : ℕ) → Stands f at 8 (row_bytes (Some (slot, ordinal)))
       → Stands f at 4 (to_be_bytes w32 (slot + 1))
   unfolding row_bytes
-  slot_at slot ordinal stands = stands_front (to_be_bytes w32 (slot + 1)) _ 4 refl (omega arith) stands
+  slot_at slot ordinal stands = stands_prefix (to_be_bytes w32 (slot + 1)) _ 4 refl (omega arith) stands
 
   pub ordinal_at : (slot ordinal : ℕ) → Stands f at 8 (row_bytes (Some (slot, ordinal)))
       → Stands f (at + 4) 4 (to_be_bytes w32 ordinal)

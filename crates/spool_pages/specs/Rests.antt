@@ -12,9 +12,9 @@ pub record OnFree (v : View) (p : ℕ) : Type 0 where
   pub free : get_or v.rows block None ≡ None
 
 -- the gate is closed, and a crash may leave other bytes only in blocks that no row owns
-pub record Rests (v : View) (seen : ℕ → ℕ) (loose : ℕ → Type 0) : Type 0 where
+pub record Rests (v : View) (seen : ℕ → ℕ) (unsynced : ℕ → Type 0) : Type 0 where
   pub closed : seen 4096 ≡ 165 → ⊥
-  pub firm : (p : ℕ) → loose p → OnFree v p
+  pub is_synced : (p : ℕ) → unsynced p → OnFree v p
   pub is : IsViewOf seen v
 
 -- no row owns one of these blocks

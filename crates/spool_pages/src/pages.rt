@@ -72,15 +72,15 @@ pub fn is_blank_after_fields(page: &[u8; PAGE]) -> bool
     is_blank(&page[12..])
 }
 
-/// The number of text blocks that the front of page 0 says, or none where it is not a spool's.
-pub fn blocks_said(front: &[u8; 12]) -> Option<u32>
+/// The number of text blocks that the prefix of page 0 says, or none where it is not a spool's.
+pub fn blocks_said(prefix: &[u8; 12]) -> Option<u32>
     ensures said { (blocks : ℕ) → blocks < 2 ^ 32
-        → ((i : ℕ) → i < 12 → get_or front.now i 0 ≡ get_or (first_page blocks) i 0) → result ≡ Some blocks }
+        → ((i : ℕ) → i < 12 → get_or prefix.now i 0 ≡ get_or (first_page blocks) i 0) → result ≡ Some blocks }
     ensures only { IfSome result (λ blocks. (i : ℕ) → i < 12
-        → get_or front.now i 0 ≡ get_or (first_page blocks) i 0) }
+        → get_or prefix.now i 0 ≡ get_or (first_page blocks) i 0) }
 {
-    if !front.starts_with(&MAGIC) {
+    if !prefix.starts_with(&MAGIC) {
         return None;
     }
-    Some(get_u32(front, 8))
+    Some(get_u32(prefix, 8))
 }

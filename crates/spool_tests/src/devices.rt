@@ -16,7 +16,7 @@ const SHARED: &str = "spool_disk_lock_test";
 const SHORT: &str = "spool_disk_short_test";
 
 // The first four bytes.
-fn front<D: Disk>(disk: &mut D) -> Result<[u8; 4], DiskFault>
+fn prefix<D: Disk>(disk: &mut D) -> Result<[u8; 4], DiskFault>
     requires { 4 ≤ D.size disk.old }
     ensures { D.size disk.new ≡ D.size disk.old }
 {
@@ -38,14 +38,14 @@ fn crash_leaves_old_new_or_torn_bytes(rt: HostRuntime) {
         disk.sync().expect(&rt, "no call fails");
         disk.write_at(1, b"XY").expect(&rt, "no call fails");
         let mut left = disk.crash(kind);
-        assert_eq!(rt; front(&mut left), Ok(want), "{kind:?}");
+        assert_eq!(rt; prefix(&mut left), Ok(want), "{kind:?}");
     }
 }
 
 /// A file is so long and begins with these bytes.
 fn begins(rt: &impl Abort, mut disk: FileDisk, length: u64, bytes: [u8; 4]) {
     assert!(rt; disk.len() == length && length >= 4);
-    assert_eq!(rt; front(&mut disk), Ok(bytes));
+    assert_eq!(rt; prefix(&mut disk), Ok(bytes));
 }
 
 /// Whether there is no disk.
@@ -97,7 +97,7 @@ fn file_in_use_is_opened_once(rt: HostRuntime) {
 fn shortened_file_answers_faults(rt: HostRuntime) {
     let mut disk = FileDisk::create(&rt, SHORT, 4).expect(&rt, "a new file");
     fs::write(&rt, SHORT, b"abc".as_slice()).expect(&rt, "the file");
-    assert_eq!(rt; front(&mut disk), Err(DiskFault));
+    assert_eq!(rt; prefix(&mut disk), Err(DiskFault));
     drop(disk);
     fs::remove_file(&rt, SHORT).expect(&rt, "the file");
 }

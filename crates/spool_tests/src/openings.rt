@@ -56,7 +56,7 @@ fn with_open_gate(rt: &impl Abort, alloc: Global) -> Vec<u8> {
 fn calls_of_recovery(rt: &impl Abort, alloc: Global, bytes: &[u8]) -> u64 {
     let all = calls_of_opening(rt, alloc, disk_of(rt, alloc, bytes));
     let closed = calls_of_opening(rt, alloc, fresh(rt, alloc));
-    // the front, a sync and the gate come before
+    // the prefix, a sync and the gate come before
     all.saturating_sub(closed).saturating_add(3)
 }
 

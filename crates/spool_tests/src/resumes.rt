@@ -120,9 +120,9 @@ fn with_files(rt: &impl Abort, alloc: Global) -> MemoryDisk {
 }
 
 /// 32 state bytes: these, and zeros after them.
-fn with_zeros(front: &[u8]) -> [u8; 32] {
+fn with_zeros(prefix: &[u8]) -> [u8; 32] {
     let mut state = [0; 32];
-    for (place, byte) in state.iter_mut().zip(front.iter()) {
+    for (place, byte) in state.iter_mut().zip(prefix.iter()) {
         *place = *byte;
     }
     state

@@ -10,15 +10,15 @@ use Rattle.spool_journal.specs.Image.{area_end}
 pub in_more : {first b p : ℕ} {blocks : List ℕ} → InBlocks first blocks p → InBlocks first (b ∷ blocks) p
 in_more within = record { at = suc within.at; below = omega (arith, within.below); here = within.here }
 
-pub in_front : {first b p : ℕ} {blocks : List ℕ} → first + b ≡ p / 4096 → InBlocks first (b ∷ blocks) p
-in_front e = record { at = 0; below = omega arith; here = e }
+pub in_prefix : {first b p : ℕ} {blocks : List ℕ} → first + b ≡ p / 4096 → InBlocks first (b ∷ blocks) p
+in_prefix e = record { at = 0; below = omega arith; here = e }
 
 pub aside_blocks_else : (first : ℕ) (blocks : List ℕ) (was image : ℕ → ℕ) (p : ℕ) → (InBlocks first blocks p → ⊥)
     → aside_blocks first blocks was image p ≡ image p
 unfolding aside_blocks
 aside_blocks_else first [] was image p away = refl
 aside_blocks_else first (b ∷ blocks) was image p away =
-    aside_else (first + b) was (aside_blocks first blocks was image) p (λ e. away (in_front e))
+    aside_else (first + b) was (aside_blocks first blocks was image) p (λ e. away (in_prefix e))
     ∙ aside_blocks_else first blocks was image p (λ within. away (in_more within))
 
 -- a place in one block more
@@ -46,11 +46,11 @@ aside_or_away first (b ∷ blocks) was image p =
     (cases_eq (first + b) (p / 4096))
 
 -- with the blocks as they were, it is an image from before
-pub image_aside : (first : ℕ) (blocks : List ℕ) {seen image : ℕ → ℕ} {loose : ℕ → Type 0}
-    → IsImageBut first blocks seen loose image → IsImage seen loose (aside_blocks first blocks seen image)
+pub image_aside : (first : ℕ) (blocks : List ℕ) {seen image : ℕ → ℕ} {unsynced : ℕ → Type 0}
+    → IsImageBut first blocks seen unsynced image → IsImage seen unsynced (aside_blocks first blocks seen image)
 image_aside first blocks {seen = seen} {image = image} is = record {
-  same = λ p firm. ⊎_elim (λ same. same)
-      (λ away. aside_blocks_else first blocks seen image p away ∙ is.same p away firm)
+  same = λ p is_synced. ⊎_elim (λ same. same)
+      (λ away. aside_blocks_else first blocks seen image p away ∙ is.same p away is_synced)
       (aside_or_away first blocks seen image p);
 }
 
@@ -63,12 +63,12 @@ frame_blocks j [] was image few = record {
   others = λ formed p away. refl;
 }
 frame_blocks j (b ∷ blocks) was image few =
-    let front = frame_aside j b (aside_blocks (area_end j) blocks was image) was few in
+    let prefix = frame_aside j b (aside_blocks (area_end j) blocks was image) was few in
     let rest = frame_blocks j blocks was image few in
     record {
       texts = λ rows slot len none. rest.texts rows slot len (λ i lt. none (suc i) (omega (arith, lt)))
-          ∙ front.texts rows slot len (none 0 (omega arith));
-      form = λ formed gate. rest.form (front.form formed) gate;
-      others = λ formed p away. rest.others (front.form formed) p (λ within. away (in_more within))
-          ∙ front.others formed p (λ e. away (in_front e));
+          ∙ prefix.texts rows slot len (none 0 (omega arith));
+      form = λ formed gate. rest.form (prefix.form formed) gate;
+      others = λ formed p away. rest.others (prefix.form formed) p (λ within. away (in_more within))
+          ∙ prefix.others formed p (λ e. away (in_prefix e));
     }

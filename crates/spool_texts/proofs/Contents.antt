@@ -5,7 +5,7 @@ use Rattle.std.proofs.lemmas.List.{take-take}
 use Rattle.std.proofs.Math.Seq.{take-add}
 use Rattle.spool_texts.specs.TextOn.{blocks_on, text_on}
 use Rattle.spool_texts.specs.Drafts.{Draft, full_count, held_count, content_on}
-use Rattle.spool_texts.proofs.Shown.{text_front}
+use Rattle.spool_texts.proofs.Shown.{text_prefix}
 
 -- nothing is unfinished
 pub all_written : (seen : ℕ → ℕ) (first : ℕ) (d : Draft) → length d.unfinished ≡ 0
@@ -14,7 +14,7 @@ all_written seen first d none =
     let held : held_count d ≡ 4096 * length d.blocks = omega (arith, none) in
     let full : length d.blocks ≡ full_count d = omega (arith, none) in
     ap (λ (n : ℕ). text_on seen first d.blocks n) held
-    ∙ text_front seen first (length d.blocks) d.blocks (omega arith)
+    ∙ text_prefix seen first (length d.blocks) d.blocks (omega arith)
     ∙ ap (λ (n : ℕ). blocks_on seen first (take n d.blocks)) full
     ∙ sym (append-nil (blocks_on seen first (take (full_count d) d.blocks)))
     ∙ ap (λ (xs : List ℕ). blocks_on seen first (take (full_count d) d.blocks) ++ xs)
@@ -31,8 +31,8 @@ full_written seen seen' first old new more page bytes none grown ready size is t
     ∙ ap (λ (n : ℕ). text_on seen' first new.blocks n) held
     ∙ text
     ∙ ap (λ (n : ℕ). text_on seen first new.blocks (4096 * n) ++ page) full
-    ∙ ap (λ (xs : List ℕ). xs ++ page) (text_front seen first (full_count old) new.blocks (omega (arith, ready)))
-    ∙ ap (λ (xs : List ℕ). blocks_on seen first xs ++ page) front
+    ∙ ap (λ (xs : List ℕ). xs ++ page) (text_prefix seen first (full_count old) new.blocks (omega (arith, ready)))
+    ∙ ap (λ (xs : List ℕ). blocks_on seen first xs ++ page) prefix
     ∙ ap (λ (xs : List ℕ). blocks_on seen first (take (full_count old) old.blocks) ++ xs) is
     ∙ sym (append_assoc (blocks_on seen first (take (full_count old) old.blocks)) old.unfinished bytes)
   where
@@ -42,20 +42,20 @@ full_written seen seen' first old new more page bytes none grown ready size is t
     full : length new.blocks - 1 ≡ full_count old
     full = omega (arith, ready)
 
-    front : take (full_count old) new.blocks ≡ take (full_count old) old.blocks
-    front = ap (λ (xs : List ℕ). take (full_count old) xs) grown ∙ take-append-le (full_count old) old.blocks more
+    prefix : take (full_count old) new.blocks ≡ take (full_count old) old.blocks
+    prefix = ap (λ (xs : List ℕ). take (full_count old) xs) grown ∙ take-append-le (full_count old) old.blocks more
         (omega arith)
 
 -- the bytes of a page that is full
 pub page_filled : (cap filled n : ℕ) (page rest old bytes result unfinished : List ℕ) → result ≡ take cap (page ++ rest)
     → cap ≡ 4096 → length page ≡ 4096 → filled + n ≡ 4096 → take (filled + n) page ≡ take filled old ++ bytes
     → take filled old ≡ unfinished → result ≡ unfinished ++ bytes
-page_filled cap filled n page rest old bytes result unfinished is cap_is size full filled_is front =
+page_filled cap filled n page rest old bytes result unfinished is cap_is size full filled_is prefix =
     is
     ∙ take_at page rest cap (omega (arith, size, cap_is))
     ∙ sym (take_all (filled + n) page (omega (arith, size, full)))
     ∙ filled_is
-    ∙ ap (λ (xs : List ℕ). xs ++ bytes) front
+    ∙ ap (λ (xs : List ℕ). xs ++ bytes) prefix
 
 -- some bytes more
 pub content_more : (new mid old bytes : List ℕ) (done n rest : ℕ) → n ≤ rest

@@ -6,14 +6,14 @@ use Rattle.std.proofs.lemmas.List.{take_all, append-nil, append_assoc, take-take
 use Rattle.std.proofs.Math.Seq.{take-add}
 use Rattle.spool_texts.specs.TextOn.{blocks_on, text_on}
 use Rattle.spool_texts.specs.Written.{WritesIn, IsImageBut}
-use Rattle.spool_texts.proofs.Fronts.{writes_none, writes_on, but_more, but_on}
-use Rattle.spool_texts.proofs.Shown.{text_front}
+use Rattle.spool_texts.proofs.Prefixes.{writes_none, writes_on, but_more, but_on}
+use Rattle.spool_texts.proofs.Shown.{text_prefix}
 
 -- a text is on the first blocks that have room for it
 text_take : (seen : ℕ → ℕ) (first n k : ℕ) (list : List ℕ) → n ≤ length list → k ≤ 4096 * n
     → text_on seen first (take n list) k ≡ text_on seen first list k
 text_take seen first n k list le fits =
-    ap (λ (xs : List ℕ). take k xs) (sym (text_front seen first n list le))
+    ap (λ (xs : List ℕ). take k xs) (sym (text_prefix seen first n list le))
     ∙ take-take k (4096 * n) (blocks_on seen first list) fits
 
 take_few : (n : ℕ) (xs : List ℕ) → take (min (length xs) n) xs ≡ take n xs
@@ -32,7 +32,7 @@ none_yet seen first full list last le =
     ap (λ (n : ℕ). text_on seen first list (4096 * full + min (length last) (4096 * n))) none
     ∙ (let at : 4096 * full + min (length last) (4096 * 0) ≡ 4096 * full = omega arith in ap
     (λ (n : ℕ). text_on seen first list n) at)
-    ∙ text_front seen first full list le
+    ∙ text_prefix seen first full list le
     ∙ sym (append-nil (blocks_on seen first (take full list)))
     ∙ ap (λ (n : ℕ). blocks_on seen first (take full list) ++ take (4096 * n) last) (sym none)
 
@@ -91,14 +91,15 @@ one_more was seen seen' first full at to list last bytes le lt some to_is bytes_
     next = omega (arith, le)
 
 -- a write to the first blocks is one to all
-pub writes_front : {first : ℕ} (n : ℕ) {list : List ℕ} {seen mid seen' : ℕ → ℕ} {loose between loose' : ℕ → Type 0}
-    → WritesIn first list seen mid loose between → WritesIn first (take n list) mid seen' between loose'
-    → WritesIn first list seen seen' loose loose'
-writes_front n {list = list} a b =
+pub writes_prefix : {first : ℕ} (n : ℕ) {list : List ℕ} {seen mid seen' : ℕ → ℕ} {unsynced between unsynced' : ℕ
+    → Type 0}
+    → WritesIn first list seen mid unsynced between → WritesIn first (take n list) mid seen' between unsynced'
+    → WritesIn first list seen seen' unsynced unsynced'
+writes_prefix n {list = list} a b =
     writes_on [] (sym (append-nil list)) a (writes_on (drop n list) (sym (take-append-drop n list)) b (writes_none _ _))
 
-pub but_front : {first : ℕ} (n : ℕ) {list : List ℕ} {seen mid image : ℕ → ℕ} {loose between : ℕ → Type 0}
-    → WritesIn first list seen mid loose between → IsImageBut first (take n list) mid between image
-    → IsImageBut first list seen loose image
-but_front n {list = list} a is =
+pub but_prefix : {first : ℕ} (n : ℕ) {list : List ℕ} {seen mid image : ℕ → ℕ} {unsynced between : ℕ → Type 0}
+    → WritesIn first list seen mid unsynced between → IsImageBut first (take n list) mid between image
+    → IsImageBut first list seen unsynced image
+but_prefix n {list = list} a is =
     but_on [] (sym (append-nil list)) a (but_more (drop n list) (sym (take-append-drop n list)) is)

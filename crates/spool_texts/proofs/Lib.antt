@@ -2,7 +2,7 @@ pub mod Shown
 pub mod Asides
 pub mod Pieces
 pub mod Steps
-pub mod Fronts
+pub mod Prefixes
 pub mod Reserves
 pub mod Contents
 pub mod Lasts

@@ -63,33 +63,33 @@ piece_is seen first list at count n buf new fits follow within is = record {
 pub mid_before : (buf sub : List ℕ) (from size k : ℕ) → k < from → from ≤ length buf
     → get_or (put_mid from size buf sub) k 0 ≡ get_or buf k 0
 mid_before buf sub from size k lt le =
-    let front : length (take from buf) ≡ from = omega (arith, length-take from buf, le) in
-    get_or_append_left (take from buf) (sub ++ drop size (drop from buf)) 0 k (omega (arith, front, lt))
+    let prefix : length (take from buf) ≡ from = omega (arith, length-take from buf, le) in
+    get_or_append_left (take from buf) (sub ++ drop size (drop from buf)) 0 k (omega (arith, prefix, lt))
     ∙ get_or-take from buf k 0 lt
 
 pub mid_inside : (buf sub : List ℕ) (from size k : ℕ) → k < length sub → from ≤ length buf
     → get_or (put_mid from size buf sub) (from + k) 0 ≡ get_or sub k 0
 mid_inside buf sub from size k lt le =
-    let front : length (take from buf) ≡ from = omega (arith, length-take from buf, le) in
+    let prefix : length (take from buf) ≡ from = omega (arith, length-take from buf, le) in
     let e : from + k - from ≡ k = omega arith in
-    get_or-append_right (take from buf) (sub ++ drop size (drop from buf)) from (from + k) 0 front (omega arith)
+    get_or-append_right (take from buf) (sub ++ drop size (drop from buf)) from (from + k) 0 prefix (omega arith)
     ∙ ap (λ (i : ℕ). get_or (sub ++ drop size (drop from buf)) i 0) e
     ∙ get_or_append_left sub (drop size (drop from buf)) 0 k lt
 
 pub mid_after : (buf sub : List ℕ) (from size k : ℕ) → from + size ≤ k → length sub ≡ size → from ≤ length buf
     → get_or (put_mid from size buf sub) k 0 ≡ get_or buf k 0
 mid_after buf sub from size k le same fits =
-    let front : length (take from buf) ≡ from = omega (arith, length-take from buf, fits) in
+    let prefix : length (take from buf) ≡ from = omega (arith, length-take from buf, fits) in
     let e : from + (size + (k - from - size)) ≡ k = omega (arith, le) in
-    get_or-append_right (take from buf) (sub ++ drop size (drop from buf)) from k 0 front (omega (arith, le))
+    get_or-append_right (take from buf) (sub ++ drop size (drop from buf)) from k 0 prefix (omega (arith, le))
     ∙ get_or-append_right sub (drop size (drop from buf)) size (k - from) 0 same (omega (arith, le))
     ∙ get_or-drop size (drop from buf) (k - from - size) 0
     ∙ get_or-drop from buf (size + (k - from - size)) 0
     ∙ ap (λ (i : ℕ). get_or buf i 0) e
 
 -- one piece more of a text
-module _ {seen mid : ℕ → ℕ} {loose loose' : ℕ → Type 0} (first : ℕ) (list : List ℕ) (at from to n : ℕ)
-    (old buf sub : List ℕ) (keeps : Keeps seen mid loose loose') (upto : from ≤ to) (fits : to ≤ length buf)
+module _ {seen mid : ℕ → ℕ} {unsynced unsynced' : ℕ → Type 0} (first : ℕ) (list : List ℕ) (at from to n : ℕ)
+    (old buf sub : List ℕ) (keeps : Keeps seen mid unsynced unsynced') (upto : from ≤ to) (fits : to ≤ length buf)
     (few : n ≤ length (take (to - from) (drop from buf)))
     (piece : IsPiece mid first list (at + from) n (take (to - from) (drop from buf)) sub) where
   sub_size : length sub ≡ to - from
@@ -99,7 +99,8 @@ module _ {seen mid : ℕ → ℕ} {loose loose' : ℕ → Type 0} (first : ℕ) 
       → get_or (put_mid from (to - from) buf sub) k 0 ≡ byte_on seen first list (at + k)
   bytes_on before k lt =
       ⊎_elim
-      (λ (front : k < from). mid_before buf sub from (to - from) k front (omega (arith, upto, fits)) ∙ before k front)
+      (λ (prefix : k < from). mid_before buf sub from (to - from) k prefix (omega (arith, upto, fits))
+      ∙ before k prefix)
       (λ (after : from ≤ k).
       let e : from + (k - from) ≡ k = omega (arith, after) in
       let e' : at + from + (k - from) ≡ at + k = omega (arith, after) in
@@ -168,11 +169,11 @@ all_read seen first list len at n old buf long is same bytes rest = record {
       ∙ sym (get_or-drop at (text_on seen first list len) k 0)
       ∙ sym (get_or-take n (drop at (text_on seen first list len)) k 0 inside)
       ∙ sym (get_or_append_left (take n (drop at (text_on seen first list len))) (drop n old) 0 k
-      (omega (arith, inside, front))))
+      (omega (arith, inside, prefix))))
       (λ (after : n ≤ k).
       let e : n + (k - n) ≡ k = omega (arith, after) in
       rest k after
-      ∙ sym (get_or-append_right (take n (drop at (text_on seen first list len))) (drop n old) n k 0 front after
+      ∙ sym (get_or-append_right (take n (drop at (text_on seen first list len))) (drop n old) n k 0 prefix after
       ∙ get_or-drop n old (k - n) 0 ∙ ap (λ (i : ℕ). get_or old i 0) e))
       (cases_lt k n));
 }
@@ -180,8 +181,8 @@ all_read seen first list len at n old buf long is same bytes rest = record {
     size : length (text_on seen first list len) ≡ len
     size = omega (arith, length-take len (blocks_on seen first list), length-blocks_on seen first list, long)
 
-    front : length (take n (drop at (text_on seen first list len))) ≡ n
-    front = omega (
+    prefix : length (take n (drop at (text_on seen first list len))) ≡ n
+    prefix = omega (
       arith,
       length-take n (drop at (text_on seen first list len)),
       length-drop at
@@ -194,18 +195,18 @@ all_read seen first list len at n old buf long is same bytes rest = record {
     sizes = omega (
       arith,
       length-append (take n (drop at (text_on seen first list len))) (drop n old),
-      front,
+      prefix,
       length-drop n old,
       same,
       is,
     )
 
 -- a call that changes nothing, after another
-pub keeps_on : {seen mid seen' : ℕ → ℕ} {loose between loose' : ℕ → Type 0} → Keeps seen mid loose between
-    → Keeps mid seen' between loose' → Keeps seen seen' loose loose'
-keeps_on a b = record { same = λ p. b.same p ∙ a.same p; loosens = λ p l. a.loosens p (b.loosens p l) }
+pub keeps_on : {seen mid seen' : ℕ → ℕ} {unsynced between unsynced' : ℕ → Type 0} → Keeps seen mid unsynced between
+    → Keeps mid seen' between unsynced' → Keeps seen seen' unsynced unsynced'
+keeps_on a b = record { same = λ p. b.same p ∙ a.same p; unsyncs = λ p l. a.unsyncs p (b.unsyncs p l) }
 
 -- its images are those from before
-pub image_keeps : {seen mid image : ℕ → ℕ} {loose between : ℕ → Type 0} → Keeps seen mid loose between
-    → IsImage mid between image → IsImage seen loose image
-image_keeps a is = record { same = λ p firm. is.same p (λ l. firm (a.loosens p l)) ∙ a.same p }
+pub image_keeps : {seen mid image : ℕ → ℕ} {unsynced between : ℕ → Type 0} → Keeps seen mid unsynced between
+    → IsImage mid between image → IsImage seen unsynced image
+image_keeps a is = record { same = λ p is_synced. is.same p (λ l. is_synced (a.unsyncs p l)) ∙ a.same p }

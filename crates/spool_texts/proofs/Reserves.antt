@@ -44,15 +44,15 @@ pub few_more : (h : Held) (list : List ℕ) (b : ℕ) → IsReserved h list → 
 few_more h list b reserved free =
     omega (arith, length_push list b, few_distinct (length h.rows) (list ++ b ∷ []) below distinct)
   where
-    front : (i : ℕ) → i < length list → get_or (list ++ b ∷ []) i 0 ≡ get_or list i 0
-    front i lt = get_or_append_left list (b ∷ []) 0 i lt
+    prefix : (i : ℕ) → i < length list → get_or (list ++ b ∷ []) i 0 ≡ get_or list i 0
+    prefix i lt = get_or_append_left list (b ∷ []) 0 i lt
 
     last : (i : ℕ) → i ≡ length list → get_or (list ++ b ∷ []) i 0 ≡ b
     last i e = get_or_push list b 0 i (sym e)
 
     below : (i : ℕ) → i < length (list ++ b ∷ []) → get_or (list ++ b ∷ []) i 0 < length h.rows
     below i lt = ⊎_elim
-        (λ (before : i < length list). omega (arith, front i before, reserved.below i before))
+        (λ (before : i < length list). omega (arith, prefix i before, reserved.below i before))
         (λ (after : length list ≤ i). omega
         (arith, last i (omega (arith, lt, after, length_push list b)), free.below))
         (cases_lt i (length list))
@@ -62,10 +62,10 @@ few_more h list b reserved free =
     distinct i k lt lt' e =
         let before : i < length list = omega (arith, lt, lt', length_push list b) in
         ⊎_elim
-        (λ (inside : k < length list). reserved.distinct i k lt inside (sym (front i before) ∙ e ∙ front k inside))
+        (λ (inside : k < length list). reserved.distinct i k lt inside (sym (prefix i before) ∙ e ∙ prefix k inside))
         (λ (after : length list ≤ k).
         let same : get_or list i 0 ≡ b =
-        sym (front i before) ∙ e ∙ last k (omega (arith, lt', after, length_push list b)) in
+        sym (prefix i before) ∙ e ∙ last k (omega (arith, lt', after, length_push list b)) in
         let flag : get_or h.reserved b false ≡ true =
         subst (λ (n : ℕ). get_or h.reserved n false ≡ true) same (reserved.reserved i before) in
         both_ways (get_or h.reserved b false) free.not_reserved flag)

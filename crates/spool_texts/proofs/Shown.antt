@@ -105,9 +105,9 @@ take_after zero len (x ∷ xs) ys size = absurd (omega (arith, size))
 take_after (suc n) len (x ∷ xs) ys size = ap (λ (zs : List ℕ). x ∷ zs) (take_after n len xs ys (omega (arith, size)))
 
 -- the text on the first n blocks
-pub text_front : (image : ℕ → ℕ) (first n : ℕ) (list : List ℕ) → n ≤ length list
+pub text_prefix : (image : ℕ → ℕ) (first n : ℕ) (list : List ℕ) → n ≤ length list
     → text_on image first list (4096 * n) ≡ blocks_on image first (take n list)
-text_front image first n list le =
+text_prefix image first n list le =
     ap (λ (xs : List ℕ). take (4096 * n) xs) whole ∙ take-append-le (4096 * n) (blocks_on image first (take n list))
     (blocks_on image first (drop n list)) (omega (arith, size)) ∙ take_all (4096 * n)
     (blocks_on image first (take n list)) (omega (arith, size))
@@ -126,7 +126,7 @@ text_joined image first n len list more le =
     ap (λ (xs : List ℕ). take (4096 * n + len) xs) (blocks_on-append image first (take n list) more)
     ∙ take_after (4096 * n + len) len (blocks_on image first (take n list)) (blocks_on image first more)
     (omega (arith, size))
-    ∙ ap (λ (xs : List ℕ). xs ++ take len (blocks_on image first more)) (sym (text_front image first n list le))
+    ∙ ap (λ (xs : List ℕ). xs ++ take len (blocks_on image first more)) (sym (text_prefix image first n list le))
   where
     size : length (blocks_on image first (take n list)) ≡ 4096 * n
     size = omega (arith, length-blocks_on image first (take n list), length-take n list, le)

@@ -17,14 +17,15 @@ SameOutside first blocks a b = (p : ℕ) → (InBlocks first blocks p → ⊥) �
 abbrev pub NoneOf : List ℕ → List ℕ → Type 0
 NoneOf list blocks = (i k : ℕ) → i < length list → k < length blocks → get_or list i 0 ≢ get_or blocks k 0
 
--- outside these blocks nothing changes, and only there places become loose
-pub record WritesIn (first : ℕ) (blocks : List ℕ) (seen seen' : ℕ → ℕ) (loose loose' : ℕ → Type 0) : Type 0 where
+-- outside these blocks nothing changes, and only there places become unsynced
+pub record WritesIn (first : ℕ) (blocks : List ℕ) (seen seen' : ℕ → ℕ) (unsynced unsynced' : ℕ → Type 0) : Type 0 where
   pub outside : SameOutside first blocks seen seen'
-  pub loosens : (p : ℕ) → loose' p → loose p ⊎ InBlocks first blocks p
+  pub unsyncs : (p : ℕ) → unsynced' p → unsynced p ⊎ InBlocks first blocks p
 
 -- outside these blocks a crash might have left this before
-pub record IsImageBut (first : ℕ) (blocks : List ℕ) (seen : ℕ → ℕ) (loose : ℕ → Type 0) (image : ℕ → ℕ) : Type 0 where
-  pub same : (p : ℕ) → (InBlocks first blocks p → ⊥) → (loose p → ⊥) → image p ≡ seen p
+pub record IsImageBut (first : ℕ) (blocks : List ℕ) (seen : ℕ → ℕ) (unsynced : ℕ → Type 0) (image : ℕ
+    → ℕ) : Type 0 where
+  pub same : (p : ℕ) → (InBlocks first blocks p → ⊥) → (unsynced p → ⊥) → image p ≡ seen p
 
 -- the image, with these blocks as they were
 unfoldable pub aside_blocks : ℕ → List ℕ → (ℕ → ℕ) → (ℕ → ℕ) → ℕ → ℕ

@@ -60,10 +60,10 @@ impl DraftText {
             (λ draft. draft.unfinished ≡ drop (len - len % 4096)
             (text_on (D.seen disk.old) (text_page layout.now) list.now len)) }
         ensures tail_size { IfOk result (λ draft. length draft.unfinished ≡ len % 4096) }
-        ensures keeps { D.honest disk.old → Keeps (D.seen disk.old) (D.seen disk.new) (D.loose disk.old)
-            (D.loose disk.new) }
+        ensures keeps { D.honest disk.old → Keeps (D.seen disk.old) (D.seen disk.new) (D.unsynced disk.old)
+            (D.unsynced disk.new) }
         ensures lasts { D.honest disk.old → Lasts D.Disk disk.old disk.new
-            (IsImage (D.seen disk.old) (D.loose disk.old)) }
+            (IsImage (D.seen disk.old) (D.unsynced disk.old)) }
     {
         let mut page = vec![in alloc; 0; PAGE]?;
         let filled = read_tail(disk, layout, list, len, &mut page)?;
@@ -156,14 +156,14 @@ impl DraftText {
 
         // But for its own blocks, nothing is written, and every image is one from before.
         ensures writes { D.honest disk.old → WritesIn (text_page layout.now) self.new.blocks
-            (D.seen disk.old) (D.seen disk.new) (D.loose disk.old) (D.loose disk.new) }
-        ensures idle { D.honest disk.old → Idle (journal_pages layout.now) (D.seen disk.old) (D.loose disk.old)
-            → Idle (journal_pages layout.now) (D.seen disk.new) (D.loose disk.new) }
-        ensures image { D.honest disk.old → (image : ℕ → ℕ) → IsImage (D.seen disk.new) (D.loose disk.new) image
-            → IsImage (D.seen disk.old) (D.loose disk.old)
+            (D.seen disk.old) (D.seen disk.new) (D.unsynced disk.old) (D.unsynced disk.new) }
+        ensures idle { D.honest disk.old → Idle (journal_pages layout.now) (D.seen disk.old) (D.unsynced disk.old)
+            → Idle (journal_pages layout.now) (D.seen disk.new) (D.unsynced disk.new) }
+        ensures image { D.honest disk.old → (image : ℕ → ℕ) → IsImage (D.seen disk.new) (D.unsynced disk.new) image
+            → IsImage (D.seen disk.old) (D.unsynced disk.old)
             (aside_blocks (text_page layout.now) self.new.blocks (D.seen disk.old) image) }
         ensures lasts { D.honest disk.old → Lasts D.Disk disk.old disk.new
-            (λ image. IsImage (D.seen disk.old) (D.loose disk.old)
+            (λ image. IsImage (D.seen disk.old) (D.unsynced disk.old)
             (aside_blocks (text_page layout.now) self.new.blocks (D.seen disk.old) image)) }
     {
         if bytes.is_empty() {
@@ -220,11 +220,11 @@ impl DraftText {
         ensures full { IsErrOf result DraftError.Full → (b : ℕ) → IsFree blocks.new b → ⊥ }
         ensures scarce { IsErrOf result DraftError.Full → 4096 * length self.new.blocks ≤ held_count self.old }
         ensures writes { D.honest disk.old → WritesIn (text_page layout.now) self.new.blocks
-            (D.seen disk.old) (D.seen disk.new) (D.loose disk.old) (D.loose disk.new) }
-        ensures idle { D.honest disk.old → Idle (journal_pages layout.now) (D.seen disk.old) (D.loose disk.old)
-            → Idle (journal_pages layout.now) (D.seen disk.new) (D.loose disk.new) }
+            (D.seen disk.old) (D.seen disk.new) (D.unsynced disk.old) (D.unsynced disk.new) }
+        ensures idle { D.honest disk.old → Idle (journal_pages layout.now) (D.seen disk.old) (D.unsynced disk.old)
+            → Idle (journal_pages layout.now) (D.seen disk.new) (D.unsynced disk.new) }
         ensures lasts { D.honest disk.old → Lasts D.Disk disk.old disk.new
-            (IsImageBut (text_page layout.now) self.new.blocks (D.seen disk.old) (D.loose disk.old)) }
+            (IsImageBut (text_page layout.now) self.new.blocks (D.seen disk.old) (D.unsynced disk.old)) }
     {
         self.open_block(blocks)?;
         let n = fill(&mut self.page, self.filled, bytes);
@@ -232,7 +232,7 @@ impl DraftText {
             self.filled += n;
             return Ok(n);
         }
-        write_front(disk, layout, &self.blocks, &self.page)?;
+        write_prefix(disk, layout, &self.blocks, &self.page)?;
         self.filled = 0;
         Ok(n)
     }
@@ -340,8 +340,9 @@ fn read_tail<D: Disk>(
         (take (len % 4096) page.new ≡ drop (len - len % 4096)
         (text_on (D.seen disk.old) (text_page layout.now) list.now len)) }
     ensures keeps { D.honest disk.old
-        → Keeps (D.seen disk.old) (D.seen disk.new) (D.loose disk.old) (D.loose disk.new) }
-    ensures lasts { D.honest disk.old → Lasts D.Disk disk.old disk.new (IsImage (D.seen disk.old) (D.loose disk.old)) }
+        → Keeps (D.seen disk.old) (D.seen disk.new) (D.unsynced disk.old) (D.unsynced disk.new) }
+    ensures lasts { D.honest disk.old → Lasts D.Disk disk.old disk.new
+        (IsImage (D.seen disk.old) (D.unsynced disk.old)) }
 {
     let tail = (len % PAGE as u64) as usize;
     read_text(
@@ -355,8 +356,8 @@ fn read_tail<D: Disk>(
     Ok(tail)
 }
 
-// Writes bytes to the front of the last listed block.
-fn write_front<D: Disk>(
+// Writes bytes to the start of the last listed block.
+fn write_prefix<D: Disk>(
     disk: &mut D,
     layout: &Layout,
     list: &[BlockNo],
@@ -375,11 +376,11 @@ fn write_front<D: Disk>(
         (4096 * (length list.now - 1) + length bytes.now) ≡ text_on (D.seen disk.old)
         (text_page layout.now) list.now (4096 * (length list.now - 1)) ++ bytes.now) }
     ensures writes { D.honest disk.old → WritesIn (text_page layout.now) list.now (D.seen disk.old)
-        (D.seen disk.new) (D.loose disk.old) (D.loose disk.new) }
-    ensures idle { D.honest disk.old → Idle (journal_pages layout.now) (D.seen disk.old) (D.loose disk.old)
-        → Idle (journal_pages layout.now) (D.seen disk.new) (D.loose disk.new) }
+        (D.seen disk.new) (D.unsynced disk.old) (D.unsynced disk.new) }
+    ensures idle { D.honest disk.old → Idle (journal_pages layout.now) (D.seen disk.old) (D.unsynced disk.old)
+        → Idle (journal_pages layout.now) (D.seen disk.new) (D.unsynced disk.new) }
     ensures lasts { D.honest disk.old → Lasts D.Disk disk.old disk.new
-        (IsImageBut (text_page layout.now) list.now (D.seen disk.old) (D.loose disk.old)) }
+        (IsImageBut (text_page layout.now) list.now (D.seen disk.old) (D.unsynced disk.old)) }
 {
     let last = list[list.len() - 1];
     write_block(disk, layout, last, 0, bytes)
@@ -403,15 +404,15 @@ pub fn write_last<D: Disk>(
         (length (bytes_with (D.seen disk.old) (text_page layout.now) list.now last.now)) ≡ bytes_with
         (D.seen disk.old) (text_page layout.now) list.now last.now) }
     ensures writes { D.honest disk.old → WritesIn (text_page layout.now) list.now (D.seen disk.old)
-        (D.seen disk.new) (D.loose disk.old) (D.loose disk.new) }
+        (D.seen disk.new) (D.unsynced disk.old) (D.unsynced disk.new) }
     ensures lasts { D.honest disk.old → Lasts D.Disk disk.old disk.new
-        (IsImageBut (text_page layout.now) list.now (D.seen disk.old) (D.loose disk.old)) }
+        (IsImageBut (text_page layout.now) list.now (D.seen disk.old) (D.unsynced disk.old)) }
 {
     let full = list.len().saturating_sub(last.len().div_ceil(PAGE));
     for at in full..list.len() {
         let from = PAGE * (at - full);
         let to = last.len().min(from + PAGE);
-        write_front(disk, layout, &list[..at + 1], &last[from..to])?;
+        write_prefix(disk, layout, &list[..at + 1], &last[from..to])?;
     }
     Ok(())
 }

@@ -32,8 +32,9 @@ pub fn read_text<D: Disk>(
         (λ n. IsRead (text_on (D.seen disk.old) (text_page layout.now) list.now len) at n buf.old
         buf.new) }
     ensures keeps { D.honest disk.old
-        → Keeps (D.seen disk.old) (D.seen disk.new) (D.loose disk.old) (D.loose disk.new) }
-    ensures lasts { D.honest disk.old → Lasts D.Disk disk.old disk.new (IsImage (D.seen disk.old) (D.loose disk.old)) }
+        → Keeps (D.seen disk.old) (D.seen disk.new) (D.unsynced disk.old) (D.unsynced disk.new) }
+    ensures lasts { D.honest disk.old → Lasts D.Disk disk.old disk.new
+        (IsImage (D.seen disk.old) (D.unsynced disk.old)) }
 {
     let count = len.saturating_sub(at).min(buf.len() as u64) as usize;
     let mut done = 0;
@@ -64,8 +65,9 @@ fn read_piece<D: Disk>(
     ensures piece { D.honest disk.old → IfOk result
         (λ n. IsPiece (D.seen disk.old) (text_page layout.now) list.now at n buf.old buf.new) }
     ensures keeps { D.honest disk.old
-        → Keeps (D.seen disk.old) (D.seen disk.new) (D.loose disk.old) (D.loose disk.new) }
-    ensures lasts { D.honest disk.old → Lasts D.Disk disk.old disk.new (IsImage (D.seen disk.old) (D.loose disk.old)) }
+        → Keeps (D.seen disk.old) (D.seen disk.new) (D.unsynced disk.old) (D.unsynced disk.new) }
+    ensures lasts { D.honest disk.old → Lasts D.Disk disk.old disk.new
+        (IsImage (D.seen disk.old) (D.unsynced disk.old)) }
 {
     let index = (at / PAGE as u64) as usize;
     let offset = (at % PAGE as u64) as usize;

@@ -6,7 +6,7 @@ use Rattle.std.proofs.lemmas.Bool.{cases_lt}
 use Rattle.std.proofs.lemmas.Bool.Decides.{nat_tests}
 use Rattle.std.proofs.lemmas.List.{length-take-le, take_all}
 use Rattle.enc_model.specs.Indexes.{offers}
-use Rattle.tus_request.proofs.Fronts.{steady}
+use Rattle.tus_request.proofs.Prefixes.{steady}
 use Rattle.tus_request.specs.Answers.{Answer, More, Judged}
 use Rattle.tus_request.specs.Requests.{Request, Verdict, Asks, Refuses, body_length}
 use Rattle.tus_request.specs.Steady.{IsSteady}
@@ -22,7 +22,7 @@ use Rattle.tus_session.proofs.Unfinished.{only_body, longer, bytes_came, body_en
 use Rattle.tus_session.proofs.Unfinished.{part_taken, rest_taken, judged_as, head_part, head_whole, both_whole}
 use Rattle.tus_session.proofs.Unfinished.{whole_taken}
 use Rattle.tus_session.proofs.NewRests.{head_left, head_only, head_part_rest, body_part_rest, drop_after}
-use Rattle.tus_session.proofs.HeadTurns.{head_within, front_judged, front_body}
+use Rattle.tus_session.proofs.HeadTurns.{head_within, prefix_judged, prefix_body}
 use Rattle.tus_session.proofs.RequestLeaves.{Leaves, Nothing, Text, Patching, leaves}
 
 -- the open patch holds what came of the body
@@ -221,9 +221,9 @@ module _ (w : World) (k : Conn) (holds : DraftHolds w k) where
           let before = n - length h in
           let within = head_within w k h is_inside piece n before v judged refl in
           let q = take (before + m) piece in
-          let here = front_judged w k h is_inside piece n before v judged refl m in
+          let here = prefix_judged w k h is_inside piece n before v judged refl m in
           let c : drop n (h ++ q) ≡ take m (drop before piece) =
-          front_body w k h is_inside piece n before v judged refl m in
+          prefix_body w k h is_inside piece n before v judged refl m in
           let b : drop n (h ++ piece) ≡ drop before piece = drop_after h piece before n within.0 in
           let l : length (drop n (h ++ piece)) ≡ length (drop before piece) = ap length b in
           let all : length (drop n (h ++ q)) ≡ m = ap length c ∙ length-take-le m (drop before piece) (omega arith) in

@@ -3,7 +3,7 @@ use Rattle.std.proofs.Common.{◌≡◌, ℕ, zero, suc, Bool, true, false, List
 use Rattle.std.proofs.Common.{nat_lt, Some, refl, sym, ◌∙◌, ap, subst, append-nil, append_assoc}
 use Rattle.std.proofs.lemmas.Option.{none-some, same_Some}
 use Rattle.enc_model.specs.Indexes.{offers}
-use Rattle.tus_request.proofs.Fronts.{steady}
+use Rattle.tus_request.proofs.Prefixes.{steady}
 use Rattle.tus_request.specs.Requests.{body_length}
 use Rattle.tus_request.specs.Steady.{IsSteady}
 use Rattle.upload_rules.specs.World.{World}
@@ -13,10 +13,10 @@ use Rattle.tus_session.specs.Turns.{reader}
 use Rattle.tus_session.proofs.Cuts.{goes_on, left}
 use Rattle.tus_session.proofs.Unfinished.{left_body, cut_more}
 
-get_front : (xs ys : List Asked) (i : ℕ) (r : Asked) → slice_get xs i ≡ Some r → slice_get (xs ++ ys) i ≡ Some r
-get_front [] ys i r e = absurd (none-some r e)
-get_front (x ∷ xs) ys zero r e = e
-get_front (x ∷ xs) ys (suc i) r e = get_front xs ys i r e
+get_prefix : (xs ys : List Asked) (i : ℕ) (r : Asked) → slice_get xs i ≡ Some r → slice_get (xs ++ ys) i ≡ Some r
+get_prefix [] ys i r e = absurd (none-some r e)
+get_prefix (x ∷ xs) ys zero r e = e
+get_prefix (x ∷ xs) ys (suc i) r e = get_prefix xs ys i r e
 
 abbrev Same : Asked → Asked → Type 0
 Same x r = (x.head ≡ r.head) × (x.verdict ≡ r.verdict)
@@ -44,14 +44,14 @@ module _ (w : World) where
   is_steady : IsSteady (reader w)
   is_steady = steady (offers w.store.indexes)
 
-  -- the whole requests stay, in front
+  -- the whole requests stay, at the start
   body_stays : (s piece more : List ℕ) (r : Asked) (i : ℕ) → slice_get (cut (reader w) (s ++ piece)).whole i ≡ Some r
       → slice_get (cut (reader w) ((s ++ piece) ++ more)).whole i ≡ Some r
   body_stays s piece more r i e =
       let c = cut (reader w) (s ++ piece) in
       let rest = cut (reader w) (rest_bytes c.rest ++ more) in
       ap (λ x. slice_get x.whole i) (goes_on (reader w) is_steady (s ++ piece) more)
-      ∙ get_front c.whole rest.whole i r e
+      ∙ get_prefix c.whole rest.whole i r e
 
   head_case : (s more : List ℕ) (r : Asked) (i : ℕ) (rest : Rest) → (cut (reader w) s).rest ≡ rest
       → slice_get ((cut (reader w) s).whole ++ headed rest) i ≡ Some r
@@ -59,7 +59,7 @@ module _ (w : World) where
   head_case s more r i (InHead h) is e =
       let c = cut (reader w) s in
       let e' : slice_get c.whole i ≡ Some r = sym (ap (λ xs. slice_get xs i) (append-nil c.whole)) ∙ e in
-      (r, get_front c.whole (heads_of (cut (reader w) (h ++ more))) i r e', refl, refl)
+      (r, get_prefix c.whole (heads_of (cut (reader w) (h ++ more))) i r e', refl, refl)
   head_case s more r i (InBody a) is e =
       let u = left (reader w) s in
       let b = left_body (reader w) is_steady s a is in

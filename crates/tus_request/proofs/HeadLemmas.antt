@@ -79,7 +79,7 @@ pub end_is_empty : (end : LineEnd) → is_empty_line (print_end end) ≡ true
 end_is_empty crlf = refl
 end_is_empty lf = refl
 
--- the empty lines in front of a request line
+-- the empty lines before a request line
 blanks : (ends : List LineEnd) (len : ℕ) (rest : List ℕ)
     → further len 0 (extent_after 0 (lines (print_blank ends ++ rest)))
     ≡ further (len + length (print_blank ends)) 0 (extent_after 0 (lines rest))
@@ -186,7 +186,7 @@ request_line_text h more is =
     append_assoc h.method (32 ∷ (h.target ++ 32 ∷ print_version h.minor)) more in
     rw a (token_line h.method _ is.method.0 is.method.1)
 
--- a request head is the head at the front of what it begins, and its lines that aren't empty are the
+-- a request head is the head at the start of what it begins, and its lines that aren't empty are the
 -- request line and the fields
 pub request_extent : (h : RequestHead) (rest : List ℕ) → IsRequestHead h
     → head_extent (print_request h ++ rest) ≡ Some (record {

@@ -14,7 +14,7 @@ use Rattle.tus_request.specs.Buffers.{unfinished}
 use Rattle.tus_request.specs.declared.requests.Parsed.{Parsed}
 use Rattle.tus_request.specs.declared.requests.Parsed.TheVariants as parsed
 use Rattle.tus_request.proofs.ParseLemmas.{take_min}
-use Rattle.tus_request.proofs.Fronts.{extent_fits, take_bound}
+use Rattle.tus_request.proofs.Prefixes.{extent_fits, take_bound}
 
 -- what a head may need of a piece
 take_onto : (n : ℕ) (a b : List ℕ) → length a ≤ n → take n (a ++ b) ≡ a ++ take (n - length a) b
@@ -43,15 +43,15 @@ module _ (offers : Encoding → Bool) where
       ap (λ x. if nat_lt 65 e.texts then Judged e.len (no_head HeadTooLong) else whole_answer offers x)
       (take-take e.len 8192 s (within e refl))
 
-  front_within : (s : List ℕ) (e : Extent) → head_extent (take 8192 s) ≡ Some e → e.len ≤ 8192
-  front_within s e is = let fits = (extent_fits (take 8192 s) e is).bound in let few = take_bound 8192 s in omega arith
+  prefix_within : (s : List ℕ) (e : Extent) → head_extent (take 8192 s) ≡ Some e → e.len ≤ 8192
+  prefix_within s e is = let fits = (extent_fits (take 8192 s) e is).bound in let few = take_bound 8192 s in omega arith
 
   -- THE LIMIT
   pub limited : (s : List ℕ) → answer_of offers (take 8192 s) ≡ answer_of offers s
   unfolding answer_of
   limited s =
       ap (λ x. answer_with offers (take 8192 s) (head_extent x)) (take-take 8192 8192 s (omega arith))
-      ∙ limited_case s (head_extent (take 8192 s)) (front_within s)
+      ∙ limited_case s (head_extent (take 8192 s)) (prefix_within s)
 
   short_case : (s : List ℕ) (b : Bool) → nat_lt (length s) 8192 ≡ b
       → (if b then More else Judged 8192 (no_head HeadTooLong)) ≡ More → take 8192 s ≡ s

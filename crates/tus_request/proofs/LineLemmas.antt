@@ -45,7 +45,7 @@ lines_some bytes i e =
     let p = position-Some (λ b. b == 10) bytes i 0 e in
     (p.0, rw add-one (one_line bytes i p.0 p.1 p.2))
 
--- with the bytes and the lines in front
+-- with the bytes and the lines at the start
 abbrev pub further : ℕ → ℕ → Option Extent → Option Extent
 further len texts o = option_map (λ e. record { len = len + e.len; texts = texts + e.texts }) o
 
@@ -81,7 +81,7 @@ after_text len (suc n) line rest e =
     let w : suc n + 1 ≡ suc (suc n) = add-one (suc n) in
     rw (e, k) (rw w at (further_twice len (suc n) (length line) 1 (option_map extent_of (up_to_empty rest))))
 
--- an empty line in front
+-- an empty line at the start
 pub after_empty : (len : ℕ) (line : List ℕ) (rest : List (List ℕ)) → is_empty_line line ≡ true
     → further len 0 (extent_after 0 (line ∷ rest)) ≡ further (len + length line) 0 (extent_after 0 rest)
 after_empty len line rest e =
@@ -115,12 +115,12 @@ at_start bytes = record { extent = further_zero (head_extent bytes); all = omega
 pub text_more : (bytes rest : List ℕ) (len texts last : ℕ) (line more : List ℕ) → IsSoFar bytes rest len texts
     → position (λ b. b == 10) rest ≡ Some last → line ≡ take (last + 1) rest → more ≡ drop (last + 1) rest
     → is_empty_line line ≡ false → IsSoFar bytes more (len + length line) (texts + 1)
-text_more bytes rest len texts last line more was feed front back text =
+text_more bytes rest len texts last line more was feed prefix back text =
     let s = lines_some rest last feed in
     let n : length (take (last + 1) rest) ≡ last + 1 = length-take-le (last + 1) rest (omega (arith, s.0)) in
-    let m : length line ≡ last + 1 = rw front n in
+    let m : length line ≡ last + 1 = rw prefix n in
     let d : length more ≡ length rest - (last + 1) = rw back (length-drop (last + 1) rest) in
-    let ls : lines rest ≡ line ∷ lines more = rw (front, back) s.1 in
+    let ls : lines rest ≡ line ∷ lines more = rw (prefix, back) s.1 in
     let e : head_extent bytes ≡ further len texts (extent_after texts (line ∷ lines more)) = rw ls at was.extent in
     record {
       extent = rw add-one (e ∙ after_text len texts line (lines more) text);
@@ -128,16 +128,16 @@ text_more bytes rest len texts last line more was feed front back text =
       few = omega (arith, was.few);
     }
 
--- an empty line in front
+-- an empty line at the start
 pub empty_more : (bytes rest : List ℕ) (len texts last : ℕ) (line more : List ℕ) → IsSoFar bytes rest len texts
     → position (λ b. b == 10) rest ≡ Some last → line ≡ take (last + 1) rest → more ≡ drop (last + 1) rest
     → is_empty_line line ≡ true → texts ≡ 0 → IsSoFar bytes more (len + length line) texts
-empty_more bytes rest len texts last line more was feed front back text none =
+empty_more bytes rest len texts last line more was feed prefix back text none =
     let s = lines_some rest last feed in
     let n : length (take (last + 1) rest) ≡ last + 1 = length-take-le (last + 1) rest (omega (arith, s.0)) in
-    let m : length line ≡ last + 1 = rw front n in
+    let m : length line ≡ last + 1 = rw prefix n in
     let d : length more ≡ length rest - (last + 1) = rw back (length-drop (last + 1) rest) in
-    let ls : lines rest ≡ line ∷ lines more = rw (front, back) s.1 in
+    let ls : lines rest ≡ line ∷ lines more = rw (prefix, back) s.1 in
     let e : head_extent bytes ≡ further len 0 (extent_after 0 (line ∷ lines more)) = rw none at (rw ls at was.extent) in
     record {
       extent = rw none (e ∙ after_empty len line (lines more) text);
@@ -152,9 +152,9 @@ pub ends_here : (bytes rest : List ℕ) (len texts last : ℕ) (line : List ℕ)
       len = len + length line;
       texts = texts;
     })
-ends_here bytes rest len texts last line was feed front text some =
+ends_here bytes rest len texts last line was feed prefix text some =
     let s = lines_some rest last feed in
-    let ls : lines rest ≡ line ∷ lines (drop (last + 1) rest) = rw front s.1 in
+    let ls : lines rest ≡ line ∷ lines (drop (last + 1) rest) = rw prefix s.1 in
     (rw ls at was.extent) ∙ at_end len texts line (lines (drop (last + 1) rest)) some text
 
 -- no head is whole

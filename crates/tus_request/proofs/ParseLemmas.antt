@@ -21,7 +21,7 @@ use Rattle.tus_request.specs.Lines.{Extent, head_extent}
 use Rattle.tus_request.specs.Fields.{IsUsable}
 use Rattle.enc_model.specs.declared.Encoding.{Encoding}
 use Rattle.tus_request.specs.Answers.{Answer, More, Judged, answer_with, whole_answer as answer_whole, answer_of}
-use Rattle.tus_request.specs.Grammar.{Front, unfinished, too_long, whole, front_with, front, IsWhole, IsFrontAnswer}
+use Rattle.tus_request.specs.Grammar.{HeadPrefix, unfinished, too_long, whole, prefix_with, prefix, IsWhole, IsPrefixAnswer}
 use Rattle.tus_request.specs.Grammar.{IsAnswer, IsShortHead, IsShortHeadOf, IsHeadAnswer}
 use Rattle.tus_request.specs.declared.faults.Fault.TheVariants.{HeadTooLong}
 use Rattle.tus_request.specs.Requests.{Verdict}
@@ -31,7 +31,7 @@ use Rattle.tus_request.specs.Reading.{request_of}
 use Rattle.tus_request.proofs.ReadingLemmas.{finds, found_reads}
 use Rattle.tus_request.proofs.HeadLemmas.{request_extent, same_token, whole_length}
 
--- a request head at the front of a whole head is all of it, and has as many fields as lines after the first
+-- a request head at the start of a whole head is all of it, and has as many fields as lines after the first
 pub fills : (head more : List ℕ) (e : Extent) (h : RequestHead) (rest : List ℕ) → IsShortHeadOf head more e
     → ReadsRequest head h rest
     → (length h.fields ≤ 64) × (length (print_request h) ≡ length head) × (rest ≡ [])
@@ -149,11 +149,11 @@ not_read head none = go (request_of head) refl
     go None e = refl
     go (Some h) e = absurd (none h [] (found_reads head h e))
 
-pub whole_front : (bytes : List ℕ) (e : Extent) → head_extent (take 8192 bytes) ≡ Some e → e.texts ≤ 65
-    → IsWhole (front bytes)
-whole_front bytes e some few =
+pub whole_prefix : (bytes : List ℕ) (e : Extent) → head_extent (take 8192 bytes) ≡ Some e → e.texts ≤ 65
+    → IsWhole (prefix bytes)
+whole_prefix bytes e some few =
     let l : nat_lt 65 e.texts ≡ false = grind (arith, nat_tests) in
-    let f : front bytes ≡ whole (take e.len bytes) = rw (some, l) in
+    let f : prefix bytes ≡ whole (take e.len bytes) = rw (some, l) in
     rw f tt
 
 pub on_err : {A E P : Type 0} (r : Result A E) → P → OnErr r P
@@ -176,7 +176,7 @@ module _ (offers : Encoding → Bool) where
       → IsAnswer offers bytes More
   unfinished_answer bytes none short =
       let l : nat_lt (length bytes) 8192 ≡ true = grind (arith, nat_tests) in
-      let f : front bytes ≡ unfinished = rw (none, l) in
+      let f : prefix bytes ≡ unfinished = rw (none, l) in
       let r : More ≡ More = refl in
       rw f r
 
@@ -184,7 +184,7 @@ module _ (offers : Encoding → Bool) where
       → IsAnswer offers bytes (Judged 8192 (no_head HeadTooLong))
   too_much_answer bytes none long =
       let l : nat_lt (length bytes) 8192 ≡ false = grind (arith, nat_tests) in
-      let f : front bytes ≡ too_long 8192 = rw (none, l) in
+      let f : prefix bytes ≡ too_long 8192 = rw (none, l) in
       let r : Judged 8192 (no_head HeadTooLong) ≡ Judged 8192 (no_head HeadTooLong) = refl in
       rw f r
 
@@ -205,7 +205,7 @@ module _ (offers : Encoding → Bool) where
       → IsAnswer offers bytes (Judged e.len (no_head HeadTooLong))
   too_many_answer bytes e some many =
       let l : nat_lt 65 e.texts ≡ true = grind (arith, nat_tests) in
-      let f : front bytes ≡ too_long e.len = rw (some, l) in
+      let f : prefix bytes ≡ too_long e.len = rw (some, l) in
       let r : Judged e.len (no_head HeadTooLong) ≡ Judged e.len (no_head HeadTooLong) = refl in
       rw f r
 
@@ -214,7 +214,7 @@ module _ (offers : Encoding → Bool) where
       → IsHeadAnswer offers (take e.len (take 8192 bytes)) a → IsAnswer offers bytes a
   whole_answer bytes e a some within few is =
       let l : nat_lt 65 e.texts ≡ false = grind (arith, nat_tests) in
-      let f : front bytes ≡ whole (take e.len bytes) = rw (some, l) in
+      let f : prefix bytes ≡ whole (take e.len bytes) = rw (some, l) in
       let same : take e.len bytes ≡ take e.len (take 8192 bytes) =
       ap (take e.len) (sym (take-append-drop 8192 bytes)) ∙ take-append-le e.len (take 8192 bytes) (drop 8192 bytes)
       within in
@@ -228,31 +228,31 @@ module _ (offers : Encoding → Bool) where
       let same = request_unique head a.0 b.0 [] [] a.1 b.1 in
       a.2 ∙ ap (λ h. Judged (length head) (verdict_on offers h)) same.0 ∙ sym b.2
 
-  front_answer_unique : (f : Front) (x y : Answer) → IsFrontAnswer offers f x → IsFrontAnswer offers f y → x ≡ y
-  front_answer_unique unfinished x y a b = a ∙ sym b
-  front_answer_unique (too_long n) x y a b = a ∙ sym b
-  front_answer_unique (whole head) x y a b = head_answer_unique head x y a b
+  prefix_answer_unique : (f : HeadPrefix) (x y : Answer) → IsPrefixAnswer offers f x → IsPrefixAnswer offers f y → x ≡ y
+  prefix_answer_unique unfinished x y a b = a ∙ sym b
+  prefix_answer_unique (too_long n) x y a b = a ∙ sym b
+  prefix_answer_unique (whole head) x y a b = head_answer_unique head x y a b
 
   pub answer_unique : (bytes : List ℕ) (x y : Answer) → IsAnswer offers bytes x → IsAnswer offers bytes y → x ≡ y
-  answer_unique bytes x y a b = front_answer_unique (front bytes) x y a b
+  answer_unique bytes x y a b = prefix_answer_unique (prefix bytes) x y a b
 
   head_answer_is : (head : List ℕ) (a : Answer) → IsHeadAnswer offers head a
       → a ≡ Judged (length head) (judged offers (request_of head))
   head_answer_is head a (inl is) = is.1 ∙ ap (λ o. Judged (length head) (judged offers o)) (sym (not_read head is.0))
   head_answer_is head a (inr is) = is.2 ∙ ap (λ o. Judged (length head) (judged offers o)) (sym (finds head is.0 is.1))
 
-  none_is : (bytes : List ℕ) (a : Answer) (b : Bool) → IsFrontAnswer offers (if b then unfinished else too_long 8192) a
+  none_is : (bytes : List ℕ) (a : Answer) (b : Bool) → IsPrefixAnswer offers (if b then unfinished else too_long 8192) a
       → a ≡ (if b then More else Judged 8192 (no_head HeadTooLong))
   none_is bytes a true is = is
   none_is bytes a false is = is
 
-  some_is : (bytes : List ℕ) (a : Answer) (e : Extent) (b : Bool) → IsFrontAnswer offers
+  some_is : (bytes : List ℕ) (a : Answer) (e : Extent) (b : Bool) → IsPrefixAnswer offers
       (if b then too_long e.len else whole (take e.len bytes)) a
       → a ≡ (if b then Judged e.len (no_head HeadTooLong) else answer_whole offers (take e.len bytes))
   some_is bytes a e true is = is
   some_is bytes a e false is = head_answer_is (take e.len bytes) a is
 
-  answer_with_is : (bytes : List ℕ) (a : Answer) (o : Option Extent) → IsFrontAnswer offers (front_with bytes o) a
+  answer_with_is : (bytes : List ℕ) (a : Answer) (o : Option Extent) → IsPrefixAnswer offers (prefix_with bytes o) a
       → a ≡ answer_with offers bytes o
   answer_with_is bytes a None is = none_is bytes a (nat_lt (length bytes) 8192) is
   answer_with_is bytes a (Some e) is = some_is bytes a e (nat_lt 65 e.texts) is

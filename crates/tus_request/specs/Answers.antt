@@ -1,4 +1,4 @@
--- What a stream's front is answered.
+-- What a stream's start is answered.
 use Rattle.std.specs.Prelude.{ℕ, Bool, List, length, take, nat_lt, if◌then◌else◌, Option, Some, None}
 use Rattle.enc_model.specs.declared.Encoding.{Encoding}
 use Rattle.tus_request.specs.Lines.{Extent, head_extent}

@@ -8,7 +8,7 @@ use Rattle.tus_request.specs.declared.buffer.HeadBuffer.{HeadBuffer}
 abbrev pub bytes_of : HeadBuffer → List ℕ
 bytes_of b = b.bytes.items
 
--- what stays of a stream's front: all of it, where it is an unfinished head
+-- what stays of a stream's start: all of it, where it is an unfinished head
 abbrev pub unfinished : Answer → List ℕ → List ℕ
 unfinished More s = s
 unfinished (Judged n v) s = []

@@ -7,7 +7,7 @@ use Rattle.httparse.specs.Grammar.{LineEnd, crlf, lf, is_token, is_uri_byte, is_
 use Rattle.httparse.specs.Grammar.{print_request}
 use Rattle.tus_request.specs.Lines.{lines, is_empty_line}
 
--- what stands in front of a byte, and after it
+-- what stands before a byte, and after it
 abbrev pub before : ℕ → List ℕ → List ℕ
 before mark [] = []
 before mark (b ∷ bytes) = if b == mark then [] else b ∷ before mark bytes

@@ -108,7 +108,7 @@ status_of _ = codes "400 Bad Request"
 abbrev pub refusal_line : Fault → List ℕ
 refusal_line f = header (codes "X-Refusal") (decimal (fault_number f))
 
--- the line in front of a refusal's number, where it has one
+-- the line before a refusal's number, where it has one
 abbrev pub refusal_lead : Fault → Bool → List ℕ
 refusal_lead TusVersion on_files = header (codes "Tus-Version") (codes "1.0.0")
 refusal_lead BadMethod on_files =

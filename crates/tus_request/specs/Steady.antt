@@ -1,4 +1,4 @@
--- What an answer for a stream's front says doesn't depend on what follows.
+-- What an answer for a stream's start says doesn't depend on what follows.
 use Rattle.std.specs.Prelude.{◌≡◌, ℕ, ◌<◌, ◌≤◌, List, ◌++◌, length, take}
 use Rattle.tus_request.specs.Requests.{Verdict}
 use Rattle.tus_request.specs.Answers.{Answer, Judged}

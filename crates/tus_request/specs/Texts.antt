@@ -14,7 +14,7 @@ any_case word text = bytes_eq (lowered text) (lowered word)
 abbrev pub is_blank : List ℕ → ℕ → Bool
 is_blank blanks b = list_any (λ blank. blank == b) blanks
 
--- without the blanks in front
+-- without the blanks at the start
 abbrev pub skipped : List ℕ → List ℕ → List ℕ
 skipped blanks [] = []
 skipped blanks (b ∷ bytes) = if is_blank blanks b then skipped blanks bytes else b ∷ bytes

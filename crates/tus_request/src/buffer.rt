@@ -91,9 +91,9 @@ impl HeadBuffer {
             (bytes_of self.old ++ piece.now) else bytes_of self.old) }
     {
         let room = MAX_HEAD - self.bytes.len();
-        let front = &piece[..piece.len().min(room)];
-        self.bytes.extend_from_slice(front)?;
-        self.search = self.search.after(front);
+        let prefix = &piece[..piece.len().min(room)];
+        self.bytes.extend_from_slice(prefix)?;
+        self.search = self.search.after(prefix);
         Ok(())
     }
 }

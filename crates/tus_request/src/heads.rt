@@ -5,7 +5,7 @@ ghost use Rattle.tus_request.specs.Answers.{More, Judged, answer_of};
 ghost use Rattle.tus_request.specs.Checks.{no_head};
 ghost use Rattle.tus_request.specs.CheckParts.{verdict_shown};
 ghost use Rattle.tus_request.specs.declared.faults.Fault.TheVariants.{HeadTooLong};
-ghost use Rattle.tus_request.specs.Grammar.{front, IsWhole, IsAnswer, IsHeadAnswer, IsShortHead};
+ghost use Rattle.tus_request.specs.Grammar.{prefix, IsWhole, IsAnswer, IsHeadAnswer, IsShortHead};
 ghost use Rattle.tus_request.specs.Shown.{answer_shown};
 
 use crate::checks::{Line, Verdict, judge};
@@ -21,7 +21,7 @@ pub(crate) const MAX_HEAD: usize = 8192;
 
 const MAX_LINES: usize = 64;
 
-/// Reads the head at the front of a stream, which is all of the stream that has come and isn't read yet.
+/// Reads the head at the start of a stream, which is all of the stream that has come and isn't read yet.
 ///
 /// The answer is a function of the bytes and of what the index set offers, and it is the one that the grammar of
 /// request heads (RFC 9112, sections 2 to 5, as `httparse` reads it by default) gives.
@@ -35,24 +35,24 @@ const MAX_LINES: usize = 64;
 pub fn parse(alloc: Global, bytes: &[u8], set: &IndexSet) -> Result<Parsed, AllocError>
     ensures function { IfOk result (λ answer. answer_shown answer ≡ answer_of (offers set.now) bytes.now) }
     ensures grammar { IfOk result (λ answer. IsAnswer (offers set.now) bytes.now (answer_shown answer)) }
-    ensures memory { OnErr result (IsWhole (front bytes.now)) }
+    ensures memory { OnErr result (IsWhole (prefix bytes.now)) }
 {
     parse_head(alloc, bytes, set)
 }
 
-/// Reads the head at the front of a stream.
+/// Reads the head at the start of a stream.
 fn parse_head(alloc: Global, bytes: &[u8], set: &IndexSet) -> Result<Parsed, AllocError>
     ensures grammar { IfOk result (λ answer. IsAnswer (offers set.now) bytes.now (answer_shown answer)) }
-    ensures memory { OnErr result (IsWhole (front bytes.now)) }
+    ensures memory { OnErr result (IsWhole (prefix bytes.now)) }
 {
-    let front = &bytes[..bytes.len().min(MAX_HEAD)];
-    let Some(extent) = measure(front) else {
-        return Ok(unmeasured(front.len()));
+    let prefix = &bytes[..bytes.len().min(MAX_HEAD)];
+    let Some(extent) = measure(prefix) else {
+        return Ok(unmeasured(prefix.len()));
     };
     if extent.texts > MAX_LINES + 1 {
         return Ok(no_head(extent.len, Fault::HeadTooLong));
     }
-    read_whole(alloc, &front[..extent.len], set)
+    read_whole(alloc, &prefix[..extent.len], set)
 }
 
 /// The answer where so many bytes of a head, and no whole one, have come.

@@ -17,7 +17,7 @@ pub fn one_answer(bytes: &[u8], set: &IndexSet)
     ensures { (x y : Answer) → IsAnswer (offers set.now) bytes.now x → IsAnswer (offers set.now) bytes.now y → x ≡ y }
 {}
 
-/// What an answer says of a stream's front doesn't depend on what follows.
+/// What an answer says of a stream's start doesn't depend on what follows.
 pub fn steady_answers(set: &IndexSet)
     ensures { IsSteady (answer_of (offers set.now)) }
 {}

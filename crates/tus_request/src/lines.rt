@@ -27,7 +27,7 @@ fn line_feed(bytes: &[u8]) -> Option<usize>
     bytes.iter().position(|b| *b == b'\n')
 }
 
-/// How far the head at the front of the bytes goes, if it is whole.
+/// How far the head at the start of the bytes goes, if it is whole.
 pub(crate) fn measure(bytes: &[u8]) -> Option<Reach>
     ensures extent { option_map shown result ≡ head_extent bytes.now }
     ensures within { IfSome result (λ r. r.len ≤ length bytes.now) }

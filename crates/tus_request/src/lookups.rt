@@ -8,7 +8,7 @@ ghost use Rattle.tus_request.specs.Checks.{is_given, first_or, only, number_in, 
 ghost use Rattle.tus_request.specs.Checks.{optional_number_in, declared_in, is_patch_media};
 
 use crate::number::number;
-use crate::texts::{front, is_word, lists_word};
+use crate::texts::{is_word, lists_word, prefix};
 use http_header::HeaderMap;
 
 /// Whether there is a field of a name.
@@ -96,7 +96,7 @@ pub(crate) fn is_patch_media(fields: &HeaderMap) -> bool
     ensures { result ≡ is_patch_media (only (values fields.now (codes "content-type"))) }
 {
     match only(fields, "content-type") {
-        Some(value) => is_word(front(value, b';'), "application/offset+octet-stream"),
+        Some(value) => is_word(prefix(value, b';'), "application/offset+octet-stream"),
         None => false,
     }
 }

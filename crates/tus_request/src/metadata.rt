@@ -7,7 +7,7 @@ ghost use Rattle.tus_request.specs.Metadata.{is_plain, pair_value, pair_of, has_
 ghost use Rattle.tus_request.specs.Metadata.{metadata_of, setting, mode_of, choice_of};
 ghost use Rattle.tus_request.specs.Pairs.{pair_shown, choice_shown, bytes_shown, pairs_shown};
 
-use crate::texts::{after, front, trimmed};
+use crate::texts::{after, prefix, trimmed};
 use base64::DecodeAllocError;
 use base64::engine::general_purpose::STANDARD;
 use enc_labels::{encoding_of, output_of};
@@ -58,7 +58,7 @@ fn pair_value(alloc: Global, text: &[u8]) -> Result<Option<Vec<u8>>, AllocError>
 fn read_pair<'m>(alloc: Global, part: &'m [u8]) -> Result<Option<Pair<'m>>, AllocError>
     ensures { IfOk result (λ found. option_map pair_shown found ≡ pair_of part.now) }
 {
-    let key = front(part, b' ');
+    let key = prefix(part, b' ');
     if key.is_empty() {
         return Ok(None);
     }

@@ -53,7 +53,7 @@ pub struct Request {
     pub closes: bool,
 }
 
-/// What the front of a stream comes to.
+/// What the start of a stream comes to.
 #[derive(Debug, PartialEq, Eq, Drop)]
 pub enum Parsed {
     /// The head isn't whole yet.

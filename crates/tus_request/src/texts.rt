@@ -18,8 +18,8 @@ fn place_of(text: &[u8], mark: u8) -> Option<usize>
     text.iter().position(|b| *b == mark)
 }
 
-/// The bytes in front of the first of a mark, or all of them.
-pub fn front(text: &[u8], mark: u8) -> &[u8]
+/// The bytes before the first of a mark, or all of them.
+pub fn prefix(text: &[u8], mark: u8) -> &[u8]
     ensures { result.now ≡ before mark text.now }
 {
     match place_of(text, mark) {
@@ -38,8 +38,8 @@ pub fn after(text: &[u8], mark: u8) -> &[u8]
     }
 }
 
-/// A text without the blanks in front.
-fn without_front<'t>(text: &'t [u8], blanks: &[u8]) -> &'t [u8]
+/// A text without the blanks at the start.
+fn without_prefix<'t>(text: &'t [u8], blanks: &[u8]) -> &'t [u8]
     ensures { result.now ≡ skipped blanks.now text.now }
 {
     let mut rest = text;
@@ -56,7 +56,7 @@ fn without_front<'t>(text: &'t [u8], blanks: &[u8]) -> &'t [u8]
 pub(crate) fn trimmed<'t>(text: &'t [u8], blanks: &[u8]) -> &'t [u8]
     ensures { result.now ≡ trimmed blanks.now text.now }
 {
-    let mut rest = without_front(text, blanks);
+    let mut rest = without_prefix(text, blanks);
     while let Some((last, more)) = rest.split_last() {
         if !blanks.contains(last) {
             return rest;
@@ -74,7 +74,7 @@ pub(crate) fn lists_word(text: &[u8], word: &str) -> bool
         .any(|part| is_word(trimmed(part, b" \t"), word))
 }
 
-/// The part of a target in front of the first question mark.
+/// The part of a target before the first question mark.
 pub(crate) fn path(target: &str) -> &str
     ensures { result.now ≡ before 63 target.now }
 {

@@ -1,7 +1,7 @@
 -- A turn is what it is from the unfinished part of the stream alone.
 use Rattle.std.proofs.Common.{ℕ, [], ◌++◌, ◌-◌, ◌≡◌, Bool, true, false, List, Option, Some, None, length, take, refl}
 use Rattle.std.proofs.Common.{◌∙◌, ap, sym, append-nil, if◌then◌else◌, option_map}
-use Rattle.tus_request.proofs.Fronts.{steady}
+use Rattle.tus_request.proofs.Prefixes.{steady}
 use Rattle.tus_request.specs.Steady.{IsSteady}
 use Rattle.enc_model.specs.Indexes.{offers}
 use Rattle.upload_rules.specs.World.{World}

@@ -1,7 +1,7 @@
 -- The turn of a connection whose request under way is a body: by how many bytes the body still wants.
 use Rattle.std.proofs.Common.{ℕ, ◌+◌, ◌-◌, ◌<◌, ◌≤◌, ◌≡◌, List, [], Option, Some, None, length, take, ◌∙◌, ap, arith}
 use Rattle.std.proofs.lemmas.List.{length-take-le, take_all}
-use Rattle.tus_request.proofs.Fronts.{steady}
+use Rattle.tus_request.proofs.Prefixes.{steady}
 use Rattle.tus_request.specs.Requests.{body_length}
 use Rattle.tus_request.specs.Steady.{IsSteady}
 use Rattle.enc_model.specs.Indexes.{offers}

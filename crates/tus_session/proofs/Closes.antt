@@ -152,27 +152,27 @@ module _ {U B : Type 0} (u : Ghosts U B) (sure : Bool) where
       }) = subst (λ m. u.stands store sure (record { store = m; patches = []; blocks = v.blocks })) is.uploads a in
       subst (λ n. u.stands store sure (record { store = st.world.store; patches = []; blocks = n })) is.blocks b
 
-get_seam : {A : Type 0} (front after : List A) (x other : A) → get_or (front ++ x ∷ after) (length front) other ≡ x
+get_seam : {A : Type 0} (prefix after : List A) (x other : A) → get_or (prefix ++ x ∷ after) (length prefix) other ≡ x
 get_seam [] after x other = refl
-get_seam (y ∷ front) after x other = get_seam front after x other
+get_seam (y ∷ prefix) after x other = get_seam prefix after x other
 
 -- the last of the first places is taken off
 pub record Popped {B : Type 0} (all old new : List (Option (Link B))) (x : Option (Link B)) : Type 0 where
-  pub front : new ≡ take (length new) all
+  pub prefix : new ≡ take (length new) all
   pub here : get_or all (length new) None ≡ x
   pub count : length old ≡ suc (length new)
 
 pub popped : {B : Type 0} (all old new : List (Option (Link B))) (x : Option (Link B)) → old ≡ take (length old) all
     → old ≡ new ++ x ∷ [] → Popped all old new x
-popped all old new x front items =
+popped all old new x prefix items =
     let rest = drop (length old) all in
     let whole : all ≡ new ++ x ∷ rest =
     sym (take-append-drop (length old) all)
-    ∙ (ap (λ ys. ys ++ rest) (sym front ∙ items) ∙ append_assoc new (x ∷ []) rest) in
+    ∙ (ap (λ ys. ys ++ rest) (sym prefix ∙ items) ∙ append_assoc new (x ∷ []) rest) in
     let n : length (new ++ x ∷ []) ≡ length new + length (x ∷ []) = length-append new (x ∷ []) in
     let m : length old ≡ length (new ++ x ∷ []) = ap length items in
     record {
-      front = sym (ap (take (length new)) whole ∙ take-append_seam new (x ∷ rest));
+      prefix = sym (ap (take (length new)) whole ∙ take-append_seam new (x ∷ rest));
       here = ap (λ ys. get_or ys (length new) None) whole ∙ get_seam new rest x None;
       count = omega arith;
     }

@@ -12,7 +12,7 @@ use Rattle.tus_session.specs.Streams.{Asked, Rest, Cut, Reader, onto, after_head
 use Rattle.tus_session.specs.Streams.{rest_bytes, span, headed, heads_of, taken_to, taken_of, taken, Moments}
 use Rattle.tus_session.specs.Streams.{moments_of, moments, rest_body, body_of}
 
--- the whole requests of a stream in front of another cut
+-- the whole requests of a stream before another cut
 abbrev pub after_whole : List Asked → Cut → Cut
 after_whole rs c = record { whole = rs ++ c.whole; rest = c.rest }
 
@@ -233,8 +233,8 @@ by_end : (ws : List Asked) (s u p : List ℕ) (d : Cut) → span ws + length u �
     → taken_to s p (after_whole ws d) (length ws) r ≡ taken_to u p d 0 r
 by_end ws s u p d covers None = refl
 by_end ws s u p d covers (Some r) =
-    let front : take (length ws) (ws ++ d.whole) ≡ ws = take-append_seam ws d.whole in
-    let e : span (take (length ws) (ws ++ d.whole)) ≡ span ws = ap span front in
+    let prefix : take (length ws) (ws ++ d.whole) ≡ ws = take-append_seam ws d.whole in
+    let e : span (take (length ws) (ws ++ d.whole)) ≡ span ws = ap span prefix in
     omega arith
 
 taken_after : (ws : List Asked) (r : Rest) (s u p : List ℕ) (d : Cut) → span ws + length u ≡ length s

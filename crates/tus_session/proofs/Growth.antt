@@ -5,7 +5,7 @@ use Rattle.enc_model.specs.Indexes.{IndexSet}
 use Rattle.upload_rules.specs.Lengths.{known_or}
 use Rattle.upload_rules.specs.Store.{Upload, with_length, patched, text_of, text_with, is_complete}
 use Rattle.upload_rules.proofs.Commits.{text_of_is, text_patched}
-use Rattle.upload_rules.proofs.Longer.{text_in_front, stays_without_code}
+use Rattle.upload_rules.proofs.Longer.{text_at_start, stays_without_code}
 
 known_already : (known : Option ℕ) → known_or known None ≡ known
 known_already None = refl
@@ -29,7 +29,7 @@ patched_twice u first second bytes more =
     ap (λ k. record u { declared = k; accepted = (u.accepted ++ bytes) ++ more }) (known_still u.declared first second)
     ∙ ap (λ z. record (with_length u (known_or first second)) { accepted = z }) (append_assoc u.accepted bytes more)
 
--- the text of an upload is in front of another's
+-- the text of an upload is a prefix of another's
 abbrev pub IsLonger : IndexSet → Upload → Upload → Type 0
 IsLonger x u v = (more : List ℕ) × (text_of x v ≡ text_of x u ++ more)
 
@@ -37,7 +37,7 @@ longer_case : (x : IndexSet) (u : Upload) (declare : Option ℕ) (bytes : List �
     → (text_with x u bytes done).fault ≡ None
     → (o : Option ℕ) → (text_with x u [] false).fault ≡ o
     → IsLonger x u (patched u declare bytes)
-longer_case x u declare bytes done unfinished value None e = text_in_front x u declare bytes unfinished e
+longer_case x u declare bytes done unfinished value None e = text_at_start x u declare bytes unfinished e
 longer_case x u declare bytes done unfinished value (Some c) e =
     let f : Some c ≡ None = sym (stays_without_code x u [] bytes done c e) ∙ value in
     absurd (cc)

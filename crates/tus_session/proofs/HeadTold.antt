@@ -7,7 +7,7 @@ use Rattle.tus_request.specs.Buffers.{bytes_of}
 use Rattle.enc_model.specs.Indexes.{IndexSet, offers}
 use Rattle.tus_request.specs.Shown.{answer_shown}
 use Rattle.tus_request.specs.declared.requests.Parsed.{Parsed}
-use Rattle.tus_request.proofs.Fronts.{steady}
+use Rattle.tus_request.proofs.Prefixes.{steady}
 use Rattle.tus_request.specs.Answers.{Answer, More, Judged, answer_of}
 use Rattle.tus_request.specs.Requests.{Verdict, body_length}
 use Rattle.tus_request.specs.Steady.{IsSteady}
@@ -25,7 +25,7 @@ use Rattle.tus_session.specs.declared.answers.Answer as code
 use Rattle.tus_request.specs.declared.buffer.HeadBuffer.{HeadBuffer}
 use Rattle.tus_session.specs.declared.conns.Link.{Link}
 use Rattle.tus_session.proofs.BodyTold.{plain, answered_here}
-use Rattle.tus_session.proofs.HeadTurns.{more_turn_is, head_within, front_judged, front_body, part_turn_is}
+use Rattle.tus_session.proofs.HeadTurns.{more_turn_is, head_within, prefix_judged, prefix_body, part_turn_is}
 use Rattle.tus_session.proofs.HeadTurns.{whole_turn_is}
 use Rattle.tus_session.proofs.NewRests.{head_more_rest, head_part_rest, head_whole_rest, drop_after}
 use Rattle.tus_session.proofs.Opening.{still}
@@ -137,10 +137,10 @@ module _ {U B : Type 0} (u : Ghosts U B) (sure : Bool) where
                 came = take m after;
               }) a idle none ∙ turn_plain conn bytes (before + m) a idle none) in
               let b : drop n (h ++ q) ≡ take m after =
-              front_body w conn h is.inside bytes n before v is.judged is.before_is m in
+              prefix_body w conn h is.inside bytes n before v is.judged is.before_is m in
               let all : length (drop n (h ++ q)) ≡ m = ap length b ∙ length-take-le m after enough in
               let here = head_whole_rest (reader w) (is_steady w) conn.stream h is.inside.rest q n v
-              (front_judged w conn h is.inside bytes n before v is.judged is.before_is m) all in
+              (prefix_judged w conn h is.inside bytes n before v is.judged is.before_is m) all in
               let left_is : left ≡ 0 = omega arith in
               let count : before + min m (length after) ≡ before + m = omega arith in
               let now = answered_here u sure store' link x old new a.bytes a.text w a.world None head left (before + m)

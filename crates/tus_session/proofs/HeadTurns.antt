@@ -3,7 +3,7 @@ use Rattle.std.proofs.Common.{ℕ, zero, suc, ◌+◌, ◌-◌, ◌<◌, ◌≤�
 use Rattle.std.proofs.Common.{take, drop, refl, sym, ◌∙◌, ap, arith, append_assoc}
 use Rattle.std.proofs.lemmas.List.{length-take-le, take_all, length-append, drop-take, take-append-drop}
 use Rattle.enc_model.specs.Indexes.{offers}
-use Rattle.tus_request.proofs.Fronts.{steady}
+use Rattle.tus_request.proofs.Prefixes.{steady}
 use Rattle.tus_request.specs.Answers.{More, Judged}
 use Rattle.tus_request.specs.Requests.{Verdict, body_length}
 use Rattle.tus_request.specs.Steady.{IsSteady}
@@ -16,16 +16,16 @@ use Rattle.tus_session.proofs.Cuts.{left, moments_alone, taken_alone}
 use Rattle.tus_session.proofs.Unfinished.{judged_as, head_part, head_whole, both_whole, whole_taken, head_new}
 use Rattle.tus_session.proofs.NewRests.{head_left, head_only, drop_after, take_after}
 
-take_front : (b m n : ℕ) (xs : List ℕ) → n ≡ b + m → take b (take n xs) ≡ take b xs
-take_front zero m n xs e = refl
-take_front (suc b) m zero xs e = absurd (omega arith)
-take_front (suc b) m (suc n) [] e = refl
-take_front (suc b) m (suc n) (x ∷ xs) e = ap (λ ys. x ∷ ys) (take_front b m n xs (omega arith))
+take_prefix : (b m n : ℕ) (xs : List ℕ) → n ≡ b + m → take b (take n xs) ≡ take b xs
+take_prefix zero m n xs e = refl
+take_prefix (suc b) m zero xs e = absurd (omega arith)
+take_prefix (suc b) m (suc n) [] e = refl
+take_prefix (suc b) m (suc n) (x ∷ xs) e = ap (λ ys. x ∷ ys) (take_prefix b m n xs (omega arith))
 
-front : (b m : ℕ) (xs : List ℕ) → take (b + m) xs ≡ take b xs ++ drop b (take (b + m) xs)
-front b m xs =
+prefix : (b m : ℕ) (xs : List ℕ) → take (b + m) xs ≡ take b xs ++ drop b (take (b + m) xs)
+prefix b m xs =
     sym (take-append-drop b (take (b + m) xs)) ∙ ap (λ ys. ys ++ drop b (take (b + m) xs))
-    (take_front b m (b + m) xs refl)
+    (take_prefix b m (b + m) xs refl)
 
 module _ (w : World) (conn : Conn) (h : List ℕ) (inside : InsideHead w conn h) where
   is_steady : IsSteady (reader w)
@@ -69,20 +69,20 @@ module _ (w : World) (conn : Conn) (h : List ℕ) (inside : InsideHead w conn h)
         let l : length (h ++ bytes) ≡ length h + length bytes = length-append h bytes in
         (omega arith, omega arith)
 
-    -- a front of the bytes with the whole head says as much
-    pub front_judged : (m : ℕ) → reader w (h ++ take (before + m) bytes) ≡ Judged n v
-    front_judged m =
+    -- a prefix of the bytes with the whole head says as much
+    pub prefix_judged : (m : ℕ) → reader w (h ++ take (before + m) bytes) ≡ Judged n v
+    prefix_judged m =
         let a : take n (h ++ bytes) ≡ h ++ take before bytes = take_after h bytes before n head_within.0 in
         let b : reader w (h ++ take before bytes) ≡ Judged n v =
         ap (reader w) (sym a) ∙ is_steady.own (h ++ bytes) n v judged in
         let c : take (before + m) bytes ≡ take before bytes ++ drop before (take (before + m) bytes) =
-        front before m bytes in
+        prefix before m bytes in
         ap (λ x. reader w (h ++ x)) c
         ∙ (ap (reader w) (sym (append_assoc h (take before bytes) (drop before (take (before + m) bytes))))
         ∙ is_steady.keeps (h ++ take before bytes) (drop before (take (before + m) bytes)) n v b)
 
-    pub front_body : (m : ℕ) → drop n (h ++ take (before + m) bytes) ≡ take m (drop before bytes)
-    front_body m = drop_after h (take (before + m) bytes) before n head_within.0 ∙ drop-take before m bytes
+    pub prefix_body : (m : ℕ) → drop n (h ++ take (before + m) bytes) ≡ take m (drop before bytes)
+    prefix_body m = drop_after h (take (before + m) bytes) before n head_within.0 ∙ drop-take before m bytes
 
     -- fewer bytes of the body than it wants
     pub part_turn_is : length (drop before bytes) < body_length v
@@ -131,14 +131,14 @@ module _ (w : World) (conn : Conn) (h : List ℕ) (inside : InsideHead w conn h)
         let t : taken (reader w) h bytes ≡ before + m =
         whole_taken (reader w) is_steady h bytes n v only judged (omega arith)
         ∙ (let x : n + m - length h ≡ before + m = omega arith in x) in
-        let c : drop n (h ++ q) ≡ take m (drop before bytes) = front_body m in
+        let c : drop n (h ++ q) ≡ take m (drop before bytes) = prefix_body m in
         let all : length (drop n (h ++ q)) ≡ m = ap length c ∙ length-take-le m (drop before bytes) enough in
         let f : moments (reader w) h q ≡ record {
           head = Some whole_asked;
           body = Some whole_asked;
           came = take m (drop before bytes);
         } =
-        both_whole (reader w) is_steady h q n v only (front_judged m) all
+        both_whole (reader w) is_steady h q n v only (prefix_judged m) all
         ∙ ap (λ x. record { head = Some whole_asked; body = Some whole_asked; came = x }) c in
         by_moments bytes (before + m) (record {
           head = Some whole_asked;

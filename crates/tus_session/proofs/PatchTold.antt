@@ -6,7 +6,7 @@ use Rattle.std.proofs.lemmas.Bool.{cases_lt}
 use Rattle.std.proofs.lemmas.Bool.Decides.{nat_tests}
 use Rattle.std.proofs.lemmas.List.{length-drop, length-take-le, take_all}
 use Rattle.enc_model.specs.Indexes.{offers}
-use Rattle.tus_request.proofs.Fronts.{steady}
+use Rattle.tus_request.proofs.Prefixes.{steady}
 use Rattle.tus_request.specs.Requests.{Request, Asks}
 use Rattle.upload_rules.specs.Store.{Upload, Store, upload_of, find, without}
 use Rattle.upload_rules.specs.World.{Patch, World}
@@ -30,7 +30,7 @@ use Rattle.tus_request.specs.declared.buffer.HeadBuffer.{HeadBuffer}
 use Rattle.tus_session.specs.declared.conns.Link.{Link}
 use Rattle.tus_session.proofs.BodyTold.{plain, answered_here, part_here, rest_moves, fed_found}
 use Rattle.tus_session.proofs.Growth.{patched_nothing}
-use Rattle.tus_session.proofs.HeadTurns.{part_turn_is, whole_turn_is, head_within, front_judged, front_body}
+use Rattle.tus_session.proofs.HeadTurns.{part_turn_is, whole_turn_is, head_within, prefix_judged, prefix_body}
 use Rattle.tus_session.proofs.Moved.{open_moves, feed_moves, both_moves}
 use Rattle.tus_session.proofs.NewRests.{head_part_rest, head_whole_rest, drop_after}
 use Rattle.std.proofs.Math.Seq.{take-append_seam}
@@ -306,11 +306,11 @@ module _ {U B : Type 0} (u : Ghosts U B) (sure : Bool) (w : World) (conn : Conn)
     rest_case (Ok (link, a)) enough answered out =
         let m = ended_by v own p0 (take r.length q) r in
         let t : length (take r.length q) ≡ r.length = length-take-le r.length q enough in
-        let body = front_body w conn h is.inside bytes n before (Asks r) is.judged is.before_is r.length in
+        let body = prefix_body w conn h is.inside bytes n before (Asks r) is.judged is.before_is r.length in
         let all : length (drop n (h ++ take (before + r.length) bytes)) ≡ r.length = ap length body ∙ t in
         let ends = head_whole_rest (reader w) (steady (offers w.store.indexes)) conn.stream h is.inside.rest
         (take (before + r.length) bytes) n (Asks r)
-        (front_judged w conn h is.inside bytes n before (Asks r) is.judged is.before_is r.length) all in
+        (prefix_judged w conn h is.inside bytes n before (Asks r) is.judged is.before_is r.length) all in
         let moves = both_moves w v m.world None (Some own) None (open_moves w own p0 x.free)
         (rest_moves u sure v b asked r p0 patches (take r.length q)) in
         subst (TurnedAs u sure store' link a old new w None) (sym (rest_is w conn h bytes n before r is x enough))

@@ -14,7 +14,7 @@ use Rattle.tus_action.specs.Serves.{ActedAs, DraftIs, GivingIs, draft_in, giving
 use Rattle.tus_action.specs.declared.acts.Giving as given
 use Rattle.tus_action.specs.declared.acts.Done.{Done}
 use Rattle.enc_model.specs.Indexes.{offers}
-use Rattle.tus_request.proofs.Fronts.{steady}
+use Rattle.tus_request.proofs.Prefixes.{steady}
 use Rattle.tus_request.specs.Answers.{Judged}
 use Rattle.tus_session.specs.Streams.{Moments, Rest, InHead, InBody, cut}
 use Rattle.tus_session.specs.Stands.{RestIs, IsGivingText}
@@ -28,7 +28,7 @@ use Rattle.tus_request.specs.declared.buffer.HeadBuffer.{HeadBuffer}
 use Rattle.tus_session.specs.declared.conns.Awaiting.TheVariants as awaits
 use Rattle.tus_session.specs.declared.conns.Link.{Link}
 use Rattle.tus_session.proofs.HeadTold.{no_patch_len}
-use Rattle.tus_session.proofs.HeadTurns.{part_turn_is, whole_turn_is, head_within, front_judged, front_body}
+use Rattle.tus_session.proofs.HeadTurns.{part_turn_is, whole_turn_is, head_within, prefix_judged, prefix_body}
 use Rattle.tus_session.proofs.NewRests.{head_part_rest, head_whole_rest}
 use Rattle.tus_session.proofs.Frames.{rest_same}
 use Rattle.tus_session.proofs.Opening.{still}
@@ -195,10 +195,11 @@ module _ (w : World) (conn : Conn) (h bytes : List ℕ) (n before : ℕ) (r : Re
       let z : before + 0 ≡ before = omega arith in
       let q = take before bytes in
       let judged : reader w (h ++ q) ≡ Judged n (Asks r) =
-      ap (λ i. reader w (h ++ take i bytes)) (sym z) ∙ front_judged w conn h is.inside bytes n before (Asks r) is.judged
+      ap (λ i. reader w (h ++ take i bytes)) (sym z)
+      ∙ prefix_judged w conn h is.inside bytes n before (Asks r) is.judged
       is.before_is 0 in
       let body : drop n (h ++ q) ≡ [] =
-      ap (λ i. drop n (h ++ take i bytes)) (sym z) ∙ front_body w conn h is.inside bytes n before (Asks r) is.judged
+      ap (λ i. drop n (h ++ take i bytes)) (sym z) ∙ prefix_body w conn h is.inside bytes n before (Asks r) is.judged
       is.before_is 0 in
       let none : length (drop n (h ++ q)) ≡ 0 = ap length body in
       elim (cases_lt 0 r.length) [

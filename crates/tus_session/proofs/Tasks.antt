@@ -3,7 +3,7 @@ use Rattle.std.proofs.Common.{◌≡◌, ◌⊎◌, inl, inr, ℕ, ◌<◌, List
 use Rattle.std.proofs.Common.{arith, Result, Ok, Err, Bool}
 use Rattle.enc_model.specs.Indexes.{offers}
 use Rattle.tus_request.specs.Requests.{body_length}
-use Rattle.tus_request.proofs.Fronts.{steady}
+use Rattle.tus_request.proofs.Prefixes.{steady}
 use Rattle.upload_rules.specs.Store.{Store, find}
 use Rattle.upload_rules.specs.World.{Patch, World}
 use Rattle.upload_rules.specs.declared.errors.UploadRefusal.{UploadRefusal}

@@ -20,7 +20,7 @@ pub record Cut : Type 0 where
   pub whole : List Asked
   pub rest : Rest
 
--- which answer the front of a stream has
+-- which answer the start of a stream has
 abbrev pub Reader : Type 0
 Reader = List ℕ → Answer
 

@@ -7,10 +7,10 @@ use Rattle.upload_rules.specs.Store.{Upload, text_of, text_with, patched, is_com
 use Rattle.upload_rules.proofs.TextGrows.{text_after, fault_stays}
 use Rattle.upload_rules.proofs.Commits.{text_patched, text_of_is}
 
-pub text_in_front : (x : IndexSet) (u : Upload) (declare : Option ℕ) (bytes : List ℕ) → is_complete u ≡ false
+pub text_at_start : (x : IndexSet) (u : Upload) (declare : Option ℕ) (bytes : List ℕ) → is_complete u ≡ false
     → (text_with x u [] false).fault ≡ None
     → (more : List ℕ) × (text_of x (patched u declare bytes) ≡ text_of x u ++ more)
-text_in_front x u declare bytes incomplete value =
+text_at_start x u declare bytes incomplete value =
     let nil = append-nil u.accepted in
     let done = is_complete (patched u declare bytes) in
     let grown = text_after (tables x) u.from u.to u.mode u.accepted bytes done

@@ -56,7 +56,7 @@ decode_open : (t : Tables) (e : Encoding) (b : List ℕ) (done : Bool) → decod
 unfolding decode
 decode_open t e b done = refl
 
--- what is decoded of more bytes has what is decoded of these in front
+-- what is decoded of more bytes has what is decoded of these at the start
 pub decode_after : (t : Tables) (e : Encoding) (b c : List ℕ) (done : Bool)
     → (more : List ℕ) × (decode t e (b ++ c) done ≡ decode t e b false ++ more)
 decode_after t e b c false = (
@@ -75,21 +75,21 @@ decode_after t e b c true =
 
 -- ENCODING
 
-ended_after_of : (front bytes : List ℕ) (s : Shift) (fault : Option ℕ) → let r : Coded = record {
+ended_after_of : (prefix bytes : List ℕ) (s : Shift) (fault : Option ℕ) → let r : Coded = record {
   bytes = bytes;
   state = s;
   fault = fault;
 } in
-    ended_coded (led_by front r) ≡ led_by front (ended_coded r)
-ended_after_of front bytes s None = ap (λ z. record {
+    ended_coded (led_by prefix r) ≡ led_by prefix (ended_coded r)
+ended_after_of prefix bytes s None = ap (λ z. record {
   bytes = z;
   state = InAscii;
   fault = None;
-}) (append_assoc front bytes (encoder_end s))
-ended_after_of front bytes s (Some c) = refl
+}) (append_assoc prefix bytes (encoder_end s))
+ended_after_of prefix bytes s (Some c) = refl
 
-pub ended_after : (front : List ℕ) (r : Coded) → ended_coded (led_by front r) ≡ led_by front (ended_coded r)
-ended_after front r = ended_after_of front r.bytes r.state r.fault
+pub ended_after : (prefix : List ℕ) (r : Coded) → ended_coded (led_by prefix r) ≡ led_by prefix (ended_coded r)
+ended_after prefix r = ended_after_of prefix r.bytes r.state r.fault
 
 ended_fault_of : (bytes : List ℕ) (s : Shift) (fault : Option ℕ)
     → (ended_coded (record { bytes = bytes; state = s; fault = fault })).fault ≡ fault
@@ -144,7 +144,7 @@ module _ (t : Tables) (from to : Encoding) (mode : Mode) where
             ∙ ap (λ z. led_by z.bytes more) (sym (text_open b)),
       )
 
-  -- the text of more bytes has the text of these in front
+  -- the text of more bytes has the text of these at the start
   pub text_after : (b c : List ℕ) (done : Bool) → (text t from to mode b false).fault ≡ None
       → (more : List ℕ) × ((text t from to mode (b ++ c) done).bytes ≡ (text t from to mode b false).bytes ++ more)
   text_after b c false h = let g = grown_of b c false h in (g.0.bytes, ap (λ r. r.bytes) (text_open (b ++ c) ∙ g.1))

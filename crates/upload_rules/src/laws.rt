@@ -19,7 +19,7 @@ pub fn same_offset()
 /// While an upload isn't complete, its text is a prefix of its text with more bytes, and of that of the same bytes when
 /// a length says that they are all. A character without a code stays one, whatever comes after it.
 pub fn text_grows()
-    ensures front { (x : IndexSet) (u : Upload) (declare : Option ℕ) (bytes : List ℕ) → is_complete u ≡ false
+    ensures prefix { (x : IndexSet) (u : Upload) (declare : Option ℕ) (bytes : List ℕ) → is_complete u ≡ false
         → (text_with x u [] false).fault ≡ None
         → (more : List ℕ) × (text_of x (patched u declare bytes) ≡ text_of x u ++ more) }
     ensures fault { (x : IndexSet) (u : Upload) (bytes more : List ℕ) (done : Bool) (c : ℕ)

@@ -157,7 +157,7 @@ impl fmt::Display for MetadataLine<'_> {
     }
 }
 
-/// The line in front of a refusal's number, where it has one.
+/// The line before a refusal's number, where it has one.
 #[derive(Drop)]
 struct RefusalLead(Fault, bool);
 

@@ -1,7 +1,7 @@
 use Rattle.std.proofs.Common.{◌∷◌, []}
 use Rattle.std.proofs.lemmas.Fmt.{decimal_digit, decimal_step}
 use Rattle.std.proofs.Common.{◌<◌, ◌^◌, arith, ◌%◌, ◌+◌}
-use Rattle.enc_encode.proofs.Growth.{front, more, exit}
+use Rattle.enc_encode.proofs.Growth.{prefix, more, exit}
 use Rattle.enc_encode.proofs.append.+append_decimal.Goals as goal
 
 pub returns-then-number-lt10 : goal.returns-then-number-lt10
@@ -12,7 +12,7 @@ returns-in_err-append_decimal t c =
     let small : c.args.number < 2 ^ 64 = omega arith in
     rw (decimal_step c.args.number c.if-number-lt10.false small)
     (exit _ c.from_residual.result c.from_residual.ensures.1
-    (front ((48 + c.args.number % 10) ∷ []) c.in_err-append_decimal.ensures))
+    (prefix ((48 + c.args.number % 10) ∷ []) c.in_err-append_decimal.ensures))
 
 pub returns : goal.returns
 returns t c =

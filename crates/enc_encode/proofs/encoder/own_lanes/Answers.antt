@@ -1,7 +1,7 @@
 use Rattle.std.proofs.Common.{◌∙◌, sym, ap}
 use Rattle.std.specs.List.{prefix_len}
 use Rattle.enc_encode.specs.State.{shift_of}
-use Rattle.enc_encode.proofs.Fronts.{own_other, own_switched}
+use Rattle.enc_encode.proofs.Prefixes.{own_other, own_switched}
 use Rattle.enc_encode.proofs.encoder.own_lanes.Goals as goal
 
 pub returns-in-Roman : goal.returns-in-Roman

@@ -1,7 +1,7 @@
 use Rattle.std.proofs.Common.{◌<◌, All, take, sym, subst, arith}
 use Rattle.std.proofs.lemmas.List.Sums.{prefix_len-le-length}
 use Rattle.std.specs.Char.{is_ascii}
-use Rattle.enc_model.proofs.Fronts.{front_all}
+use Rattle.enc_model.proofs.Prefixes.{prefix_all}
 use Rattle.enc_encode.proofs.single_runs.ascii_in.Goals as goal
 
 pub returns-clause-within : goal.returns-clause-within
@@ -13,4 +13,4 @@ returns-clause-within c =
 
 pub returns-clause-ascii : goal.returns-clause-ascii
 returns-clause-ascii c =
-    subst (λ n. All (λ b. b < 128) (take n c.args.lanes.now)) (sym c.ascii_chunk.ensures) (front_all c.args.lanes.now)
+    subst (λ n. All (λ b. b < 128) (take n c.args.lanes.now)) (sym c.ascii_chunk.ensures) (prefix_all c.args.lanes.now)

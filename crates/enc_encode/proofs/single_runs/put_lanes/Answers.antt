@@ -9,9 +9,9 @@ returns-then-count-lt-LANES-clause-ascii c =
 
 pub returns-then-count-lt-LANES-clause-put : goal.returns-then-count-lt-LANES-clause-put
 returns-then-count-lt-LANES-clause-put c =
-    put_more c.args.held.now c.loop-at.held c.store_front.new.held c.args.bytes.now c.lanes_at-lanes.result c.args.from
+    put_more c.args.held.now c.loop-at.held c.store_prefix.new.held c.args.bytes.now c.lanes_at-lanes.result c.args.from
     c.loop-at.at c.ascii_in-count.result c.loop-at.invariant.4 c.lanes_at-lanes.ensures c.ascii_in-count.ensures.within
-    c.store_front.ensures
+    c.store_prefix.ensures
 
 pub loop-at-preserved : goal.loop-at-preserved
 loop-at-preserved c =
@@ -25,12 +25,12 @@ loop-at-preserved c =
     let full : n ≡ 32 = let all = c.if-count-lt-LANES.false in omega (arith, few, all) in (
       omega (arith, test, most),
       omega (arith, test, most),
-      c.store_front.array_long,
+      c.store_prefix.array_long,
       subst (λ k. All (λ b. b < 128) (take (at + k) bytes)) full
           (ascii_more bytes c.lanes_at-lanes.result at n v.3 c.lanes_at-lanes.ensures few
           c.ascii_in-count.ensures.ascii),
-      subst (λ k. take (c.args.from + (at + k)) c.store_front.new.held ≡ take c.args.from c.args.held.now
+      subst (λ k. take (c.args.from + (at + k)) c.store_prefix.new.held ≡ take c.args.from c.args.held.now
           ++ take (at + k) bytes) full
-          (put_more c.args.held.now c.loop-at.held c.store_front.new.held bytes c.lanes_at-lanes.result c.args.from at
-          n v.4 c.lanes_at-lanes.ensures few c.store_front.ensures),
+          (put_more c.args.held.now c.loop-at.held c.store_prefix.new.held bytes c.lanes_at-lanes.result c.args.from at
+          n v.4 c.lanes_at-lanes.ensures few c.store_prefix.ensures),
     )

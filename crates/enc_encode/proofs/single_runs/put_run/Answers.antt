@@ -1,7 +1,7 @@
 use Rattle.std.proofs.Common.{◌+◌, take, sym, subst}
-use Rattle.enc_encode.specs.Runs.{RunFront}
+use Rattle.enc_encode.specs.Runs.{RunPrefix}
 use Rattle.enc_encode.specs.Singles.{IsSingle}
-use Rattle.enc_encode.proofs.RunFronts.{ascii_cut, run_ascii, run_both}
+use Rattle.enc_encode.proofs.RunPrefixes.{ascii_cut, run_ascii, run_both}
 use Rattle.enc_encode.proofs.Singles.{ascii_single}
 use Rattle.enc_encode.proofs.single_runs.put_run.Goals as goal
 
@@ -17,8 +17,8 @@ returns-clause-run c =
     let n = c.put_lanes-count.result in
     let held = take c.args.from c.args.held.now in
     let mid = take (c.args.from + n) c.put_lanes-count.new.held in
-    let first : RunFront gives text c.range_from.result.now held mid =
-    subst (λ z. RunFront gives text z held mid) (sym c.range_from.ensures.value)
+    let first : RunPrefix gives text c.range_from.result.now held mid =
+    subst (λ z. RunPrefix gives text z held mid) (sym c.range_from.ensures.value)
     (run_ascii gives (ascii_single c.args.pointers.now) text n held mid
     (rw c.as_bytes.ensures.value at c.put_lanes-count.ensures.ascii)
     (rw c.as_bytes.ensures.value at c.put_lanes-count.ensures.put)) in

@@ -6,7 +6,7 @@ use Rattle.std.proofs.lemmas.Str.{IsUtf8-past_char, IsCharBoundary-from_drop}
 use Rattle.enc_encode.specs.Runs.{FirstGiven}
 use Rattle.enc_encode.specs.Singles.{IsSingle}
 use Rattle.enc_encode.proofs.Puts.{two_at}
-use Rattle.enc_encode.proofs.RunFronts.{run_none, run_more}
+use Rattle.enc_encode.proofs.RunPrefixes.{run_none, run_more}
 use Rattle.enc_encode.proofs.single_runs.put_singles.Goals as goal
 
 pub loop-count-init : goal.loop-count-init

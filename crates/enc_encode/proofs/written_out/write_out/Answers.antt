@@ -2,14 +2,14 @@ use Rattle.std.proofs.lemmas.Result.{err_from_is_err_and}
 use Rattle.enc_encode.specs.Code.{bytes_of}
 use Rattle.enc_encode.specs.State.{shift_of}
 use Rattle.enc_encode.proofs.Growth.{after_part}
-use Rattle.enc_encode.proofs.Final.{lacks_front}
+use Rattle.enc_encode.proofs.Final.{lacks_prefix}
 use Rattle.enc_encode.proofs.written_out.write_out.Goals as goal
 
 pub returns-in_err-append-in-Lacks : goal.returns-in_err-append-in-Lacks
 returns-in_err-append-in-Lacks c =
     let p = err_from_is_err_and c.from_residual.result c.from_residual.ensures.1 in
     rw (c.in-Lacks.is, p.1, p.2)
-    (lacks_front c.args.mode (bytes_of c.in-Lacks.bytes) (shift_of c.in-Lacks.next) c.in-Lacks.c
+    (lacks_prefix c.args.mode (bytes_of c.in-Lacks.bytes) (shift_of c.in-Lacks.next) c.in-Lacks.c
     (rw c.as_slice.ensures at c.in_err-append-in-Lacks.ensures))
 
 pub returns-in_err-append_reference-in-Html : goal.returns-in_err-append_reference-in-Html

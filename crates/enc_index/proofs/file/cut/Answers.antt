@@ -6,7 +6,7 @@ use Rattle.enc_index.proofs.file.cut.Goals as goal
 pub returns-then-byte-mark-clause-before : goal.returns-then-byte-mark-clause-before
 returns-then-byte-mark-clause-before c =
     rw (
-      c.loop-place.invariant.front,
+      c.loop-place.invariant.prefix,
       before_here c.args.mark c.args.bytes.now c.loop-place.place c.loop-place-test.true
           c.if-byte-mark.true,
     ) (sym (append-nil _))
@@ -22,7 +22,7 @@ returns-then-byte-mark-clause-after c =
 pub returns-clause-before : goal.returns-clause-before
 returns-clause-before c =
     rw (
-      c.loop-place.invariant.front,
+      c.loop-place.invariant.prefix,
       before_end c.args.mark c.args.bytes.now c.loop-place.place
           c.loop-place-test.false,
       take_all c.loop-place.place c.args.bytes.now c.loop-place-test.false,

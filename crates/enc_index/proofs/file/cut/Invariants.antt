@@ -4,6 +4,6 @@ use Rattle.enc_index.proofs.file.cut.Given as goal
 
 abbrev pub invariant-loop-place : goal.invariant-loop-place
 invariant-loop-place l = record {
-  front : before l.mark l.bytes ≡ take l.place l.bytes ++ before l.mark (drop l.place l.bytes);
+  prefix : before l.mark l.bytes ≡ take l.place l.bytes ++ before l.mark (drop l.place l.bytes);
   back : after l.mark l.bytes ≡ after l.mark (drop l.place l.bytes);
 }

@@ -19,19 +19,19 @@ returns-in_default-clause-few g c =
     let few = c.store_each.ensures.few in
     omega (arith, l, few)
 
-pub returns-then-front-eq-LANES-clause-took : goal.returns-then-front-eq-LANES-clause-took
-returns-then-front-eq-LANES-clause-took g c =
+pub returns-then-prefix-eq-LANES-clause-took : goal.returns-then-prefix-eq-LANES-clause-took
+returns-then-prefix-eq-LANES-clause-took g c =
     let bytes = c.args.bytes.now in
     let char : ℕ → ℕ = λ b. slice_index c.args.chars.now b in
-    let own = own_map char (take c.in-Some.front bytes) c.requires.own c.in-Some.ensures.ascii in
-    let new = take c.store_front-end.result c.store_front-end.new.room in
+    let own = own_map char (take c.in-Some.prefix bytes) c.requires.own c.in-Some.ensures.ascii in
+    let new = take c.store_prefix-end.result c.store_prefix-end.new.room in
     subst (λ z. BatchTook (take c.args.from c.args.room.now) z new)
-    (own ∙ ap (λ n. map char (take n bytes)) c.if-front-eq-LANES.true) c.store_front-end.ensures.took
+    (own ∙ ap (λ n. map char (take n bytes)) c.if-prefix-eq-LANES.true) c.store_prefix-end.ensures.took
 
 pub returns-clause-took : goal.returns-clause-took
 returns-clause-took g c =
     let bytes = c.args.bytes.now in
-    let i = c.in-Some.front in
+    let i = c.in-Some.prefix in
     let char : ℕ → ℕ = λ b. slice_index c.args.chars.now b in
     let b = get_or bytes i 0 in
     let fits = c.type_inv.bytes i in
@@ -40,20 +40,20 @@ returns-clause-took g c =
     let code = c.index-chars-bytes.result in
     let is : code ≡ char b = get_or_read_under c.args.chars.now b (length c.args.chars.now) code 0
     c.index-chars-bytes.is below refl in
-    let inside : i < length bytes = let w = c.in-Some.ensures.within in let n = c.if-front-eq-LANES.false in let many =
+    let inside : i < length bytes = let w = c.in-Some.ensures.within in let n = c.if-prefix-eq-LANES.false in let many =
     c.requires.many in omega (arith, w, n, many) in
     let own = own_map char (take i bytes) c.requires.own c.in-Some.ensures.ascii in
-    let mid = take c.store_front-end.result c.store_front-end.new.room in
+    let mid = take c.store_prefix-end.result c.store_prefix-end.new.room in
     let new = take c.store_code.result c.store_code.new.bytes in
     let e = c.store_code.ensures in
-    let f = c.store_front-end.ensures in
+    let f = c.store_prefix-end.ensures in
     took_on (take c.args.from c.args.room.now) mid new (take i bytes) (code ∷ []) (map char (take (i + 1) bytes)) f.took
     (took_char mid new code f.text e.scalar e.code)
-    (ap₂ (λ front c. front ++ c ∷ []) own is ∙ map_more char bytes i inside)
+    (ap₂ (λ prefix c. prefix ++ c ∷ []) own is ∙ map_more char bytes i inside)
 
 pub returns-clause-text : goal.returns-clause-text
 returns-clause-text g c =
     let e = c.store_code.ensures in
-    let old = take c.store_front-end.result c.store_front-end.new.room in
+    let old = take c.store_prefix-end.result c.store_prefix-end.new.room in
     still_text old (take c.store_code.result c.store_code.new.bytes)
-    c.index-chars-bytes.result c.store_front-end.ensures.text e.scalar e.code
+    c.index-chars-bytes.result c.store_prefix-end.ensures.text e.scalar e.code

@@ -12,8 +12,8 @@ returns-in_err-ascii-clause-refused g c =
     let why = c.in_err-ascii.field-0.0 in
     if_err c.from_residual.result why _ c.from_residual.ensures.1
     (feed_refused g.S.Sink.takes r g.met.S.Sink.is_sink h (g.met.D.Decoder.calm c.args.tables.now) c.args.state.now
-    c.args.rest.now c.next_front-front.result c.args.sink.now c.ascii.new.self why
-    (subst (λ z. r c.args.sink.now z why c.ascii.new.self) (ap (λ run. run.text) (sym c.next_front-front.ensures.own))
+    c.args.rest.now c.next_prefix-prefix.result c.args.sink.now c.ascii.new.self why
+    (subst (λ z. r c.args.sink.now z why c.ascii.new.self) (ap (λ run. run.text) (sym c.next_prefix-prefix.ensures.own))
     c.in_err-ascii.ensures))
 
 pub returns-in_err-text-clause-refused : goal.returns-in_err-text-clause-refused

@@ -7,11 +7,11 @@ returns-clause-given g c =
     let h = g.D.Decoder.handler c.args.tables.now in
     let s = c.args.state.now in
     let piece = c.args.piece.now in
-    let n = c.in_ok-front.front in
-    let e = c.in_ok-front.ensures in
+    let n = c.in_ok-prefix.prefix in
+    let e = c.in_ok-prefix.ensures in
     rest_given h (g.met.D.Decoder.calm c.args.tables.now) g.S.Sink.takes g.S.Sink.refuses g.met.S.Sink.is_sink s s piece
     (take (length piece - n) (drop n piece)) n
-    c.args.sink.now c.give_fronts.new.sink c.feed_blocks.new.sink c.feed_blocks.result refl e.state e.taken
+    c.args.sink.now c.give_prefixes.new.sink c.feed_blocks.new.sink c.feed_blocks.result refl e.state e.taken
     c.feed_blocks.ensures.given
 
 pub returns-clause-state : goal.returns-clause-state
@@ -19,7 +19,7 @@ returns-clause-state g c =
     let h = g.D.Decoder.handler c.args.tables.now in
     let s = c.args.state.now in
     let piece = c.args.piece.now in
-    let n = c.in_ok-front.front in
+    let n = c.in_ok-prefix.prefix in
     rest_state h (g.met.D.Decoder.calm c.args.tables.now) s s c.feed_blocks.new.state piece
     (take (length piece - n) (drop n piece)) n
-    c.feed_blocks.result refl c.in_ok-front.ensures.state c.feed_blocks.ensures.state
+    c.feed_blocks.result refl c.in_ok-prefix.ensures.state c.feed_blocks.ensures.state

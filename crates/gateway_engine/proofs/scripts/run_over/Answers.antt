@@ -45,14 +45,14 @@ returns-in-Err-new-clause-output g c = λ m blocks stands.
 pub returns-in-Ok-run_script-clause-output : goal.returns-in-Ok-run_script-clause-output
 returns-in-Ok-run_script-clause-output g c = λ m blocks stands.
     let script = c.in-Ok.script.items in
-    let front = g.W.CountedWrite.contents c.args.writer.now in
+    let prefix = g.W.CountedWrite.contents c.args.writer.now in
     let u = g.U.Uploads in
     let st = beginning m blocks in
     let gateway = c.in-Ok-new.gateway in
     let now = c.run_script.new.core in
-    let w = view (as_connections u) gateway gateway st front front in
+    let w = view (as_connections u) gateway gateway st prefix prefix in
     let at : IsAt w (run_from st []) = begins w refl (c.in-Ok-new.ensures.ok true m blocks stands) refl in
-    let v = view (as_connections u) gateway now st (g.W.CountedWrite.contents c.run_script.new.writer) front in (
+    let v = view (as_connections u) gateway now st (g.W.CountedWrite.contents c.run_script.new.writer) prefix in (
       script,
       c.in-Ok.ensures.ok,
       ran u v c.args.store c.close.result script (λ s is. c.close.ensures.kept true s is)
@@ -62,21 +62,21 @@ returns-in-Ok-run_script-clause-output g c = λ m blocks stands.
           c.in-Ok-new.ensures.same c.close.ensures.crash shown))
           (λ past last. last_through u (store_of now) c.close.result st past c.close.ensures.crash last)
           (subst (λ b. Ends v (Ok (tt {0})) (run_lines 1 0 (script_lines b)) (run_from st [])) c.deref.ensures.value
-          (c.in-Ok-run_script.ensures.does gateway st (run_from st []) front at)),
+          (c.in-Ok-run_script.ensures.does gateway st (run_from st []) prefix at)),
     )
 
 pub returns-clause-output : goal.returns-clause-output
 returns-clause-output g c = λ m blocks stands.
     let script = c.in-Ok.script.items in
-    let front = g.W.CountedWrite.contents c.args.writer.now in
+    let prefix = g.W.CountedWrite.contents c.args.writer.now in
     let u = g.U.Uploads in
     let st = beginning m blocks in
     let gateway = c.in-Ok-new.gateway in
     let now = c.run_script.new.core in
     let fault = c.in-Err-run_script.fault in
-    let w = view (as_connections u) gateway gateway st front front in
+    let w = view (as_connections u) gateway gateway st prefix prefix in
     let at : IsAt w (run_from st []) = begins w refl (c.in-Ok-new.ensures.ok true m blocks stands) refl in
-    let v = view (as_connections u) gateway now st (g.W.CountedWrite.contents c.run_script.new.writer) front in
+    let v = view (as_connections u) gateway now st (g.W.CountedWrite.contents c.run_script.new.writer) prefix in
     let back = c.close-in-Err-run_script.result in (
       script,
       c.in-Ok.ensures.ok,
@@ -87,7 +87,7 @@ returns-clause-output g c = λ m blocks stands.
           c.in-Ok-new.ensures.same c.close-in-Err-run_script.ensures.crash shown))
           (λ past last. last_through u (store_of now) back st past c.close-in-Err-run_script.ensures.crash last)
           fault (subst (λ b. Ends v (Err fault) (run_lines 1 0 (script_lines b)) (run_from st [])) c.deref.ensures.value
-          (c.in-Err-run_script.ensures.does gateway st (run_from st []) front at)),
+          (c.in-Err-run_script.ensures.does gateway st (run_from st []) prefix at)),
     )
 
 pub returns-in-Err-new-clause-io : goal.returns-in-Err-new-clause-io

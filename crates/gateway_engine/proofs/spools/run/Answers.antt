@@ -34,12 +34,12 @@ returns-in-Ok-run_over-clause-runs g c n m is =
     let opened = c.in-Ok.spool in
     let now = c.in-Ok-run_over.spool in
     let held = g.W.CountedWrite.contents c.run_over.new.writer in
-    let front = g.W.CountedWrite.contents c.args.writer.now in
+    let prefix = g.W.CountedWrite.contents c.args.writer.now in
     let stands = c.in-Ok.ensures.stands n m is in
     let has = c.in-Ok-run_over.ensures.output m (Some n) stands in (
       has.0,
       has.1,
-      subst (λ d. HasRunOn g.D.Disk disk (Ok d) held front n (beginning m (Some n)) has.0)
+      subst (λ d. HasRunOn g.D.Disk disk (Ok d) held prefix n (beginning m (Some n)) has.0)
           (sym c.into_disk.ensures.same)
           (ran_on g.D.Disk disk_of size_of _ _ _ disk opened now n m (g.met.D.Disk.counts_now disk)
           (c.in-Ok.ensures.lasts n m is)
@@ -53,7 +53,7 @@ returns-in-Ok-run_over-clause-runs g c n m is =
           (durable-law g.row.D g.D.Disk g.D.Disk-dict
           (record { counts_now = g.met.D.Disk.counts_now; only_now = g.met.D.Disk.only_now }) now
           (at_rest st.world.store st.world.blocks) (st.world.store ∷ []) rests (inl refl)).1)
-          held front has.0 has.2),
+          held prefix has.0 has.2),
     )
 
 pub returns-in-Err-run_over-clause-runs : goal.returns-in-Err-run_over-clause-runs
@@ -63,14 +63,14 @@ returns-in-Err-run_over-clause-runs g c n m is =
     let now = c.in-Err-run_over.spool in
     let fault = c.in-Err-run_over.fault in
     let held = g.W.CountedWrite.contents c.run_over.new.writer in
-    let front = g.W.CountedWrite.contents c.args.writer.now in
+    let prefix = g.W.CountedWrite.contents c.args.writer.now in
     let stands = c.in-Ok.ensures.stands n m is in
     let has = c.in-Err-run_over.ensures.output m (Some n) stands in (
       has.0,
       has.1,
-      subst (λ f. HasRunOn g.D.Disk disk (Err (c.into_disk-in-Err-run_over.result, f)) held front n
+      subst (λ f. HasRunOn g.D.Disk disk (Err (c.into_disk-in-Err-run_over.result, f)) held prefix n
           (beginning m (Some n)) has.0) (sym c.from.ensures)
-          (subst (λ d. HasRunOn g.D.Disk disk (Err (d, run_fault fault)) held front n (beginning m (Some n)) has.0)
+          (subst (λ d. HasRunOn g.D.Disk disk (Err (d, run_fault fault)) held prefix n (beginning m (Some n)) has.0)
           (sym c.into_disk-in-Err-run_over.ensures.same)
           (broke_on g.D.Disk disk_of size_of _ _ _ disk opened now n m (g.met.D.Disk.counts_now disk)
           (c.in-Ok.ensures.lasts n m is)
@@ -84,7 +84,7 @@ returns-in-Err-run_over-clause-runs g c n m is =
           (durable-law g.row.D g.D.Disk g.D.Disk-dict
           (record { counts_now = g.met.D.Disk.counts_now; only_now = g.met.D.Disk.only_now }) now
           (at_rest st.world.store st.world.blocks) (st.world.store ∷ []) rests (inl refl)).1)
-          held front has.0 fault has.2)),
+          held prefix has.0 fault has.2)),
     )
 
 pub returns-in-Err-run_over-clause-io : goal.returns-in-Err-run_over-clause-io

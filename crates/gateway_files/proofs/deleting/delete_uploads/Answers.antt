@@ -16,7 +16,7 @@ pub loop-number-preserved : goal.loop-number-preserved
 loop-number-preserved g c =
     let numbers : List ℕ = c.args.numbers.now in
     let i : ℕ = c.loop-number.number-index in
-    let front = g.W.Write.contents c.args.writer.now in
+    let prefix = g.W.Write.contents c.args.writer.now in
     let held = g.W.Write.contents c.loop-number.writer in
     let both : c.if-all.all ≡ c.loop-number.all && c.in_ok-there.there =
     elim c.if-all.branch [
@@ -26,16 +26,16 @@ loop-number-preserved g c =
       unfailed _ _ _ (λ f. absurd (cc)) c.in_ok-there.ensures.counts ∙ c.loop-number.invariant.0,
       λ w stands.
           let is = subst
-          (λ (rest : List ℕ). Halfway g.U.Uploads w c.args.uploads.now c.loop-number.uploads numbers rest front held
+          (λ (rest : List ℕ). Halfway g.U.Uploads w c.args.uploads.now c.loop-number.uploads numbers rest prefix held
           c.loop-number.all)
           (drop_more numbers i 0 c.loop-number-test.true) (c.loop-number.invariant.1 w stands) in
           let at : World = record w { store = is.store } in
           subst
           (λ (b : Bool). Halfway g.U.Uploads w c.args.uploads.now c.delete_one.new.uploads numbers
-          (drop (i + 1) numbers) front (g.W.Write.contents c.delete_one.new.writer) b)
+          (drop (i + 1) numbers) prefix (g.W.Write.contents c.delete_one.new.writer) b)
           (sym both)
           (further g.U.Uploads w numbers c.args.uploads.now c.loop-number.uploads c.delete_one.new.uploads
-          (get_or numbers i 0) (drop (i + 1) numbers) front held c.loop-number.all is
+          (get_or numbers i 0) (drop (i + 1) numbers) prefix held c.loop-number.all is
           (c.in_ok-there.ensures.crash at is.stands) (g.W.Write.contents c.delete_one.new.writer)
           c.in_ok-there.there (c.in_ok-there.ensures.stands at is.stands)
           (c.in_ok-there.ensures.there at is.stands) c.in_ok-there.ensures.line),
@@ -45,46 +45,46 @@ pub returns-in_err-there-clause-crash : goal.returns-in_err-there-clause-crash
 returns-in_err-there-clause-crash g c w stands =
     let numbers : List ℕ = c.args.numbers.now in
     let i : ℕ = c.loop-number.number-index in
-    let front = g.W.Write.contents c.args.writer.now in
+    let prefix = g.W.Write.contents c.args.writer.now in
     let held = g.W.Write.contents c.loop-number.writer in
     let is = subst
-    (λ (rest : List ℕ). Halfway g.U.Uploads w c.args.uploads.now c.loop-number.uploads numbers rest front held
+    (λ (rest : List ℕ). Halfway g.U.Uploads w c.args.uploads.now c.loop-number.uploads numbers rest prefix held
     c.loop-number.all)
     (drop_more numbers i 0 c.loop-number-test.true) (c.loop-number.invariant.1 w stands) in
     limits_more g.U.Uploads w numbers c.args.uploads.now c.loop-number.uploads c.delete_one.new.uploads
-    (get_or numbers i 0) (drop (i + 1) numbers) front held c.loop-number.all is
+    (get_or numbers i 0) (drop (i + 1) numbers) prefix held c.loop-number.all is
     (c.in_err-there.ensures.crash (record w { store = is.store }) is.stands)
 
 pub returns-clause-stands : goal.returns-clause-stands
 returns-clause-stands g c w stands =
     let numbers : List ℕ = c.args.numbers.now in
-    let front = g.W.Write.contents c.args.writer.now in
+    let prefix = g.W.Write.contents c.args.writer.now in
     let held = g.W.Write.contents c.loop-number.writer in
-    done_stands g.U.Uploads w numbers c.args.uploads.now c.loop-number.uploads front held c.loop-number.all
+    done_stands g.U.Uploads w numbers c.args.uploads.now c.loop-number.uploads prefix held c.loop-number.all
     (subst
-    (λ (rest : List ℕ). Halfway g.U.Uploads w c.args.uploads.now c.loop-number.uploads numbers rest front held
+    (λ (rest : List ℕ). Halfway g.U.Uploads w c.args.uploads.now c.loop-number.uploads numbers rest prefix held
     c.loop-number.all)
     (drop_all c.loop-number.number-index numbers c.loop-number-test.false) (c.loop-number.invariant.1 w stands))
 
 pub returns-clause-lines : goal.returns-clause-lines
 returns-clause-lines g c w stands =
     let numbers : List ℕ = c.args.numbers.now in
-    let front = g.W.Write.contents c.args.writer.now in
+    let prefix = g.W.Write.contents c.args.writer.now in
     let held = g.W.Write.contents c.loop-number.writer in
-    done_lines g.U.Uploads w numbers c.args.uploads.now c.loop-number.uploads front held c.loop-number.all
+    done_lines g.U.Uploads w numbers c.args.uploads.now c.loop-number.uploads prefix held c.loop-number.all
     (subst
-    (λ (rest : List ℕ). Halfway g.U.Uploads w c.args.uploads.now c.loop-number.uploads numbers rest front held
+    (λ (rest : List ℕ). Halfway g.U.Uploads w c.args.uploads.now c.loop-number.uploads numbers rest prefix held
     c.loop-number.all)
     (drop_all c.loop-number.number-index numbers c.loop-number-test.false) (c.loop-number.invariant.1 w stands))
 
 pub returns-clause-all : goal.returns-clause-all
 returns-clause-all g c w stands =
     let numbers : List ℕ = c.args.numbers.now in
-    let front = g.W.Write.contents c.args.writer.now in
+    let prefix = g.W.Write.contents c.args.writer.now in
     let held = g.W.Write.contents c.loop-number.writer in
-    done_all g.U.Uploads w numbers c.args.uploads.now c.loop-number.uploads front held c.loop-number.all
+    done_all g.U.Uploads w numbers c.args.uploads.now c.loop-number.uploads prefix held c.loop-number.all
     (subst
-    (λ (rest : List ℕ). Halfway g.U.Uploads w c.args.uploads.now c.loop-number.uploads numbers rest front held
+    (λ (rest : List ℕ). Halfway g.U.Uploads w c.args.uploads.now c.loop-number.uploads numbers rest prefix held
     c.loop-number.all)
     (drop_all c.loop-number.number-index numbers c.loop-number-test.false) (c.loop-number.invariant.1 w stands))
 

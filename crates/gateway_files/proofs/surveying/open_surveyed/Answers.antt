@@ -50,7 +50,7 @@ returns-in-Err-clause-stands g c n m is =
 pub returns-in-Ok-open-clause-sound : goal.returns-in-Ok-open-clause-sound
 returns-in-Ok-open-clause-sound g c honest =
     opened_back (g.D.Disk.size c.args.disk) (g.D.Disk.size c.find_whole.new.disk) c.in-Ok.found
-    (g.D.Disk.seen c.args.disk) (g.D.Disk.seen c.find_whole.new.disk) (g.D.Disk.loose c.find_whole.new.disk)
+    (g.D.Disk.seen c.args.disk) (g.D.Disk.seen c.find_whole.new.disk) (g.D.Disk.unsynced c.find_whole.new.disk)
     c.in-Ok.ensures.size (c.in-Ok.ensures.on honest) (c.in-Ok.ensures.settled honest) c.in-Ok-open.spool.kept
     (c.in-Ok-open.ensures.sound (c.in-Ok.ensures.honest.0 honest))
 
@@ -81,7 +81,7 @@ returns-in-Ok-open-clause-same g c honest none fine =
 pub returns-in-Err-open-clause-refused : goal.returns-in-Err-open-clause-refused
 returns-in-Err-open-clause-refused g c honest =
     refused_back (g.D.Disk.size c.args.disk) (g.D.Disk.size c.find_whole.new.disk) c.in-Ok.found
-    (g.D.Disk.seen c.args.disk) (g.D.Disk.seen c.find_whole.new.disk) (g.D.Disk.loose c.find_whole.new.disk)
+    (g.D.Disk.seen c.args.disk) (g.D.Disk.seen c.find_whole.new.disk) (g.D.Disk.unsynced c.find_whole.new.disk)
     c.in-Ok.ensures.size (c.in-Ok.ensures.on honest) (c.in-Ok.ensures.settled honest) c.in-Err-open.refused.1
     (c.in-Err-open.ensures.refused (c.in-Ok.ensures.honest.0 honest))
 

@@ -9,7 +9,7 @@ returns-in-Crash g c n left all =
     let ended =
     crashed g.D.Disk g.D.CrashDisk.chosen c.in-Crash.how c.args.disk c.restart.result n left all
     c.restart.ensures.chosen c.restart.ensures.size c.restart.ensures.honest.0 c.restart.ensures.image
-    c.restart.ensures.firm c.restart.ensures.counts in (
+    c.restart.ensures.is_synced c.restart.ensures.counts in (
       ended.0,
       ended.1,
       subst (λ (end : End g.row.D-How.Denot). IsEnd g.D.Disk g.D.CrashDisk.chosen end c.args.disk c.restart.result left

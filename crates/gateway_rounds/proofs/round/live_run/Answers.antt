@@ -10,7 +10,8 @@ returns-in-Ok g c n before all =
     let back = c.in-Ok.disk in
     let m = read_opens g.D.Disk given n before all in
     let has = c.in-Ok.ensures.runs n m.0 (is_spool g.D.Disk given n before m.0 all m.1) in
-    let lived = ran g.D.Disk given back n before m.0 (g.met.D.Disk.counts_now back) (g.met.D.Disk.only_now given) all m.1
+    let lived = ran g.D.Disk given back n before m.0 (g.met.D.Disk.counts_now back)
+    (g.met.D.Disk.only_now given) all m.1
     c.args.round.now.written.bytes.items c.run.new.writer.bytes.items has.0 has.2 in (
       lived.0,
       lived.1,
@@ -34,7 +35,8 @@ returns-in-Err g c n before all =
     let fault = c.in-Err.fault in
     let m = read_opens g.D.Disk given n before all in
     let has = c.in-Err.ensures.runs n m.0 (is_spool g.D.Disk given n before m.0 all m.1) in
-    let lived = refused g.D.Disk given back n before m.0 (g.met.D.Disk.counts_now back) (g.met.D.Disk.only_now given) all
+    let lived = refused g.D.Disk given back n before m.0 (g.met.D.Disk.counts_now back)
+    (g.met.D.Disk.only_now given) all
     m.1 c.args.round.now.written.bytes.items c.run.new.writer.bytes.items has.0 _ fault c.in-Err.ensures.unopened has.2
     in (
       lived.0,

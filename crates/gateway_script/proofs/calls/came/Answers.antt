@@ -7,7 +7,7 @@ use Rattle.gateway_script.proofs.Turns.{falling, told_called, tell_stopped, refu
 use Rattle.gateway_script.proofs.calls.came.Goals as goal
 
 pub returns-in-Ok-clause-does : goal.returns-in-Ok-clause-does
-returns-in-Ok-clause-does g c = λ before st r front at.
+returns-in-Ok-clause-does g c = λ before st r prefix at.
     let s' = g.C.Connections.stands c.came.new.self true in
     let old = g.W.CountedWrite.contents c.args.writer.now in
     let new = g.W.CountedWrite.contents c.tell.new.writer in
@@ -15,14 +15,14 @@ returns-in-Ok-clause-does g c = λ before st r front at.
     let e = Came c.args.conn c.args.bytes.now in
     let given : List ℕ = c.came.new.out.items in
     let none : c.new-out.result.items ≡ [] = c.new-out.ensures.items in
-    told_called (view g.C.Connections before c.args.core.now st old front) c.came.new.self new r e at a given
+    told_called (view g.C.Connections before c.args.core.now st old prefix) c.came.new.self new r e at a given
     (c.in-Ok.ensures.crash r.state at.keeps)
     (subst (λ o. Gives true s' (Ok a) o given r.state e) none (c.in-Ok.ensures.gives true r.state at.keeps))
     (subst (λ b. Tells old new (Ok (tt {0})) c.args.conn b a.closes) c.deref.ensures.value
     c.in_ok-tell-in-Ok.ensures.tells)
 
 pub returns-in_err-tell-in-Ok-clause-does : goal.returns-in_err-tell-in-Ok-clause-does
-returns-in_err-tell-in-Ok-clause-does g c = λ before st r front at.
+returns-in_err-tell-in-Ok-clause-does g c = λ before st r prefix at.
     let s' = g.C.Connections.stands c.came.new.self true in
     let old = g.W.CountedWrite.contents c.args.writer.now in
     let new = g.W.CountedWrite.contents c.tell.new.writer in
@@ -31,7 +31,7 @@ returns-in_err-tell-in-Ok-clause-does g c = λ before st r front at.
     let given : List ℕ = c.came.new.out.items in
     let none : c.new-out.result.items ≡ [] = c.new-out.ensures.items in
     let p = err_from_is_err_and c.from_residual.result c.from_residual.ensures.1 in
-    rw (p.1, p.2) (tell_stopped (view g.C.Connections before c.args.core.now st old front) c.came.new.self new r e at a
+    rw (p.1, p.2) (tell_stopped (view g.C.Connections before c.args.core.now st old prefix) c.came.new.self new r e at a
     given (c.in-Ok.ensures.crash r.state at.keeps)
     (subst (λ o. Gives true s' (Ok a) o given r.state e) none (c.in-Ok.ensures.gives true r.state at.keeps))
     c.in_err-tell-in-Ok.field-0.0
@@ -39,20 +39,20 @@ returns-in_err-tell-in-Ok-clause-does g c = λ before st r front at.
     c.in_err-tell-in-Ok.ensures.tells))
 
 pub returns-clause-does : goal.returns-clause-does
-returns-clause-does g c = λ before st r front at.
+returns-clause-does g c = λ before st r prefix at.
     let s' = g.C.Connections.stands c.came.new.self true in
     let f = c.in-Err.error in
     let e = Came c.args.conn c.args.bytes.now in
     let given : List ℕ = c.came.new.out.items in
     let none : c.new-out.result.items ≡ [] = c.new-out.ensures.items in
-    refused_called (view g.C.Connections before c.args.core.now st (g.W.CountedWrite.contents c.args.writer.now) front)
+    refused_called (view g.C.Connections before c.args.core.now st (g.W.CountedWrite.contents c.args.writer.now) prefix)
     c.came.new.self (g.W.CountedWrite.contents c.refused.new.writer) r e at f given
     (c.in-Err.ensures.crash r.state at.keeps)
     (subst (λ o. Gives true s' (Err f) o given r.state e) none (c.in-Err.ensures.gives true r.state at.keeps))
     c.in_ok-refused-in-Err.ensures.refuses
 
 pub returns-in_err-refused-in-Err-clause-does : goal.returns-in_err-refused-in-Err-clause-does
-returns-in_err-refused-in-Err-clause-does g c = λ before st r front at.
+returns-in_err-refused-in-Err-clause-does g c = λ before st r prefix at.
     let s' = g.C.Connections.stands c.came.new.self true in
     let f = c.in-Err.error in
     let e = Came c.args.conn c.args.bytes.now in
@@ -62,7 +62,7 @@ returns-in_err-refused-in-Err-clause-does g c = λ before st r front at.
     c.from_residual-in_err-refused-in-Err.ensures.1 in
     rw (p.1, p.2)
     (refuse_stopped (view g.C.Connections before c.args.core.now st
-    (g.W.CountedWrite.contents c.args.writer.now) front) c.came.new.self
+    (g.W.CountedWrite.contents c.args.writer.now) prefix) c.came.new.self
     (g.W.CountedWrite.contents c.refused.new.writer) r e at f given (c.in-Err.ensures.crash r.state at.keeps)
     (subst (λ o. Gives true s' (Err f) o given r.state e) none (c.in-Err.ensures.gives true r.state at.keeps))
     (λ ms among. g.met.C.Connections.durable c.args.core.now r.state ms at.keeps among)

@@ -6,14 +6,14 @@ use Rattle.gateway_script.proofs.Turns.{falling, done_went, refused_went}
 use Rattle.gateway_script.proofs.calls.open.Goals as goal
 
 pub returns-in-Ok-clause-does : goal.returns-in-Ok-clause-does
-returns-in-Ok-clause-does g c = λ before st r front at.
-    done_went (view g.C.Connections before c.args.core.now st (g.W.CountedWrite.contents c.args.writer.now) front)
+returns-in-Ok-clause-does g c = λ before st r prefix at.
+    done_went (view g.C.Connections before c.args.core.now st (g.W.CountedWrite.contents c.args.writer.now) prefix)
     c.opened.new.self r (Opened c.args.conn) at
     (quiet_limits _ _ c.opened.ensures.crash) (c.in-Ok.ensures.does true r.state at.keeps)
 
 pub returns-in-Err-clause-does : goal.returns-in-Err-clause-does
-returns-in-Err-clause-does g c = λ before st r front at.
-    refused_went (view g.C.Connections before c.args.core.now st (g.W.CountedWrite.contents c.args.writer.now) front)
+returns-in-Err-clause-does g c = λ before st r prefix at.
+    refused_went (view g.C.Connections before c.args.core.now st (g.W.CountedWrite.contents c.args.writer.now) prefix)
     c.opened.new.self (g.W.CountedWrite.contents c.refused.new.writer) r (Opened c.args.conn)
     c.in-Err.error c.refused.result at
     (λ ms among. g.met.C.Connections.durable c.args.core.now r.state ms at.keeps among)

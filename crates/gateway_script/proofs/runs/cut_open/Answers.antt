@@ -9,14 +9,14 @@ use Rattle.gateway_script.proofs.Ending.{cut_done, cut_skipped, cut_refused}
 use Rattle.gateway_script.proofs.runs.cut_open.Goals as goal
 
 pub returns-in-Ok-clause-does : goal.returns-in-Ok-clause-does
-returns-in-Ok-clause-does g c = λ before st r front k at.
-    cut_done (view g.C.Connections before c.args.core.now st (g.W.CountedWrite.contents c.args.writer.now) front)
+returns-in-Ok-clause-does g c = λ before st r prefix k at.
+    cut_done (view g.C.Connections before c.args.core.now st (g.W.CountedWrite.contents c.args.writer.now) prefix)
     c.ended.new.self k c.args.conn r at
     (c.in-Ok.ensures.crash r.state at.keeps) (c.in-Ok.ensures.does true r.state at.keeps)
 
 pub returns-in-Closed-clause-does : goal.returns-in-Closed-clause-does
-returns-in-Closed-clause-does g c = λ before st r front k at.
-    let v = view g.C.Connections before c.args.core.now st (g.W.CountedWrite.contents c.args.writer.now) front in
+returns-in-Closed-clause-does g c = λ before st r prefix k at.
+    let v = view g.C.Connections before c.args.core.now st (g.W.CountedWrite.contents c.args.writer.now) prefix in
     let e = Ended c.args.conn in
     cut_skipped v c.ended.new.self k c.args.conn r at
     (subst (λ f. Leaves v c.ended.new.self r.state.world.store (shown_by r.state e (mark_of {T = Unit {0}} (Err f))))
@@ -25,8 +25,8 @@ returns-in-Closed-clause-does g c = λ before st r front k at.
     (c.in-Err.ensures.does true r.state at.keeps))
 
 pub returns-in_default-clause-does : goal.returns-in_default-clause-does
-returns-in_default-clause-does g c = λ before st r front k at.
-    cut_refused (view g.C.Connections before c.args.core.now st (g.W.CountedWrite.contents c.args.writer.now) front)
+returns-in_default-clause-does g c = λ before st r prefix k at.
+    cut_refused (view g.C.Connections before c.args.core.now st (g.W.CountedWrite.contents c.args.writer.now) prefix)
     c.ended.new.self (g.W.CountedWrite.contents c.refused.new.writer)
     k c.args.conn r c.in-Err.error c.refused.result at
     (λ ms among. g.met.C.Connections.durable c.args.core.now r.state ms at.keeps among)

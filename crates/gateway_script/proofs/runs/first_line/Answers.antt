@@ -1,5 +1,5 @@
 use Rattle.std.proofs.Common.{◌≤◌, ◌-◌, length, List, ℕ, take, sym, subst, ap, ◌∙◌}
-use Rattle.gateway_script.proofs.Ending.{line_front, after_size}
+use Rattle.gateway_script.proofs.Ending.{line_prefix, after_size}
 use Rattle.gateway_script.proofs.runs.first_line.Goals as goal
 
 pub slice_bounds-result-count : goal.slice_bounds-result-count
@@ -10,4 +10,4 @@ slice_bounds-result-count c =
 pub returns-clause-line : goal.returns-clause-line
 returns-clause-line c =
     ap (λ (l : List ℕ). take (length c.args.script.now - length l) c.args.script.now) c.after-rest.ensures
-    ∙ line_front c.args.script.now
+    ∙ line_prefix c.args.script.now

@@ -4,7 +4,7 @@ use Rattle.std.proofs.lemmas.Simd.{length-chunk}
 use Rattle.std.specs.List.{prefix_len}
 use Rattle.std.specs.Simd.Lanes.{chunk}
 use Rattle.std.proofs.lemmas.List.Sums.{prefix_len-le-length}
-use Rattle.lane_kernels.proofs.Fronts.{chunk_passes, chunk_stops}
+use Rattle.lane_kernels.proofs.Prefixes.{chunk_passes, chunk_stops}
 use Rattle.lane_kernels.proofs.front.front.Goals as goal
 
 pub returns-then-run-lt-LANES : goal.returns-then-run-lt-LANES

@@ -1,7 +1,7 @@
 use Rattle.std.proofs.Common.{◌∙◌, ap, arith}
 use Rattle.std.proofs.lemmas.List.{take_all}
 use Rattle.std.specs.List.{prefix_len}
-use Rattle.lane_kernels.specs.Front.{is_plain_2022}
+use Rattle.lane_kernels.specs.Classes.{is_plain_2022}
 use Rattle.lane_kernels.proofs.front.plain_chunk_2022.Goals as goal
 
 pub returns : goal.returns

@@ -1,6 +1,6 @@
 use Rattle.std.proofs.Common.{◌+◌, ◌≤◌, length, arith}
 use Rattle.std.specs.Char.{is_ascii}
-use Rattle.lane_kernels.proofs.Fronts.{chunk_passes}
+use Rattle.lane_kernels.proofs.Prefixes.{chunk_passes}
 use Rattle.lane_kernels.proofs.front.skip_ascii.Goals as goal
 
 pub loop-at-preserved : goal.loop-at-preserved

@@ -1,5 +1,5 @@
 use Rattle.std.proofs.Common.{◌+◌, ◌≤◌, length, arith}
-use Rattle.lane_kernels.proofs.Fronts.{on_true_at}
+use Rattle.lane_kernels.proofs.Prefixes.{on_true_at}
 use Rattle.lane_kernels.proofs.front.skip_pairs_of_runs.Goals as goal
 
 pub by_pairs-preserved : goal.by_pairs-preserved

@@ -1,5 +1,5 @@
 use Rattle.std.proofs.lemmas.Bool.{eqb-true}
-use Rattle.lane_kernels.proofs.Fronts.{on_true, four_low}
+use Rattle.lane_kernels.proofs.Prefixes.{on_true, four_low}
 use Rattle.lane_kernels.proofs.lanes.are_ascii.Goals as goal
 
 pub returns : goal.returns

@@ -3,7 +3,7 @@ use Rattle.std.proofs.lemmas.List.Sums.{prefix_len-le-length}
 use lib.Lanes.{chunk, put_chunk}
 use Rattle.std.specs.Char.{is_ascii}
 use Rattle.lane_kernels.proofs.Written.{written_chunk, rest_kept}
-use Rattle.lane_kernels.proofs.Fronts.{chunk_goes_on}
+use Rattle.lane_kernels.proofs.Prefixes.{chunk_goes_on}
 use Rattle.lane_kernels.proofs.narrowing.narrow.Goals as goal
 
 pub by_lanes-preserved : goal.by_lanes-preserved

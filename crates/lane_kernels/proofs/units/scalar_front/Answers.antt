@@ -1,7 +1,7 @@
 use Rattle.std.proofs.Common.{ap, ◌∙◌, arith}
 use Rattle.std.proofs.lemmas.Simd.{first_set_mask_l}
 use Rattle.enc_model.specs.Index.{within}
-use Rattle.lane_kernels.specs.Front.{first_set}
+use Rattle.lane_kernels.specs.Classes.{first_set}
 use Rattle.lane_kernels.proofs.units.scalar_front.Goals as goal
 
 pub returns : goal.returns

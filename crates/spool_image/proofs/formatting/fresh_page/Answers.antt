@@ -2,13 +2,13 @@ use Rattle.std.proofs.Common.{◌≡◌, ◌+◌, ◌-◌, ◌*◌, ℕ, get_or,
 use Rattle.enc_index.specs.Area.{area_byte}
 use Rattle.spool_pages.specs.declared.version.Version.TheVariants.{Two}
 use Rattle.spool_pages.specs.View.{index_place, state_page}
-use Rattle.spool_image.proofs.Fresh.{fresh_front, fresh_area, fresh_state, fresh_zeros}
+use Rattle.spool_image.proofs.Fresh.{fresh_prefix, fresh_area, fresh_state, fresh_zeros}
 use Rattle.spool_image.proofs.formatting.fresh_page.Goals as goal
 
 pub returns-then-page-index_page-clause-bytes : goal.returns-then-page-index_page-clause-bytes
 returns-then-page-index_page-clause-bytes c i lt =
     c.blank_page.ensures.each i
-    ∙ sym (fresh_front c.args.layout.now c.args.indexes.now (4096 * c.args.page + i) (omega arith))
+    ∙ sym (fresh_prefix c.args.layout.now c.args.indexes.now (4096 * c.args.page + i) (omega arith))
 
 pub returns-then-page-metadata_page-clause-bytes : goal.returns-then-page-metadata_page-clause-bytes
 returns-then-page-metadata_page-clause-bytes c i lt =

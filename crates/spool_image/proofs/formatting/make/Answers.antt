@@ -1,6 +1,6 @@
 use Rattle.std.proofs.Common.{inl, inr, rules, ⊎_elim}
 use Rattle.spool_disk.proofs.Firm.{lasts_more, lasts_on, on_ok}
-use Rattle.spool_image.proofs.Formats.{front_stays}
+use Rattle.spool_image.proofs.Formats.{prefix_stays}
 use Rattle.spool_image.proofs.Fresh.{fresh_on}
 use Rattle.spool_image.proofs.NoUploads.{fresh_newest, fresh_shows}
 use Rattle.spool_image.proofs.formatting.make.Goals as goal
@@ -30,9 +30,9 @@ returns-in_err-write_pages-clause-crash g c honest =
 pub returns-clause-crash : goal.returns-clause-crash
 returns-clause-crash g c honest =
     let mid = c.write_pages.ensures.honest.0 honest in
-    let keeps = c.write_pages.ensures.front honest in
+    let keeps = c.write_pages.ensures.prefix honest in
     lasts_on (lasts_more (c.write_pages.ensures.crash honest) (λ image stays. inl stays))
     (lasts_more
     (c.write_first.ensures.crash mid c.args.indexes.now c.in_ok-write_pages.ensures.valid
     (c.in_ok-write_pages.ensures.fresh honest))
-    (λ image one. ⊎_elim (λ stays. inl (front_stays keeps image stays)) (λ made. inr made) one))
+    (λ image one. ⊎_elim (λ stays. inl (prefix_stays keeps image stays)) (λ made. inr made) one))

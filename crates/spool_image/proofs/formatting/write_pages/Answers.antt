@@ -3,8 +3,8 @@ use Rattle.spool_disk.proofs.Firm.{lasts_call, lasts_on, not_err}
 use Rattle.spool_journal.proofs.Steps.{no_failure}
 use Rattle.std.proofs.lemmas.Bool.{cases_lt}
 use Rattle.spool_pages.specs.View.{state_place}
-use Rattle.spool_image.specs.Format.{FrontStays}
-use Rattle.spool_image.proofs.Formats.{front_image, front_kept, front_on, front_written, lasts_none}
+use Rattle.spool_image.specs.Format.{PrefixStays}
+use Rattle.spool_image.proofs.Formats.{prefix_image, prefix_kept, prefix_on, prefix_written, lasts_none}
 use Rattle.spool_image.proofs.Fresh.{fresh_more}
 use Rattle.spool_pages.proofs.Says.{all_is}
 use Rattle.spool_image.proofs.formatting.write_pages.Goals as goal
@@ -18,8 +18,8 @@ loop-page-init g c =
       back = λ honest. honest;
       counts = refl;
       fresh = λ honest. record { each = λ p from below. omega (arith, from, below) };
-      front = λ honest. front_kept (g.D.Disk.seen disk) (g.D.Disk.loose disk);
-      crash = λ honest. lasts_none g.D.Disk disk (FrontStays (g.D.Disk.seen disk) (g.D.Disk.loose disk));
+      prefix = λ honest. prefix_kept (g.D.Disk.seen disk) (g.D.Disk.unsynced disk);
+      crash = λ honest. lasts_none g.D.Disk disk (PrefixStays (g.D.Disk.seen disk) (g.D.Disk.unsynced disk));
       valid = λ past. absurd (omega (arith, past));
     }
 
@@ -33,12 +33,12 @@ loop-page-preserved g c =
       counts = no_failure c.write_at.ensures.counts (not_err _ _ c.in_ok-write_at.was) ∙ inv.counts;
       fresh = λ honest. fresh_more _ _ _ _ (inv.fresh honest) (c.in_ok-write_at.ensures.writes (inv.honest honest))
           (search rules) (search rules) c.fresh_page.ensures.bytes;
-      front = λ honest.
-          front_on (inv.front honest) (front_written (omega arith) (c.write_at.ensures.writes (inv.honest honest)));
+      prefix = λ honest.
+          prefix_on (inv.prefix honest) (prefix_written (omega arith) (c.write_at.ensures.writes (inv.honest honest)));
       crash = λ honest.
           let writes = c.write_at.ensures.writes (inv.honest honest) in
-          let keeps = front_on (inv.front honest) (front_written (omega arith) writes) in
-          lasts_on (inv.crash honest) (lasts_call (c.write_at.ensures.time (inv.honest honest)) (front_image keeps));
+          let keeps = prefix_on (inv.prefix honest) (prefix_written (omega arith) writes) in
+          lasts_on (inv.crash honest) (lasts_call (c.write_at.ensures.time (inv.honest honest)) (prefix_image keeps));
       valid = λ past. elim (cases_lt (4096 * c.loop-page.page) (state_place c.args.layout.now)) [
         | inl before ↦ c.fresh_page.ensures.valid (omega (arith, past)) before
         | inr after ↦ inv.valid after

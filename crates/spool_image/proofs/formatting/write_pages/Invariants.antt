@@ -2,8 +2,8 @@ use Rattle.std.proofs.Common.{◌≡◌, ◌≤◌, ◌*◌}
 use Rattle.enc_index.specs.Sets.{IsIndexSet}
 use Rattle.spool_pages.specs.View.{state_place}
 use Rattle.spool_disk.specs.Views.{Lasts}
-use Rattle.spool_image.specs.Format.{FrontStays}
-use Rattle.spool_image.specs.Fresh.{IsFreshTo, KeepsFront}
+use Rattle.spool_image.specs.Format.{PrefixStays}
+use Rattle.spool_image.specs.Fresh.{IsFreshTo, KeepsPrefix}
 use Rattle.spool_image.proofs.formatting.write_pages.Given as goal
 
 abbrev pub invariant-loop-page : goal.invariant-loop-page
@@ -13,9 +13,9 @@ invariant-loop-page g l = record {
   back : g.D.Disk.honest l.disk → g.D.Disk.honest l.fn.disk;
   counts : g.D.Disk.failures l.disk ≡ g.D.Disk.failures l.fn.disk;
   fresh : g.D.Disk.honest l.fn.disk → IsFreshTo l.layout l.indexes (4096 * l.page) (g.D.Disk.seen l.disk);
-  front : g.D.Disk.honest l.fn.disk → KeepsFront (g.D.Disk.seen l.fn.disk) (g.D.Disk.seen l.disk)
-      (g.D.Disk.loose l.fn.disk) (g.D.Disk.loose l.disk);
+  prefix : g.D.Disk.honest l.fn.disk → KeepsPrefix (g.D.Disk.seen l.fn.disk) (g.D.Disk.seen l.disk)
+      (g.D.Disk.unsynced l.fn.disk) (g.D.Disk.unsynced l.disk);
   crash : g.D.Disk.honest l.fn.disk → Lasts g.D.Disk l.fn.disk l.disk
-      (FrontStays (g.D.Disk.seen l.fn.disk) (g.D.Disk.loose l.fn.disk));
+      (PrefixStays (g.D.Disk.seen l.fn.disk) (g.D.Disk.unsynced l.fn.disk));
   valid : state_place l.layout ≤ 4096 * l.page → IsIndexSet l.indexes;
 }

@@ -8,7 +8,7 @@ returns-clause-now g c d n m all =
     record {
       honest = all.honest;
       room = all.room;
-      shows = all.each (g.D.Disk.seen d) (record { same = λ p firm. refl });
+      shows = all.each (g.D.Disk.seen d) (record { same = λ p is_synced. refl });
     }
 
 pub returns-clause-crashed : goal.returns-clause-crashed
@@ -19,4 +19,4 @@ returns-clause-crashed g c d left n m all honest size is = record {
 }
 
 pub returns-clause-synced : goal.returns-clause-synced
-returns-clause-synced g c d n m is firm = synced_shows g.D.Disk d n m is firm
+returns-clause-synced g c d n m is is_synced = synced_shows g.D.Disk d n m is is_synced

@@ -40,6 +40,6 @@ returns-clause-commit g c honest v keeps rests =
       changes = c.in_ok-pages.ensures.changes v keeps;
       settled = subst
           (λ n. Settled (journal_pages n) (laid c.in_ok-pages.pages (g.D.Disk.seen c.args.disk.now))
-          (g.D.Disk.seen c.change.new.disk) (g.D.Disk.loose c.change.new.disk)) (sym same)
+          (g.D.Disk.seen c.change.new.disk) (g.D.Disk.unsynced c.change.new.disk)) (sym same)
           (c.in_ok-change.ensures.laid honest v same rests);
     }

@@ -120,7 +120,7 @@ pub returns-clause-stays : goal.returns-clause-stays
 returns-clause-stays g c honest v sound is room =
     let keeps = (c.in_ok-kept.ensures.kept honest v sound is room).0 in
     let rests = settled_rests v c.in_ok-kept.kept.layout keeps.blocks (c.in_ok-kept.ensures.settled honest) is in
-    untouched_on (λ d. Rests v (g.D.Disk.seen d) (g.D.Disk.loose d)) (Open DiskFault) c.load_old.new.disk
+    untouched_on (λ d. Rests v (g.D.Disk.seen d) (g.D.Disk.unsynced d)) (Open DiskFault) c.load_old.new.disk
     c.rewrite.new.disk c.rewrite.result rests c.rewrite.ensures.untouched
 
 pub returns-clause-lasts : goal.returns-clause-lasts
@@ -152,7 +152,7 @@ returns-clause-shows g c n m is fine =
     let back = c.rewrite.new.disk in
     after_shows g.D.Disk back n m v c.rewrite.result is.shows.blocks (c.rewrite.ensures.honest.0 mid) wide fine
     (c.rewrite.ensures.done mid v keeps rests)
-    (untouched_on (λ d. Rests v (g.D.Disk.seen d) (g.D.Disk.loose d)) (Open DiskFault) c.load_old.new.disk back
+    (untouched_on (λ d. Rests v (g.D.Disk.seen d) (g.D.Disk.unsynced d)) (Open DiskFault) c.load_old.new.disk back
     c.rewrite.result rests c.rewrite.ensures.untouched)
     (λ image here. view_shows n m was image is.shows here)
     (λ image here. upgraded_view_shows n m was image is.shows here)
@@ -160,8 +160,8 @@ returns-clause-shows g c n m is fine =
 pub returns-in_err-kept-clause-same : goal.returns-in_err-kept-clause-same
 returns-in_err-kept-clause-same g c honest none =
     let same : (c.in_err-kept.field-0.0 ≡ Open DiskFault → ⊥)
-    → Keeps (g.D.Disk.seen c.args.disk.now) (g.D.Disk.seen c.load_old.new.disk) (g.D.Disk.loose c.args.disk.now)
-    (g.D.Disk.loose c.load_old.new.disk) =
+    → Keeps (g.D.Disk.seen c.args.disk.now) (g.D.Disk.seen c.load_old.new.disk) (g.D.Disk.unsynced c.args.disk.now)
+    (g.D.Disk.unsynced c.load_old.new.disk) =
     λ fine. c.load_old.ensures.same honest none (other_err _ _ (Open DiskFault) c.in_err-kept.was fine) in
     if_err c.from_residual.result (λ e. e ≡ c.in_err-kept.field-0.0) _ c.from_residual.ensures.1
     (λ e is fine. same (λ bad. fine (is ∙ bad)))
@@ -170,14 +170,14 @@ pub returns-clause-unwritten : goal.returns-clause-unwritten
 returns-clause-unwritten g c honest none =
     untouched_on
     (λ d. Lasts g.D.Disk c.args.disk.now d
-    (IsImage (g.D.Disk.seen c.args.disk.now) (g.D.Disk.loose c.args.disk.now)))
+    (IsImage (g.D.Disk.seen c.args.disk.now) (g.D.Disk.unsynced c.args.disk.now)))
     (Open DiskFault) c.load_old.new.disk c.rewrite.new.disk c.rewrite.result
     (c.load_old.ensures.unwritten honest none) c.rewrite.ensures.untouched
 
 pub returns-clause-same : goal.returns-clause-same
 returns-clause-same g c honest none =
     untouched_on
-    (λ d. Keeps (g.D.Disk.seen c.args.disk.now) (g.D.Disk.seen d) (g.D.Disk.loose c.args.disk.now)
-    (g.D.Disk.loose d))
+    (λ d. Keeps (g.D.Disk.seen c.args.disk.now) (g.D.Disk.seen d) (g.D.Disk.unsynced c.args.disk.now)
+    (g.D.Disk.unsynced d))
     (Open DiskFault) c.load_old.new.disk c.rewrite.new.disk c.rewrite.result
     (c.load_old.ensures.same honest none (ok_no_fault _ _ c.in_ok-kept.was)) c.rewrite.ensures.untouched

@@ -18,7 +18,7 @@ returns-in_err-open_gate-clause-lasts g c honest idle inside ascends =
     let ready = c.in_ok-stage.ensures.ready honest j fits inside ascends in
     lasts_on (lasts_more (c.stage.ensures.lasts honest j fits idle) (λ image before. inl before))
     (lasts_more (c.open_gate.ensures.lasts (c.stage.ensures.honest.0 honest) j few _ _ ready)
-    (λ image either. ⊎_elim (λ before. inl (ready_before ready.firm before)) (λ reads. inr reads) either))
+    (λ image either. ⊎_elim (λ before. inl (ready_before ready.is_synced before)) (λ reads. inr reads) either))
 
 pub returns-clause-done : goal.returns-clause-done
 returns-clause-done g c honest idle inside ascends =
@@ -43,6 +43,6 @@ returns-clause-lasts g c honest idle inside ascends =
     lasts_on
     (lasts_on (lasts_more (c.stage.ensures.lasts honest j fits idle) (λ image before. inl before))
     (lasts_more (c.open_gate.ensures.lasts mid j few _ _ ready)
-    (λ image either. ⊎_elim (λ before. inl (ready_before ready.firm before)) (λ reads. inr reads) either)))
+    (λ image either. ⊎_elim (λ before. inl (ready_before ready.is_synced before)) (λ reads. inr reads) either)))
     (lasts_more (c.finish.ensures.lasts (c.open_gate.ensures.honest.0 mid) j few _ opened.matches
     (opened_placing opened) (upto_none _)) (λ image reads. inr (reads_more opened.laid_over reads)))

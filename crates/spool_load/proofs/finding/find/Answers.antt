@@ -100,12 +100,12 @@ returns-in-Some-clause-settled g c honest =
     let keeps = c.find_layout.ensures.keeps honest in
     let seen : g.D.Disk.seen c.find_layout.new.disk ≡ g.D.Disk.seen c.args.disk.now = same_function _ _ keeps.same in
     let now = g.D.Disk.seen c.restore.new.disk in
-    let loose = g.D.Disk.loose c.restore.new.disk in
+    let unsynced = g.D.Disk.unsynced c.restore.new.disk in
     let there =
     subst (λ (f : ℕ → ℕ). IfOk c.restore.result
-    (λ kept. Settled (journal_pages c.in-Some.layout) (overlaid f) now loose)) seen
+    (λ kept. Settled (journal_pages c.in-Some.layout) (overlaid f) now unsynced)) seen
     (c.restore.ensures.settled (c.find_layout.ensures.honest.0 honest)) in
     if_ok_both c.restore.result
     (λ kept same settled. subst
-    (λ (n : ℕ). Settled (journal_pages n) (overlaid (g.D.Disk.seen c.args.disk.now)) now loose) (sym same) settled)
+    (λ (n : ℕ). Settled (journal_pages n) (overlaid (g.D.Disk.seen c.args.disk.now)) now unsynced) (sym same) settled)
     c.restore.ensures.layout there

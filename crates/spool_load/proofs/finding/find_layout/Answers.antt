@@ -19,13 +19,13 @@ pub returns-in_default-clause-found : goal.returns-in_default-clause-found
 returns-in_default-clause-found g c honest blocks says =
     c.in_default.not-Some blocks
     (c.blocks_said.ensures.said blocks (omega (arith, says.most))
-    (λ i lt. c.in_ok-front.ensures.bytes honest i lt ∙ says.front i lt))
+    (λ i lt. c.in_ok-prefix.ensures.bytes honest i lt ∙ says.prefix i lt))
 
 pub returns-in_default-of-clause-found : goal.returns-in_default-of-clause-found
 returns-in_default-of-clause-found g c honest blocks says =
     let e : c.in-Some.blocks ≡ blocks =
     same_Some _ _ (c.in-Some.ensures.said blocks (omega (arith, says.most))
-    (λ i lt. c.in_ok-front.ensures.bytes honest i lt ∙ says.front i lt)) in
+    (λ i lt. c.in_ok-prefix.ensures.bytes honest i lt ∙ says.prefix i lt)) in
     ⊎_elim (λ below. omega (arith, below, e, says.least)) (λ above. omega (arith, above, e, says.most))
     (c.of.ensures.none.0 (none_from c.of.result c.in_default-of.not-Some))
 
@@ -33,9 +33,9 @@ pub returns-then-len-pages-clause-found : goal.returns-then-len-pages-clause-fou
 returns-then-len-pages-clause-found g c honest blocks says =
     let e : c.in-Some.blocks ≡ blocks =
     same_Some _ _ (c.in-Some.ensures.said blocks (omega (arith, says.most))
-    (λ i lt. c.in_ok-front.ensures.bytes honest i lt ∙ says.front i lt)) in
+    (λ i lt. c.in_ok-prefix.ensures.bytes honest i lt ∙ says.prefix i lt)) in
     let pages : all_pages c.in-Some-of.layout ≡ all_pages blocks = ap all_pages (c.in-Some-of.ensures.some ∙ e) in
-    omega (arith, pages, says.room, c.len-2.ensures, c.pages.ensures, c.if-len-pages.true, c.read_front.ensures.size)
+    omega (arith, pages, says.room, c.len-2.ensures, c.pages.ensures, c.if-len-pages.true, c.read_prefix.ensures.size)
 
 some_not_none : {A : Type 0} (o : Option A) (x : A) → o ≡ Some x → IsNone o → ⊥
 some_not_none o x is none = cc
@@ -55,8 +55,8 @@ returns-clause-found g c honest =
     record {
       least = omega (arith, same, range.0);
       most = omega (arith, same, range.1);
-      room = omega (arith, c.if-len-pages.false, c.pages.ensures, c.len-2.ensures, c.read_front.ensures.size);
-      front =
-          λ i lt. sym (c.in_ok-front.ensures.bytes honest i lt) ∙ c.in-Some.ensures.only i lt ∙ ap
+      room = omega (arith, c.if-len-pages.false, c.pages.ensures, c.len-2.ensures, c.read_prefix.ensures.size);
+      prefix =
+          λ i lt. sym (c.in_ok-prefix.ensures.bytes honest i lt) ∙ c.in-Some.ensures.only i lt ∙ ap
           (λ (n : ℕ). get_or (first_page n) i 0) (sym same);
     }

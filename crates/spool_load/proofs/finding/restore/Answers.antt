@@ -59,7 +59,7 @@ returns-clause-said g c honest v sound blocks is =
     let settled = c.in_ok-recover.ensures.settled honest in
     let J : ℕ → Type 0 =
     λ n. Settled (journal_pages n) (overlaid (g.D.Disk.seen c.args.disk.now)) (g.D.Disk.seen c.recover.new.disk)
-    (g.D.Disk.loose c.recover.new.disk) in
+    (g.D.Disk.unsynced c.recover.new.disk) in
     let there = (settled_says v (subst J (sym blocks) settled) is.says).state in
     let state : Stands (g.D.Disk.seen c.recover.new.disk) (state_place c.args.layout) 4096
     (state_page v.version v.next) =
@@ -78,7 +78,7 @@ returns-clause-found g c honest says =
     let now = g.D.Disk.seen c.recover.new.disk in
     let size = g.D.Disk.size c.args.disk.now in
     subst (λ (r : Result Found OpenFault). IfOk r (FoundOn size was)) (sym c.ok_or.ensures.value)
-    (restored c.args.layout was now (g.D.Disk.loose c.recover.new.disk) settled (c.in_ok-recover.ensures.form honest)
+    (restored c.args.layout was now (g.D.Disk.unsynced c.recover.new.disk) settled (c.in_ok-recover.ensures.form honest)
     size
     c.in_ok-load_state.field-0 c.in_ok-load_state.ensures.layout says
     (c.in_ok-load_state.ensures.found (c.recover.ensures.honest.0 honest) now (settled_still settled)))
@@ -89,7 +89,8 @@ returns-clause-refused g c honest =
     let was = g.D.Disk.seen c.args.disk.now in
     let now = g.D.Disk.seen c.recover.new.disk in
     subst (λ (r : Result Found OpenFault). IfErr r (RefusedAt c.args.layout was)) (sym c.ok_or.ensures.value)
-    (unrestored c.args.layout was now (g.D.Disk.loose c.recover.new.disk) settled (c.in_ok-recover.ensures.form honest)
+    (unrestored c.args.layout was now (g.D.Disk.unsynced c.recover.new.disk) settled
+    (c.in_ok-recover.ensures.form honest)
     c.in_ok-load_state.field-0
     (c.in_ok-load_state.ensures.found (c.recover.ensures.honest.0 honest) now (settled_still settled)))
 

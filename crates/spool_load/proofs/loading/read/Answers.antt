@@ -121,7 +121,7 @@ pub returns-clause-sound : goal.returns-clause-sound
 returns-clause-sound g c honest bytes still says found =
     let first = c.load_fields.ensures.reads in
     let second = reads_on first c.load_slots.ensures.reads in
-    let fields = c.in_ok-indexes.ensures.sound honest bytes still says.front in
+    let fields = c.in_ok-indexes.ensures.sound honest bytes still says.prefix in
     let state = found.rest.0 (search rules) in
     let slots = c.in_ok-slots.ensures.sound (first.honest honest) bytes (first.still honest bytes still) in
     let rows = c.in_ok-blocks.ensures.sound (second.honest honest) bytes (second.still honest bytes still) in

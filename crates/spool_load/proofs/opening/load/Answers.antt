@@ -41,13 +41,14 @@ returns-clause-sound g c honest =
     let n = c.in_ok-found.found.layout in
     let was = g.D.Disk.seen c.args.disk.now in
     let now = g.D.Disk.seen c.find.new.disk in
-    let loose = g.D.Disk.loose c.find.new.disk in
+    let unsynced = g.D.Disk.unsynced c.find.new.disk in
     let size = g.D.Disk.size c.args.disk.now in
     let says =
-    says_on n was now loose settled found.journal size (g.D.Disk.size c.find.new.disk) c.find.ensures.size found.says in
-    opened_on n was now loose settled found.journal size c.in_ok-kept.kept found.says
+    says_on n was now unsynced settled found.journal size
+    (g.D.Disk.size c.find.new.disk) c.find.ensures.size found.says in
+    opened_on n was now unsynced settled found.journal size c.in_ok-kept.kept found.says
     (c.in_ok-kept.ensures.sound (c.find.ensures.honest.0 honest) now (settled_still settled) says
-    (found_back size c.in_ok-found.found was now loose settled found))
+    (found_back size c.in_ok-found.found was now unsynced settled found))
 
 pub returns-clause-settled : goal.returns-clause-settled
 returns-clause-settled g c honest =
@@ -56,7 +57,7 @@ returns-clause-settled g c honest =
     (c.find.ensures.honest.0 honest) (c.in_ok-found.ensures.settled honest) c.read.ensures.reads in
     let J : ℕ → Type 0 =
     λ n. Settled (journal_pages n) (overlaid (g.D.Disk.seen c.args.disk.now)) (g.D.Disk.seen c.read.new.disk)
-    (g.D.Disk.loose c.read.new.disk) in
+    (g.D.Disk.unsynced c.read.new.disk) in
     subst J (sym c.in_ok-kept.ensures.layout) there
 
 pub returns-clause-lasts : goal.returns-clause-lasts

@@ -1,6 +1,6 @@
 use Rattle.std.proofs.Common.{◌+◌, ◌∙◌, ℕ, rules, ap, arith}
 use Rattle.spool_journal.proofs.Steps.{no_failure}
-use Rattle.spool_load.proofs.Looks.{reads_on, ok_no_fault, front_all}
+use Rattle.spool_load.proofs.Looks.{reads_on, ok_no_fault, prefix_all}
 use Rattle.spool_load.proofs.slots.load_slots.Goals as goal
 
 pub returns-in_err-push_slot-clause-said : goal.returns-in_err-push_slot-clause-said
@@ -32,5 +32,5 @@ loop-slot-preserved g c =
 pub returns-clause-said : goal.returns-clause-said
 returns-clause-said g c honest bytes still said long fits stands =
     let inv = c.loop-slot.invariant in
-    front_all said c.loop-slot.slots.items (inv.said honest bytes still said long fits stands)
+    prefix_all said c.loop-slot.slots.items (inv.said honest bytes still said long fits stands)
     (omega (arith, inv.long, long))

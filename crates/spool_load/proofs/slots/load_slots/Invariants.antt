@@ -1,7 +1,7 @@
 use Rattle.std.proofs.Common.{◌≡◌, ◌<◌, ℕ, List, Option, None, length, get_or}
 use Rattle.spool_journal.specs.Phases.{Still}
 use Rattle.spool_kept.specs.Records.{FitsKept}
-use Rattle.spool_load.specs.Reads.{OnlyReads, IsFrontOf, StandSlots}
+use Rattle.spool_load.specs.Reads.{OnlyReads, IsPrefixOf, StandSlots}
 use Rattle.spool_pages.specs.View.{SlotRecord, Stands, slot_bytes, slot_place}
 use Rattle.spool_load.proofs.slots.load_slots.Given as goal
 
@@ -11,10 +11,11 @@ invariant-loop-slot g l = record {
   counts : g.D.Disk.failures l.disk ≡ g.D.Disk.failures l.fn.disk;
   long : length l.slots.items ≡ l.slot;
   said : g.D.Disk.honest l.fn.disk → (bytes : ℕ → ℕ)
-      → Still bytes (g.D.Disk.seen l.fn.disk) (g.D.Disk.loose l.fn.disk) →
+      → Still bytes (g.D.Disk.seen l.fn.disk) (g.D.Disk.unsynced l.fn.disk) →
       (said : List (Option SlotRecord)) → length said ≡ 512 → ((s : ℕ) → FitsKept (get_or said s None)) →
       ((s : ℕ) → s < 512 → Stands bytes (slot_place l.layout s) 2048 (slot_bytes l.version (get_or said s None)))
-      → IsFrontOf said l.slots.items;
-  sound : g.D.Disk.honest l.fn.disk → (bytes : ℕ → ℕ) → Still bytes (g.D.Disk.seen l.fn.disk) (g.D.Disk.loose l.fn.disk)
+      → IsPrefixOf said l.slots.items;
+  sound : g.D.Disk.honest l.fn.disk → (bytes : ℕ → ℕ)
+      → Still bytes (g.D.Disk.seen l.fn.disk) (g.D.Disk.unsynced l.fn.disk)
       → StandSlots bytes l.layout l.version l.slots.items;
 }

@@ -12,8 +12,8 @@ loop-block-preserved c =
     let made = c.in_ok-make_room.ensures in
     record {
       area = made.area (journal_pages c.args.layout.now) c.row_number.ensures.inside c.loop-block.invariant.area;
-      front = λ page below. made.others page (λ e. omega (arith, e, below, c.row_number.ensures.number))
-          ∙ c.loop-block.invariant.front page below;
+      prefix = λ page below. made.others page (λ e. omega (arith, e, below, c.row_number.ensures.number))
+          ∙ c.loop-block.invariant.prefix page below;
       there = below_more _ _
           (λ i lt. still_some c.row_number.result c.loop-block.pages c.make_room.new.pages made.there made.others
           (row_number c.args.layout.now (get_or c.args.blocks.now i 0)) (c.loop-block.invariant.there i lt))
@@ -22,14 +22,14 @@ loop-block-preserved c =
 
 pub returns-clause-some : goal.returns-clause-some
 returns-clause-some c = room_some c.loop-block.pages (282 + journal_pages c.args.layout.now) c.new-pages.ensures
-    c.in_ok-put.ensures.put c.loop-block.invariant.front
+    c.in_ok-put.ensures.put c.loop-block.invariant.prefix
     (omega (arith, c.record_number.ensures.number, c.requires.slot))
 
 pub returns-clause-changes : goal.returns-clause-changes
 returns-clause-changes c v blocks version slots beside rows same =
     room_changes c.loop-block.pages c.new-pages.ensures c.in_ok-put.ensures.put v c.args.slot
     (option_copied c.args.kept) c.args.blocks.now rows
-    (λ page below. c.loop-block.invariant.front page (subst (λ (n : ℕ). page < 282 + journal_pages n) blocks below))
+    (λ page below. c.loop-block.invariant.prefix page (subst (λ (n : ℕ). page < 282 + journal_pages n) blocks below))
     (λ i lt. subst (λ (n : ℕ). IsSome (page_in (row_number n (get_or c.args.blocks.now i 0)) c.loop-block.pages))
     (sym blocks) (c.loop-block.invariant.there i (omega (arith, lt))))
     (c.record_number.ensures.number ∙ ap (λ (n : ℕ). 26 + journal_pages n + c.args.slot / 2) (sym blocks))

@@ -25,7 +25,7 @@ returns-clause-texts g c honest v size rests =
 pub returns-clause-lasts : goal.returns-clause-lasts
 returns-clause-lasts g c honest v v' size rests changes texts =
     lasts_more {P = λ image. IsBefore (journal_pages c.args.layout.now) (g.D.Disk.seen c.args.disk.now)
-    (g.D.Disk.loose c.args.disk.now) image ⊎ ReadsAs (journal_pages c.args.layout.now) image
+    (g.D.Disk.unsynced c.args.disk.now) image ⊎ ReadsAs (journal_pages c.args.layout.now) image
     (laid c.args.pages.now (g.D.Disk.seen c.args.disk.now))}
     (c.commit.ensures.lasts honest (rests_idle size rests)) (λ image either. ⊎_elim
     (λ before. inl (rests_before image size rests before))

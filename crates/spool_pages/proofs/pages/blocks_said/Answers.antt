@@ -13,61 +13,61 @@ use Rattle.spool_pages.specs.View.{Stands, magic, first_page}
 use Rattle.spool_pages.proofs.RecordBytes.{stands_beyond}
 use Rattle.spool_pages.proofs.pages.blocks_said.Goals as goal
 
-module _ (front : List ℕ) (blocks : ℕ) (long : length front ≡ 12)
-    (same : (i : ℕ) → i < 12 → get_or front i 0 ≡ get_or (first_page blocks) i 0) where
+module _ (prefix : List ℕ) (blocks : ℕ) (long : length prefix ≡ 12)
+    (same : (i : ℕ) → i < 12 → get_or prefix i 0 ≡ get_or (first_page blocks) i 0) where
   magic_there : (i : ℕ) → i < 8 → get_or (first_page blocks) i 0 ≡ get_or magic i 0
   unfolding first_page
   magic_there i lt = get_or-append magic (to_be_bytes w32 blocks) 0 i lt
 
-  taken : take 8 front ≡ magic
-  taken = ext_get_or 0 (take 8 front) magic (omega (arith, length-take 8 front, long)) (λ i lt.
-      let below : i < 8 = omega (arith, lt, length-take 8 front) in
-      get_or-take 8 front i 0 below ∙ same i (omega (arith, below)) ∙ magic_there i below)
+  taken : take 8 prefix ≡ magic
+  taken = ext_get_or 0 (take 8 prefix) magic (omega (arith, length-take 8 prefix, long)) (λ i lt.
+      let below : i < 8 = omega (arith, lt, length-take 8 prefix) in
+      get_or-take 8 prefix i 0 below ∙ same i (omega (arith, below)) ∙ magic_there i below)
 
-  whole : Stands (byte_of front) 0 12 (first_page blocks)
+  whole : Stands (byte_of prefix) 0 12 (first_page blocks)
   whole = record {
     each = λ i lt. let at : i
-        ≡ 0 + i = omega arith in subst (λ (p : ℕ). get_or front p 0 ≡ get_or (first_page blocks) i 0) at (same i lt);
+        ≡ 0 + i = omega arith in subst (λ (p : ℕ). get_or prefix p 0 ≡ get_or (first_page blocks) i 0) at (same i lt);
   }
 
-  number_at : Stands (byte_of front) 8 4 (to_be_bytes w32 blocks)
+  number_at : Stands (byte_of prefix) 8 4 (to_be_bytes w32 blocks)
   unfolding first_page
   number_at = stands_beyond magic (to_be_bytes w32 blocks) 8 4 refl (omega arith) whole
 
-  begins : starts_with eqb front magic ≡ true
+  begins : starts_with eqb prefix magic ≡ true
   begins = subst (λ (xs : List ℕ). pointwise eqb magic xs ≡ true) (sym taken) refl
 
-module _ (front : List ℕ) (blocks : ℕ) (begun : starts_with eqb front magic ≡ true)
-    (number : Stands (byte_of front) 8 4 (to_be_bytes w32 blocks)) where
-  front_is : front ≡ magic ++ drop 8 front
-  front_is = (starts_is Decides-eqb front magic (starts_with eqb front magic) refl).0 begun
+module _ (prefix : List ℕ) (blocks : ℕ) (begun : starts_with eqb prefix magic ≡ true)
+    (number : Stands (byte_of prefix) 8 4 (to_be_bytes w32 blocks)) where
+  prefix_is : prefix ≡ magic ++ drop 8 prefix
+  prefix_is = (starts_is Decides-eqb prefix magic (starts_with eqb prefix magic) refl).0 begun
 
-  is_first : (i : ℕ) → i < 12 → get_or front i 0 ≡ get_or (first_page blocks) i 0
+  is_first : (i : ℕ) → i < 12 → get_or prefix i 0 ≡ get_or (first_page blocks) i 0
   unfolding first_page
   is_first i lt = elim (cases_lt i 8) [
-    | inl below ↦ ap (λ (xs : List ℕ). get_or xs i 0) front_is ∙ get_or-append magic (drop 8 front) 0 i below
+    | inl below ↦ ap (λ (xs : List ℕ). get_or xs i 0) prefix_is ∙ get_or-append magic (drop 8 prefix) 0 i below
         ∙ sym (get_or-append magic (to_be_bytes w32 blocks) 0 i below)
     | inr from ↦
         let at : 8 + (i - 8) ≡ i = omega (arith, from) in
-        let here : get_or front (8 + (i - 8)) 0 ≡ get_or (magic ++ to_be_bytes w32 blocks) (8 + (i - 8)) 0 =
+        let here : get_or prefix (8 + (i - 8)) 0 ≡ get_or (magic ++ to_be_bytes w32 blocks) (8 + (i - 8)) 0 =
         number.each (i - 8) (omega (arith, lt, from)) ∙ sym
         (get_or-append-add magic (to_be_bytes w32 blocks) (i - 8) 0) in
-        subst (λ (p : ℕ). get_or front p 0 ≡ get_or (magic ++ to_be_bytes w32 blocks) p 0) at here
+        subst (λ (p : ℕ). get_or prefix p 0 ≡ get_or (magic ++ to_be_bytes w32 blocks) p 0) at here
   ]
 
 pub returns-then-not-starts_with-clause-said : goal.returns-then-not-starts_with-clause-said
 returns-then-not-starts_with-clause-said c blocks fits same =
     let v = c.starts_with.ensures.value in
     let b = c.if-not-starts_with.true in
-    let yes = begins c.args.front.now blocks (search rules) same in
+    let yes = begins c.args.prefix.now blocks (search rules) same in
     cc
 
 pub returns-clause-said : goal.returns-clause-said
 returns-clause-said c blocks fits same =
-    ap Some (c.get_u32.ensures.is blocks fits (number_at c.args.front.now blocks (search rules) same))
+    ap Some (c.get_u32.ensures.is blocks fits (number_at c.args.prefix.now blocks (search rules) same))
 
 pub returns-clause-only : goal.returns-clause-only
 returns-clause-only c =
     let v = c.starts_with.ensures.value in
     let b = c.if-not-starts_with.false in
-    is_first c.args.front.now c.get_u32.result (cc) c.get_u32.ensures.there
+    is_first c.args.prefix.now c.get_u32.result (cc) c.get_u32.ensures.there

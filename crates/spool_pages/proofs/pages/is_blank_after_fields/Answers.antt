@@ -12,8 +12,8 @@ module _ (page fields : List ℕ) (full : length page ≡ 4096) (long : length f
   all = omega (arith, full)
 
   both : Stands (byte_of page) 0 12 fields → blank ↔ Stands (byte_of page) 0 4096 fields
-  both front = (
-    λ yes. padded_stands 4096 (with_blank_rest page 12 4084 all fields long front (exact.0 yes)),
+  both prefix = (
+    λ yes. padded_stands 4096 (with_blank_rest page 12 4084 all fields long prefix (exact.0 yes)),
     λ whole.
         let padded = padded_of_stands page fields 4096 full (omega (arith, long)) whole in
         exact.1 (blank_rest page 12 4084 all fields long padded),

@@ -10,8 +10,8 @@ unfolding state_page
 returns c =
     let version = to_be_bytes w32 (version_number c.args.version) in
     let zeros = c.put.ensures.padded [] refl (padded_zeros 4096) in
-    let front : IsPadded c.put.new.page version =
+    let prefix : IsPadded c.put.new.page version =
     subst (λ (xs : List ℕ). IsPadded c.put.new.page xs) (c.to_be_bytes.ensures ∙ ap (to_be_bytes w32) c.number.ensures)
     zeros in
-    let all = c.put-2.ensures.padded version refl front in
+    let all = c.put-2.ensures.padded version refl prefix in
     subst (λ (xs : List ℕ). IsPadded c.put-2.new.page (version ++ xs)) c.to_be_bytes-2.ensures all

@@ -5,13 +5,13 @@ use Rattle.spool_pages.specs.Bytes.{IsPadded}
 use Rattle.spool_pages.specs.View.{Stands, state_page, version_number}
 use Rattle.spool_pages.specs.declared.version.Version.{Version}
 use Rattle.spool_pages.specs.declared.version.Version.TheVariants.{One, Two}
-use Rattle.spool_pages.proofs.RecordBytes.{padded_stands, stands_both, stands_front, stands_beyond}
+use Rattle.spool_pages.proofs.RecordBytes.{padded_stands, stands_both, stands_prefix, stands_beyond}
 use Rattle.spool_pages.proofs.pages.version_and_next.Goals as goal
 
 module _ (page : List ℕ) (version : Version) (next : ℕ) (padded : IsPadded page (state_page version next)) where
   version_at : Stands (byte_of page) 0 4 (to_be_bytes w32 (version_number version))
   unfolding state_page
-  version_at = stands_front (to_be_bytes w32 (version_number version)) (to_be_bytes w64 next) 4 refl (omega arith)
+  version_at = stands_prefix (to_be_bytes w32 (version_number version)) (to_be_bytes w64 next) 4 refl (omega arith)
       (padded_stands 12 padded)
 
   next_at : Stands (byte_of page) 4 8 (to_be_bytes w64 next)

@@ -2,8 +2,8 @@ use Rattle.std.proofs.Common.{arith, ◌+◌, ◌-◌, ◌*◌, inl, take, drop,
 use Rattle.spool_disk.proofs.Firm.{lasts_on, lasts_more}
 use Rattle.spool_journal.specs.Image.{text_page}
 use Rattle.spool_journal.proofs.Steps.{no_failure}
-use Rattle.spool_texts.proofs.Fronts.{writes_none}
-use Rattle.spool_texts.proofs.Lasts.{none_yet, one_more, writes_front, but_front}
+use Rattle.spool_texts.proofs.Prefixes.{writes_none}
+use Rattle.spool_texts.proofs.Lasts.{none_yet, one_more, writes_prefix, but_prefix}
 use Rattle.spool_texts.proofs.draft_text.write_last.Goals as goal
 
 pub loop-at-init : goal.loop-at-init
@@ -18,16 +18,16 @@ loop-at-init g c = record {
   lasts = λ honest. record { later = omega arith; nothing_else = λ t image le left. inl left };
 }
 
-pub returns-in_err-write_front-clause-writes : goal.returns-in_err-write_front-clause-writes
-returns-in_err-write_front-clause-writes g c honest =
+pub returns-in_err-write_prefix-clause-writes : goal.returns-in_err-write_prefix-clause-writes
+returns-in_err-write_prefix-clause-writes g c honest =
     let inv = c.loop-at.invariant in
-    writes_front _ (inv.writes honest) (c.write_front.ensures.writes (inv.honest honest))
+    writes_prefix _ (inv.writes honest) (c.write_prefix.ensures.writes (inv.honest honest))
 
-pub returns-in_err-write_front-clause-lasts : goal.returns-in_err-write_front-clause-lasts
-returns-in_err-write_front-clause-lasts g c honest =
+pub returns-in_err-write_prefix-clause-lasts : goal.returns-in_err-write_prefix-clause-lasts
+returns-in_err-write_prefix-clause-lasts g c honest =
     let inv = c.loop-at.invariant in
     lasts_on (inv.lasts honest)
-    (lasts_more (c.write_front.ensures.lasts (inv.honest honest)) (λ image is. but_front _ (inv.writes honest) is))
+    (lasts_more (c.write_prefix.ensures.lasts (inv.honest honest)) (λ image is. but_prefix _ (inv.writes honest) is))
 
 pub loop-at-preserved : goal.loop-at-preserved
 loop-at-preserved g c =
@@ -35,20 +35,21 @@ loop-at-preserved g c =
     let at = c.loop-at.at in
     let full = c.saturating_sub-full.result in
     record {
-      size = c.write_front.ensures.size ∙ inv.size;
-      honest = λ honest. c.write_front.ensures.honest.0 (inv.honest honest);
-      back = λ honest. inv.back (c.write_front.ensures.honest.1 honest);
-      counts = no_failure c.write_front.ensures.counts (λ e. let wrong = rw c.in_ok-write_front.was at e in cc)
+      size = c.write_prefix.ensures.size ∙ inv.size;
+      honest = λ honest. c.write_prefix.ensures.honest.0 (inv.honest honest);
+      back = λ honest. inv.back (c.write_prefix.ensures.honest.1 honest);
+      counts = no_failure c.write_prefix.ensures.counts (λ e. let wrong = rw c.in_ok-write_prefix.was at e in cc)
           ∙ inv.counts;
       text = λ honest.
-          one_more (g.D.Disk.seen c.args.disk.now) (g.D.Disk.seen c.loop-at.disk) (g.D.Disk.seen c.write_front.new.disk)
+          one_more (g.D.Disk.seen c.args.disk.now) (g.D.Disk.seen c.loop-at.disk)
+          (g.D.Disk.seen c.write_prefix.new.disk)
           (text_page c.args.layout.now) full at c.min-to.result c.args.list.now c.args.last.now
           (take (c.min-to.result - 4096 * (at - full)) (drop (4096 * (at - full)) c.args.last.now))
           (omega (arith, c.loop-at.auto)) (omega (arith, c.loop-at.auto, c.loop-at-test.true))
           (omega (arith, c.loop-at.auto, c.loop-at-test.true, c.saturating_sub-full.ensures, c.div_ceil.ensures))
-          c.min-to.ensures refl (inv.text honest) (c.in_ok-write_front.ensures.text (inv.honest honest));
-      writes = λ honest. writes_front _ (inv.writes honest) (c.write_front.ensures.writes (inv.honest honest));
+          c.min-to.ensures refl (inv.text honest) (c.in_ok-write_prefix.ensures.text (inv.honest honest));
+      writes = λ honest. writes_prefix _ (inv.writes honest) (c.write_prefix.ensures.writes (inv.honest honest));
       lasts = λ honest. lasts_on (inv.lasts honest)
-          (lasts_more (c.write_front.ensures.lasts (inv.honest honest))
-          (λ image is. but_front _ (inv.writes honest) is));
+          (lasts_more (c.write_prefix.ensures.lasts (inv.honest honest))
+          (λ image is. but_prefix _ (inv.writes honest) is));
     }

@@ -16,7 +16,7 @@ invariant-loop-at g l = record {
       ≡ blocks_on (g.D.Disk.seen l.fn.disk) (text_page l.layout) (take l.full l.list) ++ take
       (4096 * (l.at - l.full)) l.last;
   writes : g.D.Disk.honest l.fn.disk → WritesIn (text_page l.layout) l.list (g.D.Disk.seen l.fn.disk)
-      (g.D.Disk.seen l.disk) (g.D.Disk.loose l.fn.disk) (g.D.Disk.loose l.disk);
+      (g.D.Disk.seen l.disk) (g.D.Disk.unsynced l.fn.disk) (g.D.Disk.unsynced l.disk);
   lasts : g.D.Disk.honest l.fn.disk → Lasts g.D.Disk l.fn.disk l.disk
-      (IsImageBut (text_page l.layout) l.list (g.D.Disk.seen l.fn.disk) (g.D.Disk.loose l.fn.disk));
+      (IsImageBut (text_page l.layout) l.list (g.D.Disk.seen l.fn.disk) (g.D.Disk.unsynced l.fn.disk));
 }

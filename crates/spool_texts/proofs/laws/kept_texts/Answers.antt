@@ -1,7 +1,7 @@
 use Rattle.std.proofs.Common.{ℕ, List, ◌++◌, arith, take, ap, length-take, ◌∙◌, sym}
 use Rattle.std.proofs.lemmas.List.{get_or-take}
 use Rattle.spool_texts.specs.Drafts.{full_count}
-use Rattle.spool_texts.proofs.Fronts.{blocks_kept}
+use Rattle.spool_texts.proofs.Prefixes.{blocks_kept}
 use Rattle.spool_texts.proofs.laws.kept_texts.Goals as goal
 
 pub returns-clause-text : goal.returns-clause-text

@@ -5,7 +5,7 @@ use Rattle.enc_model.specs.Indexes.{offers}
 use Rattle.tus_request.specs.Shown.{answer_shown}
 use Rattle.tus_request.specs.Grammar.{IsAnswer}
 use Rattle.tus_request.proofs.ParseLemmas.{start_is, start_short, no_extent_answer, too_many_answer, whole_answer}
-use Rattle.tus_request.proofs.ParseLemmas.{short_head, if_ok_more, on_err, whole_front}
+use Rattle.tus_request.proofs.ParseLemmas.{short_head, if_ok_more, on_err, whole_prefix}
 use Rattle.tus_request.proofs.heads.parse_head.Goals as goal
 
 pub returns-in_default-clause-grammar : goal.returns-in_default-clause-grammar
@@ -48,4 +48,4 @@ returns-clause-memory c =
     let s = start_is c.args.bytes.now c.min.result (search rules) in
     let e : head_extent (take c.min.result c.args.bytes.now) ≡ Some (shown c.in-Some.extent) =
     sym (rw c.in-Some.is at c.measure.ensures.extent) in
-    on_err c.read_whole.result (whole_front c.args.bytes.now (shown c.in-Some.extent) (rw s at e) (omega arith))
+    on_err c.read_whole.result (whole_prefix c.args.bytes.now (shown c.in-Some.extent) (rw s at e) (omega arith))

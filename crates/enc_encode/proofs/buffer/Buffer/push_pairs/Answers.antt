@@ -1,7 +1,7 @@
 use Rattle.std.proofs.Common.{◌+◌, ◌∷◌, [], ◌∙◌, arith, take}
 use Rattle.std.proofs.lemmas.List.{length-set}
 use Rattle.std.proofs.lemmas.Str.{IsUtf8-past_char}
-use Rattle.enc_encode.proofs.RunFronts.{run_none, run_more, take_two_set}
+use Rattle.enc_encode.proofs.RunPrefixes.{run_none, run_more, take_two_set}
 use Rattle.enc_encode.proofs.buffer.Buffer.push_pairs.Goals as goal
 
 pub loop-len-init : goal.loop-len-init

@@ -3,13 +3,13 @@ use denote.Shadow.{shadow}
 use denote.Text.{Utf8}
 use Rattle.enc_model.specs.Encode.{encoder}
 use Rattle.enc_model.specs.Indexes.{tables}
-use Rattle.enc_encode.specs.Runs.{RunFront, Stays}
+use Rattle.enc_encode.specs.Runs.{RunPrefix, Stays}
 use Rattle.enc_encode.specs.State.{shift_of}
 use Rattle.enc_encode.proofs.buffer.Buffer.push_pairs.Given as goal
 
 abbrev pub invariant-loop-len : goal.invariant-loop-len
 invariant-loop-len l = shadow (Utf8 l.rest) × (l.len ≤ 2048) × (length l.self-inside.bytes ≡ 2048)
-    × RunFront (Stays (encoder (tables l.set) l.to) (shift_of l.shift)) l.text l.rest l.fn.self
+    × RunPrefix (Stays (encoder (tables l.set) l.to) (shift_of l.shift)) l.text l.rest l.fn.self
     (take l.len l.self-inside.bytes)
 
 abbrev pub decreases-loop-len : goal.decreases-loop-len

@@ -4,7 +4,7 @@ use Rattle.enc_model.specs.Indexes.{tables}
 use Rattle.enc_encode.specs.Runs.{Stays}
 use Rattle.enc_encode.specs.Singles.{AreSingles, IsSingle}
 use Rattle.enc_encode.specs.State.{shift_of}
-use Rattle.enc_encode.proofs.RunFronts.{run_weaker}
+use Rattle.enc_encode.proofs.RunPrefixes.{run_weaker}
 use Rattle.enc_encode.proofs.buffer.Buffer.push_run.Goals as goal
 
 pub returns-in-Some : goal.returns-in-Some

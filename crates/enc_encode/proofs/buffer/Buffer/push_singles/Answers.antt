@@ -1,8 +1,8 @@
 use Rattle.std.proofs.Common.{take}
-use Rattle.enc_encode.specs.Runs.{RunFront}
+use Rattle.enc_encode.specs.Runs.{RunPrefix}
 use Rattle.enc_encode.specs.Singles.{IsSingle}
-use Rattle.enc_encode.proofs.Fronts.{left_text}
-use Rattle.enc_encode.proofs.RunFronts.{run_none, run_both}
+use Rattle.enc_encode.proofs.Prefixes.{left_text}
+use Rattle.enc_encode.proofs.RunPrefixes.{run_none, run_both}
 use Rattle.enc_encode.proofs.buffer.Buffer.push_singles.Goals as goal
 use Rattle.enc_encode.proofs.buffer.Buffer.push_singles.Goals.{else-loop-len-test, then-loop-len-test+then-stops}
 
@@ -20,7 +20,7 @@ loop-len-preserved c =
     let left = c.put_run-end.result.0.now in
     let v = c.loop-len.invariant in
     let p = c.put_run-end.ensures.run in (
-      left_text rest p.front left v.0 p.own p.parts,
+      left_text rest p.prefix left v.0 p.own p.parts,
       c.put_run-end.ensures.more.1,
       c.put_run-end.array_long,
       run_both (IsSingle c.args.pointers.now) c.args.text.now rest left c.args.self.now
@@ -36,7 +36,7 @@ returns c =
     let held = c.args.self.now in
     let rest = c.loop-len-test.rest.now in
     let mid = take c.loop-len-test.len c.loop-len-test.self-inside.bytes in
-    let run : RunFront gives text rest held mid =
+    let run : RunPrefix gives text rest held mid =
     elim c.loop-len-test.branch [
       | else-loop-len-test w ↦ rw (w.len-is, w.rest-is, w.self-inside-is) c.loop-len.invariant.3
       | then-loop-len-test+then-stops w ↦ rw (w.len-is, w.rest-is, w.self-inside-is)

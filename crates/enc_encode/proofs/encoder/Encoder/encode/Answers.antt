@@ -4,7 +4,7 @@ use Rattle.enc_model.specs.Encode.{encoder}
 use Rattle.enc_model.specs.Indexes.{tables}
 use Rattle.enc_encode.specs.Code.{bytes_of, written_of, final}
 use Rattle.enc_encode.specs.State.{shift_of}
-use Rattle.enc_encode.proofs.Growth.{front}
+use Rattle.enc_encode.proofs.Growth.{prefix}
 use Rattle.enc_encode.proofs.Final.{gave_after}
 use Rattle.enc_encode.proofs.Codes.{coded_once, coded_twice, not_again}
 use Rattle.enc_encode.proofs.encoder.Encoder.encode.Goals as goal
@@ -17,7 +17,7 @@ returns-in_err-append-in-Again c =
     (shift_of c.in-Again.next) w c.in-Again.ensures refl in
     let p = err_from_is_err_and c.from_residual.result c.from_residual.ensures.1 in
     rw (← c.self.view_is, e, p.1, p.2)
-    (front (final i.mode w).bytes (rw c.as_slice.ensures at c.in_err-append-in-Again.ensures))
+    (prefix (final i.mode w).bytes (rw c.as_slice.ensures at c.in_err-append-in-Again.ensures))
 
 pub returns-in_ok-append-in-Again : goal.returns-in_ok-append-in-Again
 returns-in_ok-append-in-Again c =

@@ -3,14 +3,15 @@ use Rattle.std.proofs.lemmas.Result.{err_from_is_err_and}
 use Rattle.std.specs.Str.{chars}
 use Rattle.enc_model.specs.Indexes.{tables}
 use Rattle.enc_encode.specs.State.{EncoderState, code_from}
-use Rattle.enc_encode.proofs.Fronts.{front_none, front_then, front_error, front_all, left_text, run_held}
+use Rattle.enc_encode.proofs.Prefixes.{prefix_none, prefix_then, prefix_error, prefix_all, left_text, run_held}
 use Rattle.enc_encode.proofs.Helds.{flushed, unflushed}
 use Rattle.enc_encode.proofs.encoder.Encoder.encode_chars.Goals as goal
 
 pub loop-rest-init : goal.loop-rest-init
 loop-rest-init c = (
   c.utf8.run,
-  front_none (tables c.args.set.now) c.args.self.now c.args.run.now c.self.inside.shift c.args.out.now c.new-held.result
+  prefix_none (tables c.args.set.now) c.args.self.now c.args.run.now c.self.inside.shift c.args.out.now
+      c.new-held.result
       (ap (λ (e : EncoderState). e.shift) c.self.view_is) c.new-held.ensures,
 )
 
@@ -22,9 +23,9 @@ returns-in_err-next c =
     let run = c.args.run.now in
     let d = c.in_err-next.field-0.0 in
     let stop = c.in_err-next.ensures.err in
-    let new = c.hold_front.new in
-    rw (p.1, p.2) (front_error t e run stop.0 c.args.out.now new.out new.held d
-    (front_then t e run c.loop-rest.rest.now stop.0 c.args.out.now c.loop-rest.out c.loop-rest.held new.out new.held
+    let new = c.hold_prefix.new in
+    rw (p.1, p.2) (prefix_error t e run stop.0 c.args.out.now new.out new.held d
+    (prefix_then t e run c.loop-rest.rest.now stop.0 c.args.out.now c.loop-rest.out c.loop-rest.held new.out new.held
     c.loop-rest.shift (Err d) c.loop-rest.invariant.1 stop.1))
 
 pub push_run-rest-requires-clause-singles : goal.push_run-rest-requires-clause-singles
@@ -40,16 +41,16 @@ loop-rest-preserved c =
     let after = c.in_ok-next.after.now in
     let next = c.in_ok-next.next in
     let more = c.in_ok-next.ensures.ok in
-    let new = c.hold_front.new in
+    let new = c.hold_prefix.new in
     let left = c.push_run-rest.result.now in
     let kept = c.push_run-rest.new.self in
     let runs = c.push_run-rest.ensures in
-    let text = left_text rest more.front after c.loop-rest.invariant.0 more.own more.parts in
-    let by_front = front_then t e run rest after old c.loop-rest.out c.loop-rest.held new.out new.held
+    let text = left_text rest more.prefix after c.loop-rest.invariant.0 more.own more.parts in
+    let by_prefix = prefix_then t e run rest after old c.loop-rest.out c.loop-rest.held new.out new.held
     c.loop-rest.shift (Ok next) c.loop-rest.invariant.1 more in
     let by_run = run_held t e after left next new.out new.held kept (rw c.requires.same at runs) in (
-      left_text after runs.front left text runs.own runs.parts,
-      front_then t e run after left old new.out new.held new.out kept next (Ok next) by_front by_run,
+      left_text after runs.prefix left text runs.own runs.parts,
+      prefix_then t e run after left old new.out new.held new.out kept next (Ok next) by_prefix by_run,
     )
 
 pub returns-in_err-flush : goal.returns-in_err-flush
@@ -57,7 +58,7 @@ returns-in_err-flush c =
     let t = tables c.args.set.now in
     let e = c.args.self.now in
     let run = c.args.run.now in
-    let kept = front_all t e run c.loop-rest.rest.now c.args.out.now c.loop-rest.out c.loop-rest.held c.loop-rest.shift
+    let kept = prefix_all t e run c.loop-rest.rest.now c.args.out.now c.loop-rest.out c.loop-rest.held c.loop-rest.shift
     c.loop-rest.invariant.1 c.loop-rest-test.ensures in
     let p = err_from_is_err_and c.from_residual-in_err-flush.result c.from_residual-in_err-flush.ensures.1 in
     rw (p.1, p.2) (unflushed (code_from t e (chars run)) c.args.out.now c.loop-rest.out c.flush.new.out c.loop-rest.held
@@ -68,7 +69,7 @@ returns c =
     let t = tables c.args.set.now in
     let e = c.args.self.now in
     let run = c.args.run.now in
-    let kept = front_all t e run c.loop-rest.rest.now c.args.out.now c.loop-rest.out c.loop-rest.held c.loop-rest.shift
+    let kept = prefix_all t e run c.loop-rest.rest.now c.args.out.now c.loop-rest.out c.loop-rest.held c.loop-rest.shift
     c.loop-rest.invariant.1 c.loop-rest-test.ensures in
     flushed (code_from t e (chars run)) c.args.out.now c.loop-rest.out c.flush.new.out c.loop-rest.held
     c.loop-rest.shift kept c.in_ok-flush.ensures.ok.0

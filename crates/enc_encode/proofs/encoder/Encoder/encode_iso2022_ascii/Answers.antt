@@ -4,7 +4,7 @@ use Rattle.enc_model.specs.Encode.{encoder}
 use Rattle.enc_encode.specs.Code.{bytes_of, written_of, final}
 use Rattle.enc_encode.specs.State.{EncoderState, shift_of}
 use Rattle.enc_encode.specs.Reasons.{Gave}
-use Rattle.enc_encode.proofs.Growth.{front}
+use Rattle.enc_encode.proofs.Growth.{prefix}
 use Rattle.enc_encode.proofs.Final.{gave_after}
 use Rattle.enc_encode.proofs.Codes.{coded_once, coded_twice, not_again}
 use Rattle.enc_encode.proofs.encoder.Encoder.encode_iso2022_ascii.Goals as goal
@@ -16,7 +16,7 @@ returns-in_err-append-in-Again c t =
     let code = coded_twice t e.to e.mode (shift_of c.args.shift) c.args.b (bytes_of c.in-Again.bytes)
     (shift_of c.in-Again.next) w (rw c.requires.to (c.in-Again.ensures t.jis0208 t.katakana)) refl in
     let p = err_from_is_err_and c.from_residual.result c.from_residual.ensures.1 in
-    rw (code, p.1, p.2) (front (final e.mode w).bytes (rw c.as_slice.ensures at c.in_err-append-in-Again.ensures))
+    rw (code, p.1, p.2) (prefix (final e.mode w).bytes (rw c.as_slice.ensures at c.in_err-append-in-Again.ensures))
 
 pub returns-in_ok-append-in-Again : goal.returns-in_ok-append-in-Again
 returns-in_ok-append-in-Again c t =

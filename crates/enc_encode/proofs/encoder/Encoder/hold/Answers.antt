@@ -7,7 +7,7 @@ use Rattle.enc_encode.specs.Held.{Kept}
 use Rattle.enc_encode.specs.State.{shift_of}
 use Rattle.enc_encode.specs.declared.error.EncodeError.TheVariants.{NoMemory}
 use Rattle.enc_encode.proofs.Codes.{coded_once}
-use Rattle.enc_encode.proofs.Growth.{front}
+use Rattle.enc_encode.proofs.Growth.{prefix}
 use Rattle.enc_encode.proofs.Helds.{kept_given, twice_kept}
 use Rattle.enc_encode.proofs.encoder.Encoder.hold.Goals as goal
 
@@ -16,7 +16,7 @@ returns-in_err-hold c =
     let p = err_from_is_err_and c.from_residual.result c.from_residual.ensures.1 in
     let code = coded (encoder (tables c.args.set.now) c.args.self.now.to) c.args.self.now.mode (shift_of c.args.shift)
     (c.args.c ∷ []) in
-    rw (p.1, p.2) (front code.bytes c.in_err-hold.ensures.err)
+    rw (p.1, p.2) (prefix code.bytes c.in_err-hold.ensures.err)
 
 pub returns-in-Wrote : goal.returns-in-Wrote
 returns-in-Wrote c =
@@ -33,7 +33,7 @@ returns-in_err-hold-2 c =
     let p = err_from_is_err_and c.from_residual-in_err-hold-2.result c.from_residual-in_err-hold-2.ensures.1 in
     let code = coded (encoder (tables c.args.set.now) c.args.self.now.to) c.args.self.now.mode (shift_of c.args.shift)
     (c.args.c ∷ []) in
-    rw (p.1, p.2) (front code.bytes c.in_err-hold-2.ensures.err)
+    rw (p.1, p.2) (prefix code.bytes c.in_err-hold-2.ensures.err)
 
 pub returns-in_err-hold-3 : goal.returns-in_err-hold-3
 returns-in_err-hold-3 c =
@@ -45,7 +45,7 @@ returns-in_err-hold-3 c =
     rw (p.1, p.2) (twice_kept (tables c.args.set.now) c.args.self.now c.args.to c.args.shift c.args.c again.bytes
     again.between wrote.more wrote.next c.requires again.ensures wrote.ensures c.args.out.now c.args.held.now mid.out
     mid.self new.out new.self (Err NoMemory) c.in_ok-hold-2.ensures.ok
-    (front (bytes_of wrote.more) c.in_err-hold-3.ensures.err))
+    (prefix (bytes_of wrote.more) c.in_err-hold-3.ensures.err))
 
 pub returns-in-Wrote-written : goal.returns-in-Wrote-written
 returns-in-Wrote-written c =
@@ -62,7 +62,7 @@ returns-in_err-flush c =
     let p = err_from_is_err_and c.from_residual-in_err-flush.result c.from_residual-in_err-flush.ensures.1 in
     let code = coded (encoder (tables c.args.set.now) c.args.self.now.to) c.args.self.now.mode (shift_of c.args.shift)
     (c.args.c ∷ []) in
-    rw (p.1, p.2) (front code.bytes c.in_err-flush.ensures.err)
+    rw (p.1, p.2) (prefix code.bytes c.in_err-flush.ensures.err)
 
 pub returns : goal.returns
 returns c =

@@ -1,6 +1,6 @@
 use Rattle.std.proofs.Common.{sym, ◌∙◌}
 use Rattle.enc_model.specs.Indexes.{tables}
-use Rattle.enc_legacy.proofs.Fronts.{euc_front, euc_start}
+use Rattle.enc_legacy.proofs.Prefixes.{euc_front, euc_start}
 use Rattle.enc_legacy.proofs.euc_jp.EucJpStatePairDecoder.ascii.Goals as goal
 
 pub returns-then-self-eq0 : goal.returns-then-self-eq0

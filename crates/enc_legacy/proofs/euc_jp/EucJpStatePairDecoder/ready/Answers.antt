@@ -1,6 +1,6 @@
 use Rattle.std.proofs.Common.{sym, ◌∙◌}
 use Rattle.enc_model.specs.Indexes.{tables}
-use Rattle.enc_legacy.proofs.Fronts.{euc_start}
+use Rattle.enc_legacy.proofs.Prefixes.{euc_start}
 use Rattle.enc_legacy.proofs.PairPointers.{some_both}
 use Rattle.enc_legacy.proofs.Strides.{euc_pair_steps}
 use Rattle.enc_legacy.proofs.euc_jp.EucJpStatePairDecoder.ready.Goals as goal

@@ -1,6 +1,6 @@
 use Rattle.std.proofs.Common.{sym, ◌∙◌}
 use Rattle.enc_model.specs.Indexes.{tables}
-use Rattle.enc_legacy.proofs.Fronts.{sjis_front}
+use Rattle.enc_legacy.proofs.Prefixes.{sjis_front}
 use Rattle.enc_legacy.proofs.shift_jis.ShiftJisStatePairDecoder.ascii.Goals as goal
 
 pub returns-then-self-eq0 : goal.returns-then-self-eq0

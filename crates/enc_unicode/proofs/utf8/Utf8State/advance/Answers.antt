@@ -17,19 +17,19 @@ returns-in_err-text-clause-refused g c =
     (feed_refused g.S.Sink.takes g.S.Sink.refuses g.met.S.Sink.is_sink utf8 utf8_calm c.args.self.now c.args.rest.now
     (length text) c.args.sink.now c.text.new.self why
     (text_refused g.S.Sink.refuses c.args.self.now c.args.rest.now text c.args.sink.now c.text.new.self why
-    (c.requires.start some) c.utf8.text c.requires.front c.in_err-text.ensures))
+    (c.requires.start some) c.utf8.text c.requires.prefix c.in_err-text.ensures))
 
 pub returns-then-not-is_empty-clause-taken : goal.returns-then-not-is_empty-clause-taken
 returns-then-not-is_empty-clause-taken g c =
     let some : 0 < length c.args.text.now = search rules in
     text_taken g.S.Sink.takes g.S.Sink.refuses g.met.S.Sink.is_sink c.args.self.now c.args.rest.now c.args.text.now
     c.args.sink.now c.text.new.self
-    (c.requires.start some) c.utf8.text c.requires.front c.in_ok-text.ensures
+    (c.requires.start some) c.utf8.text c.requires.prefix c.in_ok-text.ensures
 
 pub returns-then-not-is_empty-clause-state : goal.returns-then-not-is_empty-clause-state
 returns-then-not-is_empty-clause-state g c =
     let some : 0 < length c.args.text.now = search rules in
-    text_state c.args.self.now c.args.rest.now c.args.text.now (c.requires.start some) c.utf8.text c.requires.front
+    text_state c.args.self.now c.args.rest.now c.args.text.now (c.requires.start some) c.utf8.text c.requires.prefix
 
 pub returns-in_err-text-2-clause-refused : goal.returns-in_err-text-2-clause-refused
 returns-in_err-text-2-clause-refused g c =

@@ -21,7 +21,7 @@ returns-in_err-text-clause-refused g c =
     let bytes = c.args.bytes.now in
     let at = c.by_windows.at in
     let rest = take (length bytes - at) (drop at bytes) in
-    let text = c.text_in_front-found.result.now in
+    let text = c.text_at_start-found.result.now in
     let why = c.in_err-text.field-0.0 in
     let some : 0 < length text = search rules in
     let before = c.by_windows.invariant in
@@ -31,8 +31,8 @@ returns-in_err-text-clause-refused g c =
     (feed_refused g.S.Sink.takes g.S.Sink.refuses g.met.S.Sink.is_sink utf8 utf8_calm s rest (length text)
     c.by_windows.sink c.text.new.self why
     (text_refused g.S.Sink.refuses s rest text c.by_windows.sink c.text.new.self why
-    (c.text_in_front-found.ensures.start some) c.text_in_front-found.utf8
-    c.text_in_front-found.ensures.front c.in_err-text.ensures)))
+    (c.text_at_start-found.ensures.start some) c.text_at_start-found.utf8
+    c.text_at_start-found.ensures.prefix c.in_err-text.ensures)))
 
 pub by_windows-preserved : goal.by_windows-preserved
 by_windows-preserved g c =
@@ -40,17 +40,17 @@ by_windows-preserved g c =
     let bytes = c.args.bytes.now in
     let at = c.by_windows.at in
     let rest = take (length bytes - at) (drop at bytes) in
-    let text = c.text_in_front-found.result.now in
+    let text = c.text_at_start-found.result.now in
     let some : 0 < length text = search rules in
-    let start = c.text_in_front-found.ensures.start some in
-    let front = c.text_in_front-found.ensures.front in
-    let is_text = c.text_in_front-found.utf8 in
+    let start = c.text_at_start-found.ensures.start some in
+    let prefix = c.text_at_start-found.ensures.prefix in
+    let is_text = c.text_at_start-found.utf8 in
     let before = c.by_windows.invariant in (
       part_taken utf8 utf8_calm g.S.Sink.takes g.S.Sink.refuses g.met.S.Sink.is_sink s s bytes rest at (length text)
           c.args.sink.now c.by_windows.sink c.text.new.self refl before.1 before.0
           (text_taken g.S.Sink.takes g.S.Sink.refuses g.met.S.Sink.is_sink s rest text c.by_windows.sink c.text.new.self
-          start is_text front c.in_ok-text.ensures),
+          start is_text prefix c.in_ok-text.ensures),
       part_state utf8 utf8_calm s s s bytes rest at (length text) refl before.1
-          (text_state s rest text start is_text front),
-      text_within_rest bytes text at before.2 front,
+          (text_state s rest text start is_text prefix),
+      text_within_rest bytes text at before.2 prefix,
     )

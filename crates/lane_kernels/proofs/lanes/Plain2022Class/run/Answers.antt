@@ -2,9 +2,9 @@ use Rattle.std.proofs.Common.{◌∙◌, leb, eqb, not, ◌||◌, arith, w8}
 use Rattle.std.proofs.lemmas.Simd.{length-chunk}
 use Rattle.std.proofs.lemmas.Bool.Decides.{nat_tests}
 use lib.Lanes.{chunk}
-use Rattle.lane_kernels.specs.Front.{is_plain_2022}
+use Rattle.lane_kernels.specs.Classes.{is_plain_2022}
 use Rattle.lane_kernels.proofs.Hits.{first_hit, either_hit, compared, compared_with}
-use Rattle.lane_kernels.proofs.Fronts.{same_front}
+use Rattle.lane_kernels.proofs.Prefixes.{same_prefix}
 use Rattle.lane_kernels.proofs.lanes.Plain2022Class.run.Goals as goal
 
 pub returns : goal.returns
@@ -18,5 +18,5 @@ returns c =
     (compared w8 eqb v 32 27 long) in
     c.first_set.ensures
     ∙ first_hit w8 (λ x. ((leb 128 x || eqb x 14) || eqb x 15) || eqb x 27) v 32 long (omega arith) third
-    ∙ same_front (λ x. not (((leb 128 x || eqb x 14) || eqb x 15) || eqb x 27)) is_plain_2022
+    ∙ same_prefix (λ x. not (((leb 128 x || eqb x 14) || eqb x 15) || eqb x 27)) is_plain_2022
     (λ x. grind (arith, nat_tests)) v

@@ -4,7 +4,7 @@ use Rattle.std.proofs.lemmas.Bool.Decides.{nat_tests}
 use lib.Lanes.{chunk}
 use Rattle.enc_model.specs.Index.{within}
 use Rattle.lane_kernels.proofs.Hits.{first_hit, either_hit, compared, compared_with}
-use Rattle.lane_kernels.proofs.Fronts.{same_front}
+use Rattle.lane_kernels.proofs.Prefixes.{same_prefix}
 use Rattle.lane_kernels.proofs.lanes.RangeClass.run.Goals as goal
 
 pub returns : goal.returns
@@ -17,4 +17,4 @@ returns c =
     (compared_with w8 ltb v 32 hi long) in
     c.first_set.ensures
     ∙ first_hit w8 (λ x. ltb x lo || ltb hi x) v 32 long (omega arith) outside
-    ∙ same_front (λ x. not (ltb x lo || ltb hi x)) (within lo hi) (λ x. grind (arith, nat_tests)) v
+    ∙ same_prefix (λ x. not (ltb x lo || ltb hi x)) (within lo hi) (λ x. grind (arith, nat_tests)) v

@@ -11,10 +11,10 @@ at_p new mid p e = ap (λ (l : List ℕ). get_or l p 0) e
 flag_p : (new mid : List Bool) (p : ℕ) → new ≡ mid → get_or new p false ≡ get_or mid p false
 flag_p new mid p e = ap (λ (l : List Bool). get_or l p false) e
 
-loosens_in : (new mid old : List Bool) (at n p : ℕ)
+unsyncs_in : (new mid old : List Bool) (at n p : ℕ)
     → ((q : ℕ) → (In at n q → ⊥) → get_or new q false ≡ get_or mid q false) → mid ≡ old → get_or new p false ≡ true
     → (get_or old p false ≡ true) ⊎ In at n p
-loosens_in new mid old at n p outside e is = elim (in_or_out at n p) [
+unsyncs_in new mid old at n p outside e is = elim (in_or_out at n p) [
   | inl within ↦ inr within
   | inr out ↦ inl (sym (outside p out ∙ flag_p mid old p e) ∙ is)
 ]
@@ -27,8 +27,8 @@ returns-clause-writes c _ =
       outside = λ p out. at_p _ _ p bytes ∙ c.put.ensures.outside p out ∙ at_p _ _ p c.deref_mut.ensures.value;
       inside = λ _. span_is _ c.args.at c.args.bytes.now
           (λ k lt. at_p _ _ (c.args.at + k) bytes ∙ c.put.ensures.inside k lt);
-      loosens = λ p loose. loosens_in _ _ _ c.args.at _ p c.mark.ensures.outside c.deref_mut-2.ensures.value
-          (sym (flag_p _ _ p marks) ∙ loose);
+      unsyncs = λ p unsynced. unsyncs_in _ _ _ c.args.at _ p c.mark.ensures.outside c.deref_mut-2.ensures.value
+          (sym (flag_p _ _ p marks) ∙ unsynced);
     }
 
 -- a place in the range is marked

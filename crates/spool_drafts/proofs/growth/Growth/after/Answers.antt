@@ -1,6 +1,6 @@
 use Rattle.std.proofs.Common.{◌≡◌, ◌*◌, ◌/◌, ◌%◌, ◌++◌, ℕ, arith, subst, sym, Option}
 use Rattle.spool_texts.specs.TextOn.{text_on}
-use Rattle.spool_drafts.specs.Growth.{front_on}
+use Rattle.spool_drafts.specs.Growth.{prefix_on}
 use Rattle.spool_drafts.proofs.Contents.{tail_on, no_tail_on}
 use Rattle.spool_drafts.proofs.growth.Growth.after.Goals as goal
 use Rattle.spool_drafts.proofs.growth.Growth.after.Goals.{then-text_len-eq0, else-text_len-eq0}
@@ -11,11 +11,11 @@ returns-clause-bytes c seen first =
     let list = c.args.list.now in
     elim c.if-text_len-eq0.branch [
       | then-text_len-eq0 w ↦
-          subst (λ (tail : Option ℕ). text_on seen first list (4096 * (len / 4096)) ++ front_on seen first tail
+          subst (λ (tail : Option ℕ). text_on seen first list (4096 * (len / 4096)) ++ prefix_on seen first tail
           (len % 4096) ≡ text_on seen first list len) (sym w.tail-is)
           (no_tail_on seen first len list w.if-text_len-eq0.true)
       | else-text_len-eq0 w ↦
-          subst (λ (tail : Option ℕ). text_on seen first list (4096 * (len / 4096)) ++ front_on seen first tail
+          subst (λ (tail : Option ℕ). text_on seen first list (4096 * (len / 4096)) ++ prefix_on seen first tail
           (len % 4096) ≡ text_on seen first list len) (sym w.tail-is)
           (tail_on seen first len list c.requires.long (omega (arith, w.if-text_len-eq0.false)))
     ]

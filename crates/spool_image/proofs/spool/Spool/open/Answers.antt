@@ -28,7 +28,7 @@ returns-in-Ok-clause-shows g c n m is = record {
       let settled = c.in-Ok.ensures.settled is.honest in
       let room = view_room g.D.Disk c.args.disk n m is in
       let kept = c.in-Ok.ensures.said is.honest is.shows.view is.shows.shows.sound is.shows.is room in
-      let reads = settled_reads image settled (λ p. here.same p (settled.firm p)) in
+      let reads = settled_reads image settled (λ p. here.same p (settled.is_synced p)) in
       image_shows n m image was is.shows
       (subst (λ (k : ℕ). ReadsAs (journal_pages k) image (overlaid was)) kept.0.blocks reads);
 }

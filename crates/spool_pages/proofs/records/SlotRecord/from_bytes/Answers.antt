@@ -120,7 +120,7 @@ returns-clause-sound c =
     let room : Stands (byte_of bytes) (66 + len) (1602 - (66 + len)) [] =
     blank_range bytes (66 + len) 1602 (c.is_blank-else-metadata_end-gt-TAG.ensures.0 (search rules)) in
     let said = c.in_ok-declared.ensures in
-    let front =
+    let prefix =
     of_parts (byte_of bytes) c.args.version _ size (omega (arith, metadata_size, few)) record {
       number = c.get_u64-number.ensures.there;
       declared = subst (λ (n : ℕ). Stands (byte_of bytes) 8 8 (to_be_bytes w64 n)) (sym said.number)
@@ -138,5 +138,5 @@ returns-clause-sound c =
       tag = sym said.tag;
     } in
     with_blank_rest bytes 1603 445 (sym long) (record_bytes c.args.version _)
-    (length-record c.args.version _ size (omega (arith, metadata_size, few))) front
+    (length-record c.args.version _ size (omega (arith, metadata_size, few))) prefix
     (c.is_blank-else-not-is_blank.ensures.0 (search rules))

@@ -5,7 +5,7 @@ use Rattle.spool_journal.proofs.Steps.{no_failure}
 use Rattle.spool_texts.specs.Drafts.{IsReserved}
 use Rattle.spool_texts.proofs.Asides.{image_aside}
 use Rattle.spool_texts.proofs.Contents.{content_more, same_held, same_content}
-use Rattle.spool_texts.proofs.Fronts.{writes_none, writes_on, but_more, but_on, image_in}
+use Rattle.spool_texts.proofs.Prefixes.{writes_none, writes_on, but_more, but_on, image_in}
 use Rattle.spool_texts.proofs.Reserves.{takes_none, takes_on}
 use Rattle.spool_texts.proofs.draft_text.DraftText.put.Goals as goal
 

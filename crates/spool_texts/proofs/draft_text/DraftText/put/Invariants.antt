@@ -21,9 +21,9 @@ invariant-loop-done g l = record {
   takes : Takes l.fn.blocks l.blocks l.fn.self.blocks l.self.blocks;
   reserved : IsReserved l.blocks l.self.blocks;
   writes : g.D.Disk.honest l.fn.disk → WritesIn (text_page l.layout) l.self.blocks
-      (g.D.Disk.seen l.fn.disk) (g.D.Disk.seen l.disk) (g.D.Disk.loose l.fn.disk) (g.D.Disk.loose l.disk);
+      (g.D.Disk.seen l.fn.disk) (g.D.Disk.seen l.disk) (g.D.Disk.unsynced l.fn.disk) (g.D.Disk.unsynced l.disk);
   lasts : g.D.Disk.honest l.fn.disk → Lasts g.D.Disk l.fn.disk l.disk
-      (IsImageBut (text_page l.layout) l.self.blocks (g.D.Disk.seen l.fn.disk) (g.D.Disk.loose l.fn.disk));
+      (IsImageBut (text_page l.layout) l.self.blocks (g.D.Disk.seen l.fn.disk) (g.D.Disk.unsynced l.fn.disk));
 }
 
 abbrev pub decreases-loop-done : goal.decreases-loop-done

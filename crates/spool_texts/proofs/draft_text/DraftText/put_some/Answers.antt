@@ -7,7 +7,7 @@ use Rattle.spool_texts.proofs.draft_text.DraftText.put_some.Goals as goal
 pub returns-clause-content : goal.returns-clause-content
 returns-clause-content g c honest =
     let seen = g.D.Disk.seen c.args.disk.now in
-    let seen' = g.D.Disk.seen c.write_front.new.disk in
+    let seen' = g.D.Disk.seen c.write_prefix.new.disk in
     let first = text_page c.args.layout.now in
     let bytes = take c.fill-n.result c.args.bytes.now in
     let blocks_is : c.self.inside.blocks.items ≡ c.open_block.new.self.blocks =
@@ -25,7 +25,7 @@ returns-clause-content g c honest =
     bytes c.deref-2.result.now c.args.self.now.unfinished c.deref-2.ensures.value cap new_size full
     c.fill-n.ensures.filled (ap (λ (xs : List ℕ). take c.self.inside.filled xs) c.deref_mut.ensures.value
     ∙ unfinished_is) in
-    let text = rw c.deref.ensures.value at (c.in_ok-write_front.ensures.text honest) in
+    let text = rw c.deref.ensures.value at (c.in_ok-write_prefix.ensures.text honest) in
     full_written seen seen' first c.args.self.now record {
       blocks = c.self.inside.blocks.items;
       unfinished = [];

@@ -8,10 +8,10 @@ use Rattle.tus_request.proofs.buffer.HeadBuffer.fill.Goals as goal
 pub invariant_of-self-2-clause-searched : goal.invariant_of-self-2-clause-searched
 invariant_of-self-2-clause-searched c =
     let old : List ℕ = c.args.self.now.bytes.items in
-    let front = take c.min.result c.args.piece.now in
+    let prefix = take c.min.result c.args.piece.now in
     c.after-self.ensures
-    ∙ (ap (λ s. after_bytes s front) c.args.self.now.searched
-    ∙ (sym (search_on Front old front) ∙ ap (after_bytes Front) (sym c.in_ok-extend_from_slice.ensures.items)))
+    ∙ (ap (λ s. after_bytes s prefix) c.args.self.now.searched
+    ∙ (sym (search_on Front old prefix) ∙ ap (after_bytes Front) (sym c.in_ok-extend_from_slice.ensures.items)))
 
 pub returns : goal.returns
 returns c =

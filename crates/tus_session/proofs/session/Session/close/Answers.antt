@@ -10,7 +10,7 @@ loop-place-init g c = record {
     begins_closing g.U.Uploads sure c.args.self.links.items c.args.store.now st
         stands,
   );
-  front = sym (take_all (length c.args.self.links.items) c.args.self.links.items (omega arith));
+  prefix = sym (take_all (length c.args.self.links.items) c.args.self.links.items (omega arith));
   below = omega arith;
   counts = refl;
   crash = record { later = omega arith; keeps = λ n t ms le left. left };
@@ -19,14 +19,14 @@ loop-place-init g c = record {
 pub loop-place-preserved : goal.loop-place-preserved
 loop-place-preserved g c =
     let inv = c.loop-place.invariant in
-    let is = popped c.args.self.links.items c.loop-place.links.items c.pop.new.self.items c.in-Some.place inv.front
+    let is = popped c.args.self.links.items c.loop-place.links.items c.pop.new.self.items c.in-Some.place inv.prefix
     c.in-Some.ensures.items in
     record {
       kept = λ sure st stands.
           let v = inv.kept sure st stands in
           after_closed g.U.Uploads sure c.args.self.links.items c.loop-place.links.items c.pop.new.self.items
           c.args.store.now st stands c.loop-place.store v.0 c.in-Some.place c.in_default-place.is is v.1;
-      front = is.front;
+      prefix = is.prefix;
       below = omega (arith, inv.below, is.count);
       counts = inv.counts;
       crash = inv.crash;
@@ -35,7 +35,7 @@ loop-place-preserved g c =
 pub loop-place-preserved-in-Some-place : goal.loop-place-preserved-in-Some-place
 loop-place-preserved-in-Some-place g c =
     let inv = c.loop-place.invariant in
-    let is = popped c.args.self.links.items c.loop-place.links.items c.pop.new.self.items c.in-Some.place inv.front
+    let is = popped c.args.self.links.items c.loop-place.links.items c.pop.new.self.items c.in-Some.place inv.prefix
     c.in-Some.ensures.items in
     record {
       kept = λ sure st stands.
@@ -43,7 +43,7 @@ loop-place-preserved-in-Some-place g c =
           after_open g.U.Uploads sure c.args.self.links.items c.loop-place.links.items c.pop.new.self.items
           c.args.store.now st stands c.loop-place.store c.drop_link.new.store v.0 c.in-Some.place c.in-Some-place.link
           c.in-Some-place.is is v.1 (c.drop_link.ensures.kept sure v.0 v.1.shown);
-      front = is.front;
+      prefix = is.prefix;
       below = omega (arith, inv.below, is.count);
       counts = c.drop_link.ensures.counts ∙ inv.counts;
       crash = record {

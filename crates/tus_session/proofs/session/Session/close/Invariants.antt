@@ -10,7 +10,7 @@ abbrev pub invariant-loop-place : goal.invariant-loop-place
 invariant-loop-place g l = record {
   kept : (sure : Bool) (st : State) → SessionStands g.U.Uploads sure l.fn.self.links.items l.fn.store st → (v : World)
       × IsClosing g.U.Uploads sure st (length l.links.items) l.store v;
-  front : l.links.items ≡ take (length l.links.items) l.fn.self.links.items;
+  prefix : l.links.items ≡ take (length l.links.items) l.fn.self.links.items;
   below : length l.links.items ≤ length l.fn.self.links.items;
   counts : g.U.Uploads.failures l.store ≡ g.U.Uploads.failures l.fn.store;
   crash : Quiet (g.U.Uploads.moment l.fn.store) (g.U.Uploads.moment l.store) (g.U.Uploads.left_only l.fn.store)

@@ -1,4 +1,4 @@
--- Characters at a text's front, whose bytes are known and leave the encoder's state as it is.
+-- Characters at a text's start, whose bytes are known and leave the encoder's state as it is.
 use Rattle.std.proofs.Common.{ℕ, ◌≡◌, List, [], ◌∷◌, ◌++◌, None, refl, sym, ◌∙◌, ap, subst, append_assoc, append-nil}
 use Rattle.std.proofs.Common.{◌+◌, ◌<◌, ◌≤◌, All, length, take, drop, set, arith, take-append-drop}
 use Rattle.std.proofs.lemmas.List.{take_more_set, length-set}
@@ -15,16 +15,16 @@ use Rattle.enc_model.specs.declared.Mode.{Mode}
 use Rattle.enc_model.specs.Encode.{Shift, Encoder, Tables, all_codes, code_of, coded, encoder}
 use Rattle.enc_model.proofs.Coding.{coded_is}
 use Rattle.enc_model.proofs.Steady.{encoder_steady}
-use Rattle.enc_encode.specs.Runs.{Stays, FirstGiven, AllGiven, RunFront}
+use Rattle.enc_encode.specs.Runs.{Stays, FirstGiven, AllGiven, RunPrefix}
 
 -- ONE CHARACTER
 
 pub char_own : (text rest : List ℕ) (c : ℕ) → IsUtf8 text → text ≡ encode c ++ rest → IsUtf8 (encode c)
 char_own text rest c u parts =
-    let front = encode c in
-    let cut = IsUtf8-take text (length front) u
-    (IsCharBoundary-at_seam text front rest parts (IsUtf8-past_char text rest c u parts)) in
-    let same : take (length front) text ≡ front = ap (take (length front)) parts ∙ take-append_seam front rest in
+    let prefix = encode c in
+    let cut = IsUtf8-take text (length prefix) u
+    (IsCharBoundary-at_seam text prefix rest parts (IsUtf8-past_char text rest c u parts)) in
+    let same : take (length prefix) text ≡ prefix = ap (take (length prefix)) parts ∙ take-append_seam prefix rest in
     subst IsUtf8 same cut
 
 pub char_one : (c : ℕ) → IsUtf8 (encode c) → chars (encode c) ≡ c ∷ []
@@ -71,22 +71,22 @@ all_weaker gives are h (c ∷ cs) bytes p = (p.0, p.1, p.2, h c p.0 p.3, all_wea
 
 -- what holds of each character's bytes
 pub run_weaker : (gives are : ℕ → List ℕ → Type 0) (text rest held new : List ℕ)
-    → ((c : ℕ) (b : List ℕ) → gives c b → are c b) → RunFront gives text rest held new →
-    RunFront are text rest held new
+    → ((c : ℕ) (b : List ℕ) → gives c b → are c b) → RunPrefix gives text rest held new →
+    RunPrefix are text rest held new
 run_weaker gives are text rest held new h p = record {
-  front = p.front;
+  prefix = p.prefix;
   bytes = p.bytes;
   parts = p.parts;
   own = p.own;
   kept = p.kept;
-  given = all_weaker gives are h (chars p.front) p.bytes p.given;
+  given = all_weaker gives are h (chars p.prefix) p.bytes p.given;
 }
 
 module _ (gives : ℕ → List ℕ → Type 0) where
   -- no character yet
-  pub run_none : (text held kept : List ℕ) → kept ≡ held → RunFront gives text text held kept
+  pub run_none : (text held kept : List ℕ) → kept ≡ held → RunPrefix gives text text held kept
   run_none text held kept e = record {
-    front = [];
+    prefix = [];
     bytes = [];
     parts = refl;
     own = IsUtf8-nil;
@@ -95,20 +95,20 @@ module _ (gives : ℕ → List ℕ → Type 0) where
   }
 
   -- one character more
-  pub run_more : (text rest left held kept new b : List ℕ) → IsUtf8 rest → RunFront gives text rest held kept
-      → FirstGiven gives rest b left → new ≡ kept ++ b → RunFront gives text left held new
+  pub run_more : (text rest left held kept new b : List ℕ) → IsUtf8 rest → RunPrefix gives text rest held kept
+      → FirstGiven gives rest b left → new ≡ kept ++ b → RunPrefix gives text left held new
   run_more text rest left held kept new b u p q e =
       let one = encode q.c in
       let own = char_own rest left q.c u q.parts in
-      let all : chars (p.front ++ one) ≡ chars p.front ++ q.c ∷ [] =
-      chars-append p.front one p.own ∙ ap (λ z. chars p.front ++ z) (char_one q.c own) in record {
-        front = p.front ++ one;
+      let all : chars (p.prefix ++ one) ≡ chars p.prefix ++ q.c ∷ [] =
+      chars-append p.prefix one p.own ∙ ap (λ z. chars p.prefix ++ z) (char_one q.c own) in record {
+        prefix = p.prefix ++ one;
         bytes = p.bytes ++ b;
-        parts = p.parts ∙ ap (λ z. p.front ++ z) q.parts ∙ sym (append_assoc p.front one left);
-        own = IsUtf8-append p.front one p.own own;
+        parts = p.parts ∙ ap (λ z. p.prefix ++ z) q.parts ∙ sym (append_assoc p.prefix one left);
+        own = IsUtf8-append p.prefix one p.own own;
         kept = e ∙ ap (λ z. z ++ b) p.kept ∙ append_assoc held p.bytes b;
         given = subst (λ z. AllGiven gives z (p.bytes ++ b)) (sym all)
-            (all_more gives (chars p.front) p.bytes q.c b p.given q.given);
+            (all_more gives (chars p.prefix) p.bytes q.c b p.given q.given);
       }
 
 -- two more items after the first ones
@@ -147,26 +147,26 @@ all_ascii gives stands (c ∷ cs) a = (
   all_ascii gives stands cs (All-tail (λ c. c < 128) c cs a),
 )
 
--- one front after another
-pub run_both : (gives : ℕ → List ℕ → Type 0) (text rest left held kept new : List ℕ) → RunFront gives text rest held
+-- one prefix after another
+pub run_both : (gives : ℕ → List ℕ → Type 0) (text rest left held kept new : List ℕ) → RunPrefix gives text rest held
     kept
-    → RunFront gives rest left kept new → RunFront gives text left held new
+    → RunPrefix gives rest left kept new → RunPrefix gives text left held new
 run_both gives text rest left held kept new p q = record {
-  front = p.front ++ q.front;
+  prefix = p.prefix ++ q.prefix;
   bytes = p.bytes ++ q.bytes;
-  parts = p.parts ∙ ap (λ z. p.front ++ z) q.parts ∙ sym (append_assoc p.front q.front left);
-  own = IsUtf8-append p.front q.front p.own q.own;
+  parts = p.parts ∙ ap (λ z. p.prefix ++ z) q.parts ∙ sym (append_assoc p.prefix q.prefix left);
+  own = IsUtf8-append p.prefix q.prefix p.own q.own;
   kept = q.kept ∙ ap (λ z. z ++ q.bytes) p.kept ∙ append_assoc held p.bytes q.bytes;
-  given = subst (λ z. AllGiven gives z (p.bytes ++ q.bytes)) (sym (chars-append p.front q.front p.own))
-      (all_both gives (chars p.front) (chars q.front) p.bytes q.bytes p.given q.given);
+  given = subst (λ z. AllGiven gives z (p.bytes ++ q.bytes)) (sym (chars-append p.prefix q.prefix p.own))
+      (all_both gives (chars p.prefix) (chars q.prefix) p.bytes q.bytes p.given q.given);
 }
 
 -- ASCII that stands for itself
 pub run_ascii : (gives : ℕ → List ℕ → Type 0) → ((c : ℕ) → c < 128 → gives c (c ∷ [])) → (text : List ℕ) (n : ℕ)
     (held new : List ℕ) → All (λ b. b < 128) (take n text) → new ≡ held ++ take n text
-    → RunFront gives text (drop n text) held new
+    → RunPrefix gives text (drop n text) held new
 run_ascii gives stands text n held new a e = record {
-  front = take n text;
+  prefix = take n text;
   bytes = take n text;
   parts = sym (take-append-drop n text);
   own = ascii_utf8 (take n text) a;

@@ -1,6 +1,6 @@
 use Rattle.std.proofs.Common.{◌≡◌, ◌≤◌, ◌-◌, false, take, length}
 use Rattle.enc_model.specs.Stream.{steps}
-use Rattle.enc_model.proofs.decoder.give_fronts.Given as goal
+use Rattle.enc_model.proofs.decoder.give_prefixes.Given as goal
 
 abbrev pub invariant-loop-at : goal.invariant-loop-at
 invariant-loop-at g l =

@@ -1,8 +1,8 @@
 use Rattle.std.proofs.Common.{arith, subst}
 use Rattle.std.specs.Array.{IsFirstChunk}
 use Rattle.enc_encode.specs.State.{shift_of}
-use Rattle.enc_encode.proofs.Fronts.{own_chunk}
-use Rattle.enc_encode.proofs.encoder.own_front.Goals as goal
+use Rattle.enc_encode.proofs.Prefixes.{own_chunk}
+use Rattle.enc_encode.proofs.encoder.own_prefix.Goals as goal
 
 pub returns : goal.returns
 returns c =

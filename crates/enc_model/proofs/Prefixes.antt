@@ -11,14 +11,14 @@ use Rattle.std.specs.Char.{is_ascii}
 use Rattle.enc_model.specs.declared.Answer.TheVariants.{Point}
 use Rattle.enc_model.specs.Stream.{Handler, IsCalm, steps}
 use Rattle.enc_model.specs.Sink.{Given}
-use Rattle.enc_model.specs.Front.{IsFront}
+use Rattle.enc_model.specs.AsciiPrefix.{IsAsciiPrefix}
 use Rattle.enc_model.proofs.Steps.{steps_none, steps_run, steps_append}
 
 none_short : (P : ℕ → Type 0) → All P []
 none_short P k d l = absurd (omega (arith, l))
 
-pub front_all : (bytes : List ℕ) → All (λ b. b < 128) (take (prefix_len is_ascii bytes) bytes)
-front_all bytes =
+pub prefix_all : (bytes : List ℕ) → All (λ b. b < 128) (take (prefix_len is_ascii bytes) bytes)
+prefix_all bytes =
     let n = prefix_len is_ascii bytes in
     All-from_get_or (λ b. b < 128) (take n bytes) 0 (λ k l.
     let m : k < n = let e = length-prefix_len is_ascii bytes in omega (arith, l, e) in
@@ -27,33 +27,34 @@ front_all bytes =
     subst (λ b. b < 128) (sym (get_or-take n bytes k 0 m)) q)
 
 module _ {S : Type 0} (h : Handler S) where
-  pub front_none : (s : S) (bytes : List ℕ) → IsFront h s bytes 0
-  front_none s bytes = record { within = omega arith; ascii = none_short (λ b. b < 128); own = steps_none h s }
+  pub prefix_none : (s : S) (bytes : List ℕ) → IsAsciiPrefix h s bytes 0
+  prefix_none s bytes = record { within = omega arith; ascii = none_short (λ b. b < 128); own = steps_none h s }
 
-  pub front_ascii : IsCalm h → (s : S) (bytes : List ℕ) (n : ℕ) → n ≡ prefix_len is_ascii bytes →
-      ((b : ℕ) → b < 128 → h s (Some b) ≡ record { state = s; answer = Point b; restored = [] }) → IsFront h s bytes n
-  front_ascii calm s bytes n e plain =
-      let all = subst (λ k. All (λ b. b < 128) (take k bytes)) (sym e) (front_all bytes) in
+  pub prefix_ascii : IsCalm h → (s : S) (bytes : List ℕ) (n : ℕ) → n ≡ prefix_len is_ascii bytes →
+      ((b : ℕ) → b < 128 → h s (Some b) ≡ record { state = s; answer = Point b; restored = [] })
+      → IsAsciiPrefix h s bytes n
+  prefix_ascii calm s bytes n e plain =
+      let all = subst (λ k. All (λ b. b < 128) (take k bytes)) (sym e) (prefix_all bytes) in
       record {
         within = let l = prefix_len-le-length is_ascii bytes in omega (arith, e, l);
         ascii = all;
         own = steps_run h calm (λ b. b < 128) s plain (take n bytes) all;
       }
 
-  -- a front that was given
-  pub front_given : {X E A : Type 0} (takes : A → List ℕ → A → Type 0) (refuses : A → List ℕ → E → A → Type 0) (s : S)
+  -- a prefix that was given
+  pub prefix_given : {X E A : Type 0} (takes : A → List ℕ → A → Type 0) (refuses : A → List ℕ → E → A → Type 0) (s : S)
       (bytes : List ℕ) (n : ℕ) (a b : A) (r : Result X E) →
-      IsFront h s bytes n → Given takes refuses a (take n bytes) b r → Given takes refuses a
+      IsAsciiPrefix h s bytes n → Given takes refuses a (take n bytes) b r → Given takes refuses a
       (steps h false s (take n bytes)).text b r
-  front_given takes refuses s bytes n a b r f g =
+  prefix_given takes refuses s bytes n a b r f g =
       subst (λ z. Given takes refuses a z b r) (ap (λ run. run.text) (sym f.own)) g
 
-  -- a refusal of a front
-  pub refused_front : {A E : Type 0} (refuses : A → List ℕ → E → A → Type 0)
+  -- a refusal of a prefix
+  pub refused_prefix : {A E : Type 0} (refuses : A → List ℕ → E → A → Type 0)
       → ((a b : A) (x y : List ℕ) (e : E) → refuses a x e b → refuses a (x ++ y) e b) →
       IsCalm h → (s : S) (rest : List ℕ) (n : ℕ) (a b : A) (e : E) → refuses a (steps h false s (take n rest)).text e b
       → refuses a (steps h false s rest).text e b
-  refused_front refuses more calm s rest n a b e r =
+  refused_prefix refuses more calm s rest n a b e r =
       let first = steps h false s (take n rest) in
       subst (λ p. refuses a (steps h false s p).text e b) (take-append-drop n rest)
       (subst (λ run. refuses a run.text e b) (sym (steps_append h calm false s (take n rest) (drop n rest)))

@@ -1,4 +1,4 @@
--- The answer for a stream's front doesn't depend on what follows.
+-- The answer for a stream's start doesn't depend on what follows.
 use Rattle.std.proofs.Common.{◌≡◌, ℕ, ◌+◌, ◌-◌, ◌<◌, ◌≤◌, Bool, true, false, List, [], ◌∷◌, ◌++◌, length, take, drop}
 use Rattle.std.proofs.Common.{refl, sym, ◌∙◌, ap, subst, arith, Option, Some, None, option_map, nat_lt, if◌then◌else◌}
 use Rattle.std.proofs.Common.{◌==◌, zero, suc}
@@ -165,19 +165,19 @@ cons_eq : (l m : List ℕ) (ls ms : Lines) → l ∷ ls ≡ m ∷ ms → (l ≡ 
 unfolding first_of rest_of
 cons_eq l m ls ms e = (ap (first_of l) e, ap rest_of e)
 
--- with a byte in front
-front_case : (b : ℕ) (c : Bool) (s hs xs ls : Lines) (l : List ℕ) (k : ℕ → Lines)
+-- with a byte at the start
+prefix_case : (b : ℕ) (c : Bool) (s hs xs ls : Lines) (l : List ℕ) (k : ℕ → Lines)
     → (b == 10) ≡ c
     → (if c then (b ∷ []) ∷ ls else onto_first b ls) ≡ (l ∷ hs) ++ xs
     → ((gs ys : Lines) → ls ≡ gs ++ ys → k (bytes_in gs) ≡ gs)
     → (if c then (b ∷ []) ∷ k (length l - 1 + bytes_in hs) else onto_first b (k (length l - 1 + bytes_in hs))) ≡ l ∷ hs
-front_case b true s hs xs ls l k t e h =
+prefix_case b true s hs xs ls l k t e h =
     let p = cons_eq (b ∷ []) l ls (hs ++ xs) e in
     let n : 1 ≡ length l = ap length p.0 in
     let m : length l - 1 + bytes_in hs ≡ bytes_in hs = omega arith in
     ap (λ x. (b ∷ []) ∷ k x) m ∙ (ap (λ x. (b ∷ []) ∷ x) (h hs xs p.1) ∙ ap (λ x. x ∷ hs) p.0)
-front_case b false s hs xs [] l k t e h = absurd (cc)
-front_case b false s hs xs (g ∷ ls) l k t e h =
+prefix_case b false s hs xs [] l k t e h = absurd (cc)
+prefix_case b false s hs xs (g ∷ ls) l k t e h =
     let p = cons_eq (b ∷ g) l ls (hs ++ xs) e in
     let n : suc (length g) ≡ length l = ap length p.0 in
     let m : length l - 1 + bytes_in hs ≡ length g + bytes_in hs = omega arith in
@@ -199,7 +199,7 @@ first_lines (b ∷ s) (l ∷ hs) xs e =
     let n = has_byte b (b == 10) (lines s) hs xs l e in
     let m : length l + bytes_in hs ≡ suc (length l - 1 + bytes_in hs) = omega arith in
     ap (λ x. lines (take x (b ∷ s))) m
-    ∙ front_case b (b == 10) [] hs xs (lines s) l (λ x. lines (take x s)) refl e (λ gs ys h. first_lines s gs ys h)
+    ∙ prefix_case b (b == 10) [] hs xs (lines s) l (λ x. lines (take x s)) refl e (λ gs ys h. first_lines s gs ys h)
 
 -- the lines of a head are the first ones, and alone they are a head
 abbrev IsOwn : (Lines → Option Lines) → Lines → Lines → Type 0
@@ -289,8 +289,8 @@ take_bound zero s = omega arith
 take_bound (suc n) [] = omega arith
 take_bound (suc n) (b ∷ s) = let h = take_bound n s in omega arith
 
-front_length : (n : ℕ) (s : List ℕ) → length (take n s) ≤ length s
-front_length n s =
+prefix_length : (n : ℕ) (s : List ℕ) → length (take n s) ≤ length s
+prefix_length n s =
     let e : length (take n s) + length (drop n s) ≡ length s =
     sym (length-append (take n s) (drop n s)) ∙ ap length (take-append-drop n s) in
     omega arith
@@ -337,17 +337,17 @@ module _ (offers : Encoding → Bool) where
   bounds_case s n v None fits q = none_bounds s n v (nat_lt (length s) 8192) refl q
   bounds_case s n v (Some e) fits q = some_bounds s n v e (fits e refl) (nat_lt 65 e.texts) q
 
-  front_fits : (s : List ℕ) (e : Extent) → head_extent (take 8192 s) ≡ Some e → Fits s e
-  front_fits s e q =
+  prefix_fits : (s : List ℕ) (e : Extent) → head_extent (take 8192 s) ≡ Some e → Fits s e
+  prefix_fits s e q =
       let f = extent_fits (take 8192 s) e q in
       let a = f.bound in
       let b = f.some in
-      let c = front_length 8192 s in
+      let c = prefix_length 8192 s in
       record { bound = omega arith; some = omega arith }
 
   bounds : (s : List ℕ) (n : ℕ) (v : Verdict) → answer_of offers s ≡ Judged n v → Bounds s n
   unfolding answer_of
-  bounds s n v q = bounds_case s n v (head_extent (take 8192 s)) (λ e h. front_fits s e h) q
+  bounds s n v q = bounds_case s n v (head_extent (take 8192 s)) (λ e h. prefix_fits s e h) q
 
   none_keeps : (s more : List ℕ) (n : ℕ) (v : Verdict) → head_extent (take 8192 s) ≡ None → (b : Bool)
       → nat_lt (length s) 8192 ≡ b
@@ -367,7 +367,7 @@ module _ (offers : Encoding → Bool) where
   keeps_case s more n v None h q = none_keeps s more n v h (nat_lt (length s) 8192) refl q
   keeps_case s more n v (Some e) h q =
       let x = take_more 8192 s more in
-      let f = front_fits s e h in
+      let f = prefix_fits s e h in
       ap (answer_with offers (s ++ more)) (ap head_extent x.1 ∙ extent_keeps (take 8192 s) x.0 e h)
       ∙ (ap (λ y. if nat_lt 65 e.texts then Judged e.len (no_head HeadTooLong) else whole_answer offers y)
       (take-append-le e.len s more f.bound) ∙ q)
@@ -408,7 +408,7 @@ module _ (offers : Encoding → Bool) where
   own_case s n v (Some e) h q =
       let f = extent_fits (take 8192 s) e h in
       let inside : e.len ≤ length (take 8192 s) = f.bound in
-      let front = front_length 8192 s in
+      let prefix = prefix_length 8192 s in
       let few = take_bound 8192 s in
       let within : e.len ≤ length s = omega arith in
       let l : length (take e.len s) ≡ e.len = length-take-le e.len s within in

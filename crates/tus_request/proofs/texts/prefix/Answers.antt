@@ -1,7 +1,7 @@
 use Rattle.std.proofs.Common.{sym, ◌∙◌, arith}
 use Rattle.std.proofs.lemmas.List.{length-take-le}
 use Rattle.tus_request.proofs.TextLemmas.{cut_some, cut_none}
-use Rattle.tus_request.proofs.texts.front.Goals as goal
+use Rattle.tus_request.proofs.texts.prefix.Goals as goal
 
 pub slice_bounds-result-end : goal.slice_bounds-result-end
 slice_bounds-result-end c =

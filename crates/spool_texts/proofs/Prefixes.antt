@@ -9,7 +9,7 @@ use Rattle.spool_journal.specs.Texts.{aside}
 use Rattle.spool_journal.proofs.TextFrames.{aside_else}
 use Rattle.spool_texts.specs.TextOn.{blocks_on, text_on}
 use Rattle.spool_texts.specs.Written.{SameOutside, NoneOf, InBlocks, WritesIn, IsImageBut}
-use Rattle.spool_texts.proofs.Shown.{text_front, text_joined}
+use Rattle.spool_texts.proofs.Shown.{text_prefix, text_joined}
 use Rattle.spool_journal.specs.Image.{area_end}
 
 -- the first bytes of a span
@@ -42,9 +42,10 @@ blocks_same f g first (b ∷ list) same =
     both : {a b c d : List ℕ} → a ≡ b → c ≡ d → a ++ c ≡ b ++ d
     both e f = cc
 
-module _ {seen seen' : ℕ → ℕ} {loose loose' : ℕ → Type 0} {done : Type 0} (first : ℕ) (list bytes : List ℕ)
+module _ {seen seen' : ℕ → ℕ} {unsynced unsynced' : ℕ → Type 0} {done : Type 0} (first : ℕ) (list bytes : List ℕ)
     (some : 1 ≤ length list) (fits : length bytes ≤ 4096)
-    (writes : Writes (4096 * (first + get_or list (length list - 1) 0) + 0) bytes done seen seen' loose loose') where
+    (writes : Writes (4096 * (first + get_or list
+    (length list - 1) 0) + 0) bytes done seen seen' unsynced unsynced') where
   last_block : (p : ℕ) → In (4096 * (first + get_or list (length list - 1) 0) + 0) (length bytes) p
       → InBlocks first list p
   last_block p within = record {
@@ -53,21 +54,21 @@ module _ {seen seen' : ℕ → ℕ} {loose loose' : ℕ → Type 0} {done : Type
     here = omega (arith, within.from, within.below, fits);
   }
 
-  pub front_writes : WritesIn first list seen seen' loose loose'
-  front_writes = record {
+  pub prefix_writes : WritesIn first list seen seen' unsynced unsynced'
+  prefix_writes = record {
     outside = λ p away. writes.outside p (λ within. away (last_block p within));
-    loosens = λ p l. ⊎_elim inl (λ within. inr (last_block p within)) (writes.loosens p l);
+    unsyncs = λ p l. ⊎_elim inl (λ within. inr (last_block p within)) (writes.unsyncs p l);
   }
 
-  pub front_text : ((i k : ℕ) → i < k → k < length list → get_or list i 0 ≢ get_or list k 0) → done
+  pub prefix_text : ((i k : ℕ) → i < k → k < length list → get_or list i 0 ≢ get_or list k 0) → done
       → text_on seen' first list (4096 * (length list - 1) + length bytes) ≡ text_on seen first list
       (4096 * (length list - 1)) ++ bytes
-  front_text distinct ok =
+  prefix_text distinct ok =
       ap (λ (xs : List ℕ). text_on seen' first xs (4096 * (length list - 1) + length bytes)) whole
       ∙ text_joined seen' first (length list - 1) (length bytes) list (get_or list (length list - 1) 0 ∷ [])
       (omega arith)
-      ∙ both (text_front seen' first (length list - 1) list (omega arith) ∙ others
-      ∙ sym (text_front seen first (length list - 1) list (omega arith))) here
+      ∙ both (text_prefix seen' first (length list - 1) list (omega arith) ∙ others
+      ∙ sym (text_prefix seen first (length list - 1) list (omega arith))) here
     where
       whole : list ≡ take (length list - 1) list ++ get_or list (length list - 1) 0 ∷ []
       whole = sym (take_all (length list - 1 + 1) list (omega arith)) ∙ take_more list (length list - 1) 0
@@ -92,34 +93,34 @@ module _ {seen seen' : ℕ → ℕ} {loose loose' : ℕ → Type 0} {done : Type
       both e f = cc
 
 -- no write is one
-pub writes_none : {seen : ℕ → ℕ} {loose : ℕ → Type 0} (first : ℕ) (blocks : List ℕ)
-    → WritesIn first blocks seen seen loose loose
-writes_none first blocks = record { outside = λ p away. refl; loosens = λ p l. inl l }
+pub writes_none : {seen : ℕ → ℕ} {unsynced : ℕ → Type 0} (first : ℕ) (blocks : List ℕ)
+    → WritesIn first blocks seen seen unsynced unsynced
+writes_none first blocks = record { outside = λ p away. refl; unsyncs = λ p l. inl l }
 
-pub idle_in : {j : ℕ} {seen seen' : ℕ → ℕ} {loose loose' : ℕ → Type 0} {blocks : List ℕ} → Idle j seen loose
-    → WritesIn (area_end j) blocks seen seen' loose loose' → Idle j seen' loose'
+pub idle_in : {j : ℕ} {seen seen' : ℕ → ℕ} {unsynced unsynced' : ℕ → Type 0} {blocks : List ℕ} → Idle j seen unsynced
+    → WritesIn (area_end j) blocks seen seen' unsynced unsynced' → Idle j seen' unsynced'
 idle_in {j = j} {blocks = blocks} idle writes = record {
-  gate = λ l. ⊎_elim idle.gate (λ within. omega (arith, within.here)) (writes.loosens 4096 l);
+  gate = λ l. ⊎_elim idle.gate (λ within. omega (arith, within.here)) (writes.unsyncs 4096 l);
   closed = λ e. idle.closed (sym (writes.outside 4096 (λ within. omega (arith, within.here))) ∙ e);
   area = λ p within l. ⊎_elim (idle.area p within) (λ here. omega (arith, here.here, within.below))
-      (writes.loosens p l);
+      (writes.unsyncs p l);
 }
 
 -- an image of a write to one of the blocks
-pub image_but : {seen image : ℕ → ℕ} {loose : ℕ → Type 0} (first : ℕ) (list : List ℕ) (i : ℕ) → i < length list
-    → IsImage seen loose (aside (first + get_or list i 0) seen image) → IsImageBut first list seen loose image
+pub image_but : {seen image : ℕ → ℕ} {unsynced : ℕ → Type 0} (first : ℕ) (list : List ℕ) (i : ℕ) → i < length list
+    → IsImage seen unsynced (aside (first + get_or list i 0) seen image) → IsImageBut first list seen unsynced image
 image_but {seen = seen} {image = image} first list i lt is = record {
-  same = λ p away firm. sym
+  same = λ p away is_synced. sym
       (aside_else (first + get_or list i 0) seen image p (λ e. away record { at = i; below = lt; here = e }))
-      ∙ is.same p firm;
+      ∙ is.same p is_synced;
 }
 
 -- an image after such writes
-pub image_in : {seen seen' image : ℕ → ℕ} {loose loose' : ℕ → Type 0} {first : ℕ} {blocks : List ℕ}
-    → WritesIn first blocks seen seen' loose loose' → IsImage seen' loose' image
-    → IsImageBut first blocks seen loose image
+pub image_in : {seen seen' image : ℕ → ℕ} {unsynced unsynced' : ℕ → Type 0} {first : ℕ} {blocks : List ℕ}
+    → WritesIn first blocks seen seen' unsynced unsynced' → IsImage seen' unsynced' image
+    → IsImageBut first blocks seen unsynced image
 image_in writes is = record {
-  same = λ p away firm. is.same p (λ l. ⊎_elim firm away (writes.loosens p l)) ∙ writes.outside p away;
+  same = λ p away is_synced. is.same p (λ l. ⊎_elim is_synced away (writes.unsyncs p l)) ∙ writes.outside p away;
 }
 
 -- a list that grew
@@ -132,24 +133,28 @@ in_append {first = first} {p = p} {list = list} {list' = list'} more grown withi
       (get_or_append_left list more 0 within.at within.below) ∙ within.here;
 }
 
-pub writes_on : {first : ℕ} {list list' : List ℕ} {seen mid seen' : ℕ → ℕ} {loose between loose' : ℕ → Type 0}
-    (more : List ℕ) → list' ≡ list ++ more → WritesIn first list seen mid loose between
-    → WritesIn first list' mid seen' between loose' → WritesIn first list' seen seen' loose loose'
+pub writes_on : {first : ℕ} {list list' : List ℕ} {seen mid seen' : ℕ → ℕ} {unsynced between unsynced' : ℕ → Type 0}
+    (more : List ℕ) → list' ≡ list ++ more → WritesIn first list seen mid unsynced between
+    → WritesIn first list' mid seen' between unsynced' → WritesIn first list' seen seen' unsynced unsynced'
 writes_on more grown a b = record {
   outside = λ p away. b.outside p away ∙ a.outside p (λ within. away (in_append more grown within));
-  loosens = λ p l. ⊎_elim (λ m. ⊎_elim inl (λ within. inr (in_append more grown within)) (a.loosens p m)) inr
-      (b.loosens p l);
+  unsyncs = λ p l. ⊎_elim (λ m. ⊎_elim inl (λ within. inr (in_append more grown within)) (a.unsyncs p m)) inr
+      (b.unsyncs p l);
 }
 
-pub but_more : {first : ℕ} {list list' : List ℕ} {seen image : ℕ → ℕ} {loose : ℕ → Type 0} (more : List ℕ)
-    → list' ≡ list ++ more → IsImageBut first list seen loose image → IsImageBut first list' seen loose image
-but_more more grown is = record { same = λ p away firm. is.same p (λ within. away (in_append more grown within)) firm }
+pub but_more : {first : ℕ} {list list' : List ℕ} {seen image : ℕ → ℕ} {unsynced : ℕ → Type 0} (more : List ℕ)
+    → list' ≡ list ++ more → IsImageBut first list seen unsynced image → IsImageBut first list' seen unsynced image
+but_more more grown is = record {
+  same = λ p away is_synced. is.same p (λ within. away
+      (in_append more grown within)) is_synced;
+}
 
-pub but_on : {first : ℕ} {list list' : List ℕ} {seen mid image : ℕ → ℕ} {loose between : ℕ → Type 0} (more : List ℕ)
-    → list' ≡ list ++ more → WritesIn first list seen mid loose between → IsImageBut first list' mid between image
-    → IsImageBut first list' seen loose image
+pub but_on : {first : ℕ} {list list' : List ℕ} {seen mid image : ℕ → ℕ} {unsynced between : ℕ → Type 0} (more : List ℕ)
+    → list' ≡ list ++ more → WritesIn first list seen mid unsynced between → IsImageBut first list' mid between image
+    → IsImageBut first list' seen unsynced image
 but_on more grown a is = record {
-  same = λ p away firm. is.same p away (λ m. ⊎_elim firm (λ within. away (in_append more grown within)) (a.loosens p m))
+  same = λ p away is_synced. is.same p away (λ m. ⊎_elim is_synced (λ within. away (in_append more grown within))
+      (a.unsyncs p m))
       ∙ a.outside p (λ within. away (in_append more grown within));
 }
 

@@ -1,5 +1,5 @@
-use Rattle.lane_kernels.proofs.Fronts.{lanes_front}
-use Rattle.lane_kernels.proofs.finder.AsciiLanesAsciiFinder.front.Goals as goal
+use Rattle.lane_kernels.proofs.Prefixes.{lanes_front}
+use Rattle.lane_kernels.proofs.finder.AsciiLanesAsciiFinder.prefix.Goals as goal
 
 pub returns-clause-within : goal.returns-clause-within
 returns-clause-within c = (lanes_front c.args.bytes.now c.ascii_lanes.result c.ascii_lanes.ensures).0

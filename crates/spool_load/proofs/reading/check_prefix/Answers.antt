@@ -4,14 +4,14 @@ use Rattle.spool_journal.specs.Image.{byte_of}
 use Rattle.spool_pages.specs.View.{Stands, first_page}
 use Rattle.spool_pages.proofs.Says.{all_is, some_journal}
 use Rattle.spool_load.proofs.Looks.{read_back, read_stands, stands_part}
-use Rattle.spool_load.proofs.reading.check_front.Goals as goal
+use Rattle.spool_load.proofs.reading.check_prefix.Goals as goal
 
-front_stands : (bytes : ℕ → ℕ) (n : ℕ) → ((i : ℕ) → i < 12 → bytes i ≡ get_or (first_page n) i 0)
+prefix_stands : (bytes : ℕ → ℕ) (n : ℕ) → ((i : ℕ) → i < 12 → bytes i ≡ get_or (first_page n) i 0)
     → Stands bytes 0 12 (first_page n)
-front_stands bytes n front =
+prefix_stands bytes n prefix =
     record {
       each = λ i lt. let at : i ≡ 0 + i = omega arith in subst (λ (p : ℕ). bytes p ≡ get_or (first_page n) i 0)
-          at (front i lt);
+          at (prefix i lt);
     }
 
 pub read_at-requires : goal.read_at-requires
@@ -29,11 +29,11 @@ returns-else-is_blank_after_fields-clause-said g c honest bytes still n stands =
     absurd (false≢true (sym c.if-is_blank_after_fields.false ∙ blank))
 
 pub returns-then-is_blank_after_fields-clause-sound : goal.returns-then-is_blank_after_fields-clause-sound
-returns-then-is_blank_after_fields-clause-sound g c honest bytes still n front =
+returns-then-is_blank_after_fields-clause-sound g c honest bytes still n prefix =
     let read = c.in_ok-read_at.ensures.bytes honest bytes still in
     let wide : length c.read_at.new.buf ≡ 4096 = search rules in
     let here =
     read_stands bytes 0 0 0 12 c.read_at.new.buf (first_page n) read (omega (arith, wide)) (omega arith)
-    (front_stands bytes n front) in
+    (prefix_stands bytes n prefix) in
     let whole = (c.is_blank_after_fields.ensures.first n here).0 c.if-is_blank_after_fields.true in
     read_back bytes 0 0 0 4096 c.read_at.new.buf (first_page n) read (omega (arith, wide)) (omega arith) whole

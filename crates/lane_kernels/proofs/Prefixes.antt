@@ -7,7 +7,7 @@ use Rattle.std.proofs.lemmas.List.Folds.{prefix_len-append}
 use Rattle.std.proofs.lemmas.Simd.{length-chunk, chunk-drop, get_or-chunk, leading_from_mask_l}
 use Rattle.std.proofs.lemmas.List.Sums.{prefix_len-le-length, prefix_len_passes, prefix_len_stops}
 use Rattle.std.proofs.lemmas.List.{drop-drop, length-take, take-take}
-use Rattle.enc_model.proofs.Fronts.{front_all}
+use Rattle.enc_model.proofs.Prefixes.{prefix_all}
 use Rattle.std.specs.List.{prefix_len}
 use Rattle.std.proofs.Common.{◌%◌, ◌^◌, bit_or, replicate, w8}
 use Rattle.std.proofs.lemmas.List.{length-map}
@@ -19,10 +19,10 @@ use Rattle.std.specs.Bool.{OnTrue}
 use Rattle.std.specs.Char.{is_ascii}
 use Rattle.std.specs.Simd.Lanes.{chunk, mask_l}
 
--- tests that agree have one front
-pub same_front : (p q : ℕ → Bool) → ((x : ℕ) → p x ≡ q x) → (xs : List ℕ) → prefix_len p xs ≡ prefix_len q xs
-same_front p q e [] = refl
-same_front p q e (x ∷ xs) = ap₂ (λ b n. cond b (1 + n) 0) (e x) (same_front p q e xs)
+-- tests that agree have one prefix
+pub same_prefix : (p q : ℕ → Bool) → ((x : ℕ) → p x ≡ q x) → (xs : List ℕ) → prefix_len p xs ≡ prefix_len q xs
+same_prefix p q e [] = refl
+same_prefix p q e (x ∷ xs) = ap₂ (λ b n. cond b (1 + n) 0) (e x) (same_prefix p q e xs)
 
 -- a chunk that passes whole
 pub chunk_passes : (p : ℕ → Bool) (i n : ℕ) (xs : List ℕ) → i + n ≤ length xs → prefix_len p (chunk i n xs) ≡ n →
@@ -32,7 +32,7 @@ chunk_passes p i n xs room whole =
     ap (prefix_len p) (chunk-drop i n xs) ∙ prefix_len-append p (chunk i n xs) (drop (i + n) xs)
     ∙ cond-true _ _ _ (eq-eqb _ _ (whole ∙ sym long)) ∙ ap (λ m. m + prefix_len p (drop (i + n) xs)) long
 
--- a chunk in which the front ends
+-- a chunk in which the prefix ends
 pub chunk_stops : (p : ℕ → Bool) (i n : ℕ) (xs : List ℕ) → i + n ≤ length xs → prefix_len p (chunk i n xs) < n →
     prefix_len p (drop i xs) ≡ prefix_len p (chunk i n xs)
 chunk_stops p i n xs room short =
@@ -41,33 +41,33 @@ chunk_stops p i n xs room short =
     ap (prefix_len p) (chunk-drop i n xs) ∙ prefix_len-append p (chunk i n xs) (drop (i + n) xs)
     ∙ cond-false _ _ _ (ne_eqb _ _ other)
 
--- a front that goes on at the next element, and one that ends there
-pub front_more : (p : ℕ → Bool) (xs : List ℕ) (at : ℕ) → at ≤ prefix_len p xs → at < length xs
+-- a prefix that goes on at the next element, and one that ends there
+pub prefix_more : (p : ℕ → Bool) (xs : List ℕ) (at : ℕ) → at ≤ prefix_len p xs → at < length xs
     → p (get_or xs at 0) ≡ true → at + 1 ≤ prefix_len p xs
-front_more p xs at front inside passes =
+prefix_more p xs at prefix inside passes =
     elim (cases_eq (prefix_len p xs) at) [
       | inl here ↦ absurd (true≢false
           (sym passes ∙ ap (λ k. p (get_or xs k 0)) (sym here) ∙ prefix_len_stops p xs 0 (omega (arith, here, inside))))
-      | inr other ↦ omega (arith, other, front)
+      | inr other ↦ omega (arith, other, prefix)
     ]
 
-pub front_ends : (p : ℕ → Bool) (xs : List ℕ) (at : ℕ) → at ≤ prefix_len p xs → p (get_or xs at 0) ≡ false
+pub prefix_ends : (p : ℕ → Bool) (xs : List ℕ) (at : ℕ) → at ≤ prefix_len p xs → p (get_or xs at 0) ≡ false
     → prefix_len p xs ≡ at
-front_ends p xs at front fails =
+prefix_ends p xs at prefix fails =
     elim (cases_eq (prefix_len p xs) at) [
       | inl here ↦ here
-      | inr other ↦ absurd (true≢false (sym (prefix_len_passes p xs at 0 (omega (arith, other, front))) ∙ fails))
+      | inr other ↦ absurd (true≢false (sym (prefix_len_passes p xs at 0 (omega (arith, other, prefix))) ∙ fails))
     ]
 
--- a front that goes on over a chunk
+-- a prefix that goes on over a chunk
 pub chunk_goes_on : (p : ℕ → Bool) (at n : ℕ) (xs : List ℕ) → at + n ≤ length xs → at ≤ prefix_len p xs
     → prefix_len p (chunk at n xs) ≡ n → at + n ≤ prefix_len p xs
-chunk_goes_on p at n xs room front whole =
+chunk_goes_on p at n xs room prefix whole =
     elim (cases_lt (prefix_len p xs) (at + n)) [
       | inl short ↦
           let k = prefix_len p xs - at in
-          let there : at + k ≡ prefix_len p xs = omega (arith, front) in
-          let inside : k < n = omega (arith, short, front) in
+          let there : at + k ≡ prefix_len p xs = omega (arith, prefix) in
+          let inside : k < n = omega (arith, short, prefix) in
           let passes = prefix_len_passes p (chunk at n xs) k 0 (omega (arith, whole, inside)) in
           let same = get_or-chunk at n xs k 0 inside ∙ ap (λ j. get_or xs j 0) there in
           absurd (true≢false (sym passes ∙ ap p same ∙ prefix_len_stops p xs 0 (omega (arith, short, room))))
@@ -99,7 +99,7 @@ chunks_pass p i xs room a b c d =
 
 pub none_high : (v : List ℕ) (n : ℕ) → length v ≡ n → mask_l (map (λ x. leb 128 x) v) ≡ 0 → prefix_len is_ascii v ≡ n
 none_high v n long none =
-    sym (same_front (λ x. not (leb 128 x)) is_ascii (λ x. grind (arith, nat_tests)) v)
+    sym (same_prefix (λ x. not (leb 128 x)) is_ascii (λ x. grind (arith, nat_tests)) v)
     ∙ leading_from_mask_l (λ x. leb 128 x) v none ∙ long
 
 pub on_true : (b : Bool) (P : Type 0) → (b ≡ true → P) → OnTrue b P
@@ -150,7 +150,7 @@ pub on_true_at : (b : Bool) (P : Type 0) → b ≡ true → OnTrue b P → P
 on_true_at true P e p = p
 on_true_at false P e p = absurd (true≢false (sym e))
 
--- the ASCII in front of the first lane that isn't
+-- the ASCII before the first lane that isn't
 pub lanes_front : (bytes : List ℕ) (n : ℕ) → n ≡ prefix_len is_ascii (take 32 bytes)
     → (n ≤ 32) × All (λ b. b < 128) (take n bytes)
 lanes_front bytes n e =
@@ -159,14 +159,14 @@ lanes_front bytes n e =
     omega (arith, e, w, l) in (
       short,
       subst (λ z. All (λ b. b < 128) z) (take-take n 32 bytes short)
-          (subst (λ k. All (λ b. b < 128) (take k lanes)) (sym e) (front_all lanes)),
+          (subst (λ k. All (λ b. b < 128) (take k lanes)) (sym e) (prefix_all lanes)),
     )
 
--- a front that goes on in the rest
-pub front_goes_on : (p : ℕ → Bool) (xs rest : List ℕ) (i n : ℕ) → rest ≡ drop i xs
+-- a prefix that goes on in the rest
+pub prefix_goes_on : (p : ℕ → Bool) (xs rest : List ℕ) (i n : ℕ) → rest ≡ drop i xs
     → prefix_len p xs ≡ i + prefix_len p (drop i xs) → prefix_len p rest ≡ n + prefix_len p (drop n rest) →
     prefix_len p xs ≡ i + n + prefix_len p (drop (i + n) xs)
-front_goes_on p xs rest i n is first next =
+prefix_goes_on p xs rest i n is first next =
     let same : prefix_len p rest ≡ prefix_len p (drop i xs) = ap (prefix_len p) is in
     let far : prefix_len p (drop n rest) ≡ prefix_len p (drop (i + n) xs) =
     ap (λ l. prefix_len p (drop n l)) is ∙ ap (prefix_len p) (drop-drop n i xs) in

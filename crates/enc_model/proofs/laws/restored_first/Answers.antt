@@ -3,7 +3,7 @@ use Rattle.enc_model.specs.Utf16.{utf16}
 use Rattle.enc_model.specs.Japanese.{single, shift_jis, euc_jp, iso2022}
 use Rattle.enc_model.proofs.Steps.{steps_cons}
 use Rattle.enc_model.proofs.Calm.{utf8_calm, utf16_calm, single_calm, shift_jis_calm, euc_jp_calm, iso2022_calm}
-use Rattle.enc_model.proofs.laws.restored_in_front.Goals as goal
+use Rattle.enc_model.proofs.laws.restored_first.Goals as goal
 
 pub returns : goal.returns
 returns c = record {

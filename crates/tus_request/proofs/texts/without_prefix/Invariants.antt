@@ -1,6 +1,6 @@
 use Rattle.std.proofs.Common.{◌≡◌, length}
 use Rattle.tus_request.specs.Texts.{skipped}
-use Rattle.tus_request.proofs.texts.without_front.Given as goal
+use Rattle.tus_request.proofs.texts.without_prefix.Given as goal
 
 abbrev pub invariant-loop-first : goal.invariant-loop-first
 invariant-loop-first l = skipped l.blanks l.rest ≡ skipped l.blanks l.text

@@ -1,4 +1,4 @@
--- The code of a text, front by front.
+-- The code of a text, prefix by prefix.
 use Rattle.std.proofs.Common.{ℕ, ◌≡◌, ◌<◌, ◌≤◌, ◌==◌, true, None, List, [], ◌∷◌, ◌++◌, refl, sym, ◌∙◌, ap}
 use Rattle.std.proofs.Common.{subst, arith, take, drop, length, get_or, Vec, Result, Ok, Err, length-append}
 use Rattle.std.proofs.Common.{append_assoc, append-nil, take-append-drop, ◌⊎◌, inl, inr}
@@ -22,13 +22,13 @@ use Rattle.enc_model.proofs.Gathered.{ascii_chars, ascii_utf8}
 use Rattle.enc_encode.specs.declared.error.EncodeError.{EncodeError}
 use Rattle.enc_encode.specs.declared.shift.ShiftState.{ShiftState}
 use Rattle.enc_encode.specs.declared.shift.ShiftState.TheVariants.{Roman, Jis}
-use Rattle.enc_encode.specs.Held.{Passed, Kept, HeldFront, IsOwnFront, own_byte}
+use Rattle.enc_encode.specs.Held.{Passed, Kept, HeldPrefix, IsOwnPrefix, own_byte}
 use Rattle.enc_encode.specs.Reasons.{Gave}
 use Rattle.enc_encode.specs.State.{shift_of, shifted, EncoderState, code_from}
 use Rattle.enc_encode.proofs.Codes.{own_code}
-use Rattle.enc_encode.specs.Runs.{RunFront, Stays}
+use Rattle.enc_encode.specs.Runs.{RunPrefix, Stays}
 use Rattle.enc_encode.proofs.Helds.{all_held, held_more, kept_given, kept_then, kept_error, nothing_appended}
-use Rattle.enc_encode.proofs.RunFronts.{char_own, char_one, run_code}
+use Rattle.enc_encode.proofs.RunPrefixes.{char_own, char_one, run_code}
 use Rattle.enc_encode.proofs.Runs.{gave_nothing, gave_stop}
 
 -- LANES
@@ -53,7 +53,7 @@ own_ascii Iso2022Jp InJis b e = absurd cc
 own_ascii to s b e = grind (arith, nat_tests, e)
 
 pub own_chunk : (to : Encoding) (s : Shift) (text lanes : List ℕ) (n : ℕ) → IsFirstChunk text lanes 32
-    → n ≡ prefix_len (own_byte to s) lanes → 0 < n → IsOwnFront to s text lanes n
+    → n ≡ prefix_len (own_byte to s) lanes → 0 < n → IsOwnPrefix to s text lanes n
 own_chunk to s text lanes n chunk e some =
     let own = own_byte to s in
     let enough = chunk.enough in
@@ -73,40 +73,40 @@ own_chunk to s text lanes n chunk e some =
           subst (λ b. own b ≡ true) (sym (get_or-take n text k 0 m)) (subst (λ b. own b ≡ true) same p));
     }
 
-front_ascii : (to : Encoding) (s : Shift) (text lanes : List ℕ) (n : ℕ) → IsOwnFront to s text lanes n
+prefix_ascii : (to : Encoding) (s : Shift) (text lanes : List ℕ) (n : ℕ) → IsOwnPrefix to s text lanes n
     → All (λ b. b < 128) (take n text)
-front_ascii to s text lanes n p =
+prefix_ascii to s text lanes n p =
     All-weaker (λ b. own_byte to s b ≡ true) (λ b. b < 128) (λ b e. own_ascii to s b e) (take n text) p.own
 
-front_of_front : (text lanes : List ℕ) (n : ℕ) → lanes ≡ take 32 text → n ≤ 32 → take n lanes ≡ take n text
-front_of_front text lanes n e few = ap (take n) e ∙ take-take n 32 text few
+prefix_of_prefix : (text lanes : List ℕ) (n : ℕ) → lanes ≡ take 32 text → n ≤ 32 → take n lanes ≡ take n text
+prefix_of_prefix text lanes n e few = ap (take n) e ∙ take-take n 32 text few
 
 module _ (t : Tables) (e : EncoderState) {Z : Type 0} where
   -- ASCII that stands for itself
   pub ascii_held : (to : Encoding) (text lanes : List ℕ) (n : ℕ) (s : ShiftState) (old : Vec ℕ Z) (held : List ℕ)
       (new : Vec ℕ Z) (mid kept : List ℕ) → to ≡ e.to →
-      IsOwnFront to (shift_of s) text lanes n → Passed old held [] new mid → kept ≡ mid ++ take n lanes →
-      HeldFront (code_from t (shifted e (shift_of s))) text (drop n text) old held new kept (Ok s)
+      IsOwnPrefix to (shift_of s) text lanes n → Passed old held [] new mid → kept ≡ mid ++ take n lanes →
+      HeldPrefix (code_from t (shifted e (shift_of s))) text (drop n text) old held new kept (Ok s)
   ascii_held to text lanes n s old held new mid kept same own p k =
-      let front = take n text in
-      let ascii = front_ascii to (shift_of s) text lanes n own in
-      let code : code_from t (shifted e (shift_of s)) (chars front) ≡ record {
-        bytes = front;
+      let prefix = take n text in
+      let ascii = prefix_ascii to (shift_of s) text lanes n own in
+      let code : code_from t (shifted e (shift_of s)) (chars prefix) ≡ record {
+        bytes = prefix;
         state = shift_of s;
         fault = None;
       } =
-      ap (λ z. code_from t (shifted e (shift_of s)) z) (ascii_chars front ascii)
-      ∙ own_code t e.to e.mode (shift_of s) front (subst (λ z. All (λ b. own_byte z (shift_of s) b ≡ true) front) same
+      ap (λ z. code_from t (shifted e (shift_of s)) z) (ascii_chars prefix ascii)
+      ∙ own_code t e.to e.mode (shift_of s) prefix (subst (λ z. All (λ b. own_byte z (shift_of s) b ≡ true) prefix) same
       own.own) in
       record {
-        front = front;
+        prefix = prefix;
         parts = sym (take-append-drop n text);
-        own = ascii_utf8 front ascii;
+        own = ascii_utf8 prefix ascii;
         code = subst (λ z. Kept z old held new kept (Ok s)) (sym code) (
           refl,
           refl,
-          held_more front kept
-              (k ∙ ap (λ z. mid ++ z) (front_of_front text lanes n own.lanes_are own.few)) p,
+          held_more prefix kept
+              (k ∙ ap (λ z. mid ++ z) (prefix_of_prefix text lanes n own.lanes_are own.few)) p,
         );
       }
 
@@ -115,11 +115,11 @@ module _ (t : Tables) (e : EncoderState) {Z : Type 0} where
       (kept : List ℕ) (r : Result ShiftState EncodeError) →
       IsUtf8 text → text ≡ encode c ++ rest → Kept (coded (encoder t e.to) e.mode (shift_of s) (c ∷ [])) old held new
       kept r →
-      HeldFront (code_from t (shifted e (shift_of s))) text rest old held new kept r
+      HeldPrefix (code_from t (shifted e (shift_of s))) text rest old held new kept r
   char_held text rest c s old held new kept r u parts k =
       let own = char_own text rest c u parts in
       record {
-        front = encode c;
+        prefix = encode c;
         parts = parts;
         own = own;
         code = subst (λ z. Kept (code_from t (shifted e (shift_of s)) z) old held new kept r) (sym (char_one c own)) k;
@@ -127,17 +127,17 @@ module _ (t : Tables) (e : EncoderState) {Z : Type 0} where
 
   -- characters whose bytes are known
   pub run_held : (text rest : List ℕ) (s : ShiftState) (out : Vec ℕ Z) (held kept : List ℕ)
-      → RunFront (Stays (encoder t e.to) (shift_of s)) text rest held kept →
-      HeldFront (code_from t (shifted e (shift_of s))) text rest out held out kept (Ok s)
+      → RunPrefix (Stays (encoder t e.to) (shift_of s)) text rest held kept →
+      HeldPrefix (code_from t (shifted e (shift_of s))) text rest out held out kept (Ok s)
   run_held text rest s out held kept p =
-      let code : code_from t (shifted e (shift_of s)) (chars p.front) ≡ record {
+      let code : code_from t (shifted e (shift_of s)) (chars p.prefix) ≡ record {
         bytes = p.bytes;
         state = shift_of s;
         fault = None;
       } =
-      run_code t e.to e.mode (shift_of s) (chars p.front) p.bytes p.given in
+      run_code t e.to e.mode (shift_of s) (chars p.prefix) p.bytes p.given in
       record {
-        front = p.front;
+        prefix = p.prefix;
         parts = p.parts;
         own = p.own;
         code = subst (λ z. Kept z out held out kept (Ok s)) (sym code)
@@ -145,10 +145,10 @@ module _ (t : Tables) (e : EncoderState) {Z : Type 0} where
       }
 
   -- no character yet
-  pub front_none : (text : List ℕ) (s : ShiftState) (out : Vec ℕ Z) (kept : List ℕ) → shift_of s ≡ e.shift → kept ≡ []
-      → HeldFront (code_from t e) text text out [] out kept (Ok s)
-  front_none text s out kept h none = record {
-    front = [];
+  pub prefix_none : (text : List ℕ) (s : ShiftState) (out : Vec ℕ Z) (kept : List ℕ) → shift_of s ≡ e.shift → kept ≡ []
+      → HeldPrefix (code_from t e) text text out [] out kept (Ok s)
+  prefix_none text s out kept h none = record {
+    prefix = [];
     parts = refl;
     own = IsUtf8-nil;
     code = subst (λ z. Kept (code_from t e z) out [] out kept (Ok s)) (sym chars-nil)
@@ -156,51 +156,53 @@ module _ (t : Tables) (e : EncoderState) {Z : Type 0} where
         (kept_given (code_from t e []) out [] out out (Ok s) (nothing_appended out) (gave_nothing t e out s h)));
   }
 
-  -- one front more
-  pub front_then : (text rest left : List ℕ) (old mid : Vec ℕ Z) (kept : List ℕ) (new : Vec ℕ Z) (last : List ℕ)
+  -- one prefix more
+  pub prefix_then : (text rest left : List ℕ) (old mid : Vec ℕ Z) (kept : List ℕ) (new : Vec ℕ Z) (last : List ℕ)
       (s : ShiftState) (r : Result ShiftState EncodeError) →
-      HeldFront (code_from t e) text rest old [] mid kept (Ok s) → HeldFront (code_from t (shifted e (shift_of s))) rest
+      HeldPrefix (code_from t e) text rest old [] mid kept (Ok s)
+      → HeldPrefix (code_from t (shifted e (shift_of s))) rest
       left mid kept new last r →
-      HeldFront (code_from t e) text left old [] new last r
-  front_then text rest left old mid kept new last s r p q = record {
-    front = p.front ++ q.front;
-    parts = p.parts ∙ ap (λ z. p.front ++ z) q.parts ∙ sym (append_assoc p.front q.front left);
-    own = IsUtf8-append p.front q.front p.own q.own;
-    code = subst (λ z. Kept (code_from t e z) old [] new last r) (sym (chars-append p.front q.front p.own))
-        (kept_then t e (chars p.front) (chars q.front) old mid kept new last s r p.code q.code);
+      HeldPrefix (code_from t e) text left old [] new last r
+  prefix_then text rest left old mid kept new last s r p q = record {
+    prefix = p.prefix ++ q.prefix;
+    parts = p.parts ∙ ap (λ z. p.prefix ++ z) q.parts ∙ sym (append_assoc p.prefix q.prefix left);
+    own = IsUtf8-append p.prefix q.prefix p.own q.own;
+    code = subst (λ z. Kept (code_from t e z) old [] new last r) (sym (chars-append p.prefix q.prefix p.own))
+        (kept_then t e (chars p.prefix) (chars q.prefix) old mid kept new last s r p.code q.code);
   }
 
-  -- an error in a front is one of the text
-  pub front_error : (text rest : List ℕ) (old new : Vec ℕ Z) (kept : List ℕ) (d : EncodeError)
-      → HeldFront (code_from t e) text rest old [] new kept (Err d) →
+  -- an error in a prefix is one of the text
+  pub prefix_error : (text rest : List ℕ) (old new : Vec ℕ Z) (kept : List ℕ) (d : EncodeError)
+      → HeldPrefix (code_from t e) text rest old [] new kept (Err d) →
       Gave (code_from t e (chars text)) old new (Err d)
-  front_error text rest old new kept d p =
+  prefix_error text rest old new kept d p =
       subst (λ z. Gave (code_from t e z) old new (Err d))
-      (sym (chars-append p.front rest p.own) ∙ ap chars (sym p.parts))
-      (gave_stop t e (chars p.front) (chars rest) old new d
-      (kept_error (code_from t e (chars p.front)) old new kept d p.code))
+      (sym (chars-append p.prefix rest p.own) ∙ ap chars (sym p.parts))
+      (gave_stop t e (chars p.prefix) (chars rest) old new d
+      (kept_error (code_from t e (chars p.prefix)) old new kept d p.code))
 
   -- nothing is left
-  pub front_all : (text rest : List ℕ) (old new : Vec ℕ Z) (kept : List ℕ) (s : ShiftState)
-      → HeldFront (code_from t e) text rest old [] new kept (Ok s) → true ≡ (length rest == 0) →
+  pub prefix_all : (text rest : List ℕ) (old new : Vec ℕ Z) (kept : List ℕ) (s : ShiftState)
+      → HeldPrefix (code_from t e) text rest old [] new kept (Ok s) → true ≡ (length rest == 0) →
       Kept (code_from t e (chars text)) old [] new kept (Ok s)
-  front_all text [] old new kept s p l =
-      subst (λ z. Kept (code_from t e (chars z)) old [] new kept (Ok s)) (sym (append-nil p.front) ∙ sym p.parts) p.code
-  front_all text (b ∷ rest) old new kept s p l = absurd (grind (arith, nat_tests, l))
+  prefix_all text [] old new kept s p l =
+      subst (λ z. Kept (code_from t e (chars z)) old [] new kept (Ok s)) (sym (append-nil p.prefix)
+      ∙ sym p.parts) p.code
+  prefix_all text (b ∷ rest) old new kept s p l = absurd (grind (arith, nat_tests, l))
 
 -- a text may be cut after ASCII
-pub own_cut : (to : Encoding) (s : Shift) (text lanes : List ℕ) (n : ℕ) → IsUtf8 text → IsOwnFront to s text lanes n
+pub own_cut : (to : Encoding) (s : Shift) (text lanes : List ℕ) (n : ℕ) → IsUtf8 text → IsOwnPrefix to s text lanes n
     → IsCharBoundary text n
 own_cut to s text lanes n u own =
     IsCharBoundary-from_take text n u (let few = own.few in let long = own.long in omega (arith, few, long))
-    (ascii_utf8 (take n text) (front_ascii to s text lanes n own))
+    (ascii_utf8 (take n text) (prefix_ascii to s text lanes n own))
 
--- what is left after a text's front is a text
-pub left_text : (text front left : List ℕ) → IsUtf8 text → IsUtf8 front → text ≡ front ++ left → IsUtf8 left
-left_text text front left u v e =
-    let n = length front in
-    let l = length-append front left in
-    let m : length text ≡ length (front ++ left) = ap length e in
-    let own : IsUtf8 (take n text) = subst IsUtf8 (sym (ap (take n) e ∙ take-append_seam front left)) v in
-    subst IsUtf8 (ap (drop n) e ∙ drop-append_seam front left)
+-- what is left after a text's start is a text
+pub left_text : (text prefix left : List ℕ) → IsUtf8 text → IsUtf8 prefix → text ≡ prefix ++ left → IsUtf8 left
+left_text text prefix left u v e =
+    let n = length prefix in
+    let l = length-append prefix left in
+    let m : length text ≡ length (prefix ++ left) = ap length e in
+    let own : IsUtf8 (take n text) = subst IsUtf8 (sym (ap (take n) e ∙ take-append_seam prefix left)) v in
+    subst IsUtf8 (ap (drop n) e ∙ drop-append_seam prefix left)
     (IsUtf8-drop text n u (IsCharBoundary-from_take text n u (omega (arith, l, m)) own))

@@ -1,6 +1,6 @@
 use Rattle.std.proofs.Common.{◌≡◌, ◌+◌, ℕ, List, get_or, rules, ◌∙◌, ap, arith}
 use Rattle.spool_journal.proofs.Recovers.{get_span}
-use Rattle.spool_load.proofs.finding.read_front.Goals as goal
+use Rattle.spool_load.proofs.finding.read_prefix.Goals as goal
 
 pub returns-clause-bytes : goal.returns-clause-bytes
 returns-clause-bytes g c honest i lt =
