@@ -21,7 +21,7 @@ use Rattle.enc_model.specs.Encode.{Shift, InAscii, InRoman, InJis}
 use Rattle.enc_model.specs.Decode.{Decoding, OfUtf8, OfUtf16, OfShiftJis, OfEucJp, OfIso2022, OfSingle, undecided}
 use Rattle.enc_model.specs.Transcode.{Transcoder, Phase, Before, During, Over}
 use Rattle.enc_unicode.specs.Utf8State.{utf8_after}
-use Rattle.enc_stream.specs.StateBytes.{IsOwn, IsSingle, IsPhaseOf, IsReached, IsReachedIn, IsSound, encoding_of}
+use Rattle.enc_stream.specs.StateBytes.{IsOwn, IsSingle, IsPhaseOf, IsReached, IsReachedIn, IsValid, encoding_of}
 use Rattle.enc_stream.specs.StateBytes.{encoding_number, mode_number, phase_number, shift_number, charset_number}
 use Rattle.enc_stream.specs.StateBytes.{flag_number, place_number, place_lead, utf16_bytes, counted, decoder_bytes}
 use Rattle.enc_stream.specs.StateBytes.{phase_bytes, padded, state_bytes}
@@ -195,18 +195,18 @@ state_at bytes = record {
   shift = shift_at (get_or (drop 12 (drop 4 bytes)) 0 0);
 }
 
-state_back : (s : Transcoder) → IsSound s → state_at (state_bytes s) ≡ s
-state_back s sound =
+state_back : (s : Transcoder) → IsValid s → state_at (state_bytes s) ≡ s
+state_back s valid =
     let rest = padded 16 (shift_number s.shift ∷ []) in
     rw (
       encoding_back s.from,
       encoding_back s.to,
       mode_back s.mode,
-      phase_back s.from s.phase rest sound.fitting.phase sound.reached,
+      phase_back s.from s.phase rest valid.fitting.phase valid.reached,
       after_padded 12 (phase_bytes s.phase) rest,
       shift_back s.shift,
     ) refl
 
--- Sound states with the same bytes are the same.
-pub same_state : (s later : Transcoder) → IsSound s → IsSound later → state_bytes later ≡ state_bytes s → later ≡ s
+-- Valid states with the same bytes are the same.
+pub same_state : (s later : Transcoder) → IsValid s → IsValid later → state_bytes later ≡ state_bytes s → later ≡ s
 same_state s later here there same = sym (state_back later there) ∙ ap state_at same ∙ state_back s here

@@ -10,7 +10,7 @@ use Rattle.enc_laws.specs.Resumed.{IsUnpackedFrom}
 use Rattle.enc_laws.proofs.Packed.{same_state}
 
 pub same : (s later : Transcoder) → IsUnpackedFrom s later → later ≡ s
-same s later is = same_state s later is.packed is.sound is.bytes
+same s later is = same_state s later is.packed is.valid is.bytes
 
 -- THE TEXT OF A FAULT: what comes led_by it doesn't matter.
 

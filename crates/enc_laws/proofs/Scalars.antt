@@ -60,7 +60,7 @@ abbrev pub FewBytes : List ℕ → Type 0
 FewBytes [] = Unit {0}
 FewBytes (b ∷ bytes) = (b < 0x100) × FewBytes bytes
 
-pub record IsSound {S : Type 0} (Good : S → Type 0) (t : Step S) : Type 0 where
+pub record IsValid {S : Type 0} (Good : S → Type 0) (t : Step S) : Type 0 where
   pub state : Good t.state
   pub answer : IsScalarAnswer t.answer
   pub restored : FewBytes t.restored
@@ -79,8 +79,8 @@ scalars_append : (a b : List ℕ) → AreScalars a → AreScalars b → AreScala
 scalars_append a b p q = All-append (λ z. is_scalar z ≡ true) a b p q
 
 module _ {S : Type 0} (h : Handler S) (Good : S → Type 0)
-    (reads : (s : S) (b : ℕ) → Good s → b < 0x100 → IsSound Good (h s (Some b)))
-    (ends : (s : S) → Good s → IsSound Good (h s None)) where
+    (reads : (s : S) (b : ℕ) → Good s → b < 0x100 → IsValid Good (h s (Some b)))
+    (ends : (s : S) → Good s → IsValid Good (h s None)) where
   end_case : (n : ℕ) (t : Step S) (a : Answer) → AreScalars (said t.answer)
       → AreScalars (steps_within n h true t.state t.restored).text →
       AreScalars (elim a as (λ _. Run S) [
@@ -90,27 +90,27 @@ module _ {S : Type 0} (h : Handler S) (Good : S → Type 0)
   end_case n t Finished p q = All-nil (λ z. is_scalar z ≡ true)
   end_case n t _ p q = scalars_append (said t.answer) (steps_within n h true t.state t.restored).text p q
 
-  sound_within : (n : ℕ) (ended : Bool) (s : S) (bytes : List ℕ) → Good s → AreBytes bytes
+  valid_within : (n : ℕ) (ended : Bool) (s : S) (bytes : List ℕ) → Good s → AreBytes bytes
       → AreScalars (steps_within n h ended s bytes).text
   unfolding steps_within
-  sound_within zero ended s bytes g all = All-nil (λ z. is_scalar z ≡ true)
-  sound_within (suc n) ended s (b ∷ bytes) g all =
+  valid_within zero ended s bytes g all = All-nil (λ z. is_scalar z ≡ true)
+  valid_within (suc n) ended s (b ∷ bytes) g all =
       let t = h s (Some b) in
-      let sound = reads s b g (All-head (λ z. z < 0x100) b bytes all) in
+      let valid = reads s b g (All-head (λ z. z < 0x100) b bytes all) in
       scalars_append (said t.answer) (steps_within n h ended t.state (t.restored ++ bytes)).text
-      (said_scalars t.answer sound.answer)
-      (sound_within n ended t.state (t.restored ++ bytes) sound.state
-      (few_bytes t.restored bytes sound.restored (All-tail (λ z. z < 0x100) b bytes all)))
-  sound_within (suc n) false s [] g all = All-nil (λ z. is_scalar z ≡ true)
-  sound_within (suc n) true s [] g all =
+      (said_scalars t.answer valid.answer)
+      (valid_within n ended t.state (t.restored ++ bytes) valid.state
+      (few_bytes t.restored bytes valid.restored (All-tail (λ z. z < 0x100) b bytes all)))
+  valid_within (suc n) false s [] g all = All-nil (λ z. is_scalar z ≡ true)
+  valid_within (suc n) true s [] g all =
       let t = h s None in
-      let sound = ends s g in
+      let valid = ends s g in
       let bytes : AreBytes t.restored =
-      rw (← append-nil t.restored) (few_bytes t.restored [] sound.restored (All-nil (λ z. z < 0x100))) in
-      end_case n t t.answer (said_scalars t.answer sound.answer)
-      (sound_within n true t.state t.restored sound.state bytes)
+      rw (← append-nil t.restored) (few_bytes t.restored [] valid.restored (All-nil (λ z. z < 0x100))) in
+      end_case n t t.answer (said_scalars t.answer valid.answer)
+      (valid_within n true t.state t.restored valid.state bytes)
 
-  pub sound_steps : (ended : Bool) (s : S) (bytes : List ℕ) → Good s → AreBytes bytes
+  pub valid_steps : (ended : Bool) (s : S) (bytes : List ℕ) → Good s → AreBytes bytes
       → AreScalars (steps h ended s bytes).text
   unfolding steps
-  sound_steps ended s bytes g all = sound_within _ ended s bytes g all
+  valid_steps ended s bytes g all = valid_within _ ended s bytes g all

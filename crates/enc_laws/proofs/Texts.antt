@@ -20,7 +20,7 @@ use Rattle.enc_index.specs.Sets.{IsIndexSet}
 use Rattle.enc_laws.specs.Subparts.{is_sequence, is_open, scalar_of, segment_scalar, segments_text, segments}
 use Rattle.enc_laws.specs.WellFormed.{AreBytes, AreScalars, IsWellFormed}
 use Rattle.enc_laws.proofs.Cutting.{text_is}
-use Rattle.enc_laws.proofs.Scalars.{set_scalars, place_scalars, sound_steps}
+use Rattle.enc_laws.proofs.Scalars.{set_scalars, place_scalars, valid_steps}
 use Rattle.enc_laws.proofs.Handlers.{branch, Always, IsKept, single_reads, single_ends, utf16_reads, utf16_ends}
 use Rattle.enc_laws.proofs.Handlers.{shift_jis_reads, shift_jis_ends, euc_jp_reads, euc_jp_ends, iso2022_reads}
 use Rattle.enc_laws.proofs.Handlers.{iso2022_ends}
@@ -57,33 +57,33 @@ module _ (x : IndexSet) (valid : IsIndexSet x) (ended : Bool) (bytes : List ℕ)
   unfolding decoding
   decoding_scalars encodings.Utf8 = subst AreScalars (sym (text_is ended bytes)) (segments_are ended (segments bytes))
   decoding_scalars encodings.Utf16Be =
-      sound_steps (utf16 true) IsKept (utf16_reads true) (utf16_ends true) ended utf16_start bytes (record {
+      valid_steps (utf16 true) IsKept (utf16_reads true) (utf16_ends true) ended utf16_start bytes (record {
         byte = tt;
         lead = tt;
       }) all
   decoding_scalars encodings.Utf16Le =
-      sound_steps (utf16 false) IsKept (utf16_reads false) (utf16_ends false) ended utf16_start bytes (record {
+      valid_steps (utf16 false) IsKept (utf16_reads false) (utf16_ends false) ended utf16_start bytes (record {
         byte = tt;
         lead = tt;
       }) all
   decoding_scalars encodings.ShiftJis =
       let i = (tables x).jis0208 in
-      sound_steps (shift_jis i) Always (shift_jis_reads i (set_scalars x.jis0208 11280 valid.jis0208))
+      valid_steps (shift_jis i) Always (shift_jis_reads i (set_scalars x.jis0208 11280 valid.jis0208))
       (shift_jis_ends i) ended 0 bytes tt all
   decoding_scalars encodings.EucJp =
       let i = (tables x).jis0208 in
       let j = (tables x).jis0212 in
-      sound_steps (euc_jp i j) Always
+      valid_steps (euc_jp i j) Always
       (euc_jp_reads i j (set_scalars x.jis0208 11280 valid.jis0208) (set_scalars x.jis0212 8836 valid.jis0212))
       (euc_jp_ends i j)
       ended euc_jp_start bytes tt all
   decoding_scalars encodings.Iso2022Jp =
       let i = (tables x).jis0208 in
-      sound_steps (iso2022 i) Always (iso2022_reads i (set_scalars x.jis0208 11280 valid.jis0208)) (iso2022_ends i)
+      valid_steps (iso2022 i) Always (iso2022_reads i (set_scalars x.jis0208 11280 valid.jis0208)) (iso2022_ends i)
       ended iso2022_start bytes tt all
   decoding_scalars e =
       let i = (tables x).single e in
-      sound_steps (single i) Always (single_reads i (place_scalars x (place_of e) valid)) (single_ends i) ended
+      valid_steps (single i) Always (single_reads i (place_scalars x (place_of e) valid)) (single_ends i) ended
       SingleState bytes tt all
 
 -- what is after a BOM is bytes too

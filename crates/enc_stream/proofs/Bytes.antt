@@ -4,7 +4,7 @@ use Rattle.std.proofs.Common.{ap, arith, lit≤}
 use Rattle.enc_model.specs.declared.Encoding.{Encoding}
 use Rattle.enc_model.specs.Decode.{Decoding, OfUtf8, OfUtf16, OfShiftJis, OfEucJp, OfIso2022, OfSingle, undecided}
 use Rattle.enc_model.specs.Transcode.{Transcoder, Phase, Before, During, Over}
-use Rattle.enc_stream.specs.StateBytes.{IsPhaseOf, IsReached, IsReachedIn, IsSound, encoding_number, mode_number}
+use Rattle.enc_stream.specs.StateBytes.{IsPhaseOf, IsReached, IsReachedIn, IsValid, encoding_number, mode_number}
 use Rattle.enc_stream.specs.StateBytes.{phase_number, shift_number, decoder_bytes, phase_bytes, padded, state_bytes}
 
 -- WHAT A PHASE KEEPS HAS AT MOST FIVE BYTES
@@ -58,7 +58,7 @@ after (suc n) (x ∷ xs) rest i = grind (arith, after n xs rest i)
 
 -- THE BYTES OF A STATE, AND ITS PARTS
 
-pub packed : (s : Transcoder) (from to mode phase shift : ℕ) (kept : List ℕ) → IsSound s →
+pub packed : (s : Transcoder) (from to mode phase shift : ℕ) (kept : List ℕ) → IsValid s →
     from ≡ encoding_number s.from → to ≡ encoding_number s.to → mode ≡ mode_number s.mode → phase ≡ phase_number s.phase
     → shift ≡ shift_number s.shift →
     kept ≡ padded 5 (phase_bytes s.phase) →
@@ -66,8 +66,8 @@ pub packed : (s : Transcoder) (from to mode phase shift : ℕ) (kept : List ℕ)
     0 ∷ 0 ∷ 0 ∷ 0 ∷ 0 ∷ 0 ∷ 0 ∷ 0
     ∷ shift ∷ 0 ∷ 0 ∷ 0 ∷ 0 ∷ 0 ∷ 0 ∷ 0 ∷ 0 ∷ 0 ∷ 0 ∷ 0 ∷ 0 ∷ 0 ∷ 0 ∷ 0 ∷ []
     ≡ state_bytes s
-packed s from to mode phase shift kept sound e1 e2 e3 e4 e5 e6 =
-    rw (e1, e2, e3, e4, e5, e6, twelve (phase_bytes s.phase) (few s.from s.phase sound.fitting.phase sound.reached))
+packed s from to mode phase shift kept valid e1 e2 e3 e4 e5 e6 =
+    rw (e1, e2, e3, e4, e5, e6, twelve (phase_bytes s.phase) (few s.from s.phase valid.fitting.phase valid.reached))
     refl
 
 module _ (s : Transcoder) (bytes : List ℕ) (is : state_bytes s ≡ bytes) where

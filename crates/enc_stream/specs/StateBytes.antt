@@ -200,7 +200,7 @@ IsReachedIn (During s) = IsReached s
 IsReachedIn _ = Unit {0}
 
 -- what `pack` writes the bytes of, and `unpack` reads
-pub record IsSound (s : Transcoder) : Type 0 where
+pub record IsValid (s : Transcoder) : Type 0 where
   pub fitting : IsFitting s
   pub reached : IsReachedIn s.phase
 

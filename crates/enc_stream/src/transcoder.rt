@@ -10,7 +10,7 @@ ghost use Rattle.enc_encode.specs.State.{EncoderState};
 ghost use Rattle.enc_stream.specs.Progress.{progress_of};
 ghost use Rattle.enc_stream.specs.Stage.{phase_at};
 ghost use Rattle.enc_stream.specs.Standing.{is_done, start, stepped_on, finished, IsOutput, Answers};
-ghost use Rattle.enc_stream.specs.StateBytes.{IsShiftIn, IsSound, encoding_number, mode_number, shift_number, standing};
+ghost use Rattle.enc_stream.specs.StateBytes.{IsShiftIn, IsValid, encoding_number, mode_number, shift_number, standing};
 ghost use Rattle.enc_stream.specs.StateBytes.{state_bytes};
 
 use crate::error::TranscodeError;
@@ -189,7 +189,7 @@ impl Transcoder {
     pub fn pack(&self) -> [u8; 32]
         requires { self.now.spent ≡ false }
         ensures bytes { result ≡ state_bytes self.now.transcoder }
-        ensures sound { IsSound self.now.transcoder }
+        ensures valid { IsValid self.now.transcoder }
     {
         let [first, second, third, fourth, fifth] = self.stage.pack();
         let mut bytes = [0; 32];
@@ -209,7 +209,7 @@ impl Transcoder {
     /// The transcoder whose state bytes these are, where they are any's. Bytes of none may be read as some other's.
     fn read(bytes: &[u8; 32]) -> Option<Self>
         ensures ready { IfSome result (λ t. t.spent ≡ false) }
-        ensures same { (s : State) → IsSound s → state_bytes s ≡ bytes.now → result ≡ Some (standing s) }
+        ensures same { (s : State) → IsValid s → state_bytes s ≡ bytes.now → result ≡ Some (standing s) }
     {
         let [
             from,
@@ -239,9 +239,9 @@ impl Transcoder {
     /// The transcoder of these state bytes, or None where they are those of none: each state has one spelling. It takes
     /// no memory.
     pub fn unpack(bytes: &[u8; 32]) -> Option<Self>
-        ensures unpacked { MatchOption result ((s : State) → IsSound s → state_bytes s ≢ bytes.now)
-            (λ t. (t.spent ≡ false) × IsSound t.transcoder × (state_bytes t.transcoder ≡ bytes.now)) }
-        ensures only { (s : State) → IsSound s → state_bytes s ≡ bytes.now → result ≡ Some (standing s) }
+        ensures unpacked { MatchOption result ((s : State) → IsValid s → state_bytes s ≢ bytes.now)
+            (λ t. (t.spent ≡ false) × IsValid t.transcoder × (state_bytes t.transcoder ≡ bytes.now)) }
+        ensures only { (s : State) → IsValid s → state_bytes s ≡ bytes.now → result ≡ Some (standing s) }
     {
         let transcoder = Self::read(bytes)?;
         if transcoder.pack() == *bytes {

@@ -13,16 +13,16 @@ use Rattle.enc_model.proofs.Feeding.{feed_more, state_more}
 use Rattle.enc_unicode.specs.Utf8State.{IsUtf8State}
 
 -- where no byte is needed it stands at a character's start
-pub at_start : (needed lower upper point seen : ℕ) (kept : List ℕ) → IsUtf8State needed lower upper point seen
+pub at_start : (needed lower upper point current : ℕ) (kept : List ℕ) → IsUtf8State needed lower upper point current
     → needed ≡ 0 →
     ◌≡◌ {A = Utf8} (record {
       needed = needed;
       lower = lower;
       upper = upper;
       point = point;
-      kept = take seen kept;
+      kept = take current kept;
     }) utf8_start
-at_start needed lower upper point seen kept is none =
+at_start needed lower upper point current kept is none =
     let p = is.none none in rw (none, p.0, p.1, p.2, p.3) refl
 
 -- the steps over a text that a piece begins with

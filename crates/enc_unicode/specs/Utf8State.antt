@@ -12,9 +12,9 @@ abbrev pub Avoids : ℕ → ℕ → ℕ → ℕ → ℕ → Type 0
 Avoids below above greatest low high = ((high < below) ⊎ (above ≤ low)) × (high ≤ greatest)
 
 -- the code points that may still come are scalars
-pub record IsUtf8State (needed lower upper point seen : ℕ) : Type 0 where
-  pub none : needed ≡ 0 → (lower ≡ 0x80) × (upper ≡ 0xBF) × (point ≡ 0) × (seen ≡ 0)
-  pub bounds : (0x80 ≤ lower) × (upper ≤ 0xBF) × (seen + needed ≤ 4) × (needed ≤ 3)
+pub record IsUtf8State (needed lower upper point current : ℕ) : Type 0 where
+  pub none : needed ≡ 0 → (lower ≡ 0x80) × (upper ≡ 0xBF) × (point ≡ 0) × (current ≡ 0)
+  pub bounds : (0x80 ≤ lower) × (upper ≤ 0xBF) × (current + needed ≤ 4) × (needed ≤ 3)
   pub one : needed ≡ 1 → Avoids 0xD800 0xE000 0x10FFFF (point * 64 + (lower - 0x80)) (point * 64 + (upper - 0x80))
   pub two : needed ≡ 2 → Avoids 0x360 0x380 0x43FF (point * 64 + (lower - 0x80)) (point * 64 + (upper - 0x80))
   pub three : needed ≡ 3 → Avoids 0 0x10 0x10F (point * 64 + (lower - 0x80)) (point * 64 + (upper - 0x80))

@@ -31,7 +31,7 @@ pub struct Utf8State {
     upper: u8,
     point: u32,
     kept: [u8; 3],
-    seen: u8,
+    current: u8,
     faulty: bool,
 }
 
@@ -39,10 +39,16 @@ impl Model for Utf8State {
     ghost Value = { Utf8 };
 
     ghost view = { λ s. record
-        { needed = s.needed; lower = s.lower; upper = s.upper; point = s.point; kept = take s.seen s.kept } };
+        { needed = s.needed; lower = s.lower; upper = s.upper; point = s.point; kept = take s.current s.kept } };
 
-    ghost invariant = { λ s. IsUtf8State s.needed s.lower s.upper s.point s.seen × IsAfter
-        (record { needed = s.needed; lower = s.lower; upper = s.upper; point = s.point; kept = take s.seen s.kept }) };
+    ghost invariant = { λ s. IsUtf8State s.needed s.lower s.upper s.point s.current × IsAfter
+        (record {
+          needed = s.needed;
+          lower = s.lower;
+          upper = s.upper;
+          point = s.point;
+          kept = take s.current s.kept;
+        }) };
 }
 
 impl Utf8State {
@@ -63,7 +69,7 @@ impl Utf8State {
             upper: self.upper,
             point: self.point,
             kept: self.kept,
-            seen: self.seen,
+            current: self.current,
             faulty: self.faulty,
         }
     }
@@ -75,7 +81,7 @@ impl Utf8State {
         ensures after { IsAfter self.now }
         ensures few { length result.now ≤ 3 }
     {
-        &self.kept[..self.seen as usize]
+        &self.kept[..self.current as usize]
     }
 
     /// The state that these bytes lead to from the start, or None where it doesn't keep just them.
@@ -91,13 +97,13 @@ impl Utf8State {
     }
 
     /// A decoder that needs more bytes after a lead.
-    fn needs(needed: u8, lower: u8, upper: u8, point: u32, lead: u8, seen: u8) -> Self
-        requires valid { IsUtf8State needed lower upper point seen }
+    fn needs(needed: u8, lower: u8, upper: u8, point: u32, lead: u8, current: u8) -> Self
+        requires valid { IsUtf8State needed lower upper point current }
         requires after { IsAfter
-            (record { needed = needed; lower = lower; upper = upper; point = point; kept = take seen (lead ∷ []) }) }
-        requires few { seen ≤ 1 }
+            (record { needed = needed; lower = lower; upper = upper; point = point; kept = take current (lead ∷ []) }) }
+        requires few { current ≤ 1 }
         ensures { result ≡ record
-            { needed = needed; lower = lower; upper = upper; point = point; kept = take seen (lead ∷ []) } }
+            { needed = needed; lower = lower; upper = upper; point = point; kept = take current (lead ∷ []) } }
     {
         Utf8State {
             needed,
@@ -105,7 +111,7 @@ impl Utf8State {
             upper,
             point,
             kept: [lead, 0, 0],
-            seen,
+            current,
             faulty: false,
         }
     }
@@ -155,8 +161,8 @@ impl Utf8State {
                 None => unreachable!(),
             };
         }
-        self.kept[self.seen as usize] = b;
-        self.seen += 1;
+        self.kept[self.current as usize] = b;
+        self.current += 1;
         self.needed -= 1;
         self.lower = 0x80;
         self.upper = 0xBF;

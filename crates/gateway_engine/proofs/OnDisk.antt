@@ -39,7 +39,7 @@ shows_one n m image one = elim one.among [
 
 -- an image of now is one that might have been left since any moment that isn't to come
 abbrev pub CountsNow : {D : Type 0} → Ghosts D → D → Type 0
-CountsNow disk d = (t : ℕ) (image : ℕ → ℕ) → t ≤ disk.moment d → IsImage (disk.seen d) (disk.unsynced d) image
+CountsNow disk d = (t : ℕ) (image : ℕ → ℕ) → t ≤ disk.moment d → IsImage (disk.current d) (disk.unsynced d) image
     → disk.left_since d t image
 
 -- where one of these is left since such a moment, each image of now shows one of them
@@ -215,17 +215,18 @@ no_refusal d runs.DiskFault = refl
 no_refusal d (runs.Script line) = refl
 no_refusal d runs.Io = refl
 
-pub opened_still : {D : Type 0} (size : ℕ) (seen : ℕ → ℕ) (d : D) (fault : ScriptFault) (told : RunFault)
-    → told ≡ run_fault fault → OpensExactly size seen None → OpensExactly size seen (refusal_in {D = D} (Err (d, told)))
-opened_still {D = D} size seen d fault told is exact =
-    subst (λ (f : RunFault). OpensExactly size seen (refusal_in {D = D} (Err (d, f)))) (sym is)
-    (subst (OpensExactly size seen) (sym (no_refusal d fault)) exact)
+pub opened_still : {D : Type 0} (size : ℕ) (current : ℕ → ℕ) (d : D) (fault : ScriptFault) (told : RunFault)
+    → told ≡ run_fault fault → OpensExactly size current None
+    → OpensExactly size current (refusal_in {D = D} (Err (d, told)))
+opened_still {D = D} size current d fault told is exact =
+    subst (λ (f : RunFault). OpensExactly size current (refusal_in {D = D} (Err (d, f)))) (sym is)
+    (subst (OpensExactly size current) (sym (no_refusal d fault)) exact)
 
 -- THE DISK WASN'T OPENED
 pub fault_told : {D : Type 0} (d : D) (fault : OpenFault) → (HasFailedOn {D = D} (Err (d, Open fault)) → ⊥)
     → fault ≡ opens.DiskFault → ⊥
-fault_told {D = D} d fault sound is =
-    sound (subst (λ (f : OpenFault). HasFailedOn {D = D} (Err (d, Open f))) (sym is) (tt {0}))
+fault_told {D = D} d fault valid is =
+    valid (subst (λ (f : OpenFault). HasFailedOn {D = D} (Err (d, Open f))) (sym is) (tt {0}))
 
 pub refused_as : {T U : Type 0} (done : T → Type 0) (done' : U → Type 0) (fault : OpenFault)
     → LoadsAs {T = T} (Err fault) done

@@ -86,7 +86,7 @@ module _ {U B : Type 0} (u : Ghosts U B) (g : Gateway U B) (sure : Bool) (st : S
 
   still_up : {T : Type 0} (result : Result T SessionError) → FallsBy (is_down g) result
       → (IsErrOf result DiskFault → ⊥) → is_down g ≡ false
-  still_up result falls sound = false_from_ne_true (is_down g) (λ down. sound (falls.0 down))
+  still_up result falls valid = false_from_ne_true (is_down g) (λ down. valid (falls.0 down))
 
   at : (s : State) → SessionStands u sure places g.store s → is_down g ≡ false → GatewayStands u g sure s
   at s session up = record { session = session; up = up }

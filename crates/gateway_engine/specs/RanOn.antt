@@ -25,7 +25,7 @@ use Rattle.gateway_engine.specs.declared.faults.RunFault.TheVariants.{Open, NoMe
 pub record AllShowOne {D : Type 0} (disk : Ghosts D) (d : D) (n : ℕ) (stores : List Store) : Type 0 where
   pub honest : disk.honest d
   pub room : 4096 * all_pages n ≤ disk.size d
-  pub each : (image : ℕ → ℕ) → IsImage (disk.seen d) (disk.unsynced d) image → ShowsOne n stores image
+  pub each : (image : ℕ → ℕ) → IsImage (disk.current d) (disk.unsynced d) image → ShowsOne n stores image
 
 -- From the disk before to the disk now, by way of the disk once it was opened. From then on a crash at any moment
 -- leaves one of these stores and so many blocks; and from any earlier moment it leaves what it was limited to before,

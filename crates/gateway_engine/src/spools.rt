@@ -45,8 +45,8 @@ impl<D: Disk> Gateway<Spool<D>> {
             → IfOk result (λ g. Keeps (store_of g) v
             → GatewayStands ⟦<Spool<D> as Uploads>⟧ g false (beginning m (Some v.blocks))) }
 
-        // What is opened is a sound spool. Each refusal has its reason, and each reason is answered so.
-        ensures exact { D.honest disk → OpensExactly (D.size disk) (D.seen disk) (refusal_of result) }
+        // What is opened is a valid spool. Each refusal has its reason, and each reason is answered so.
+        ensures exact { D.honest disk → OpensExactly (D.size disk) (D.current disk) (refusal_of result) }
 
         // Where no journal is to be replayed nothing is written.
         ensures unwritten { D.honest disk → Unwritten D.Disk disk (disk_after result) }
@@ -100,8 +100,8 @@ pub fn run<D: Disk, R: CountedRead, W: CountedWrite>(
         → (script : List ℕ) × IsScript (R.remaining reader.old) script
         × HasRunOn D.Disk disk result (W.contents writer.new) (W.contents writer.old) n (beginning m (Some n)) script }
 
-    // What is opened is a sound spool. Each refusal to open has its reason, and each reason is answered so.
-    ensures exact { D.honest disk → OpensExactly (D.size disk) (D.seen disk) (refusal_in result) }
+    // What is opened is a valid spool. Each refusal to open has its reason, and each reason is answered so.
+    ensures exact { D.honest disk → OpensExactly (D.size disk) (D.current disk) (refusal_in result) }
 
     // A disk that isn't opened: nothing is read of the script and no output is written.
     ensures unopened { Unopened result ((R.remaining reader.new ≡ R.remaining reader.old)

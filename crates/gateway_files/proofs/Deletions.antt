@@ -50,9 +50,9 @@ refused_stays stands w n done (Refused f) e is said = stays stands w n f said.0 
 
 -- no failure was counted
 pub unfailed : (P : Type 0) (a b : ℕ) → (P → ⊥) → Counts P a b → b ≡ a
-unfailed P a b sound c =
+unfailed P a b valid c =
     elim (cases_lt a b) [
-      | inl less ↦ absurd (sound (c.nothing_else less))
+      | inl less ↦ absurd (valid (c.nothing_else less))
       | inr most ↦ let later = c.later in omega (arith, most, later)
     ]
 

@@ -12,7 +12,7 @@ in_order disk d n m is =
       rising = shows.rising;
       some = λ u there.
           let slot = shows.all 0 u there in
-          let least = (shows.sound.records slot.slot slot.used slot.there).some in
+          let least = (shows.valid.records slot.slot slot.used slot.there).some in
           let number = slot.number in
           absurd (omega (arith, least, number));
     }

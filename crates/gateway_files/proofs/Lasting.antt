@@ -23,7 +23,7 @@ shows_one n m image one = elim one.among [
 
 -- an image of now is one that might have been left since any moment that isn't to come
 abbrev pub CountsNow : {D : Type 0} → Ghosts D → D → Type 0
-CountsNow disk d = (t : ℕ) (image : ℕ → ℕ) → t ≤ disk.moment d → IsImage (disk.seen d) (disk.unsynced d) image
+CountsNow disk d = (t : ℕ) (image : ℕ → ℕ) → t ≤ disk.moment d → IsImage (disk.current d) (disk.unsynced d) image
     → disk.left_since d t image
 
 same_size : (n k : ℕ) → ◌≡◌ {A = Option ℕ} (Some n) (Some k) → k ≡ n

@@ -156,6 +156,6 @@ spool_rises disk d n m is =
     let shows = is.shows.shows in
     rises m.uploads shows.rising (λ k u there.
     let slot = shows.all k u there in
-    let below = (shows.sound.records slot.slot slot.used slot.there).below in
+    let below = (shows.valid.records slot.slot slot.used slot.there).below in
     let number = slot.number in
-    let most = shows.sound.next_most in omega (arith, below, number, most))
+    let most = shows.valid.next_most in omega (arith, below, number, most))

@@ -11,9 +11,9 @@ use Rattle.gateway_files.specs.Planning.{Job, jobs_from, with_job}
 use Rattle.gateway_files.proofs.Above.{after, all_above, none_above, some_above, told, untold}
 
 -- an empty list is seen as one
-pub none_seen : {X Y : Type 0} (see : X → Y) (xs : List X) → length xs ≡ 0 → length (map see xs) ≡ 0
-none_seen see [] none = refl
-none_seen see (x ∷ xs) none = absurd (omega (arith, none))
+pub none_current : {X Y : Type 0} (see : X → Y) (xs : List X) → length xs ≡ 0 → length (map see xs) ≡ 0
+none_current see [] none = refl
+none_current see (x ∷ xs) none = absurd (omega (arith, none))
 
 abbrev numbers : List (ℕ × Upload) → List ℕ
 numbers xs = map (λ e. e.0) xs

@@ -19,33 +19,33 @@ use Rattle.spool_load.proofs.Opens.{same_function}
 use Rattle.spool_load.proofs.Refused.{found_back, known_stands, opened_on, says_on, says_one}
 use Rattle.spool_image.specs.Opening.{ReadsSame, Unwritten}
 
-module _ (size size' : ℕ) (found : Found) (old seen : ℕ → ℕ) (unsynced : ℕ → Type 0) (room : size' ≡ size)
-    (is : FoundOn size old found) (settled : Settled (journal_pages found.layout) (overlaid old) seen unsynced) where
-  says : SaysBlocks size' seen found.layout
-  says = says_on found.layout old seen unsynced settled is.journal size size' room is.says
+module _ (size size' : ℕ) (found : Found) (old current : ℕ → ℕ) (unsynced : ℕ → Type 0) (room : size' ≡ size)
+    (is : FoundOn size old found) (settled : Settled (journal_pages found.layout) (overlaid old) current unsynced) where
+  says : SaysBlocks size' current found.layout
+  says = says_on found.layout old current unsynced settled is.journal size size' room is.says
 
   -- behind a closed gate the plain reading is what a read gives
-  plain : (p : ℕ) → overlaid seen p ≡ seen p
-  plain p = shut_view seen p settled.closed
+  plain : (p : ℕ) → overlaid current p ≡ current p
+  plain p = shut_view current p settled.closed
 
-  plain_from : (j : ℕ) → Settled j (overlaid seen) seen unsynced
+  plain_from : (j : ℕ) → Settled j (overlaid current) current unsynced
   plain_from j = record { is_synced = settled.is_synced; closed = settled.closed; same = λ p outside. sym (plain p) }
 
-  plain_to : (j : ℕ) → Settled j seen (overlaid seen) unsynced
+  plain_to : (j : ℕ) → Settled j current (overlaid current) unsynced
   plain_to j = record {
     is_synced = settled.is_synced;
     closed = λ ajar. settled.closed (sym (plain 4096) ∙ ajar);
     same = λ p outside. plain p;
   }
 
-  pub opened_back : (kept : Holding) → OpenedFrom size' seen kept → OpenedFrom size old kept
+  pub opened_back : (kept : Holding) → OpenedFrom size' current kept → OpenedFrom size old kept
   opened_back kept opened =
       let v = opened.view in
-      opened_on found.layout old seen unsynced settled is.journal size kept is.says (record {
+      opened_on found.layout old current unsynced settled is.journal size kept is.says (record {
         view = v;
-        sound = opened.sound;
-        blocks = says_one size' seen v.blocks found.layout
-            (view_says_blocks size' seen v opened.sound opened.is opened.room) says;
+        valid = opened.valid;
+        blocks = says_one size' current v.blocks found.layout
+            (view_says_blocks size' current v opened.valid opened.is opened.room) says;
         says = settled_says v (plain_from (journal_pages v.blocks)) opened.is.says;
         keeps = opened.keeps;
       })
@@ -54,24 +54,24 @@ module _ (size size' : ℕ) (found : Found) (old seen : ℕ → ℕ) (unsynced :
   known : HasKnownVersion found.layout (overlaid old)
   known = known_stands (overlaid old) _ 12 found.version found.next (omega arith) is.state.fields
 
-  known_now : (n : ℕ) → n ≡ found.layout → HasKnownVersion n (overlaid seen)
+  known_now : (n : ℕ) → n ≡ found.layout → HasKnownVersion n (overlaid current)
   known_now n same =
-      subst (λ (k : ℕ). HasKnownVersion k (overlaid seen)) (sym same)
-      (subst (λ (f : ℕ → ℕ). HasKnownVersion found.layout f) (sym (same_function (overlaid seen) seen plain))
-      (known_stands seen _ 12 found.version found.next (omega arith)
-      (found_back size found old seen unsynced settled is).fields))
+      subst (λ (k : ℕ). HasKnownVersion k (overlaid current)) (sym same)
+      (subst (λ (f : ℕ → ℕ). HasKnownVersion found.layout f) (sym (same_function (overlaid current) current plain))
+      (known_stands current _ 12 found.version found.next (omega arith)
+      (found_back size found old current unsynced settled is).fields))
 
-  pub refused_back : (e : OpenFault) → RefusedFor size' seen e → RefusedFor size old e
+  pub refused_back : (e : OpenFault) → RefusedFor size' current e → RefusedFor size old e
   refused_back NotASpool why = absurd (why found.layout says)
   refused_back Version why =
-      absurd (why.other (known_now why.blocks (says_one size' seen why.blocks found.layout why.says says)))
+      absurd (why.other (known_now why.blocks (says_one size' current why.blocks found.layout why.says says)))
   refused_back Damaged why =
-      let same = says_one size' seen why.blocks found.layout why.says says in
+      let same = says_one size' current why.blocks found.layout why.says says in
       record {
         blocks = found.layout;
         says = is.says;
         version = λ form. known;
-        no_view = λ v sound view here. why.no_view v sound
+        no_view = λ v valid view here. why.no_view v valid
             (record {
               form = λ ajar. absurd (settled.closed ajar);
               says = settled_says v (plain_to (journal_pages v.blocks))
@@ -83,21 +83,21 @@ module _ (size size' : ℕ) (found : Found) (old seen : ℕ → ℕ) (unsynced :
   refused_back DiskFault why = tt
 
 -- no journal is to be replayed twice
-none_again : (j size : ℕ) (bytes seen : ℕ → ℕ) (unsynced : ℕ → Type 0) → Settled j bytes seen unsynced
-    → NeedsReplay size seen → ⊥
-none_again j size bytes seen unsynced settled needs = settled.closed needs.gate
+none_again : (j size : ℕ) (bytes current : ℕ → ℕ) (unsynced : ℕ → Type 0) → Settled j bytes current unsynced
+    → NeedsReplay size current → ⊥
+none_again j size bytes current unsynced settled needs = settled.closed needs.gate
 
 module _ {D : Type 0} (disk : Ghosts D) (old mid new : D) (j : ℕ) (bytes : ℕ → ℕ)
-    (settled : Settled j bytes (disk.seen mid) (disk.unsynced mid))
-    (keeps : Keeps (disk.seen old) (disk.seen mid) (disk.unsynced old) (disk.unsynced mid)) where
-  pub unwritten_on : Lasts disk old mid (IsImage (disk.seen old) (disk.unsynced old)) → Unwritten disk mid new
-      → Lasts disk old new (IsImage (disk.seen old) (disk.unsynced old))
+    (settled : Settled j bytes (disk.current mid) (disk.unsynced mid))
+    (keeps : Keeps (disk.current old) (disk.current mid) (disk.unsynced old) (disk.unsynced mid)) where
+  pub unwritten_on : Lasts disk old mid (IsImage (disk.current old) (disk.unsynced old)) → Unwritten disk mid new
+      → Lasts disk old new (IsImage (disk.current old) (disk.unsynced old))
   unwritten_on first last =
       lasts_on first
-      (lasts_more (last (none_again j (disk.size mid) bytes (disk.seen mid) (disk.unsynced mid) settled))
+      (lasts_more (last (none_again j (disk.size mid) bytes (disk.current mid) (disk.unsynced mid) settled))
       (λ image here. keeps_image keeps here))
 
   pub same_on : (failed : Type 0) → ReadsSame disk mid new failed → (failed → ⊥)
-      → Keeps (disk.seen old) (disk.seen new) (disk.unsynced old) (disk.unsynced new)
+      → Keeps (disk.current old) (disk.current new) (disk.unsynced old) (disk.unsynced new)
   same_on failed last fine =
-      keeps_on keeps (last (none_again j (disk.size mid) bytes (disk.seen mid) (disk.unsynced mid) settled) fine)
+      keeps_on keeps (last (none_again j (disk.size mid) bytes (disk.current mid) (disk.unsynced mid) settled) fine)

@@ -18,19 +18,19 @@ module _ {D : Type 0} (disk : Ghosts D) (n : ℕ) (m : Store) where
   read_shows d shown = record {
     honest = shown.honest;
     room = shown.room;
-    shows = shown.each (disk.seen d) (record { same = λ p is_synced. refl });
+    shows = shown.each (disk.current d) (record { same = λ p is_synced. refl });
   }
 
   -- each image of a spool that was made whole shows what a read showed before
   pub whole_shows : (d d' : D) (k : ℕ) (is : IsSpool disk d n m) → disk.honest d' → disk.size d' ≡ disk.size d
       → k ≡ is.shows.view.blocks
-      → Settled (journal_pages k) (overlaid (disk.seen d)) (disk.seen d') (disk.unsynced d')
+      → Settled (journal_pages k) (overlaid (disk.current d)) (disk.current d') (disk.unsynced d')
       → AllShow disk d' n m
   whole_shows d d' k is honest size blocks settled = record {
     honest = honest;
     room = subst (λ (s : ℕ). 4096 * all_pages n ≤ s) (sym size) is.room;
-    each = λ image here. image_shows n m image (disk.seen d) is.shows
-        (subst (λ (b : ℕ). ReadsAs (journal_pages b) image (overlaid (disk.seen d))) blocks
+    each = λ image here. image_shows n m image (disk.current d) is.shows
+        (subst (λ (b : ℕ). ReadsAs (journal_pages b) image (overlaid (disk.current d))) blocks
         (settled_reads image settled (λ p. here.same p (settled.is_synced p))));
   }
 

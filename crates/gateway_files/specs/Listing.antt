@@ -6,13 +6,13 @@ use Rattle.gateway_files.specs.declared.faults.Fault.TheVariants.{NoMemory, Devi
 
 -- what a refusal says of the disk
 abbrev pub ListRefusedFor : ℕ → (ℕ → ℕ) → Fault → Type 0
-ListRefusedFor size seen NotASpool = IsNoSpool size seen
-ListRefusedFor size seen Version = HasOtherVersion size seen
-ListRefusedFor size seen Damaged = IsDamaged size seen
-ListRefusedFor size seen NoMemory = Unit {0}
-ListRefusedFor size seen Device = Unit {0}
-ListRefusedFor size seen Io = Unit {0}
-ListRefusedFor size seen fault = ⊥
+ListRefusedFor size current NotASpool = IsNoSpool size current
+ListRefusedFor size current Version = HasOtherVersion size current
+ListRefusedFor size current Damaged = IsDamaged size current
+ListRefusedFor size current NoMemory = Unit {0}
+ListRefusedFor size current Device = Unit {0}
+ListRefusedFor size current Io = Unit {0}
+ListRefusedFor size current fault = ⊥
 
 -- refused with this fault, or for memory or by the disk
 abbrev pub RefusesListAs : {T : Type 0} → Result T Fault → Fault → Type 0

@@ -66,12 +66,12 @@ pub fn delete_on<D: Disk + Drop, W: Write>(
     ensures deletes { (n : ℕ) (m : Store) → IsSpool D.Disk disk n m → Changes result.1 }
 
     // Each refusal has its reason, and each reason is answered so, unless memory or the disk refuses it.
-    ensures refused { D.honest disk → IfErr result.1 (ListRefusedFor (D.size disk) (D.seen disk)) }
-    ensures not_a_spool { D.honest disk → IsNoSpool (D.size disk) (D.seen disk)
+    ensures refused { D.honest disk → IfErr result.1 (ListRefusedFor (D.size disk) (D.current disk)) }
+    ensures not_a_spool { D.honest disk → IsNoSpool (D.size disk) (D.current disk)
         → RefusesListAs result.1 Fault.NotASpool }
-    ensures version { D.honest disk → HasOtherVersion (D.size disk) (D.seen disk)
+    ensures version { D.honest disk → HasOtherVersion (D.size disk) (D.current disk)
         → RefusesListAs result.1 Fault.Version }
-    ensures damaged { D.honest disk → IsDamaged (D.size disk) (D.seen disk) → RefusesListAs result.1 Fault.Damaged }
+    ensures damaged { D.honest disk → IsDamaged (D.size disk) (D.current disk) → RefusesListAs result.1 Fault.Damaged }
     ensures counts { Counts (result.1 ≡ Err Fault.Device) (D.failures disk) (D.failures result.0) }
 {
     match Spool::open(alloc, disk) {

@@ -34,21 +34,21 @@ pub fn format_on<D: Disk>(disk: &mut D, blocks: u32, indexes: &IndexSet) -> Resu
 
     // It refuses exactly a spool, and then a size that doesn't fit.
     ensures already { D.honest disk.old → result ≡ Err FormatError.AlreadySpool
-        → HasMagic (D.size disk.old) (D.seen disk.old) }
+        → HasMagic (D.size disk.old) (D.current disk.old) }
     ensures no_spool { D.honest disk.old → (result ≡ Err FormatError.AlreadySpool → ⊥)
-        → (result ≡ Err FormatError.DiskFault → ⊥) → HasMagic (D.size disk.old) (D.seen disk.old) → ⊥ }
+        → (result ≡ Err FormatError.DiskFault → ⊥) → HasMagic (D.size disk.old) (D.current disk.old) → ⊥ }
     ensures fits { IsOk result → FitsSpool blocks (D.size disk.old) }
     ensures too_long { result ≡ Err FormatError.Size → FitsSpool blocks (D.size disk.old) → ⊥ }
 
     // Then every image is one from before.
     ensures same { D.honest disk.old → IsRefusal result
-        → Keeps (D.seen disk.old) (D.seen disk.new) (D.unsynced disk.old) (D.unsynced disk.new) }
+        → Keeps (D.current disk.old) (D.current disk.new) (D.unsynced disk.old) (D.unsynced disk.new) }
     ensures lasts { D.honest disk.old → IsRefusal result
-        → Lasts D.Disk disk.old disk.new (IsImage (D.seen disk.old) (D.unsynced disk.old)) }
+        → Lasts D.Disk disk.old disk.new (IsImage (D.current disk.old) (D.unsynced disk.old)) }
 
     // A crash at any moment of it leaves page 0 as it might have been before, or torn, or a whole spool.
     ensures crash { D.honest disk.old → Lasts D.Disk disk.old disk.new
-        (LeftByFormat blocks indexes.now (D.seen disk.old) (D.unsynced disk.old)) }
+        (LeftByFormat blocks indexes.now (D.current disk.old) (D.unsynced disk.old)) }
 
     // Else every image shows no uploads, these indexes and so many blocks; and so many pages are told.
     ensures shows { D.honest disk.old → OnOk result (AllShow D.Disk disk.new blocks (no_uploads indexes.now)) }
@@ -60,13 +60,13 @@ pub fn format_on<D: Disk>(disk: &mut D, blocks: u32, indexes: &IndexSet) -> Resu
 
 /// Whether a disk begins as a spool does. It writes nothing.
 pub fn is_spool_on<D: Disk>(disk: &mut D, indexes: &IndexSet) -> Result<bool, Fault>
-    ensures yes { D.honest disk.old → IfOk result (λ is. is ≡ true → HasMagic (D.size disk.old) (D.seen disk.old)) }
+    ensures yes { D.honest disk.old → IfOk result (λ is. is ≡ true → HasMagic (D.size disk.old) (D.current disk.old)) }
     ensures no { D.honest disk.old → IfOk result (λ is. is ≡ false
-        → HasMagic (D.size disk.old) (D.seen disk.old) → ⊥) }
+        → HasMagic (D.size disk.old) (D.current disk.old) → ⊥) }
     ensures same { D.honest disk.old → IsOk result
-        → Keeps (D.seen disk.old) (D.seen disk.new) (D.unsynced disk.old) (D.unsynced disk.new) }
+        → Keeps (D.current disk.old) (D.current disk.new) (D.unsynced disk.old) (D.unsynced disk.new) }
     ensures lasts { D.honest disk.old → IsOk result
-        → Lasts D.Disk disk.old disk.new (IsImage (D.seen disk.old) (D.unsynced disk.old)) }
+        → Lasts D.Disk disk.old disk.new (IsImage (D.current disk.old) (D.unsynced disk.old)) }
 {
     // No spool has 0 text blocks, so none is made: what is refused before that is a spool.
     match format(disk, 0, indexes) {

@@ -61,19 +61,19 @@ pub fn list_on<D: Disk + Drop, W: Write>(
 
     // Where no journal is to be replayed, nothing is written to the disk: a crash leaves what it might have left
     // before.
-    ensures unwritten { D.honest disk → (NeedsReplay (D.size disk) (D.seen disk) → ⊥)
-        → Lasts D.Disk disk result.0 (IsImage (D.seen disk) (D.unsynced disk)) }
+    ensures unwritten { D.honest disk → (NeedsReplay (D.size disk) (D.current disk) → ⊥)
+        → Lasts D.Disk disk result.0 (IsImage (D.current disk) (D.unsynced disk)) }
 
     // A spool is listed, unless memory, the disk or the writer refuses it.
     ensures listed { (n : ℕ) (m : Store) → IsSpool D.Disk disk n m → Lists result.1 }
 
     // Each refusal has its reason, and each reason is answered so, unless memory or the disk refuses it.
-    ensures refused { D.honest disk → IfErr result.1 (ListRefusedFor (D.size disk) (D.seen disk)) }
-    ensures not_a_spool { D.honest disk → IsNoSpool (D.size disk) (D.seen disk)
+    ensures refused { D.honest disk → IfErr result.1 (ListRefusedFor (D.size disk) (D.current disk)) }
+    ensures not_a_spool { D.honest disk → IsNoSpool (D.size disk) (D.current disk)
         → RefusesListAs result.1 Fault.NotASpool }
-    ensures version { D.honest disk → HasOtherVersion (D.size disk) (D.seen disk)
+    ensures version { D.honest disk → HasOtherVersion (D.size disk) (D.current disk)
         → RefusesListAs result.1 Fault.Version }
-    ensures damaged { D.honest disk → IsDamaged (D.size disk) (D.seen disk) → RefusesListAs result.1 Fault.Damaged }
+    ensures damaged { D.honest disk → IsDamaged (D.size disk) (D.current disk) → RefusesListAs result.1 Fault.Damaged }
     ensures counts { Counts (result.1 ≡ Err Fault.Device) (D.failures disk) (D.failures result.0) }
 {
     match Spool::open(alloc, disk) {

@@ -49,15 +49,15 @@ pub fn open_surveyed<D: Disk>(alloc: Global, disk: D) -> Result<(Spool<D>, Surve
         → OpensAs result (λ opened. SpoolStands opened.0 true (at_rest m (Some n))) }
     ensures blocks { (n : ℕ) (m : Store) → IsSpool D.Disk disk n m → IfOk result (λ opened. opened.1.blocks ≡ n) }
 
-    // What is opened is a sound spool, and it is what a read shows. Each refusal has its reason, and each reason is
+    // What is opened is a valid spool, and it is what a read shows. Each refusal has its reason, and each reason is
     // answered so, unless memory or the disk refuses it.
-    ensures sound { D.honest disk → IfOk result (λ opened. OpensFrom (D.size disk) (D.seen disk) opened.0) }
-    ensures refused { D.honest disk → IfErr result (λ e. RefusedFor (D.size disk) (D.seen disk) e.1) }
-    ensures not_a_spool { D.honest disk → IsNoSpool (D.size disk) (D.seen disk)
+    ensures valid { D.honest disk → IfOk result (λ opened. OpensFrom (D.size disk) (D.current disk) opened.0) }
+    ensures refused { D.honest disk → IfErr result (λ e. RefusedFor (D.size disk) (D.current disk) e.1) }
+    ensures not_a_spool { D.honest disk → IsNoSpool (D.size disk) (D.current disk)
         → RefusesAs result OpenFault.NotASpool }
-    ensures version { D.honest disk → HasOtherVersion (D.size disk) (D.seen disk)
+    ensures version { D.honest disk → HasOtherVersion (D.size disk) (D.current disk)
         → RefusesAs result OpenFault.Version }
-    ensures damaged { D.honest disk → IsDamaged (D.size disk) (D.seen disk) → RefusesAs result OpenFault.Damaged }
+    ensures damaged { D.honest disk → IsDamaged (D.size disk) (D.current disk) → RefusesAs result OpenFault.Damaged }
 
     // Where no journal is to be replayed it writes nothing: every image is one from before, and so is what a read
     // gives.
@@ -88,15 +88,16 @@ fn find_whole<D: Disk>(disk: &mut D) -> Result<Found, OpenFault>
     ensures size { D.size disk.new ≡ D.size disk.old }
     ensures honest { D.honest disk.old ↔ D.honest disk.new }
     ensures counts { Counts (result ≡ Err OpenFault.DiskFault) (D.failures disk.old) (D.failures disk.new) }
-    ensures on { D.honest disk.old → IfOk result (FoundOn (D.size disk.old) (D.seen disk.old)) }
-    ensures refused { D.honest disk.old → IfErr result (NotFoundFor (D.size disk.old) (D.seen disk.old)) }
+    ensures on { D.honest disk.old → IfOk result (FoundOn (D.size disk.old) (D.current disk.old)) }
+    ensures refused { D.honest disk.old → IfErr result (NotFoundFor (D.size disk.old) (D.current disk.old)) }
     ensures settled { D.honest disk.old → IfOk result (λ found.
-        Settled (journal_pages found.layout) (overlaid (D.seen disk.old)) (D.seen disk.new) (D.unsynced disk.new)) }
-    ensures unwritten { D.honest disk.old → (NeedsReplay (D.size disk.old) (D.seen disk.old) → ⊥)
-        → Lasts D.Disk disk.old disk.new (IsImage (D.seen disk.old) (D.unsynced disk.old)) }
-    ensures same { D.honest disk.old → (NeedsReplay (D.size disk.old) (D.seen disk.old) → ⊥)
+        Settled (journal_pages found.layout) (overlaid (D.current disk.old)) (D.current disk.new)
+        (D.unsynced disk.new)) }
+    ensures unwritten { D.honest disk.old → (NeedsReplay (D.size disk.old) (D.current disk.old) → ⊥)
+        → Lasts D.Disk disk.old disk.new (IsImage (D.current disk.old) (D.unsynced disk.old)) }
+    ensures same { D.honest disk.old → (NeedsReplay (D.size disk.old) (D.current disk.old) → ⊥)
         → (result ≡ Err OpenFault.DiskFault → ⊥)
-        → Keeps (D.seen disk.old) (D.seen disk.new) (D.unsynced disk.old) (D.unsynced disk.new) }
+        → Keeps (D.current disk.old) (D.current disk.new) (D.unsynced disk.old) (D.unsynced disk.new) }
     ensures found { (n : ℕ) (m : Store) → IsSpool D.Disk disk.old n m → LoadsAs result (λ found. found.layout ≡ n) }
     ensures shows { (n : ℕ) (m : Store) → IsSpool D.Disk disk.old n m → OnOk result (AllShow D.Disk disk.new n m) }
     ensures lasts { (n : ℕ) (m : Store) → IsSpool D.Disk disk.old n m

@@ -14,8 +14,8 @@ use Rattle.spool_image.specs.declared.error.FormatError.TheVariants as formats
 use Rattle.spool_image.specs.declared.error.UpgradeError.TheVariants as upgrades
 use Rattle.spool_image.specs.declared.error.UpgradeError.{UpgradeError}
 use Rattle.spool_image.proofs.Crashed.{synced_shows}
-use Rattle.spool_kept.proofs.Upgraded.{upgraded_sound}
-use Rattle.spool_kept.specs.Shows.{IsSound}
+use Rattle.spool_kept.proofs.Upgraded.{upgraded_valid}
+use Rattle.spool_kept.specs.Shows.{IsValid}
 use Rattle.spool_kept.specs.declared.error.OpenFault.TheVariants as opens
 use Rattle.spool_pages.proofs.Resting.{rests_image}
 use Rattle.spool_pages.specs.Changes.{upgraded}
@@ -79,7 +79,7 @@ all_one disk d n m all = record {
 pub read_opens : {D : Type 0} (disk : Ghosts D) (d : D) (n : ℕ) (stores : List Store) → AllShowOne disk d n stores
     → (m : Store) × OpensWith disk d n stores m
 read_opens disk d n stores all =
-    let one = all.each (disk.seen d) (record { same = λ p is_synced. refl }) in
+    let one = all.each (disk.current d) (record { same = λ p is_synced. refl }) in
     (one.store, record { among = one.among; shows = one.shows })
 
 pub is_spool : {D : Type 0} (disk : Ghosts D) (d : D) (n : ℕ) (stores : List Store) (m : Store)
@@ -88,10 +88,10 @@ is_spool disk d n stores m all opened = record { honest = all.honest; room = all
 
 -- FROM THE DISK BEFORE TO THE DISK THAT CAME BACK
 module _ {D : Type 0} (disk : Ghosts D) (given back : D) (n : ℕ) (before : List Store) (m : Store)
-    (now : (t : ℕ) (image : ℕ → ℕ) → t ≤ disk.moment back → IsImage (disk.seen back) (disk.unsynced back) image
+    (now : (t : ℕ) (image : ℕ → ℕ) → t ≤ disk.moment back → IsImage (disk.current back) (disk.unsynced back) image
     → disk.left_since back t image)
     (only : (image : ℕ → ℕ) → disk.left_since given (disk.moment given) image
-    → IsImage (disk.seen given) (disk.unsynced given) image)
+    → IsImage (disk.current given) (disk.unsynced given) image)
     (shown : AllShowOne disk given n before) (opened : OpensWith disk given n before m) where
   abbrev st : State
   st = beginning m (Some n)
@@ -267,11 +267,11 @@ refusals_told back Io v w c = writer_alone (λ e. tt) (λ is. refl) c
 pub crashed : {D C : Type 0} (disk : Ghosts D) (chosen : C → D → D → Type 0) (how : C) (back after : D) (n : ℕ)
     (left : List Store) → AllShowOne disk back n left → chosen how back after → disk.size after ≡ disk.size back
     → (disk.honest back → disk.honest after)
-    → (disk.honest back → IsImage (disk.seen back) (disk.unsynced back) (disk.seen after))
+    → (disk.honest back → IsImage (disk.current back) (disk.unsynced back) (disk.current after))
     → (disk.honest back → (p : ℕ) → disk.unsynced after p → ⊥) → disk.failures after ≡ disk.failures back
     → (next : List Store) × AllShowOne disk after n next × Crashes disk chosen how back after left next
 crashed disk chosen how back after n left all is size keeps image is_synced failures =
-    let one = all.each (disk.seen after) (image all.honest) in (
+    let one = all.each (disk.current after) (image all.honest) in (
       one.store ∷ [],
       all_one disk after n one.store (synced_shows disk after n one.store (record {
         honest = keeps all.honest;
@@ -298,11 +298,11 @@ upgrade_ends e (inl new) = subst (λ (x : UpgradeError). UpgradeEnds (Some x)) (
 upgrade_ends e (inr (inl is)) = subst (λ (x : UpgradeError). UpgradeEnds (Some x)) (sym is) tt
 upgrade_ends e (inr (inr is)) = subst (λ (x : UpgradeError). UpgradeEnds (Some x)) (sym is) tt
 
-pub done_leaves : {seen : ℕ → ℕ} {unsynced : ℕ → Type 0} (size : ℕ) (before image : ℕ → ℕ)
-    → UpgradedFrom size before seen unsynced → IsImage seen unsynced image → IsNewest image
+pub done_leaves : {current : ℕ → ℕ} {unsynced : ℕ → Type 0} (size : ℕ) (before image : ℕ → ℕ)
+    → UpgradedFrom size before current unsynced → IsImage current unsynced image → IsNewest image
 done_leaves size before image from here = record {
   view = upgraded from.view;
-  sound = upgraded_sound from.view from.sound;
+  valid = upgraded_valid from.view from.valid;
   new = refl;
   is = rests_image image from.rests here;
 }
@@ -310,21 +310,21 @@ done_leaves size before image from here = record {
 not_device : (e : UpgradeError) → e ≡ upgrades.AlreadyNew → e ≡ upgrades.Open opens.DiskFault → ⊥
 not_device e new device = cc
 
-pub refused_leaves : {seen : ℕ → ℕ} {unsynced : ℕ → Type 0} (e : UpgradeError) (v : View) (image : ℕ → ℕ) → IsSound v
+pub refused_leaves : {current : ℕ → ℕ} {unsynced : ℕ → Type 0} (e : UpgradeError) (v : View) (image : ℕ → ℕ) → IsValid v
     → ((v.version ≡ Two) × (e ≡ upgrades.AlreadyNew)) ⊎ (e ≡ upgrades.Open opens.NoMemory)
     ⊎ (e ≡ upgrades.Open opens.DiskFault)
-    → ((e ≡ upgrades.Open opens.DiskFault → ⊥) → Rests v seen unsynced) → IsImage seen unsynced image
+    → ((e ≡ upgrades.Open opens.DiskFault → ⊥) → Rests v current unsynced) → IsImage current unsynced image
     → UpgradeLeaves (Some e) image
-refused_leaves e v image sound (inl new) rests here =
+refused_leaves e v image valid (inl new) rests here =
     subst (λ (x : UpgradeError). UpgradeLeaves (Some x) image) (sym new.1) (record {
       view = v;
-      sound = sound;
+      valid = valid;
       new = new.0;
       is = rests_image image (rests (not_device e new.1)) here;
     })
-refused_leaves e v image sound (inr (inl is)) rests here =
+refused_leaves e v image valid (inr (inl is)) rests here =
     subst (λ (x : UpgradeError). UpgradeLeaves (Some x) image) (sym is) tt
-refused_leaves e v image sound (inr (inr is)) rests here =
+refused_leaves e v image valid (inr (inr is)) rests here =
     subst (λ (x : UpgradeError). UpgradeLeaves (Some x) image) (sym is) tt
 
 -- the failures of an upgrade are told

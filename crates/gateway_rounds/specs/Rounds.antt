@@ -31,7 +31,7 @@ use Rattle.gateway_rounds.specs.declared.round.Work.TheVariants.{Run, Upgrade}
 -- WHERE A ROUND BEGINS: each image shows one of some stores. A read shows one of them, and the disk is opened with it
 pub record OpensWith {D : Type 0} (disk : Ghosts D) (given : D) (n : ℕ) (stores : List Store) (m : Store) : Type 0 where
   pub among : Among m stores
-  pub shows : ImageShows n (disk.seen given) m
+  pub shows : ImageShows n (disk.current given) m
 
 -- THE EVENTS OF A RUN, of which the latest is first
 
@@ -123,7 +123,7 @@ pub record IsUpgrade {D : Type 0} (disk : Ghosts D) (n : ℕ) (given back : D) (
   pub store : Store
   pub opened : OpensWith disk given n before store
   pub same : left ≡ left_by_upgrade told store before
-  pub leaves : (image : ℕ → ℕ) → IsImage (disk.seen back) (disk.unsynced back) image → UpgradeLeaves told image
+  pub leaves : (image : ℕ → ℕ) → IsImage (disk.current back) (disk.unsynced back) image → UpgradeLeaves told image
   pub counts : Counts (told ≡ Some (upgrades.Open opens.DiskFault)) (disk.failures given) (disk.failures back)
 
 -- THE END OF A ROUND
@@ -133,7 +133,7 @@ pub record IsUpgrade {D : Type 0} (disk : Ghosts D) (n : ℕ) (given back : D) (
 pub record Crashes {D C : Type 0} (disk : Ghosts D) (chosen : C → D → D → Type 0) (how : C) (back after : D)
     (left next : List Store) : Type 0 where
   pub is : chosen how back after
-  pub image : IsImage (disk.seen back) (disk.unsynced back) (disk.seen after)
+  pub image : IsImage (disk.current back) (disk.unsynced back) (disk.current after)
   pub synced : (p : ℕ) → disk.unsynced after p → ⊥
   pub failures : disk.failures after ≡ disk.failures back
   pub store : Store
@@ -169,7 +169,8 @@ pub record IsRound {D C : Type 0} (disk : Ghosts D) (chosen : C → D → D → 
   pub same_end : told.end ≡ round.end
   pub end : IsEnd disk chosen round.end back after left next
   pub shows : AllShowOne disk after n next
-  pub texts : (image : ℕ → ℕ) (m : Store) → ImageShows n image m → IsImage (disk.seen after) (disk.unsynced after) image
+  pub texts : (image : ℕ → ℕ) (m : Store) → ImageShows n image m
+      → IsImage (disk.current after) (disk.unsynced after) image
       → HasTexts image m
 
 -- ALL ROUNDS
@@ -191,6 +192,6 @@ pub record HasLived {D C : Type 0} (disk : Ghosts D) (chosen : C → D → D →
   pub size : disk.size made ≡ disk.size given
   pub failures : disk.failures made ≡ disk.failures given
   pub shows : AllShow disk made n m
-  pub newest : (image : ℕ → ℕ) → IsImage (disk.seen made) (disk.unsynced made) image → IsNewest image
+  pub newest : (image : ℕ → ℕ) → IsImage (disk.current made) (disk.unsynced made) image → IsNewest image
   pub end : List Store
   pub lives : Lives disk chosen n made (m ∷ []) rounds told last end

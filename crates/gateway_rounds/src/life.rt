@@ -33,15 +33,15 @@ pub fn endure<D: CrashDisk>(
 ) -> Result<D, (D, FormatError)>
     // After each run the disk has the uploads after the first events of its script, in order, each of them whole and
     // with its text; and each event of which a reply was written is one of these. An upgrade changes no upload, and
-    // after one that was done the disk has a sound spool of version 2.
+    // after one that was done the disk has a valid spool of version 2.
     ensures lives { D.honest disk → IfOk result
         (λ last. HasLived D.Disk D.chosen disk blocks (no_uploads indexes.now) rounds.old rounds.new last) }
 
     // It is refused where `format` is, and then no round was begun.
     ensures fits { IsOk result → FitsSpool blocks (D.size disk) }
     ensures already { D.honest disk
-        → IfErr result (λ e. e.1 ≡ FormatError.AlreadySpool → HasMagic (D.size disk) (D.seen disk)) }
-    ensures no_spool { D.honest disk → HasMagic (D.size disk) (D.seen disk) → RefusesSpool result }
+        → IfErr result (λ e. e.1 ≡ FormatError.AlreadySpool → HasMagic (D.size disk) (D.current disk)) }
+    ensures no_spool { D.honest disk → HasMagic (D.size disk) (D.current disk) → RefusesSpool result }
     ensures too_long { IfErr result (λ e. e.1 ≡ FormatError.Size → FitsSpool blocks (D.size disk) → ⊥) }
     ensures counts { IfErr result (λ e. Counts (e.1 ≡ FormatError.DiskFault) (D.failures disk) (D.failures e.0)) }
     ensures unbegun { IfErr result (λ e. rounds.new ≡ rounds.old) }
@@ -50,11 +50,11 @@ pub fn endure<D: CrashDisk>(
     ensures size { IfErr result (λ e. D.size e.0 ≡ D.size disk) }
     ensures honest { IfErr result (λ e. D.honest disk ↔ D.honest e.0) }
     ensures same { D.honest disk → IfErr result (λ e. IsUnwritten e.1
-        → Keeps (D.seen disk) (D.seen e.0) (D.unsynced disk) (D.unsynced e.0)) }
+        → Keeps (D.current disk) (D.current e.0) (D.unsynced disk) (D.unsynced e.0)) }
     ensures lasts { D.honest disk → IfErr result (λ e. IsUnwritten e.1
-        → Lasts D.Disk disk e.0 (IsImage (D.seen disk) (D.unsynced disk))) }
+        → Lasts D.Disk disk e.0 (IsImage (D.current disk) (D.unsynced disk))) }
     ensures crash { D.honest disk → IfErr result (λ e.
-        Lasts D.Disk disk e.0 (LeftByFormat blocks indexes.now (D.seen disk) (D.unsynced disk))) }
+        Lasts D.Disk disk e.0 (LeftByFormat blocks indexes.now (D.current disk) (D.unsynced disk))) }
 {
     let mut disk = disk;
     match format(&mut disk, blocks, indexes) {

@@ -26,7 +26,7 @@ use Rattle.gateway_script.specs.Runs.{Refuses, CutOne, Ends, LineRan}
 use Rattle.gateway_script.proofs.Turns.{Falling, done_went, refused_went}
 use Rattle.gateway_script.proofs.Reaching.{reach_both, reach_none, stops_after}
 use Rattle.gateway_script.proofs.Passing.{passes_by, passes_on, passes_as, cut_adds, lines_add, first_same}
-use Rattle.gateway_script.proofs.Seen.{seen_after, Leaves, OnDevice, history_same}
+use Rattle.gateway_script.proofs.Seen.{current_after, Leaves, OnDevice, history_same}
 
 -- WHETHER A CONNECTION IS OPEN, BY WHAT ITS END IS ANSWERED
 closed_case : (st : State) (c : ℕ) (o : Option Conn) → (ended_at st c o).outcome ≡ Refused errors.Closed
@@ -140,15 +140,16 @@ went_cut v (Err faults.Io) k n r is_open up p = cut_stops v faults.Io k n r is_o
 
 pub cut_done : {C : Type 0} (v : View C) (now : C) (k n : ℕ) (r : Run) → IsAt v r
     → Leaves v now r.state.world.store (shown_by r.state (Ended n) Served)
-    → Does (v.u.stands now true) (Ok (tt {0})) r.state (Ended n) → CutOne (seen_after v now v.held) (Ok (tt {0})) k n r
+    → Does (v.u.stands now true) (Ok (tt {0})) r.state (Ended n)
+    → CutOne (current_after v now v.held) (Ok (tt {0})) k n r
 cut_done v now k n r at leaves does =
-    went_cut (seen_after v now v.held) (Ok (tt {0})) k n r (ended_open r.state n does.answer) at.up
+    went_cut (current_after v now v.held) (Ok (tt {0})) k n r (ended_open r.state n does.answer) at.up
     (done_went v now r (Ended n) at leaves does)
 
 pub cut_skipped : {C : Type 0} (v : View C) (now : C) (k n : ℕ) (r : Run) → IsAt v r
     → Leaves v now r.state.world.store (shown_by r.state (Ended n) Served)
     → Does (v.u.stands now true) (Err errors.Closed) r.state (Ended n)
-    → CutOne (seen_after v now v.held) (Ok (tt {0})) k n r
+    → CutOne (current_after v now v.held) (Ok (tt {0})) k n r
 cut_skipped v now k n r at leaves does =
     let c = ended_closed r.state n does.answer in (
       r,
@@ -167,12 +168,12 @@ pub cut_refused : {C : Type 0} (v : View C) (now : C) (held : Option (List ℕ))
     → IsAt v r → OnDevice v r
     → Leaves v now r.state.world.store (shown_by r.state (Ended n) (mark_of {T = Unit {0}} (Err f)))
     → Does (v.u.stands now true) (Err f) r.state (Ended n) → Falling v now f
-    → (f ≡ errors.Closed → ⊥) → Refuses v.held held result n f → CutOne (seen_after v now held) result k n r
+    → (f ≡ errors.Closed → ⊥) → Refuses v.held held result n f → CutOne (current_after v now held) result k n r
 cut_refused v now held k n r errors.NoMemory result at durable leaves does fell other refuses =
-    went_cut (seen_after v now held) result k n r (ended_lost r.state n does.answer) at.up
+    went_cut (current_after v now held) result k n r (ended_lost r.state n does.answer) at.up
     (refused_went v now held r (Ended n) errors.NoMemory result at durable leaves does fell refuses)
 cut_refused v now held k n r errors.DiskFault result at durable leaves does fell other refuses =
-    went_cut (seen_after v now held) result k n r (ended_failed r.state n does.answer) at.up
+    went_cut (current_after v now held) result k n r (ended_failed r.state n does.answer) at.up
     (refused_went v now held r (Ended n) errors.DiskFault result at durable leaves does fell refuses)
 cut_refused v now held k n r errors.TooMany result at durable leaves does fell other refuses =
     absurd (ended_many r.state n does.answer)

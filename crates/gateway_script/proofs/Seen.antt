@@ -10,8 +10,8 @@ use Rattle.gateway_script.specs.Outputs.{last_output, output_of}
 use Rattle.gateway_script.specs.Runs.{View, IsHistory, stepped}
 
 -- the run seen after a call
-abbrev pub seen_after : {C : Type 0} → View C → C → Option (List ℕ) → View C
-seen_after v now held = record v { now = now; held = held }
+abbrev pub current_after : {C : Type 0} → View C → C → Option (List ℕ) → View C
+current_after v now held = record v { now = now; held = held }
 
 -- what images may show after a call with these two stores
 abbrev pub Leaves : {C : Type 0} → View C → C → Store → Store → Type 0
@@ -40,7 +40,7 @@ last_is v r e m is = ap (λ s. written (conn_in e) (step s e m).outcome) is.stat
 
 pub history_on : {C : Type 0} (v : View C) (now : C) (held : Option (List ℕ)) (r : Run) (e : Event) (m : Mark)
     → IsHistory v r
-    → Leaves v now r.state.world.store (shown_by r.state e m) → IsHistory (seen_after v now held)
+    → Leaves v now r.state.world.store (shown_by r.state e m) → IsHistory (current_after v now held)
     (stepped r (conn_in e) e m)
 history_on v now held r e m is leaves = record {
   state = ap (λ s. (step s e m).state) is.state;
@@ -52,7 +52,7 @@ history_on v now held r e m is leaves = record {
 
 -- no event was made
 pub history_same : {C : Type 0} (v : View C) (now : C) (held : Option (List ℕ)) (r : Run) → IsHistory v r
-    → Leaves v now r.state.world.store r.state.world.store → IsHistory (seen_after v now held) r
+    → Leaves v now r.state.world.store r.state.world.store → IsHistory (current_after v now held) r
 history_same v now held r is leaves = record {
   state = is.state;
   output = is.output;

@@ -18,7 +18,7 @@ use Rattle.gateway_script.specs.Runs.{View, with_marks, stepped, Calls, Called, 
 use Rattle.gateway_script.specs.Runs.{run_past, Went, Refuses, Tells}
 use Rattle.gateway_script.proofs.Outputs.{appends_both, appends_nothing}
 use Rattle.gateway_script.proofs.Passing.{passes_by, first_same}
-use Rattle.gateway_script.proofs.Seen.{seen_after, Leaves, OnDevice, history_on, shows_last, last_is}
+use Rattle.gateway_script.proofs.Seen.{current_after, Leaves, OnDevice, history_on, shows_last, last_is}
 
 -- a call is the step with its mark
 pub leads_call : (r : Run) (n : ℕ) (e : Event) (m : Mark) (rest : List Mark)
@@ -68,7 +68,7 @@ module _ {C : Type 0} (v : View C) (now : C) (held : Option (List ℕ)) (r : Run
   -- it is at its place
   stays_at : (outcome : Outcome) → v.u.stands now true (step r.state e m).state → (step r.state e m).outcome ≡ outcome
       → is_fault outcome ≡ false
-      → Appends v.held held (written (conn_in e) outcome) → IsAt (seen_after v now held) (stepped r (conn_in e) e m)
+      → Appends v.held held (written (conn_in e) outcome) → IsAt (current_after v now held) (stepped r (conn_in e) e m)
   stays_at outcome stands is up appends = record {
     keeps = stands;
     wrote = appends_both v.prefix v.held held r.out (written (conn_in e) (step r.state e m).outcome) at.wrote
@@ -79,7 +79,7 @@ module _ {C : Type 0} (v : View C) (now : C) (held : Option (List ℕ)) (r : Run
 
   -- the disk failed: nothing was written
   goes_down : OnDevice v r → held ≡ v.held → v.u.down now ≡ true → (step r.state e m).outcome ≡ Refused errors.DiskFault
-      → IsDown (seen_after v now held) (stepped r (conn_in e) e m)
+      → IsDown (current_after v now held) (stepped r (conn_in e) e m)
   goes_down durable same fell is = record {
     wrote = subst (λ h. Appends v.prefix h (r.out ++ written (conn_in e) (step r.state e m).outcome)) (sym same)
         (subst (Appends v.prefix v.held) (sym (ap (λ o. r.out ++ written (conn_in e) o) is ∙ append-nil r.out))
@@ -92,7 +92,7 @@ module _ {C : Type 0} (v : View C) (now : C) (held : Option (List ℕ)) (r : Run
 
   -- it was out of memory for the reply: nothing was written
   wants_memory : v.u.stands now true (step r.state e m).state → held ≡ v.held
-      → IsStopped (seen_after v now held) faults.NoMemory (stepped r (conn_in e) e m)
+      → IsStopped (current_after v now held) faults.NoMemory (stepped r (conn_in e) e m)
   wants_memory stands same = record {
     keeps = stands;
     out = r.out;
@@ -104,7 +104,7 @@ module _ {C : Type 0} (v : View C) (now : C) (held : Option (List ℕ)) (r : Run
   -- a prefix part of the reply was written
   breaks_off : (outcome : Outcome) → v.u.stands now true (step r.state e m).state → (step r.state e m).outcome ≡ outcome
       → AppendsPart v.held held (written (conn_in e) outcome)
-      → IsStopped (seen_after v now held) faults.Io (stepped r (conn_in e) e m)
+      → IsStopped (current_after v now held) faults.Io (stepped r (conn_in e) e m)
   breaks_off outcome stands is wrote = record {
     keeps = stands;
     out = r.out ++ wrote.0;
@@ -123,7 +123,7 @@ module _ {C : Type 0} (v : View C) (now : C) (held : Option (List ℕ)) (r : Run
 pub done_went : {C : Type 0} (v : View C) (now : C) (r : Run) (e : Event) → IsAt v r
     → Leaves v now r.state.world.store (shown_by r.state e Served)
     → Does (v.u.stands now true) (Ok (tt {0})) r.state e
-    → Went (seen_after v now v.held) (Ok (tt {0})) (λ x. (call x (conn_in e) e).run) r
+    → Went (current_after v now v.held) (Ok (tt {0})) (λ x. (call x (conn_in e) e).run) r
 done_went v now r e at leaves does = (
   stepped r (conn_in e) e Served,
   leads r (conn_in e) e Served,
@@ -145,7 +145,7 @@ pub refused_went : {C : Type 0} (v : View C) (now : C) (held : Option (List ℕ)
     → IsAt v r → OnDevice v r → Leaves v now r.state.world.store (shown_by r.state e (mark_of {T = Unit {0}} (Err f)))
     → Does (v.u.stands now true) (Err f) r.state e → Falling v now f
     → Refuses v.held held result (conn_in e) f
-    → Went (seen_after v now held) result (λ x. (call x (conn_in e) e).run) r
+    → Went (current_after v now held) result (λ x. (call x (conn_in e) e).run) r
 refused_went v now held r e f (Ok x) at durable leaves does fell refuses =
     let m : Mark = mark_of {T = Unit {0}} (Err f) in (
       stepped r (conn_in e) e m,
@@ -162,11 +162,11 @@ refused_went v now held r e f (Err faults.DiskFault) at durable leaves does fell
     )
 refused_went v now held r e f (Err faults.NoMemory) at durable leaves does fell refuses =
     let m : Mark = mark_of {T = Unit {0}} (Err f) in
-    stops_at (seen_after v now held) faults.NoMemory r (conn_in e) e m (wants_memory v now held r e m at leaves
+    stops_at (current_after v now held) faults.NoMemory r (conn_in e) e m (wants_memory v now held r e m at leaves
     (unless (Unit {0}) f _ refuses.1 does.keeps) refuses.0)
 refused_went v now held r e f (Err faults.Io) at durable leaves does fell refuses =
     let m : Mark = mark_of {T = Unit {0}} (Err f) in
-    stops_at (seen_after v now held) faults.Io r (conn_in e) e m (breaks_off v now held r e m at leaves (Refused f)
+    stops_at (current_after v now held) faults.Io r (conn_in e) e m (breaks_off v now held r e m at leaves (Refused f)
     (unless (Unit {0}) f _ refuses.1 does.keeps) does.answer refuses.0)
 
 -- A CALL THAT GIVES BYTES
@@ -177,7 +177,7 @@ module _ {C : Type 0} (v : View C) (now : C) (held : Option (List ℕ)) (r : Run
     bytes_are = adds_all (Ok a) gives.0 (step r.state e Served).text [] given gives.2
 
     pub told_called : Tells v.held held (Ok (tt {0})) (conn_in e) given a.closes
-        → Called (seen_after v now held) (Ok (Some a)) (conn_in e) e r
+        → Called (current_after v now held) (Ok (Some a)) (conn_in e) e r
     told_called tells = (
       stepped r (conn_in e) e Served,
       gives.0,
@@ -187,7 +187,7 @@ module _ {C : Type 0} (v : View C) (now : C) (held : Option (List ℕ)) (r : Run
     )
 
     pub tell_stopped : (fault : CallFault) → Tells v.held held (Err fault) (conn_in e) given a.closes
-        → Called (seen_after v now held) (Err fault) (conn_in e) e r
+        → Called (current_after v now held) (Err fault) (conn_in e) e r
     tell_stopped faults.DiskFault tells = absurd tells
     tell_stopped faults.NoMemory tells = (
       stepped r (conn_in e) e Served,
@@ -211,7 +211,7 @@ module _ {C : Type 0} (v : View C) (now : C) (held : Option (List ℕ)) (r : Run
       m = mark_of {T = Answer} (Err f)
 
       pub refused_called : Refuses v.held held (Ok (tt {0})) (conn_in e) f
-          → Called (seen_after v now held) (Ok None) (conn_in e) e r
+          → Called (current_after v now held) (Ok None) (conn_in e) e r
       refused_called refuses = (
         stepped r (conn_in e) e m,
         f,
@@ -222,7 +222,7 @@ module _ {C : Type 0} (v : View C) (now : C) (held : Option (List ℕ)) (r : Run
 
       pub refuse_stopped : OnDevice v r → Falling v now f → (fault : CallFault)
           → Refuses v.held held (Err fault) (conn_in e) f
-          → Called (seen_after v now held) (Err fault) (conn_in e) e r
+          → Called (current_after v now held) (Err fault) (conn_in e) e r
       refuse_stopped durable fell faults.DiskFault refuses =
           let is : (step r.state e m).outcome ≡ Refused errors.DiskFault = gives.1.answer ∙ ap Refused refuses.0 in (
             stepped r (conn_in e) e m,

@@ -10,7 +10,7 @@ use Rattle.tus_session.specs.Connections.{mark_of, told_done}
 use Rattle.tus_session.specs.declared.connections.Connections.{Ghosts}
 use Rattle.gateway_serve.specs.Conversations.{begun, goes_on, conversations}
 use Rattle.gateway_serve.specs.Sockets as sockets
-use Rattle.gateway_serve.specs.Sockets.{Seen, Pairs, seen_of}
+use Rattle.gateway_serve.specs.Sockets.{Seen, Pairs, current_of}
 use Rattle.gateway_serve.specs.Served.{WentOn, Serves, AllServed, AllLeft}
 use Rattle.gateway_serve.specs.Joined.{Joins, Alone, PlaceJoins, PlaceFell, GoesAt, OthersStay, AllJoin, AllFell}
 use Rattle.gateway_serve.specs.Joined.{PlaceWaits, SamePlaces, IsNew, joint_of, nothing_yet, with_place}
@@ -50,28 +50,30 @@ falls (Open l) ended st past n is = is
 module _ {S : Type 0} (places : List (Place S)) (n : ℕ) (p' : Place S) (ended ended' : List Seen) (st : State)
     (past now : List Marked) (inside : n < length places)
     (alone : Alone st n past now) (others : OthersStay n ended ended') (all : AllJoin places ended st past) where
-  other_place : (k : ℕ) → (k ≡ n → ⊥) → PlaceJoins (get_or (set places n p') k Free) (seen_of k ended') st now k
+  other_place : (k : ℕ) → (k ≡ n → ⊥) → PlaceJoins (get_or (set places n p') k Free) (current_of k ended') st now k
   other_place k ne =
-      subst (λ (x : Place S). PlaceJoins x (seen_of k ended') st now k) (sym (get_or-set_other places n k p' Free ne))
+      subst (λ (x : Place S). PlaceJoins x (current_of k ended') st now k) (sym
+      (get_or-set_other places n k p' Free ne))
       (subst (λ x. PlaceJoins (get_or places k Free) x st now k) (sym (others k ne))
-      (place_kept st past now k (alone.talks k ne) (alone.conns k ne) (get_or places k Free) (seen_of k ended) (all k)))
+      (place_kept st past now k (alone.talks k ne) (alone.conns k ne) (get_or places k Free) (current_of k ended)
+      (all k)))
 
-  pub all_joined : PlaceJoins p' (seen_of n ended') st now n → AllJoin (set places n p') ended' st now
+  pub all_joined : PlaceJoins p' (current_of n ended') st now n → AllJoin (set places n p') ended' st now
   all_joined here = λ k. elim (cases_eq k n) [
     | inl e ↦
-        let P : ℕ → Type 0 = λ i. PlaceJoins (get_or (set places n p') i Free) (seen_of i ended') st now i in
-        subst P (sym e) (subst (λ (x : Place S). PlaceJoins x (seen_of n ended') st now n)
+        let P : ℕ → Type 0 = λ i. PlaceJoins (get_or (set places n p') i Free) (current_of i ended') st now i in
+        subst P (sym e) (subst (λ (x : Place S). PlaceJoins x (current_of n ended') st now n)
         (sym (get_or-set_same places n p' Free inside)) here)
     | inr ne ↦ other_place k ne
   ]
 
-  pub all_fallen : PlaceFell p' (seen_of n ended') st now n → AllFell (set places n p') ended' st now
+  pub all_fallen : PlaceFell p' (current_of n ended') st now n → AllFell (set places n p') ended' st now
   all_fallen here = λ k. elim (cases_eq k n) [
     | inl e ↦
-        let P : ℕ → Type 0 = λ i. PlaceFell (get_or (set places n p') i Free) (seen_of i ended') st now i in
-        subst P (sym e) (subst (λ (x : Place S). PlaceFell x (seen_of n ended') st now n)
+        let P : ℕ → Type 0 = λ i. PlaceFell (get_or (set places n p') i Free) (current_of i ended') st now i in
+        subst P (sym e) (subst (λ (x : Place S). PlaceFell x (current_of n ended') st now n)
         (sym (get_or-set_same places n p' Free inside)) here)
-    | inr ne ↦ falls (get_or (set places n p') k Free) (seen_of k ended') st now k (other_place k ne)
+    | inr ne ↦ falls (get_or (set places n p') k Free) (current_of k ended') st now k (other_place k ne)
   ]
 
 -- what was done at one place, among all
@@ -81,11 +83,11 @@ pub among_all : {C S T : Type 0} (c : Ghosts C) (mid new : C) (told : Result T D
     → (before : C) (st : State) (past : List Marked) → WentOn c before mid st past → AllJoin places ended st past
     → Serves c before new st told (AllJoin (set places n p') ended' st) (AllFell (set places n p') ended' st)
 among_all {S = S} c mid new told places n d p' ended ended' goes others inside before st past went all =
-    let here : PlaceJoins (get_or places n d) (seen_of n ended) st past n =
-    subst (λ (x : Place S). PlaceJoins x (seen_of n ended) st past n) (get_or_default places n Free d inside)
+    let here : PlaceJoins (get_or places n d) (current_of n ended) st past n =
+    subst (λ (x : Place S). PlaceJoins x (current_of n ended) st past n) (get_or_default places n Free d inside)
     (all n) in
-    followed c before new st (λ now. Alone st n past now × PlaceJoins p' (seen_of n ended') st now n)
-    (λ now. Alone st n past now × PlaceFell p' (seen_of n ended') st now n)
+    followed c before new st (λ now. Alone st n past now × PlaceJoins p' (current_of n ended') st now n)
+    (λ now. Alone st n past now × PlaceFell p' (current_of n ended') st now n)
     (AllJoin (set places n p') ended' st) (AllFell (set places n p') ended' st) told (goes before st past went here)
     (λ now x. all_joined places n p' ended ended' st past now inside x.0 others all x.1)
     (λ now x. all_fallen places n p' ended ended' st past now inside x.0 others all x.1)
@@ -97,13 +99,13 @@ pub all_served : {S : Type 0} (places : List (Place S)) (ended : List Seen) (st 
 all_served {S} places ended st past free all = λ k.
     let is_free : get_or places k Free ≡ Free =
     elim (cases_lt k (length places)) [ inl lt ↦ free k lt | inr le ↦ get_or_past places k Free le ] in
-    subst (λ (x : Place S). PlaceJoins x (seen_of k ended) st past k) is_free (all k)
+    subst (λ (x : Place S). PlaceJoins x (current_of k ended) st past k) is_free (all k)
 
 -- ALL ARE LET GO
 abbrev pub HalfLeft : {S : Type 0} → ℕ → List (Place S) → List Seen → State → List Marked → Type 0
 HalfLeft i places ended st past =
-    (k : ℕ) → (k < i → Pairs sockets.Fits (seen_of k ended) (conversations st past k)) × (i ≤ k
-    → PlaceFell (get_or places k Free) (seen_of k ended) st past k)
+    (k : ℕ) → (k < i → Pairs sockets.Fits (current_of k ended) (conversations st past k)) × (i ≤ k
+    → PlaceFell (get_or places k Free) (current_of k ended) st past k)
 
 pub none_left : {S : Type 0} (places : List (Place S)) (ended : List Seen) (st : State) (past : List Marked)
     → AllFell places ended st past → HalfLeft 0 places ended st past
@@ -113,7 +115,7 @@ pub all_left : {S : Type 0} (i : ℕ) (places : List (Place S)) (ended : List Se
     → length places ≤ i → HalfLeft i places ended st past → AllLeft ended st past
 all_left {S} i places ended st past most all = λ k. elim (cases_lt k i) [
   | inl lt ↦ (all k).0 lt
-  | inr le ↦ loosely _ _ (subst (λ (x : Place S). PlaceFell x (seen_of k ended) st past k)
+  | inr le ↦ loosely _ _ (subst (λ (x : Place S). PlaceFell x (current_of k ended) st past k)
       (get_or_past places k Free (omega (arith, most, le))) ((all k).1 le))
 ]
 
@@ -124,22 +126,23 @@ pub one_more_left : {S : Type 0} (i : ℕ) (places : List (Place S)) (d p' : Pla
 one_more_left {S} i places d p' ended ended' st past inside with few all = λ k. let p =
     get_or places i d in elim (cases_eq k i) [
       | inl e ↦
-          let here : PlaceFell p (seen_of i ended) st past i =
-          subst (λ (x : Place S). PlaceFell x (seen_of i ended) st past i) (get_or_default places i Free d inside)
+          let here : PlaceFell p (current_of i ended) st past i =
+          subst (λ (x : Place S). PlaceFell x (current_of i ended) st past i) (get_or_default places i Free d inside)
           ((all i).1 (omega arith)) in
-          let left : Pairs sockets.Fits (seen_of i ended') (conversations st past i) =
-          subst (λ x. Pairs sockets.Fits (seen_of i x) (conversations st past i)) (sym with)
+          let left : Pairs sockets.Fits (current_of i ended') (conversations st past i) =
+          subst (λ x. Pairs sockets.Fits (current_of i x) (conversations st past i)) (sym with)
           (untold_place ended st past i p few here) in (
-            λ lt. subst (λ x. Pairs sockets.Fits (seen_of x ended') (conversations st past x)) (sym e) left,
+            λ lt. subst (λ x. Pairs sockets.Fits (current_of x ended') (conversations st past x)) (sym e) left,
             λ le. absurd
                 (omega (arith, le, e)),
           )
       | inr ne ↦
-          let others : seen_of k ended' ≡ seen_of k ended = ap (seen_of k) with ∙ others_stay i Over p ended k ne in (
+          let others : current_of k ended' ≡ current_of k ended = ap (current_of k) with
+          ∙ others_stay i Over p ended k ne in (
             λ lt. subst (λ x. Pairs sockets.Fits x (conversations st past k)) (sym others)
                 ((all k).0 (omega (arith, lt, ne))),
             λ le.
-                subst (λ (x : Place S). PlaceFell x (seen_of k ended') st past k)
+                subst (λ (x : Place S). PlaceFell x (current_of k ended') st past k)
                 (sym (get_or-set_other places i k p' Free ne))
                 (subst (λ x. PlaceFell (get_or places k Free) x st past k) (sym others)
                 ((all k).1 (omega (arith, le)))),
@@ -163,8 +166,8 @@ none_join S st n = (tt {0}, refl)
 pub new_joins : {S : Type 0} (places : List (Place S)) (ended : List Seen) (st : State) → places ≡ [] → ended ≡ []
     → AllJoin places ended st []
 new_joins {S} places ended st free none = λ n.
-    subst (λ (x : List (Place S)). PlaceJoins (get_or x n Free) (seen_of n ended) st [] n) (sym free)
-    (subst (λ x. PlaceJoins {S = S} (get_or [] n Free) (seen_of n x) st [] n) (sym none) (none_join S st n))
+    subst (λ (x : List (Place S)). PlaceJoins (get_or x n Free) (current_of n ended) st [] n) (sym free)
+    (subst (λ x. PlaceJoins {S = S} (get_or [] n Free) (current_of n x) st [] n) (sym none) (none_join S st n))
 
 pub none_served : (ended : List Seen) (st : State) → ended ≡ [] → AllServed ended st []
 none_served ended st none = all_served {S = ℕ} [] ended st [] (λ k lt. refl) (new_joins {S = ℕ} [] ended st refl none)
@@ -173,21 +176,21 @@ none_served ended st none = all_served {S = ℕ} [] ended st [] (λ k lt. refl) 
 pub same_join : {S : Type 0} (old new : List (Place S)) (ended ended' : List Seen) (st : State) (past : List Marked)
     → SamePlaces old new → ended' ≡ ended → AllJoin old ended st past → AllJoin new ended' st past
 same_join {S} old new ended ended' st past same is all = λ n.
-    subst (λ x. PlaceJoins (get_or new n Free) (seen_of n x) st past n) (sym is)
-    (subst (λ (x : Place S). PlaceJoins x (seen_of n ended) st past n) (sym (same n)) (all n))
+    subst (λ x. PlaceJoins (get_or new n Free) (current_of n x) st past n) (sym is)
+    (subst (λ (x : Place S). PlaceJoins x (current_of n ended) st past n) (sym (same n)) (all n))
 
 -- A CONNECTION IS OPENED, in a place that is free
 module _ {S : Type 0} (places : List (Place S)) (n : ℕ) (ended : List Seen) (st : State) (past : List Marked)
     (answer : Result (Unit {0}) SessionError)
     (outcome : (step (history st past) (Opened n) (mark_of answer)).outcome ≡ told_done answer)
     (all : AllJoin places ended st past) (free : get_or places n Free ≡ Free) where
-  at_free : PlaceJoins {S = S} Free (seen_of n ended) st past n
-  at_free = subst (λ (x : Place S). PlaceJoins x (seen_of n ended) st past n) free (all n)
+  at_free : PlaceJoins {S = S} Free (current_of n ended) st past n
+  at_free = subst (λ (x : Place S). PlaceJoins x (current_of n ended) st past n) free (all n)
 
   begins : (l : Link S) → joint_of l ≡ nothing_yet → (step (history st past) (Opened n) (mark_of answer)).outcome ≡ Done
-      → Joins (joint_of l) (seen_of n ended) st ((Opened n, mark_of answer) ∷ past) n
+      → Joins (joint_of l) (current_of n ended) st ((Opened n, mark_of answer) ∷ past) n
   begins l new done =
-      subst (λ j. Joins j (seen_of n ended) st ((Opened n, mark_of answer) ∷ past) n) (sym new) (record {
+      subst (λ j. Joins j (current_of n ended) st ((Opened n, mark_of answer) ∷ past) n) (sym new) (record {
         latest = begun;
         others = conversations st past n;
         talks = talks_here st past (Opened n) (mark_of answer) ∙ ap
@@ -205,8 +208,8 @@ module _ {S : Type 0} (places : List (Place S)) (n : ℕ) (ended : List Seen) (s
       → AllJoin (set places n p') ended st ((Opened n, mark_of answer) ∷ past)
   all_opened p' inside new x ok =
       let done : (step (history st past) (Opened n) (mark_of answer)).outcome ≡ Done = outcome ∙ ap told_done ok in
-      let here : PlaceJoins p' (seen_of n ended) st ((Opened n, mark_of answer) ∷ past) n =
-      subst (λ (y : Place S). PlaceJoins y (seen_of n ended) st ((Opened n, mark_of answer) ∷ past) n) (sym new.1)
+      let here : PlaceJoins p' (current_of n ended) st ((Opened n, mark_of answer) ∷ past) n =
+      subst (λ (y : Place S). PlaceJoins y (current_of n ended) st ((Opened n, mark_of answer) ∷ past) n) (sym new.1)
       (begins new.0 new.2 done) in
       all_joined places n p' ended ended st past ((Opened n, mark_of answer) ∷ past) inside
       (alone_step st past (Opened n) (mark_of answer)) (λ k ne. refl) all here
@@ -222,20 +225,20 @@ module _ {S : Type 0} (places : List (Place S)) (n : ℕ) (ended : List Seen) (s
       told in
       let undone : (step (history st past) (Opened n) (mark_of answer)).outcome ≡ Done → ⊥ =
       λ done. let x : Refused f ≡ Done = sym told ∙ done in absurd (cc) in
-      let here : PlaceJoins {S = S} Free (seen_of n ended) st now n = (
-        subst (λ x. Pairs sockets.Served (seen_of n ended) x) (sym talks) at_free.0,
+      let here : PlaceJoins {S = S} Free (current_of n ended) st now n = (
+        subst (λ x. Pairs sockets.Served (current_of n ended) x) (sym talks) at_free.0,
         unopened (history st past) n
             (mark_of answer) undone ∙ at_free.1,
       ) in
       let alone = alone_step st past (Opened n) (mark_of answer) in
       λ k. elim (cases_eq k n) [
         | inl e ↦
-            let P : ℕ → Type 0 = λ i. PlaceJoins (get_or places i Free) (seen_of i ended) st now i in
-            subst P (sym e) (subst (λ (x : Place S). PlaceJoins x (seen_of n ended) st now n) (sym free) here)
+            let P : ℕ → Type 0 = λ i. PlaceJoins (get_or places i Free) (current_of i ended) st now i in
+            subst P (sym e) (subst (λ (x : Place S). PlaceJoins x (current_of n ended) st now n) (sym free) here)
         | inr ne ↦ place_kept st past now k (alone.talks k ne) (alone.conns k ne) (get_or places k Free)
-            (seen_of k ended) (all k)
+            (current_of k ended) (all k)
       ]
 
 pub all_fall : {S : Type 0} (places : List (Place S)) (ended : List Seen) (st : State) (past : List Marked)
     → AllJoin places ended st past → AllFell places ended st past
-all_fall places ended st past all = λ n. falls (get_or places n Free) (seen_of n ended) st past n (all n)
+all_fall places ended st past all = λ n. falls (get_or places n Free) (current_of n ended) st past n (all n)

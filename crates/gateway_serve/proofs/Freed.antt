@@ -9,11 +9,11 @@ use Rattle.tus_session.specs.Connections.{mark_of}
 use Rattle.gateway_serve.specs.Conversations.{Conversation, hung_up, conversations}
 use Rattle.gateway_serve.specs.Conversations.{latest as latest_by}
 use Rattle.gateway_serve.specs.Sockets as sockets
-use Rattle.gateway_serve.specs.Sockets.{Seen, IsQuietly, IsWhole, Pairs, seen_of}
+use Rattle.gateway_serve.specs.Sockets.{Seen, IsQuietly, IsWhole, Pairs, current_of}
 use Rattle.gateway_serve.specs.Joined.{Joint, Joins, IsOver, PlaceJoins, PlaceFell, OthersStay, MayEnd, joint_of}
 use Rattle.gateway_serve.specs.Joined.{PlaceWaits, with_place}
 use Rattle.gateway_serve.specs.Waiting.{FewWait}
-use Rattle.gateway_serve.specs.Bytes.{seen}
+use Rattle.gateway_serve.specs.Bytes.{current}
 use Rattle.gateway_serve.specs.declared.reasons.Reason.{Reason}
 use Rattle.gateway_serve.specs.declared.reasons.Reason.TheVariants as Why
 use Rattle.gateway_serve.specs.declared.sockets.Latest.{Latest}
@@ -24,20 +24,20 @@ use Rattle.gateway_serve.proofs.Steps.{by_true, by_false, same_number, other_num
 use Rattle.gateway_serve.proofs.Talks.{talks_here}
 
 -- its socket is the first of those of the connection
-abbrev seen_at : ℕ → Joint → Latest → Reason → Seen
-seen_at n j latest reason = record { conn = n; came = j.came; went = j.went; latest = latest; reason = reason }
+abbrev current_at : ℕ → Joint → Latest → Reason → Seen
+current_at n j latest reason = record { conn = n; came = j.came; went = j.went; latest = latest; reason = reason }
 
-first_seen : (n : ℕ) (s : Seen) (ended : List Seen) → s.conn ≡ n → seen_of n (s ∷ ended) ≡ s ∷ seen_of n ended
-first_seen n s ended e = by_true (n == s.conn) _ _ (subst (λ k. (n == k) ≡ true) (sym e) (same_number n))
+first_current : (n : ℕ) (s : Seen) (ended : List Seen) → s.conn ≡ n → current_of n (s ∷ ended) ≡ s ∷ current_of n ended
+first_current n s ended e = by_true (n == s.conn) _ _ (subst (λ k. (n == k) ≡ true) (sym e) (same_number n))
 
-others_seen : (n : ℕ) (s : Seen) (ended : List Seen) → s.conn ≡ n → OthersStay n ended (s ∷ ended)
-others_seen n s ended e = λ k ne. by_false (k == s.conn) _ _
+others_current : (n : ℕ) (s : Seen) (ended : List Seen) → s.conn ≡ n → OthersStay n ended (s ∷ ended)
+others_current n s ended e = λ k ne. by_false (k == s.conn) _ _
     (subst (λ i. (k == i) ≡ false) (sym e) (other_number k n ne))
 
 pub others_stay : {S : Type 0} (n : ℕ) (reason : Reason) (p : Place S) (ended : List Seen)
     → OthersStay n ended (with_place n reason p ended)
 others_stay n reason Free ended = λ k ne. refl
-others_stay n reason (Open l) ended = others_seen n (seen n l.socket reason) ended refl
+others_stay n reason (Open l) ended = others_current n (current n l.socket reason) ended refl
 
 -- what is quietly ended has written all
 abbrev IfWhole : Reason → Joint → Type 0
@@ -53,18 +53,20 @@ not_closed Why.Closed p may e = may
 not_closed (Why.Lost gone) p may e = absurd (cc)
 not_closed Why.Over p may e = absurd (cc)
 
-pub loosely : (seen : List Seen) (cs : List Conversation) → Pairs sockets.Served seen cs → Pairs sockets.Fits seen cs
+pub loosely : (current : List Seen) (cs : List Conversation) → Pairs sockets.Served current cs
+    → Pairs sockets.Fits current cs
 loosely [] [] p = tt {0}
 loosely [] (c ∷ cs) p = p
-loosely (s ∷ seen) [] p = p
-loosely (s ∷ seen) (c ∷ cs) p = (p.0.fits, loosely seen cs p.1)
+loosely (s ∷ current) [] p = p
+loosely (s ∷ current) (c ∷ cs) p = (p.0.fits, loosely current cs p.1)
 
 module _ (ended : List Seen) (st : State) (past : List Marked) (n : ℕ) where
-  all_went : (j : Joint) (is : Joins j (seen_of n ended) st past n) → j.output ≡ [] → j.went ≡ is.latest.gave
+  all_went : (j : Joint) (is : Joins j (current_of n ended) st past n) → j.output ≡ [] → j.went ≡ is.latest.gave
   all_went j is none = sym (append-nil j.went) ∙ (ap (λ l. j.went ++ l) (sym none) ∙ is.given)
 
-  fits : (latest : Latest) (reason : Reason) (j : Joint) (is : Joins j (seen_of n ended) st past n) → IfWhole reason j
-      → FewWait j.output → sockets.Fits (seen_at n j latest reason) is.latest
+  fits : (latest : Latest) (reason : Reason) (j : Joint) (is : Joins j (current_of n ended) st past n)
+      → IfWhole reason j
+      → FewWait j.output → sockets.Fits (current_at n j latest reason) is.latest
   fits latest reason j is whole few = record {
     taken = (j.input, is.taken, is.few);
     written = (j.output, sym is.given, few);
@@ -73,26 +75,27 @@ module _ (ended : List Seen) (st : State) (past : List Marked) (n : ℕ) where
   }
 
   -- the session closed the connection, and all is written
-  over_pairs : (latest : Latest) (j : Joint) → IsOver j → FewWait j.output → Joins j (seen_of n ended) st past n
-      → Pairs sockets.Served (seen_of n (seen_at n j latest Why.Closed ∷ ended)) (conversations st past n)
+  over_pairs : (latest : Latest) (j : Joint) → IsOver j → FewWait j.output → Joins j (current_of n ended) st past n
+      → Pairs sockets.Served (current_of n (current_at n j latest Why.Closed ∷ ended)) (conversations st past n)
   over_pairs latest j over few is =
-      let s = seen_at n j latest Why.Closed in
+      let s = current_at n j latest Why.Closed in
       let served : sockets.Served s is.latest =
       record { fits = fits latest Why.Closed j is (λ w. over.1) few; whole = λ e. all_went j is over.1 } in
-      subst (λ seen. Pairs sockets.Served seen (conversations st past n)) (sym (first_seen n s ended refl))
-      (subst (λ talks. Pairs sockets.Served (s ∷ seen_of n ended) talks) (sym is.talks) (served, is.pairs))
+      subst (λ current. Pairs sockets.Served current (conversations st past n)) (sym (first_current n s ended refl))
+      (subst (λ talks. Pairs sockets.Served (s ∷ current_of n ended) talks) (sym is.talks) (served, is.pairs))
 
   pub over_freed : {S : Type 0} (l : Link S) → IsOver (joint_of l) → FewWait l.output
-      → Joins (joint_of l) (seen_of n ended) st past n
-      → PlaceJoins {S = S} Free (seen_of n (with_place n Why.Closed (Open l) ended)) st past n
+      → Joins (joint_of l) (current_of n ended) st past n
+      → PlaceJoins {S = S} Free (current_of n (with_place n Why.Closed (Open l) ended)) st past n
   over_freed l over few is = (over_pairs l.socket.latest (joint_of l) over few is, is.shut over.0 ∙ sym is.apart)
 
   -- the session was told that its client is gone
   told_pairs : (latest : Latest) (reason : Reason) (m : Mark) (j : Joint) → IfWhole reason j
-      → (reason ≡ Why.Closed → ⊥) → FewWait j.output → Joins j (seen_of n ended) st past n
-      → Pairs sockets.Served (seen_of n (seen_at n j latest reason ∷ ended)) (conversations st ((Ended n, m) ∷ past) n)
+      → (reason ≡ Why.Closed → ⊥) → FewWait j.output → Joins j (current_of n ended) st past n
+      → Pairs sockets.Served (current_of n (current_at n j latest reason ∷ ended)) (conversations st
+      ((Ended n, m) ∷ past) n)
   told_pairs latest reason m j whole unclosed few is =
-      let s = seen_at n j latest reason in
+      let s = current_at n j latest reason in
       let served : sockets.Served s (hung_up is.latest) =
       record {
         fits = record {
@@ -105,9 +108,9 @@ module _ (ended : List Seen) (st : State) (past : List Marked) (n : ℕ) where
       } in
       let talks : conversations st ((Ended n, m) ∷ past) n ≡ hung_up is.latest ∷ is.others = talks_here st past
       (Ended n) m ∙ ap (latest_by hung_up) is.talks in
-      subst (λ seen. Pairs sockets.Served seen (conversations st ((Ended n, m) ∷ past) n))
-      (sym (first_seen n s ended refl))
-      (subst (λ x. Pairs sockets.Served (s ∷ seen_of n ended) x) (sym talks) (served, is.pairs))
+      subst (λ current. Pairs sockets.Served current (conversations st ((Ended n, m) ∷ past) n))
+      (sym (first_current n s ended refl))
+      (subst (λ x. Pairs sockets.Served (s ∷ current_of n ended) x) (sym talks) (served, is.pairs))
 
   told_none : (answer : Result (Unit {0}) SessionError) → (answer ≡ Err DiskFault → ⊥)
       → (history st ((Ended n, mark_of answer) ∷ past)).conns n ≡ None
@@ -120,8 +123,8 @@ module _ (ended : List Seen) (st : State) (past : List Marked) (n : ℕ) where
 
   pub told_freed : {S : Type 0} (reason : Reason) (p : Place S) (answer : Result (Unit {0}) SessionError)
       → MayEnd reason p → PlaceWaits p → (p ≡ Free → ⊥)
-      → (answer ≡ Err DiskFault → ⊥) → PlaceJoins p (seen_of n ended) st past n
-      → PlaceJoins {S = S} Free (seen_of n (with_place n reason p ended)) st ((Ended n, mark_of answer) ∷ past) n
+      → (answer ≡ Err DiskFault → ⊥) → PlaceJoins p (current_of n ended) st past n
+      → PlaceJoins {S = S} Free (current_of n (with_place n reason p ended)) st ((Ended n, mark_of answer) ∷ past) n
   told_freed reason Free answer may few used ok is = absurd (used refl)
   told_freed reason (Open l) answer may few used ok is = (
     told_pairs l.socket.latest reason (mark_of answer) (joint_of l) (if_whole reason l may)
@@ -132,8 +135,8 @@ module _ (ended : List Seen) (st : State) (past : List Marked) (n : ℕ) where
 
   pub told_fell : {S : Type 0} (reason : Reason) (p : Place S) (m : Mark) → MayEnd reason p → PlaceWaits p
       → (p ≡ Free → ⊥)
-      → PlaceJoins p (seen_of n ended) st past n
-      → PlaceFell {S = S} Free (seen_of n (with_place n reason p ended)) st ((Ended n, m) ∷ past) n
+      → PlaceJoins p (current_of n ended) st past n
+      → PlaceFell {S = S} Free (current_of n (with_place n reason p ended)) st ((Ended n, m) ∷ past) n
   told_fell reason Free m may few used is = absurd (used refl)
   told_fell reason (Open l) m may few used is =
       told_pairs l.socket.latest reason m (joint_of l) (if_whole reason l may) (not_closed reason (Open l) may)
@@ -143,40 +146,41 @@ module _ (ended : List Seen) (st : State) (past : List Marked) (n : ℕ) where
   pub told_place : {S : Type 0} (reason : Reason) (p p' : Place S) (ended' : List Seen)
       (answer : Result (Unit {0}) SessionError)
       → p' ≡ Free → ended' ≡ with_place n reason p ended → MayEnd reason p → PlaceWaits p → (p ≡ Free → ⊥)
-      → (answer ≡ Err DiskFault → ⊥) → PlaceJoins p (seen_of n ended) st past n
-      → PlaceJoins p' (seen_of n ended') st ((Ended n, mark_of answer) ∷ past) n
+      → (answer ≡ Err DiskFault → ⊥) → PlaceJoins p (current_of n ended) st past n
+      → PlaceJoins p' (current_of n ended') st ((Ended n, mark_of answer) ∷ past) n
   told_place {S} reason p p' ended' answer free with may few used ok is =
-      subst (λ (x : Place S). PlaceJoins x (seen_of n ended') st ((Ended n, mark_of answer) ∷ past) n) (sym free)
-      (subst (λ x. PlaceJoins {S = S} Free (seen_of n x) st ((Ended n, mark_of answer) ∷ past) n) (sym with)
+      subst (λ (x : Place S). PlaceJoins x (current_of n ended') st ((Ended n, mark_of answer) ∷ past) n) (sym free)
+      (subst (λ x. PlaceJoins {S = S} Free (current_of n x) st ((Ended n, mark_of answer) ∷ past) n) (sym with)
       (told_freed reason p answer may few used ok is))
 
   pub fallen_place : {S : Type 0} (reason : Reason) (p p' : Place S) (ended' : List Seen) (m : Mark) → p' ≡ Free
       → ended' ≡ with_place n reason p ended → MayEnd reason p → PlaceWaits p → (p ≡ Free → ⊥)
-      → PlaceJoins p (seen_of n ended) st past n → PlaceFell p' (seen_of n ended') st ((Ended n, m) ∷ past) n
+      → PlaceJoins p (current_of n ended) st past n → PlaceFell p' (current_of n ended') st ((Ended n, m) ∷ past) n
   fallen_place {S} reason p p' ended' m free with may few used is =
-      subst (λ (x : Place S). PlaceFell x (seen_of n ended') st ((Ended n, m) ∷ past) n) (sym free)
-      (subst (λ x. PlaceFell {S = S} Free (seen_of n x) st ((Ended n, m) ∷ past) n) (sym with)
+      subst (λ (x : Place S). PlaceFell x (current_of n ended') st ((Ended n, m) ∷ past) n) (sym free)
+      (subst (λ x. PlaceFell {S = S} Free (current_of n x) st ((Ended n, m) ∷ past) n) (sym with)
       (told_fell reason p m may few used is))
 
   pub over_place : {S : Type 0} (l : Link S) (p' : Place S) (ended' : List Seen) → p' ≡ Free
       → ended' ≡ with_place n Why.Closed (Open l) ended → IsOver (joint_of l)
-      → FewWait l.output → Joins (joint_of l) (seen_of n ended) st past n → PlaceJoins p' (seen_of n ended') st past n
+      → FewWait l.output → Joins (joint_of l) (current_of n ended) st past n
+      → PlaceJoins p' (current_of n ended') st past n
   over_place {S} l p' ended' free with over few is =
-      subst (λ (x : Place S). PlaceJoins x (seen_of n ended') st past n) (sym free)
-      (subst (λ x. PlaceJoins {S = S} Free (seen_of n x) st past n) (sym with) (over_freed l over few is))
+      subst (λ (x : Place S). PlaceJoins x (current_of n ended') st past n) (sym free)
+      (subst (λ x. PlaceJoins {S = S} Free (current_of n x) st past n) (sym with) (over_freed l over few is))
 
   -- WITHOUT A WORD to the session
-  untold_pairs : (latest : Latest) (j : Joint) (is : Joins j (seen_of n ended) st past n) → FewWait j.output
-      → Pairs sockets.Fits (seen_of n ended) is.others
-      → Pairs sockets.Fits (seen_of n (seen_at n j latest Why.Over ∷ ended)) (conversations st past n)
+  untold_pairs : (latest : Latest) (j : Joint) (is : Joins j (current_of n ended) st past n) → FewWait j.output
+      → Pairs sockets.Fits (current_of n ended) is.others
+      → Pairs sockets.Fits (current_of n (current_at n j latest Why.Over ∷ ended)) (conversations st past n)
   untold_pairs latest j is few rest =
-      let s = seen_at n j latest Why.Over in
-      subst (λ seen. Pairs sockets.Fits seen (conversations st past n)) (sym (first_seen n s ended refl))
-      (subst (λ talks. Pairs sockets.Fits (s ∷ seen_of n ended) talks) (sym is.talks)
+      let s = current_at n j latest Why.Over in
+      subst (λ current. Pairs sockets.Fits current (conversations st past n)) (sym (first_current n s ended refl))
+      (subst (λ talks. Pairs sockets.Fits (s ∷ current_of n ended) talks) (sym is.talks)
       (fits latest Why.Over j is (λ w. absurd w) few, rest))
 
-  pub untold_place : {S : Type 0} (p : Place S) → PlaceWaits p → PlaceFell p (seen_of n ended) st past n
-      → Pairs sockets.Fits (seen_of n (with_place n Why.Over p ended)) (conversations st past n)
-  untold_place Free few is = loosely (seen_of n ended) (conversations st past n) is
+  pub untold_place : {S : Type 0} (p : Place S) → PlaceWaits p → PlaceFell p (current_of n ended) st past n
+      → Pairs sockets.Fits (current_of n (with_place n Why.Over p ended)) (conversations st past n)
+  untold_place Free few is = loosely (current_of n ended) (conversations st past n) is
   untold_place (Open l) few is =
-      untold_pairs l.socket.latest (joint_of l) is few (loosely (seen_of n ended) is.others is.pairs)
+      untold_pairs l.socket.latest (joint_of l) is few (loosely (current_of n ended) is.others is.pairs)

@@ -2,7 +2,7 @@
 use Rattle.std.proofs.Common.{◌≡◌, ◌⊎◌, inl, inr, refl, sym, subst, ℕ, ◌+◌, List, [], ◌∷◌, Option}
 use Rattle.std.specs.declared.io.ErrorKind.{ErrorKind}
 use Rattle.gateway_serve.specs.Sockets.{Seen, IsQuiet, IsQuietly}
-use Rattle.gateway_serve.specs.Bytes.{latest_of, seen}
+use Rattle.gateway_serve.specs.Bytes.{latest_of, current}
 use Rattle.gateway_serve.specs.Gone.{EndsBy, EndsInTime, IsGoneSo, IfLost, IsFailure}
 use Rattle.gateway_serve.specs.Joined.{joint_of, at_by, with_place}
 use Rattle.gateway_serve.specs.Reasons.{IsLostBy, EndedOnce, none, free, one_more, AtMostOnce}
@@ -85,7 +85,7 @@ quietly_gone l tick gone is quiet = elim is [
 one_ended : {S : Type 0} (before : List Seen) (n : ℕ) (p : Place S) (ended : List Seen) → EndedOnce before n ended
     → EndedOnce before (n + 1) (with_place n Over p ended)
 one_ended before n Free ended is = free n ended is
-one_ended before n (Open l) ended is = one_more (seen n l.socket Over) ended refl is
+one_ended before n (Open l) ended is = one_more (current n l.socket Over) ended refl is
 
 pub ended_once : {S : Type 0} (before : List Seen) (n : ℕ) (p : Place S) (ended ended' : List Seen)
     → ended' ≡ with_place n Over p ended → EndedOnce before n ended → EndedOnce before (n + 1) ended'

@@ -18,5 +18,5 @@ abbrev pub latest_of : {S : Type 0} → Socket S → Latest
 latest_of s = s.latest
 
 -- what is seen of it, where it served the connection with this number and ended for this reason
-abbrev pub seen : {S : Type 0} → ℕ → Socket S → Reason → Seen
-seen n s reason = record { conn = n; came = came_of s; went = went_of s; latest = latest_of s; reason = reason }
+abbrev pub current : {S : Type 0} → ℕ → Socket S → Reason → Seen
+current n s reason = record { conn = n; came = came_of s; went = went_of s; latest = latest_of s; reason = reason }

@@ -7,8 +7,8 @@ use Rattle.tus_session.specs.declared.answers.Answer.{Answer}
 use Rattle.tus_session.specs.declared.errors.SessionError.{SessionError}
 use Rattle.tus_session.specs.declared.connections.Connections.{Ghosts}
 use Rattle.gateway_serve.specs.Conversations.{Conversation, conversations}
-use Rattle.gateway_serve.specs.Sockets.{Seen, seen_of, IsQuietly, Served, Pairs}
-use Rattle.gateway_serve.specs.Bytes.{came_of, went_of, seen}
+use Rattle.gateway_serve.specs.Sockets.{Seen, current_of, IsQuietly, Served, Pairs}
+use Rattle.gateway_serve.specs.Bytes.{came_of, went_of, current}
 use Rattle.gateway_serve.specs.Waiting.{FewWait}
 use Rattle.gateway_serve.specs.Served.{IsBack, WentOn, Serves, AllServed, AllLeft}
 use Rattle.gateway_serve.specs.declared.links.Stage.{Stage}
@@ -146,7 +146,7 @@ IsNew {S} p = (l : Link S) × (p ≡ Open l) × (joint_of l ≡ nothing_yet)
 
 -- the sockets, with that of a link that ends for this reason
 abbrev pub with_link : {S : Type 0} → ℕ → Reason → Link S → List Seen → List Seen
-with_link n reason l ended = seen n l.socket reason ∷ ended
+with_link n reason l ended = current n l.socket reason ∷ ended
 
 abbrev pub with_place : {S : Type 0} → ℕ → Reason → Place S → List Seen → List Seen
 with_place n reason Free ended = ended
@@ -164,20 +164,20 @@ abbrev pub GoesAt : {C S T : Type 0} → Ghosts C → C → C → Result T DiskF
     → ℕ → Type 0
 GoesAt {C} c old new result p p' ended ended' n =
     (before : C) (st : State) (past : List Marked) → WentOn c before old st past
-    → PlaceJoins p (seen_of n ended) st past n
-    → Serves c before new st result (λ now. Alone st n past now × PlaceJoins p' (seen_of n ended') st now n)
-    (λ now. Alone st n past now × PlaceFell p' (seen_of n ended') st now n)
+    → PlaceJoins p (current_of n ended) st past n
+    → Serves c before new st result (λ now. Alone st n past now × PlaceJoins p' (current_of n ended') st now n)
+    (λ now. Alone st n past now × PlaceFell p' (current_of n ended') st now n)
 
 -- the sockets of other connections are those that they were
 abbrev pub OthersStay : ℕ → List Seen → List Seen → Type 0
-OthersStay n old new = (k : ℕ) → (k ≡ n → ⊥) → seen_of k new ≡ seen_of k old
+OthersStay n old new = (k : ℕ) → (k ≡ n → ⊥) → current_of k new ≡ current_of k old
 
 -- EACH PLACE is joined; beyond the last one all are free
 abbrev pub AllJoin : {S : Type 0} → List (Place S) → List Seen → State → List Marked → Type 0
-AllJoin places ended st past = (n : ℕ) → PlaceJoins (get_or places n Free) (seen_of n ended) st past n
+AllJoin places ended st past = (n : ℕ) → PlaceJoins (get_or places n Free) (current_of n ended) st past n
 
 abbrev pub AllFell : {S : Type 0} → List (Place S) → List Seen → State → List Marked → Type 0
-AllFell places ended st past = (n : ℕ) → PlaceFell (get_or places n Free) (seen_of n ended) st past n
+AllFell places ended st past = (n : ℕ) → PlaceFell (get_or places n Free) (current_of n ended) st past n
 
 abbrev pub places_of : {S : Type 0} → Server S → List (Place S)
 places_of s = s.places.items

@@ -5,7 +5,7 @@ use Rattle.tus_session.specs.History.{State, Event, Marked, Failed, history}
 use Rattle.tus_session.specs.Images.{stores_of, ShowsLast, LimitsTo}
 use Rattle.tus_session.specs.declared.connections.Connections.{Ghosts}
 use Rattle.gateway_serve.specs.Conversations.{conversations}
-use Rattle.gateway_serve.specs.Sockets.{Seen, seen_of, Fits, Served, Pairs}
+use Rattle.gateway_serve.specs.Sockets.{Seen, current_of, Fits, Served, Pairs}
 
 -- from the connections before these events to those now, images are limited to the uploads after all of the events,
 -- all but the latest, and so on
@@ -39,8 +39,8 @@ IsBack st past n = (history st past).conns n ≡ st.conns n
 
 -- ALL ARE SERVED: the sockets of each connection are one for each of its conversations, and it is closed again
 abbrev pub AllServed : List Seen → State → List Marked → Type 0
-AllServed seen st past = (n : ℕ) → Pairs Served (seen_of n seen) (conversations st past n) × IsBack st past n
+AllServed current st past = (n : ℕ) → Pairs Served (current_of n current) (conversations st past n) × IsBack st past n
 
 -- the same of sockets that serving left when the disk failed
 abbrev pub AllLeft : List Seen → State → List Marked → Type 0
-AllLeft seen st past = (n : ℕ) → Pairs Fits (seen_of n seen) (conversations st past n)
+AllLeft current st past = (n : ℕ) → Pairs Fits (current_of n current) (conversations st past n)

@@ -20,9 +20,9 @@ pub record Seen : Type 0 where
   pub reason : Reason
 
 -- those of one connection
-abbrev pub seen_of : ℕ → List Seen → List Seen
-seen_of n [] = []
-seen_of n (s ∷ seen) = if n == s.conn then s ∷ seen_of n seen else seen_of n seen
+abbrev pub current_of : ℕ → List Seen → List Seen
+current_of n [] = []
+current_of n (s ∷ current) = if n == s.conn then s ∷ current_of n current else current_of n current
 
 abbrev pub IsAllBut : ℕ → List ℕ → List ℕ → Type 0
 IsAllBut most prefix all = (rest : List ℕ) × (all ≡ prefix ++ rest) × (length rest ≤ most)
@@ -64,5 +64,5 @@ pub record Served (s : Seen) (c : Conversation) : Type 0 where
 abbrev pub Pairs : (Seen → Conversation → Type 0) → List Seen → List Conversation → Type 0
 Pairs P [] [] = Unit {0}
 Pairs P [] (c ∷ cs) = ⊥
-Pairs P (s ∷ seen) [] = ⊥
-Pairs P (s ∷ seen) (c ∷ cs) = P s c × Pairs P seen cs
+Pairs P (s ∷ current) [] = ⊥
+Pairs P (s ∷ current) (c ∷ cs) = P s c × Pairs P current cs

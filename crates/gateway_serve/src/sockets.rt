@@ -178,7 +178,7 @@ impl Model for Ended {
 }
 
 impl Ended {
-    ghost use Rattle.gateway_serve.specs.Bytes.{seen};
+    ghost use Rattle.gateway_serve.specs.Bytes.{current};
 
     /// No socket.
     pub(crate) fn new() -> Ended
@@ -203,7 +203,7 @@ impl Ended {
 
     /// A socket that served the connection with this number, and ended for this reason.
     pub(crate) fn add<S>(&mut self, conn: usize, socket: &Socket<S>, reason: &Reason)
-        ensures { self.new.sockets ≡ seen conn socket.now reason.now ∷ self.old.sockets }
+        ensures { self.new.sockets ≡ current conn socket.now reason.now ∷ self.old.sockets }
     {
         self.note(conn, &socket.came, &socket.went, &socket.latest, reason);
     }

@@ -4,7 +4,7 @@ use Rattle.std.proofs.Common.{slice_set, subst, arith, ⊎_elim}
 use Rattle.std.proofs.lemmas.Bool.{cases_eq, cases_lt, false≢true}
 use Rattle.std.proofs.lemmas.List.{get_or-replicate, get_or_past, length-replicate}
 use Rattle.std.proofs.lemmas.List.{get_or-set_same, get_or-set_other, length-set}
-use Rattle.spool_blocks.specs.Blocks.{Row, Held, IsFree, Sound}
+use Rattle.spool_blocks.specs.Blocks.{Row, Held, IsFree, Valid}
 
 length_flags : (n : ℕ) (flag : Bool) → length (replicate n flag) ≡ n
 length_flags n flag = length-replicate n flag
@@ -15,14 +15,14 @@ none_reserved n b flag = ⊎_elim
     (λ (le : n ≤ b). get_or_past (replicate n flag) b flag (omega (arith, le, length_flags n flag)))
     (cases_lt b n)
 
-pub sound_new : (rows chains : List Row) (reserved free : List Bool) (n : ℕ) → length rows ≤ 65536 → chains ≡ rows
+pub valid_new : (rows chains : List Row) (reserved free : List Bool) (n : ℕ) → length rows ≤ 65536 → chains ≡ rows
     → n ≡ length rows → reserved ≡ replicate n false → length free ≡ length rows
     → ((b : ℕ) → b < length rows → get_or free b false ≡ true → get_or rows b None ≡ None)
     → ((b : ℕ) → b < length rows → get_or rows b None ≡ None → get_or free b false ≡ true)
-    → Sound chains reserved free
-sound_new rows chains reserved free n few same size none free_size no_owner all =
-    subst (λ (l : List Row). Sound l reserved free) (sym same)
-    (subst (λ (l : List Bool). Sound rows l free) (sym none) record {
+    → Valid chains reserved free
+valid_new rows chains reserved free n few same size none free_size no_owner all =
+    subst (λ (l : List Row). Valid l reserved free) (sym same)
+    (subst (λ (l : List Bool). Valid rows l free) (sym none) record {
       few = few;
       reserved_size = length_flags n false ∙ size;
       free_size = free_size;
@@ -36,52 +36,52 @@ sound_new rows chains reserved free n few same size none free_size no_owner all 
     apart e = cc
 
 -- the same with the rows under three names
-pub sound_at : (rows a b chains : List Row) (reserved : List Bool) {free : List Bool} (n : ℕ) → length rows ≤ 65536
+pub valid_at : (rows a b chains : List Row) (reserved : List Bool) {free : List Bool} (n : ℕ) → length rows ≤ 65536
     → chains ≡ a → a ≡ rows → b ≡ rows → n ≡ length rows → reserved ≡ replicate n false → length free ≡ length b
     → ((k : ℕ) → k < length b → get_or free k false ≡ true → get_or b k None ≡ None)
     → ((k : ℕ) → k < length b → get_or b k None ≡ None → get_or free k false ≡ true)
-    → Sound chains reserved free
-sound_at rows a b chains reserved {free = free} n few chains_is a_is b_is size none free_size no_owner all =
-    sound_new b chains reserved free n (omega (arith, few, ap (λ (l : List Row). length l) b_is))
+    → Valid chains reserved free
+valid_at rows a b chains reserved {free = free} n few chains_is a_is b_is size none free_size no_owner all =
+    valid_new b chains reserved free n (omega (arith, few, ap (λ (l : List Row). length l) b_is))
     (chains_is ∙ a_is ∙ sym b_is) (size ∙ sym (ap (λ (l : List Row). length l) b_is)) none free_size no_owner all
 
-module _ {rows : List Row} {reserved free : List Bool} (sound : Sound rows reserved free) where
+module _ {rows : List Row} {reserved free : List Bool} (valid : Valid rows reserved free) where
   -- the set of free blocks is empty
   pub none_free : (h : Held) → record { rows = rows; reserved = reserved } ≡ h
       → ((k : ℕ) → k < length free → get_or free k false ≡ false) → (b : ℕ) → IsFree h b → ⊥
   none_free h is none b here =
       let own : IsFree record { rows = rows; reserved = reserved } b = subst (λ (x : Held). IsFree x b) (sym is) here in
       false≢true
-      (sym (none b (omega (arith, own.below, sound.free_size)))
-      ∙ sound.all b own.below own.no_owner own.not_reserved)
+      (sym (none b (omega (arith, own.below, valid.free_size)))
+      ∙ valid.all b own.below own.no_owner own.not_reserved)
 
   -- a block of the set
   module _ (b : ℕ) (lt : b < length free) (is_in : get_or free b false ≡ true) where
     inside : b < length rows
-    inside = omega (arith, lt, sound.free_size)
+    inside = omega (arith, lt, valid.free_size)
 
     pub is_free : (h : Held) → record { rows = rows; reserved = reserved } ≡ h → IsFree h b
     is_free h is = subst (λ (x : Held). IsFree x b) is record {
       below = inside;
-      no_owner = sound.no_owner b inside is_in;
-      not_reserved = sound.not_reserved b inside is_in;
+      no_owner = valid.no_owner b inside is_in;
+      not_reserved = valid.not_reserved b inside is_in;
     }
 
     -- it is reserved and free no more
-    pub sound_taken : (free' : List Bool) → free' ≡ slice_set free b false
-        → Sound rows (slice_set reserved b true) free'
-    sound_taken free' is = subst (λ (l : List Bool). Sound rows (slice_set reserved b true) l) (sym is) record {
-      few = sound.few;
-      reserved_size = length-set reserved b true ∙ sound.reserved_size;
-      free_size = length-set free b false ∙ sound.free_size;
-      no_owner = λ x x_in flag. sound.no_owner x x_in (free_still x flag);
+    pub valid_taken : (free' : List Bool) → free' ≡ slice_set free b false
+        → Valid rows (slice_set reserved b true) free'
+    valid_taken free' is = subst (λ (l : List Bool). Valid rows (slice_set reserved b true) l) (sym is) record {
+      few = valid.few;
+      reserved_size = length-set reserved b true ∙ valid.reserved_size;
+      free_size = length-set free b false ∙ valid.free_size;
+      no_owner = λ x x_in flag. valid.no_owner x x_in (free_still x flag);
       not_reserved = λ x x_in flag. get_or-set_other reserved b x true false (free_other x flag)
-          ∙ sound.not_reserved x x_in (free_still x flag);
+          ∙ valid.not_reserved x x_in (free_still x flag);
       all = λ x x_in none flag. get_or-set_other free b x false false (not_b x flag)
-          ∙ sound.all x x_in none (sym (get_or-set_other reserved b x true false (not_b x flag)) ∙ flag);
+          ∙ valid.all x x_in none (sym (get_or-set_other reserved b x true false (not_b x flag)) ∙ flag);
       unowned = λ x x_in flag. ⊎_elim
-          (λ (e : x ≡ b). ap (λ (k : ℕ). get_or rows k None) e ∙ sound.no_owner b inside is_in)
-          (λ (ne : x ≡ b → ⊥). sound.unowned x x_in (sym (get_or-set_other reserved b x true false ne) ∙ flag))
+          (λ (e : x ≡ b). ap (λ (k : ℕ). get_or rows k None) e ∙ valid.no_owner b inside is_in)
+          (λ (ne : x ≡ b → ⊥). valid.unowned x x_in (sym (get_or-set_other reserved b x true false ne) ∙ flag))
           (cases_eq x b);
     }
       where
@@ -96,4 +96,4 @@ module _ {rows : List Row} {reserved free : List Bool} (sound : Sound rows reser
         not_b : (x : ℕ) → get_or (slice_set reserved b true) x false ≡ false → x ≡ b → ⊥
         not_b x flag e = false≢true
             (sym flag ∙ ap (λ (k : ℕ). get_or (slice_set reserved b true) k false) e
-            ∙ get_or-set_same reserved b true false (omega (arith, inside, sound.reserved_size)))
+            ∙ get_or-set_same reserved b true false (omega (arith, inside, valid.reserved_size)))

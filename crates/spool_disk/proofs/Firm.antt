@@ -12,23 +12,24 @@ apart_at at n at' n' p (inl before) here there = omega (arith, here.below, there
 apart_at at n at' n' p (inr after) here there = omega (arith, here.from, there.below)
 
 -- what was written stands there once it is synced
-pub written_synced : {seen mid seen' : ℕ → ℕ} {unsynced between unsynced' : ℕ → Type 0} {at : ℕ} {bytes : List ℕ}
-    {wrote synced : Type 0} → Writes at bytes wrote seen mid unsynced between → Syncs synced mid seen' between unsynced'
-    → wrote → synced → Firm seen' unsynced' at bytes
-written_synced {mid = mid} {seen' = seen'} {at = at} {bytes = bytes} writes syncs wrote synced = record {
-  reads = span_same seen' mid at (length bytes) (λ p here. syncs.same synced p) ∙ writes.inside wrote;
+pub written_synced : {current mid current' : ℕ → ℕ} {unsynced between unsynced' : ℕ → Type 0} {at : ℕ} {bytes : List ℕ}
+    {wrote synced : Type 0} → Writes at bytes wrote current mid unsynced between
+    → Syncs synced mid current' between unsynced'
+    → wrote → synced → Firm current' unsynced' at bytes
+written_synced {mid = mid} {current' = current'} {at = at} {bytes = bytes} writes syncs wrote synced = record {
+  reads = span_same current' mid at (length bytes) (λ p here. syncs.same synced p) ∙ writes.inside wrote;
   is_synced = λ p here. syncs.is_synced synced p;
 }
 
-pub synced_image : {seen image : ℕ → ℕ} {unsynced : ℕ → Type 0} {at : ℕ} {xs : List ℕ} → Firm seen unsynced at xs
-    → IsImage seen unsynced image → span image at (length xs) ≡ xs
-synced_image {seen = seen} {image = image} {at = at} {xs = xs} has is =
-    span_same image seen at (length xs) (λ p here. is.same p (has.is_synced p here)) ∙ has.reads
+pub synced_image : {current image : ℕ → ℕ} {unsynced : ℕ → Type 0} {at : ℕ} {xs : List ℕ} → Firm current unsynced at xs
+    → IsImage current unsynced image → span image at (length xs) ≡ xs
+synced_image {current = current} {image = image} {at = at} {xs = xs} has is =
+    span_same image current at (length xs) (λ p here. is.same p (has.is_synced p here)) ∙ has.reads
 
 module _ {D : Type 0} {disk : Ghosts D} where
   pub lasts_call : {old new : D} {P : (ℕ → ℕ) → Type 0} → Elapses (disk.moment old) (disk.moment new)
-      (disk.left_since old) (disk.left_since new) (disk.seen new) (disk.unsynced new)
-      → ((image : ℕ → ℕ) → IsImage (disk.seen new) (disk.unsynced new) image → P image) → Lasts disk old new P
+      (disk.left_since old) (disk.left_since new) (disk.current new) (disk.unsynced new)
+      → ((image : ℕ → ℕ) → IsImage (disk.current new) (disk.unsynced new) image → P image) → Lasts disk old new P
   lasts_call elapses here = record {
     later = elapses.later;
     nothing_else = λ t image le left. ⊎_elim inl (λ now. inr (here image now)) (elapses.nothing_else t image le left);
@@ -75,31 +76,35 @@ counts_as counts f g = record {
   nothing_else = λ _. g;
 }
 
-pub reads_writes : {seen seen' : ℕ → ℕ} {unsynced unsynced' : ℕ
+pub reads_writes : {current current' : ℕ → ℕ} {unsynced unsynced' : ℕ
     → Type 0} {at at' : ℕ} {bytes xs : List ℕ} {done : Type 0}
-    → Reads seen at xs → Writes at' bytes done seen seen' unsynced unsynced' → Apart at (length xs) at' (length bytes)
-    → Reads seen' at xs
-reads_writes {seen = seen} {seen' = seen'} {at = at} {at' = at'} {bytes = bytes} {xs = xs} gives writes apart = record {
-  reads = span_same seen' seen at (length xs)
-      (λ p here. writes.outside p (λ there. apart_at at (length xs) at' (length bytes) p apart here there))
-      ∙ gives.reads;
-}
+    → Reads current at xs → Writes at' bytes done current current' unsynced unsynced'
+    → Apart at (length xs) at' (length bytes)
+    → Reads current' at xs
+reads_writes {current = current} {current' = current'} {at = at} {at' = at'} {bytes = bytes}
+    {xs = xs} gives writes apart = record {
+      reads = span_same current' current at (length xs)
+          (λ p here. writes.outside p (λ there. apart_at at (length xs) at' (length bytes) p apart here there))
+          ∙ gives.reads;
+    }
 
-pub reads_synced : {seen seen' : ℕ → ℕ} {unsynced unsynced' : ℕ → Type 0} {at : ℕ} {xs : List ℕ} {done : Type 0}
-    → Reads seen at xs → Syncs done seen seen' unsynced unsynced' → done → Firm seen' unsynced' at xs
-reads_synced {seen = seen} {seen' = seen'} {at = at} {xs = xs} gives syncs done = record {
-  reads = span_same seen' seen at (length xs) (λ p here. syncs.same done p) ∙ gives.reads;
+pub reads_synced : {current current' : ℕ → ℕ} {unsynced unsynced' : ℕ → Type 0} {at : ℕ} {xs : List ℕ} {done : Type 0}
+    → Reads current at xs → Syncs done current current' unsynced unsynced' → done → Firm current' unsynced' at xs
+reads_synced {current = current} {current' = current'} {at = at} {xs = xs} gives syncs done = record {
+  reads = span_same current' current at (length xs) (λ p here. syncs.same done p) ∙ gives.reads;
   is_synced = λ p here. syncs.is_synced done p;
 }
 
-pub reads_keeps : {seen seen' : ℕ → ℕ} {unsynced unsynced' : ℕ → Type 0} {at : ℕ} {xs : List ℕ} → Reads seen at xs
-    → Keeps seen seen' unsynced unsynced' → Reads seen' at xs
-reads_keeps {seen = seen} {seen' = seen'} {at = at} {xs = xs} gives keeps = record {
-  reads = span_same seen' seen at (length xs) (λ p here. keeps.same p) ∙ gives.reads;
+pub reads_keeps : {current current' : ℕ → ℕ} {unsynced unsynced' : ℕ → Type 0} {at : ℕ} {xs : List ℕ}
+    → Reads current at xs
+    → Keeps current current' unsynced unsynced' → Reads current' at xs
+reads_keeps {current = current} {current' = current'} {at = at} {xs = xs} gives keeps = record {
+  reads = span_same current' current at (length xs) (λ p here. keeps.same p) ∙ gives.reads;
 }
 
 -- a read of as many bytes gives them
-pub read_is : {seen : ℕ → ℕ} {at n : ℕ} {xs buf : List ℕ} → Reads seen at xs → buf ≡ span seen at n → length xs ≡ n
+pub read_is : {current : ℕ → ℕ} {at n : ℕ} {xs buf : List ℕ} → Reads current at xs → buf ≡ span current at n
+    → length xs ≡ n
     → buf ≡ xs
-read_is {seen = seen} {at = at} {xs = xs} {buf = buf} gives is size =
-    subst (λ (k : ℕ). buf ≡ span seen at k) (sym size) is ∙ gives.reads
+read_is {current = current} {at = at} {xs = xs} {buf = buf} gives is size =
+    subst (λ (k : ℕ). buf ≡ span current at k) (sym size) is ∙ gives.reads

@@ -5,7 +5,7 @@ use Rattle.spool_disk.specs.declared.disk.Disk.{Ghosts}
 
 -- in each image, and to a read, these bytes stand from the place on
 abbrev pub Has : {D : Type 0} (disk : Ghosts D) → D → ℕ → List ℕ → Type 0
-Has disk d at bytes = Firm (disk.seen d) (disk.unsynced d) at bytes
+Has disk d at bytes = Firm (disk.current d) (disk.unsynced d) at bytes
 
 -- from old to new, a crash at any moment leaves an image with P
 pub record Lasts {D : Type 0} (disk : Ghosts D) (old new : D) (P : (ℕ → ℕ) → Type 0) : Type 0 where
@@ -15,4 +15,4 @@ pub record Lasts {D : Type 0} (disk : Ghosts D) (old new : D) (P : (ℕ → ℕ)
 
 -- a read gives these bytes from the place on
 abbrev pub Gives : {D : Type 0} (disk : Ghosts D) → D → ℕ → List ℕ → Type 0
-Gives disk d at bytes = Reads (disk.seen d) at bytes
+Gives disk d at bytes = Reads (disk.current d) at bytes

@@ -27,7 +27,7 @@ pub trait CrashDisk: Disk {
     fn restart(self, how: &Self::How) -> Self
         ensures size { Self.size result ≡ Self.size self }
         ensures honest { Self.honest self ↔ Self.honest result }
-        ensures image { Self.honest self → IsImage (Self.seen self) (Self.unsynced self) (Self.seen result) }
+        ensures image { Self.honest self → IsImage (Self.current self) (Self.unsynced self) (Self.current result) }
         ensures is_synced { Self.honest self → (p : ℕ) → Self.unsynced result p → ⊥ }
         ensures counts { Self.failures result ≡ Self.failures self }
         ensures chosen { chosen how.now self result };

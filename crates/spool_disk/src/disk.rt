@@ -27,7 +27,7 @@ pub trait Disk {
     ghost honest: { Self → Type 0 };
 
     /// What a read gives at each place.
-    ghost seen: { Self → ℕ → ℕ };
+    ghost current: { Self → ℕ → ℕ };
 
     /// The places where a crash may leave any byte.
     ghost unsynced: { Self → ℕ → Type 0 };
@@ -53,12 +53,12 @@ pub trait Disk {
         requires { at + length buf.old ≤ size self.old }
         ensures size { size self.new ≡ size self.old }
         ensures honest { honest self.old ↔ honest self.new }
-        ensures bytes { honest self.old → IsOk result → buf.new ≡ span (seen self.old) at (length buf.old) }
-        ensures keeps { honest self.old → Keeps (seen self.old) (seen self.new) (unsynced self.old)
+        ensures bytes { honest self.old → IsOk result → buf.new ≡ span (current self.old) at (length buf.old) }
+        ensures keeps { honest self.old → Keeps (current self.old) (current self.new) (unsynced self.old)
             (unsynced self.new) }
         ensures later { moment self.old ≤ moment self.new }
         ensures time { honest self.old → Elapses (moment self.old) (moment self.new) (left_since self.old)
-            (left_since self.new) (seen self.new) (unsynced self.new) }
+            (left_since self.new) (current self.new) (unsynced self.new) }
         ensures counts { Counts (IsErr result) (failures self.old) (failures self.new) }
         ensures tells { tells (IsErr result) self.old self.new };
 
@@ -68,11 +68,11 @@ pub trait Disk {
         requires { at + length bytes.now ≤ size self.old }
         ensures size { size self.new ≡ size self.old }
         ensures honest { honest self.old ↔ honest self.new }
-        ensures writes { honest self.old → Writes at bytes.now (IsOk result) (seen self.old) (seen self.new)
+        ensures writes { honest self.old → Writes at bytes.now (IsOk result) (current self.old) (current self.new)
             (unsynced self.old) (unsynced self.new) }
         ensures later { moment self.old ≤ moment self.new }
         ensures time { honest self.old → Elapses (moment self.old) (moment self.new) (left_since self.old)
-            (left_since self.new) (seen self.new) (unsynced self.new) }
+            (left_since self.new) (current self.new) (unsynced self.new) }
         ensures counts { Counts (IsErr result) (failures self.old) (failures self.new) }
         ensures tells { tells (IsErr result) self.old self.new };
 
@@ -80,20 +80,20 @@ pub trait Disk {
     fn sync(&mut self) -> Result<(), DiskFault>
         ensures size { size self.new ≡ size self.old }
         ensures honest { honest self.old ↔ honest self.new }
-        ensures syncs { honest self.old → Syncs (IsOk result) (seen self.old) (seen self.new) (unsynced self.old)
+        ensures syncs { honest self.old → Syncs (IsOk result) (current self.old) (current self.new) (unsynced self.old)
             (unsynced self.new) }
         ensures later { moment self.old ≤ moment self.new }
         ensures time { honest self.old → Elapses (moment self.old) (moment self.new) (left_since self.old)
-            (left_since self.new) (seen self.new) (unsynced self.new) }
+            (left_since self.new) (current self.new) (unsynced self.new) }
         ensures counts { Counts (IsErr result) (failures self.old) (failures self.new) }
         ensures tells { tells (IsErr result) self.old self.new };
 
     /// This moment is one of those since an earlier one.
     ghost counts_now: { (disk : Self) (t : ℕ) (image : ℕ → ℕ) → t ≤ moment disk
-        → IsImage (seen disk) (unsynced disk) image
+        → IsImage (current disk) (unsynced disk) image
         → left_since disk t image };
 
     /// Since this moment there is no other.
     ghost only_now: { (disk : Self) (image : ℕ → ℕ) → left_since disk (moment disk) image
-        → IsImage (seen disk) (unsynced disk) image };
+        → IsImage (current disk) (unsynced disk) image };
 }

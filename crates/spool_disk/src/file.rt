@@ -142,7 +142,7 @@ impl<F: Positioned> Disk for PositionedDisk<F> {
     // of no file it is known
     ghost honest = { λ d. ⊥ };
 
-    ghost seen = { λ d p. 0 };
+    ghost current = { λ d p. 0 };
 
     // and so a crash may leave anything
     ghost unsynced = { λ d p. Unit {0} };

@@ -80,10 +80,11 @@ fn scrawl<D: Disk>(disk: &mut D, at: u64, bytes: &[u8], filler: &[u8])
     requires { at + length bytes.now ≤ D.size disk.old }
     ensures size { D.size disk.new ≡ D.size disk.old }
     ensures honest { D.honest disk.old ↔ D.honest disk.new }
-    ensures writes { D.honest disk.old → Writes at bytes.now ⊥ (D.seen disk.old) (D.seen disk.new) (D.unsynced disk.old)
+    ensures writes { D.honest disk.old → Writes at bytes.now ⊥ (D.current disk.old) (D.current disk.new)
+        (D.unsynced disk.old)
         (D.unsynced disk.new) }
     ensures time { D.honest disk.old → Elapses (D.moment disk.old) (D.moment disk.new) (D.left_since disk.old)
-        (D.left_since disk.new) (D.seen disk.new) (D.unsynced disk.new) }
+        (D.left_since disk.new) (D.current disk.new) (D.unsynced disk.new) }
     ensures later { D.failures disk.old ≤ D.failures disk.new }
     ensures forward { D.moment disk.old ≤ D.moment disk.new }
 {
@@ -98,7 +99,7 @@ impl<D: Disk> Disk for HiccupDisk<D> {
 
     ghost honest = { λ d. D.honest (within_of d) };
 
-    ghost seen = { λ d. D.seen (within_of d) };
+    ghost current = { λ d. D.current (within_of d) };
 
     ghost unsynced = { λ d. D.unsynced (within_of d) };
 

@@ -123,7 +123,7 @@ impl Disk for MemoryDisk {
 
     ghost honest = { λ d. Unit {0} };
 
-    ghost seen = { bytes_of };
+    ghost current = { bytes_of };
 
     ghost unsynced = { unsynced_of };
 

@@ -133,18 +133,18 @@ module _ (x : IndexSet) (u : Upload) (n count : ℕ) (declare : Option ℕ) wher
       }
 
   -- the committed text's last bytes, where the list has it
-  pub begins_bytes : (seen : ℕ → ℕ) (page len : ℕ) (list tail : List ℕ) → len ≤ 4096 * length list
-      → text_on seen page list (4096 * (len / 4096)) ++ tail ≡ text_on seen page list len
-      → text_on seen page list len ≡ text_of x u → len ≡ length (text_of x u)
+  pub begins_bytes : (current : ℕ → ℕ) (page len : ℕ) (list tail : List ℕ) → len ≤ 4096 * length list
+      → text_on current page list (4096 * (len / 4096)) ++ tail ≡ text_on current page list len
+      → text_on current page list len ≡ text_of x u → len ≡ length (text_of x u)
       → is_complete u ≡ false → tail ≡ open_text x first false
-  begins_bytes seen page len list tail long both is size still =
-      let prefix = text_on seen page list (4096 * (len / 4096)) in
+  begins_bytes current page len list tail long both is size still =
+      let prefix = text_on current page list (4096 * (len / 4096)) in
       let k : length prefix ≡ 4096 * (len / 4096) =
       omega (
         arith,
         long,
-        length-take (4096 * (len / 4096)) (blocks_on seen page list),
-        length-blocks_on seen page
+        length-take (4096 * (len / 4096)) (blocks_on current page list),
+        length-blocks_on current page
             list,
       ) in
       sym (drop-append_seam prefix tail)

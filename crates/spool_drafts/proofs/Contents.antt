@@ -12,75 +12,77 @@ use Rattle.spool_drafts.specs.Growth.{prefix_on, bytes_on, count_with}
 use Rattle.spool_drafts.specs.declared.growth.Growth.{Growth}
 
 -- a draft that reserved no block holds what is unfinished
-content_empty : (seen : ℕ → ℕ) (first : ℕ) (d : Draft) (text : List ℕ) → d.blocks ≡ [] → d.unfinished ≡ text
-    → content_on seen first d ≡ text
+content_empty : (current : ℕ → ℕ) (first : ℕ) (d : Draft) (text : List ℕ) → d.blocks ≡ [] → d.unfinished ≡ text
+    → content_on current first d ≡ text
 unfolding blocks_on
-content_empty seen first d text none is =
+content_empty current first d text none is =
     let count : full_count d ≡ 0 = omega (arith, ap length none) in
-    ap (λ (n : ℕ). blocks_on seen first (take n d.blocks) ++ d.unfinished) count ∙ is
+    ap (λ (n : ℕ). blocks_on current first (take n d.blocks) ++ d.unfinished) count ∙ is
 
 -- one that begins holds the committed text's last bytes
-pub begun_bytes : (seen seen' : ℕ → ℕ) (first : ℕ) (g h : Growth) (text : Draft) → g.on ≡ None → h.on ≡ Some text
-    → text.blocks ≡ [] → text.unfinished ≡ prefix_on seen first g.tail (g.text_len % 4096)
-    → bytes_on seen' first h h.on ≡ bytes_on seen first g g.on
-begun_bytes seen seen' first g h text none some empty is =
-    ap (bytes_on seen' first h) some ∙ content_empty seen' first text _ empty is ∙ sym (ap (bytes_on seen first g) none)
+pub begun_bytes : (current current' : ℕ → ℕ) (first : ℕ) (g h : Growth) (text : Draft) → g.on ≡ None → h.on ≡ Some text
+    → text.blocks ≡ [] → text.unfinished ≡ prefix_on current first g.tail (g.text_len % 4096)
+    → bytes_on current' first h h.on ≡ bytes_on current first g g.on
+begun_bytes current current' first g h text none some empty is =
+    ap (bytes_on current' first h) some ∙ content_empty current' first text _ empty is
+    ∙ sym (ap (bytes_on current first g) none)
 
 -- the first bytes of a block, whatever is after it
-prefix_of : (seen : ℕ → ℕ) (first b n : ℕ) (rest : List ℕ) → n ≤ 4096 → text_on seen first (b ∷ rest) n ≡ text_on seen
+prefix_of : (current : ℕ → ℕ) (first b n : ℕ) (rest : List ℕ) → n ≤ 4096
+    → text_on current first (b ∷ rest) n ≡ text_on current
     first (b ∷ []) n
 unfolding blocks_on
-prefix_of seen first b n rest le =
-    let fits : n ≤ length (span seen (4096 * (first + b)) 4096) =
-    omega (arith, le, length-span seen (4096 * (first + b)) 4096) in
-    take-append-le n (span seen (4096 * (first + b)) 4096) (blocks_on seen first rest) fits
-    ∙ sym (take-append-le n (span seen (4096 * (first + b)) 4096) (blocks_on seen first []) fits)
+prefix_of current first b n rest le =
+    let fits : n ≤ length (span current (4096 * (first + b)) 4096) =
+    omega (arith, le, length-span current (4096 * (first + b)) 4096) in
+    take-append-le n (span current (4096 * (first + b)) 4096) (blocks_on current first rest) fits
+    ∙ sym (take-append-le n (span current (4096 * (first + b)) 4096) (blocks_on current first []) fits)
 
 -- a text is on its full blocks and on the next one
-pub tail_on : (seen : ℕ → ℕ) (first len : ℕ) (list : List ℕ) → len ≤ 4096 * length list → 0 < len % 4096
-    → text_on seen first list (4096 * (len / 4096)) ++ text_on seen first (get_or list (len / 4096) 0 ∷ [])
-    (len % 4096) ≡ text_on seen first list len
-tail_on seen first len list fits some =
+pub tail_on : (current : ℕ → ℕ) (first len : ℕ) (list : List ℕ) → len ≤ 4096 * length list → 0 < len % 4096
+    → text_on current first list (4096 * (len / 4096)) ++ text_on current first (get_or list (len / 4096) 0 ∷ [])
+    (len % 4096) ≡ text_on current first list len
+tail_on current first len list fits some =
     let n = len / 4096 in
     let lt : n < length list = omega (arith, fits, some) in
     let cut : drop n list ≡ get_or list n 0 ∷ drop (n + 1) list = rw (add-one, drop-cons list n 0) in
-    ap (λ (xs : List ℕ). text_on seen first list (4096 * n) ++ xs)
-    (sym (ap (λ (xs : List ℕ). text_on seen first xs (len % 4096)) cut
-    ∙ prefix_of seen first (get_or list n 0) (len % 4096) (drop (n + 1) list) (omega arith)))
-    ∙ sym (text_joined seen first n (len % 4096) list (drop n list) (omega (arith, lt)))
-    ∙ ap (λ (xs : List ℕ). text_on seen first xs (4096 * n + len % 4096)) (take-append-drop n list)
-    ∙ ap (λ (k : ℕ). text_on seen first list k) (omega arith)
+    ap (λ (xs : List ℕ). text_on current first list (4096 * n) ++ xs)
+    (sym (ap (λ (xs : List ℕ). text_on current first xs (len % 4096)) cut
+    ∙ prefix_of current first (get_or list n 0) (len % 4096) (drop (n + 1) list) (omega arith)))
+    ∙ sym (text_joined current first n (len % 4096) list (drop n list) (omega (arith, lt)))
+    ∙ ap (λ (xs : List ℕ). text_on current first xs (4096 * n + len % 4096)) (take-append-drop n list)
+    ∙ ap (λ (k : ℕ). text_on current first list k) (omega arith)
 
-pub no_tail_on : (seen : ℕ → ℕ) (first len : ℕ) (list : List ℕ) → len % 4096 ≡ 0
-    → text_on seen first list (4096 * (len / 4096)) ++ replicate (len % 4096) 0 ≡ text_on seen first list len
-no_tail_on seen first len list whole =
+pub no_tail_on : (current : ℕ → ℕ) (first len : ℕ) (list : List ℕ) → len % 4096 ≡ 0
+    → text_on current first list (4096 * (len / 4096)) ++ replicate (len % 4096) 0 ≡ text_on current first list len
+no_tail_on current first len list whole =
     let full : 4096 * (len / 4096) ≡ len = omega (arith, whole) in
-    ap (λ (k : ℕ). text_on seen first list (4096 * (len / 4096)) ++ replicate k 0) whole
-    ∙ append-nil (text_on seen first list (4096 * (len / 4096)))
-    ∙ ap (λ (k : ℕ). text_on seen first list k) full
+    ap (λ (k : ℕ). text_on current first list (4096 * (len / 4096)) ++ replicate k 0) whole
+    ∙ append-nil (text_on current first list (4096 * (len / 4096)))
+    ∙ ap (λ (k : ℕ). text_on current first list k) full
 
 -- HOW MANY THEY ARE
 
-length-prefix : (seen : ℕ → ℕ) (first n : ℕ) (list rest : List ℕ) → n ≤ length list
-    → length (blocks_on seen first (take n list) ++ rest) ≡ 4096 * n + length rest
-length-prefix seen first n list rest le =
+length-prefix : (current : ℕ → ℕ) (first n : ℕ) (list rest : List ℕ) → n ≤ length list
+    → length (blocks_on current first (take n list) ++ rest) ≡ 4096 * n + length rest
+length-prefix current first n list rest le =
     omega (
       arith,
-      length-append (blocks_on seen first (take n list)) rest,
-      length-blocks_on seen first (take n list),
+      length-append (blocks_on current first (take n list)) rest,
+      length-blocks_on current first (take n list),
       length-take n list,
       le,
     )
 
 -- the bytes on the blocks of a text that ended, with the last ones, are those that it held and these
-pub count_ended : (seen : ℕ → ℕ) (first : ℕ) (d : Draft) (list last bytes : List ℕ)
-    → bytes_with seen first list last ≡ content_on seen first d ++ bytes
+pub count_ended : (current : ℕ → ℕ) (first : ℕ) (d : Draft) (list last bytes : List ℕ)
+    → bytes_with current first list last ≡ content_on current first d ++ bytes
     → count_with list last ≡ held_count d + length bytes
-count_ended seen first d list last bytes is =
+count_ended current first d list last bytes is =
     omega (
       arith,
       ap length is,
-      length-prefix seen first (length list - (length last + 4095) / 4096) list last (omega arith),
-      length-append (content_on seen first d) bytes,
-      length-prefix seen first (full_count d) d.blocks d.unfinished (omega arith),
+      length-prefix current first (length list - (length last + 4095) / 4096) list last (omega arith),
+      length-append (content_on current first d) bytes,
+      length-prefix current first (full_count d) d.blocks d.unfinished (omega arith),
     )

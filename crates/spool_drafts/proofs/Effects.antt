@@ -15,20 +15,20 @@ use Rattle.spool_drafts.specs.Effect.{Regrasps, OnlyWrites}
 use Rattle.spool_journal.specs.Image.{area_end}
 
 -- an image that is one from before with the blocks as they were is one but for them
-but_aside : {seen image : ℕ → ℕ} {unsynced : ℕ → Type 0} {first : ℕ} {own : List ℕ}
-    → IsImage seen unsynced (aside_blocks first own seen image) → IsImageBut first own seen unsynced image
-but_aside {seen = seen} {image = image} {first = first} {own = own} is = record {
-  same = λ p away is_synced. sym (aside_blocks_else first own seen image p away) ∙ is.same p is_synced;
+but_aside : {current image : ℕ → ℕ} {unsynced : ℕ → Type 0} {first : ℕ} {own : List ℕ}
+    → IsImage current unsynced (aside_blocks first own current image) → IsImageBut first own current unsynced image
+but_aside {current = current} {image = image} {first = first} {own = own} is = record {
+  same = λ p away is_synced. sym (aside_blocks_else first own current image p away) ∙ is.same p is_synced;
 }
 
-writes_keeps : {seen seen' : ℕ → ℕ} {unsynced unsynced' : ℕ → Type 0} (first : ℕ) (own : List ℕ)
-    → Keeps seen seen' unsynced unsynced' → WritesIn first own seen seen' unsynced unsynced'
+writes_keeps : {current current' : ℕ → ℕ} {unsynced unsynced' : ℕ → Type 0} (first : ℕ) (own : List ℕ)
+    → Keeps current current' unsynced unsynced' → WritesIn first own current current' unsynced unsynced'
 writes_keeps first own keeps = record { outside = λ p away. keeps.same p; unsyncs = λ p l. inl (keeps.unsyncs p l) }
 
 module _ {D : Type 0} {disk : Ghosts D} {j : ℕ} where
-  pub only : {own : List ℕ} {old new : D} → WritesIn (area_end j) own (disk.seen old) (disk.seen new)
+  pub only : {own : List ℕ} {old new : D} → WritesIn (area_end j) own (disk.current old) (disk.current new)
       (disk.unsynced old)
-      (disk.unsynced new) → Lasts disk old new (IsImageBut (area_end j) own (disk.seen old) (disk.unsynced old))
+      (disk.unsynced new) → Lasts disk old new (IsImageBut (area_end j) own (disk.current old) (disk.unsynced old))
       → OnlyWrites disk j own old new
   only writes lasts = record {
     writes = writes;
@@ -43,8 +43,8 @@ module _ {D : Type 0} {disk : Ghosts D} {j : ℕ} where
 
   -- only read
   pub only_read : (own : List ℕ) {old new : D}
-      → Keeps (disk.seen old) (disk.seen new) (disk.unsynced old) (disk.unsynced new)
-      → Lasts disk old new (IsImage (disk.seen old) (disk.unsynced old)) → OnlyWrites disk j own old new
+      → Keeps (disk.current old) (disk.current new) (disk.unsynced old) (disk.unsynced new)
+      → Lasts disk old new (IsImage (disk.current old) (disk.unsynced old)) → OnlyWrites disk j own old new
   only_read own keeps lasts =
       only (writes_keeps _ _ keeps) (lasts_more lasts
       (λ image is. record { same = λ p away is_synced. is.same p is_synced }))

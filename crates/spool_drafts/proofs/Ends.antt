@@ -115,7 +115,7 @@ module _ (x : IndexSet) (p : Patch) (d : SpoolDraft) (held : Holds x p d) (still
         let n = length (open_text x p false) in
         record {
           state_is = is ∙ finished.state_is;
-          sound = finished.sound;
+          valid = finished.valid;
           encodable = encodable_end;
           roomy = sym held.short ∙ roomy;
           listed = listed n holds ∙ wanted;

@@ -4,7 +4,7 @@ use Rattle.std.proofs.Common.{ap, subst, append_assoc, append-nil, Vec, Global}
 use Rattle.enc_model.specs.Indexes.{IndexSet, tables}
 use Rattle.enc_model.specs.Transcode.{IsAt}
 use Rattle.enc_stream.specs.Standing.{Standing}
-use Rattle.enc_stream.specs.StateBytes.{IsSound, state_bytes}
+use Rattle.enc_stream.specs.StateBytes.{IsValid, state_bytes}
 use Rattle.upload_rules.specs.declared.errors.UploadError.{UploadError}
 use Rattle.upload_rules.specs.declared.errors.UploadError.TheVariants.{NoMemory, DiskFault, Refused}
 use Rattle.upload_rules.specs.declared.errors.UploadRefusal.TheVariants as refusals
@@ -95,7 +95,7 @@ module _ (x : IndexSet) (u : Upload) (bytes : List ℕ) where
   finishes done (Ok parts) ended = record {
     state_is = ended.state_is ∙ ap (λ (b : List ℕ). state_bytes (transcoder_over (tables x) u.from u.to u.mode b done))
         at_nil;
-    sound = subst (λ (b : List ℕ). IsSound (transcoder_over (tables x) u.from u.to u.mode b done)) at_nil ended.sound;
+    valid = subst (λ (b : List ℕ). IsValid (transcoder_over (tables x) u.from u.to u.mode b done)) at_nil ended.valid;
     encodable = ap (λ r. r.fault) (sym (same_text done)) ∙ ended.encodable;
     adds = ap (λ r. r.bytes ++ parts.1.items) (sym (same_text false)) ∙ ended.rest ∙ ap (λ r. r.bytes) (same_text done);
   }

@@ -2,7 +2,7 @@
 use Rattle.std.specs.Prelude.{◌≡◌, ◌⊎◌, ◌≤◌, ◌<◌, ◌*◌, ◌+◌, ◌/◌, ◌^◌, ◌++◌, ℕ, Bool, true, false, List, Option, None}
 use Rattle.std.specs.Prelude.{Some, length, drop, Result, Ok, Err}
 use Rattle.enc_model.specs.Indexes.{IndexSet}
-use Rattle.enc_stream.specs.StateBytes.{IsSound}
+use Rattle.enc_stream.specs.StateBytes.{IsValid}
 use Rattle.spool_blocks.specs.Blocks.{Held}
 use Rattle.upload_rules.specs.Calls.{begin_refusal_at, first_patch}
 use Rattle.upload_rules.specs.declared.errors.UploadError.{UploadError}
@@ -103,7 +103,7 @@ pub record Holds (x : IndexSet) (p : Patch) (d : SpoolDraft) : Type 0 where
 
 -- and its bytes are the patch's: after the full blocks of the committed text
 abbrev pub Carries : IndexSet → (ℕ → ℕ) → ℕ → Patch → SpoolDraft → Type 0
-Carries x seen first p d = IsKept x p d → bytes_on seen first d.growth d.growth.on ≡ open_text x p false
+Carries x current first p d = IsKept x p d → bytes_on current first d.growth d.growth.on ≡ open_text x p false
 
 -- a draft of the upload as it is, or the rules' refusal
 abbrev pub IsBegun : IndexSet → ℕ → ℕ → ℕ → Option ℕ → Upload → Result SpoolDraft UploadRefusal → Type 0
@@ -125,7 +125,7 @@ IsLonger x q old new blocks blocks' =
 -- the whole text is the draft's, after the full blocks of the committed text
 pub record IsWhole (x : IndexSet) (p : Patch) (done : Bool) (d : SpoolDraft) (e : DraftEnd) : Type 0 where
   pub state_is : e.state ≡ state_with x p.began p.body done
-  pub sound : IsSound (transcoder_with x p.began p.body done)
+  pub valid : IsValid (transcoder_with x p.began p.body done)
   pub encodable : (patch_text x p done).fault ≡ None
   pub roomy : p.short ≡ false
   pub listed : length (list_of d) ≡ wants x p done

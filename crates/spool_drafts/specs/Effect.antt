@@ -18,12 +18,14 @@ pub record Regrasps (old new : Held) (list list' own : List ℕ) : Type 0 where
 
 -- Nothing is written but these blocks, and every image is one from before but for them.
 pub record OnlyWrites {D : Type 0} (disk : Ghosts D) (pages : ℕ) (own : List ℕ) (old new : D) : Type 0 where
-  pub writes : WritesIn (area_end pages) own (disk.seen old) (disk.seen new) (disk.unsynced old) (disk.unsynced new)
-  pub idle : Idle pages (disk.seen old) (disk.unsynced old) → Idle pages (disk.seen new) (disk.unsynced new)
-  pub image : (image : ℕ → ℕ) → IsImage (disk.seen new) (disk.unsynced new) image
-      → IsImage (disk.seen old) (disk.unsynced old) (aside_blocks (area_end pages) own (disk.seen old) image)
+  pub writes : WritesIn (area_end pages) own (disk.current old) (disk.current new) (disk.unsynced old)
+      (disk.unsynced new)
+  pub idle : Idle pages (disk.current old) (disk.unsynced old) → Idle pages (disk.current new) (disk.unsynced new)
+  pub image : (image : ℕ → ℕ) → IsImage (disk.current new) (disk.unsynced new) image
+      → IsImage (disk.current old) (disk.unsynced old) (aside_blocks (area_end pages) own (disk.current old) image)
   pub lasts : Lasts disk old new
-      (λ image. IsImage (disk.seen old) (disk.unsynced old) (aside_blocks (area_end pages) own (disk.seen old) image))
+      (λ image. IsImage (disk.current old) (disk.unsynced old) (aside_blocks (area_end pages) own
+      (disk.current old) image))
 
 -- what a call does, whatever the disk: it writes only the draft's own blocks, those of its list and free ones that it
 -- reserved

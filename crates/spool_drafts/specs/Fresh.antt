@@ -1,7 +1,7 @@
 -- Where transcoding stands over an upload's bytes, and what a piece adds.
 use Rattle.std.specs.Prelude.{◌≡◌, ℕ, Bool, true, false, List, [], ◌++◌, None, Result, Ok, Err, Vec}
 use Rattle.std.specs.declared.alloc.Global.{Global}
-use Rattle.enc_stream.specs.StateBytes.{IsSound}
+use Rattle.enc_stream.specs.StateBytes.{IsValid}
 use Rattle.upload_rules.specs.States.{state_with, transcoder_with}
 use Rattle.upload_rules.specs.declared.errors.UploadError.{UploadError}
 use Rattle.upload_rules.specs.declared.errors.UploadError.TheVariants.{NoMemory, Refused}
@@ -40,7 +40,7 @@ IsEmptied _ _ = ⊥
 -- how the text over these bytes ends: its state, and what the end adds
 pub record IsFinished (x : IndexSet) (u : Upload) (bytes : List ℕ) (done : Bool) (state text : List ℕ) : Type 0 where
   pub state_is : state ≡ state_with x u bytes done
-  pub sound : IsSound (transcoder_with x u bytes done)
+  pub valid : IsValid (transcoder_with x u bytes done)
   pub encodable : (text_with x u bytes done).fault ≡ None
   pub adds : (text_with x u bytes false).bytes ++ text ≡ (text_with x u bytes done).bytes
 

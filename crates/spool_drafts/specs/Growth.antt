@@ -44,13 +44,13 @@ pub record HoldsLen (g : Growth) (n : ℕ) : Type 0 where
 
 -- the committed text's last n bytes: those on the block, and zeros without one
 abbrev pub prefix_on : (ℕ → ℕ) → ℕ → Option ℕ → ℕ → List ℕ
-prefix_on seen first None n = replicate n 0
-prefix_on seen first (Some block) n = text_on seen first (block ∷ []) n
+prefix_on current first None n = replicate n 0
+prefix_on current first (Some block) n = text_on current first (block ∷ []) n
 
 -- these bytes: before the first new one they are the committed text's last
 abbrev pub bytes_on : (ℕ → ℕ) → ℕ → Growth → Option Draft → List ℕ
-bytes_on seen first g None = prefix_on seen first g.tail (g.text_len % 4096)
-bytes_on seen first g (Some text) = content_on seen first text
+bytes_on current first g None = prefix_on current first g.tail (g.text_len % 4096)
+bytes_on current first g (Some text) = content_on current first text
 
 -- nothing is held any more
 pub record IsShort (g : Growth) : Type 0 where

@@ -71,9 +71,9 @@ impl SpoolDraft {
         requires few { length list.now ≤ 65536 }
         ensures begun { (x : Indexes) (n : ℕ) (u : Upload) → Keeps x n upload.now u
             → IsBegun x n offset count declare u result }
-        ensures content { (x : Indexes) (n : ℕ) (u : Upload) (seen : ℕ → ℕ) (first : ℕ) → Keeps x n upload.now u
-            → text_on seen first list.now upload.now.text_len ≡ text_of x u
-            → IfOk result (λ d. Carries x seen first (first_patch n count declare u) d) }
+        ensures content { (x : Indexes) (n : ℕ) (u : Upload) (current : ℕ → ℕ) (first : ℕ) → Keeps x n upload.now u
+            → text_on current first list.now upload.now.text_len ≡ text_of x u
+            → IfOk result (λ d. Carries x current first (first_patch n count declare u) d) }
         ensures none { IfOk result (λ d. list_of d ≡ []) }
         ensures tail { IfOk result
             (λ d. (i : ℕ) → i < length (tail_of d)
@@ -182,16 +182,16 @@ impl SpoolDraft {
             → OnOk result (IsLonger indexes.now (with_piece p piece.now) self.old self.new blocks.old blocks.new) }
         ensures content { (p : Patch) → D.honest disk.old → Holds indexes.now p self.old
             → length p.body + length piece.now ≤ p.count
-            → Carries indexes.now (D.seen disk.old) (text_page layout.now) p self.old
-            → OnOk result (Carries indexes.now (D.seen disk.new) (text_page layout.now)
+            → Carries indexes.now (D.current disk.old) (text_page layout.now) p self.old
+            → OnOk result (Carries indexes.now (D.current disk.new) (text_page layout.now)
             (with_piece p piece.now) self.new) }
         ensures memory { IsErrOf result UploadError.NoMemory
             → (list_of self.new ≡ list_of self.old) × (blocks.new ≡ blocks.old) }
         ensures holds_on { (p : Patch) → Holds indexes.now p self.old → IsErrOf result UploadError.NoMemory
             → Holds indexes.now p self.new }
         ensures content_on { (p : Patch) → D.honest disk.old → IsErrOf result UploadError.NoMemory
-            → Carries indexes.now (D.seen disk.old) (text_page layout.now) p self.old
-            → Carries indexes.now (D.seen disk.new) (text_page layout.now) p self.new }
+            → Carries indexes.now (D.current disk.old) (text_page layout.now) p self.old
+            → Carries indexes.now (D.current disk.new) (text_page layout.now) p self.new }
     {
         if piece.is_empty() {
             return Ok(());
@@ -251,9 +251,9 @@ impl SpoolDraft {
         // Nothing is written, and nothing is read where the committed text has no unfinished block.
         ensures unread { tail_of self.old ≡ [] → disk.new ≡ disk.old }
         ensures keeps { D.honest disk.old
-            → OnlyRead (D.seen disk.old) (D.seen disk.new) (D.unsynced disk.old) (D.unsynced disk.new) }
+            → OnlyRead (D.current disk.old) (D.current disk.new) (D.unsynced disk.old) (D.unsynced disk.new) }
         ensures lasts { D.honest disk.old
-            → Lasts D.Disk disk.old disk.new (IsImage (D.seen disk.old) (D.unsynced disk.old)) }
+            → Lasts D.Disk disk.old disk.new (IsImage (D.current disk.old) (D.unsynced disk.old)) }
 
         // After an upload that wasn't complete: the text's end, and the bytes on the blocks, with those that are still
         // to be written.
@@ -262,9 +262,9 @@ impl SpoolDraft {
         ensures fits { IfOk result
             (λ end. 1 ≤ length (list_of self.new) → (length end.last.items + 4095) / 4096 ≤ length (list_of self.new)) }
         ensures content { (p : Patch) → D.honest disk.old → Holds indexes.now p self.old → is_complete p.began ≡ false
-            → Carries indexes.now (D.seen disk.old) (text_page layout.now) p self.old
+            → Carries indexes.now (D.current disk.old) (text_page layout.now) p self.old
             → IfOk result (λ end. 1 ≤ length (list_of self.new)
-            → bytes_with (D.seen disk.new) (text_page layout.now) (list_of self.new) end.last.items
+            → bytes_with (D.current disk.new) (text_page layout.now) (list_of self.new) end.last.items
             ≡ open_text indexes.now p completes) }
     {
         let (state, text) = finished(alloc, &self.fresh, indexes, completes)?;
@@ -298,9 +298,9 @@ impl SpoolDraft {
         ensures holds { (x : Indexes) (p : Patch) → Holds x p self.old → Holds x p self.new }
 
         // Where it has blocks, it carries what it carried.
-        ensures content { (x : Indexes) (seen : ℕ → ℕ) (first : ℕ) (p : Patch)
+        ensures content { (x : Indexes) (current : ℕ → ℕ) (first : ℕ) (p : Patch)
             → 1 ≤ length (list_of self.old)
-            → Carries x seen first p self.old → Carries x seen first p self.new }
+            → Carries x current first p self.old → Carries x current first p self.new }
     {
         self.growth.tail = None;
     }

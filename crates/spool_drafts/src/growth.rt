@@ -44,9 +44,9 @@ impl Growth {
         ensures tail { (i : ℕ) → i < length (tail_list result.tail)
             → (text_len / 4096 < length list.now)
             × (get_or (tail_list result.tail) i 0 ≡ get_or list.now (text_len / 4096) 0) }
-        ensures bytes { (seen : ℕ → ℕ) (first : ℕ)
-            → text_on seen first list.now (4096 * (text_len / 4096)) ++ bytes_on seen first result None
-            ≡ text_on seen first list.now text_len }
+        ensures bytes { (current : ℕ → ℕ) (first : ℕ)
+            → text_on current first list.now (4096 * (text_len / 4096)) ++ bytes_on current first result None
+            ≡ text_on current first list.now text_len }
     {
         let tail = if text_len % PAGE as u64 == 0 {
             None
@@ -126,8 +126,8 @@ impl Growth {
             → OnOk result (GrowsTo (n + length bytes.now) self.old self.new blocks.old blocks.new) }
         ensures content { D.honest disk.old
             → OnOk result (self.new.short ≡ false
-            → bytes_on (D.seen disk.new) (text_page layout.now) self.new self.new.on
-            ≡ bytes_on (D.seen disk.old) (text_page layout.now) self.old self.old.on ++ bytes.now) }
+            → bytes_on (D.current disk.new) (text_page layout.now) self.new self.new.on
+            ≡ bytes_on (D.current disk.old) (text_page layout.now) self.old self.old.on ++ bytes.now) }
 
         // Where memory is short, it holds what it held.
         ensures memory { IsErrOf result UploadError.NoMemory
@@ -135,8 +135,8 @@ impl Growth {
             × (self.new.short ≡ self.old.short) }
         ensures holds_on { (n : ℕ) → HoldsLen self.old n → IsErrOf result UploadError.NoMemory → HoldsLen self.new n }
         ensures content_on { D.honest disk.old → IsErrOf result UploadError.NoMemory
-            → bytes_on (D.seen disk.new) (text_page layout.now) self.new self.new.on
-            ≡ bytes_on (D.seen disk.old) (text_page layout.now) self.old self.old.on }
+            → bytes_on (D.current disk.new) (text_page layout.now) self.new self.new.on
+            ≡ bytes_on (D.current disk.old) (text_page layout.now) self.old self.old.on }
     {
         if self.short || bytes.is_empty() {
             return Ok(());
@@ -171,15 +171,15 @@ impl Growth {
         ensures len { (n : ℕ) → HoldsLen self.old n → IfOk result (λ last. 1 ≤ length (list_on self.new.on)
             → count_with (list_on self.new.on) last.items ≡ n + length bytes.now) }
         ensures content { D.honest disk.old → IfOk result (λ last. 1 ≤ length (list_on self.new.on)
-            → bytes_with (D.seen disk.new) (text_page layout.now) (list_on self.new.on) last.items
-            ≡ bytes_on (D.seen disk.old) (text_page layout.now) self.old self.old.on ++ bytes.now) }
+            → bytes_with (D.current disk.new) (text_page layout.now) (list_on self.new.on) last.items
+            ≡ bytes_on (D.current disk.old) (text_page layout.now) self.old self.old.on ++ bytes.now) }
 
         // Nothing is written, and nothing is read where the committed text has no unfinished block.
         ensures unread { tail_list self.old.tail ≡ [] → disk.new ≡ disk.old }
         ensures keeps { D.honest disk.old
-            → Keeps (D.seen disk.old) (D.seen disk.new) (D.unsynced disk.old) (D.unsynced disk.new) }
+            → Keeps (D.current disk.old) (D.current disk.new) (D.unsynced disk.old) (D.unsynced disk.new) }
         ensures lasts { D.honest disk.old
-            → Lasts D.Disk disk.old disk.new (IsImage (D.seen disk.old) (D.unsynced disk.old)) }
+            → Lasts D.Disk disk.old disk.new (IsImage (D.current disk.old) (D.unsynced disk.old)) }
     {
         if self.short {
             return Err(UploadError::Refused(UploadRefusal::Full));
@@ -211,9 +211,9 @@ impl Growth {
             → (length last.items + 4095) / 4096 ≤ length (list_on self.new.on)) }
         ensures len { (n : ℕ) → HoldsLen self.old n → IfOk result (λ last. 1 ≤ length (list_on self.new.on)
             → count_with (list_on self.new.on) last.items ≡ n + length bytes.now) }
-        ensures content { (seen : ℕ → ℕ) (first : ℕ) → IfOk result (λ last. 1 ≤ length (list_on self.new.on)
-            → bytes_with seen first (list_on self.new.on) last.items
-            ≡ bytes_on seen first self.old self.old.on ++ bytes.now) }
+        ensures content { (current : ℕ → ℕ) (first : ℕ) → IfOk result (λ last. 1 ≤ length (list_on self.new.on)
+            → bytes_with current first (list_on self.new.on) last.items
+            ≡ bytes_on current first self.old self.old.on ++ bytes.now) }
     {
         let Some(text) = &mut self.on else {
             return Ok(Vec::new(alloc));
@@ -249,12 +249,12 @@ impl Growth {
         ensures some { OnOk result (self.new.on ≡ None → ⊥) }
         ensures holds { (n : ℕ) → HoldsLen self.old n → HoldsLen self.new n }
         ensures content { D.honest disk.old
-            → bytes_on (D.seen disk.new) (text_page layout.now) self.new self.new.on
-            ≡ bytes_on (D.seen disk.old) (text_page layout.now) self.old self.old.on }
+            → bytes_on (D.current disk.new) (text_page layout.now) self.new self.new.on
+            ≡ bytes_on (D.current disk.old) (text_page layout.now) self.old self.old.on }
         ensures keeps { D.honest disk.old
-            → Keeps (D.seen disk.old) (D.seen disk.new) (D.unsynced disk.old) (D.unsynced disk.new) }
+            → Keeps (D.current disk.old) (D.current disk.new) (D.unsynced disk.old) (D.unsynced disk.new) }
         ensures lasts { D.honest disk.old
-            → Lasts D.Disk disk.old disk.new (IsImage (D.seen disk.old) (D.unsynced disk.old)) }
+            → Lasts D.Disk disk.old disk.new (IsImage (D.current disk.old) (D.unsynced disk.old)) }
     {
         if self.on.is_some() {
             return Ok(());
@@ -288,8 +288,8 @@ impl Growth {
             → OnOk result (GrowsTo (n + length bytes.now) self.old self.new blocks.old blocks.new) }
         ensures content { D.honest disk.old
             → OnOk result (self.new.short ≡ false
-            → bytes_on (D.seen disk.new) (text_page layout.now) self.new self.new.on
-            ≡ bytes_on (D.seen disk.old) (text_page layout.now) self.old self.old.on ++ bytes.now) }
+            → bytes_on (D.current disk.new) (text_page layout.now) self.new self.new.on
+            ≡ bytes_on (D.current disk.old) (text_page layout.now) self.old self.old.on ++ bytes.now) }
         ensures memory { IsErrOf result UploadError.NoMemory
             → (self.new ≡ self.old) × (disk.new ≡ disk.old) × (blocks.new ≡ blocks.old) }
     {
@@ -327,12 +327,12 @@ fn begun<D: Disk>(
     ensures none { IfOk result (λ text. text.blocks ≡ []) }
     ensures tail { D.honest disk.old
         → IfOk result (λ text. text.unfinished
-        ≡ prefix_on (D.seen disk.old) (text_page layout.now) tail (text_len % 4096)) }
+        ≡ prefix_on (D.current disk.old) (text_page layout.now) tail (text_len % 4096)) }
     ensures tail_size { IfOk result (λ text. length text.unfinished ≡ text_len % 4096) }
     ensures keeps { D.honest disk.old
-        → Keeps (D.seen disk.old) (D.seen disk.new) (D.unsynced disk.old) (D.unsynced disk.new) }
+        → Keeps (D.current disk.old) (D.current disk.new) (D.unsynced disk.old) (D.unsynced disk.new) }
     ensures lasts { D.honest disk.old → Lasts D.Disk disk.old disk.new
-        (IsImage (D.seen disk.old) (D.unsynced disk.old)) }
+        (IsImage (D.current disk.old) (D.unsynced disk.old)) }
 {
     let len = text_len % PAGE as u64;
     let begun = match tail {

@@ -9,7 +9,7 @@ ghost use Rattle.spool_drafts.specs.declared.draft.SpoolDraft.{SpoolDraft};
 /// A draft carries what it carried where only other blocks are written: none that it reserved, and not the one that its
 /// upload's last bytes are on.
 pub fn kept_drafts()
-    ensures { (x : IndexSet) (seen seen' : ℕ → ℕ) (first : ℕ) (blocks : List ℕ) (p : Patch) (d : SpoolDraft)
-        → SameOutside first blocks seen seen' → NoneOf (list_of d) blocks → NoneOf (tail_of d) blocks
-        → Carries x seen first p d → Carries x seen' first p d }
+    ensures { (x : IndexSet) (current current' : ℕ → ℕ) (first : ℕ) (blocks : List ℕ) (p : Patch) (d : SpoolDraft)
+        → SameOutside first blocks current current' → NoneOf (list_of d) blocks → NoneOf (tail_of d) blocks
+        → Carries x current first p d → Carries x current' first p d }
 {}

@@ -14,8 +14,8 @@ synced_shows disk d n m is is_synced = record {
   honest = is.honest;
   room = is.room;
   each = λ image left.
-      let same : (p : ℕ) → image p ≡ disk.seen d p = λ p. left.same p (is_synced p) in
-      subst (λ (f : ℕ → ℕ). ImageShows n f m) (sym (same_function image (disk.seen d) same)) is.shows;
+      let same : (p : ℕ) → image p ≡ disk.current d p = λ p. left.same p (is_synced p) in
+      subst (λ (f : ℕ → ℕ). ImageShows n f m) (sym (same_function image (disk.current d) same)) is.shows;
 }
 
 -- the upload that a slot tells of is that of its number

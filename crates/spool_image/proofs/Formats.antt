@@ -15,34 +15,35 @@ use Rattle.spool_image.proofs.NoUploads.{fresh_shows}
 -- PAGE 0
 
 pub read_only : {D : Type 0} (disk : Ghosts D) (a b : D) (n : ℕ) (x : IndexSet)
-    → Lasts disk a b (IsImage (disk.seen a) (disk.unsynced a))
-    → Lasts disk a b (LeftByFormat n x (disk.seen a) (disk.unsynced a))
+    → Lasts disk a b (IsImage (disk.current a) (disk.unsynced a))
+    → Lasts disk a b (LeftByFormat n x (disk.current a) (disk.unsynced a))
 read_only disk a b n x lasts = lasts_more lasts (λ image is. inl
     (record { same = λ p lt is_synced. is.same p is_synced }))
 
-pub prefix_kept : (seen : ℕ → ℕ) (unsynced : ℕ → Type 0) → KeepsPrefix seen seen unsynced unsynced
-prefix_kept seen unsynced = record { same = λ p lt is_synced. refl; unsyncs = λ p lt l. l }
+pub prefix_kept : (current : ℕ → ℕ) (unsynced : ℕ → Type 0) → KeepsPrefix current current unsynced unsynced
+prefix_kept current unsynced = record { same = λ p lt is_synced. refl; unsyncs = λ p lt l. l }
 
-module _ {seen seen' : ℕ → ℕ} {unsynced unsynced' : ℕ → Type 0} where
+module _ {current current' : ℕ → ℕ} {unsynced unsynced' : ℕ → Type 0} where
   -- after page 0 anything may be written
   pub prefix_written : {at : ℕ} {bytes : List ℕ} {done : Type 0} → 4096 ≤ at
-      → Writes at bytes done seen seen' unsynced unsynced' → KeepsPrefix seen seen' unsynced unsynced'
+      → Writes at bytes done current current' unsynced unsynced' → KeepsPrefix current current' unsynced unsynced'
   prefix_written from writes = record {
     same = λ p lt is_synced. writes.outside p (λ within. omega (arith, within.from, from, lt));
     unsyncs = λ p lt l. ⊎_elim (λ was. was) (λ within. absurd (omega (arith, within.from, from, lt)))
         (writes.unsyncs p l);
   }
 
-  pub prefix_synced : {done : Type 0} → Syncs done seen seen' unsynced unsynced'
-      → KeepsPrefix seen seen' unsynced unsynced'
+  pub prefix_synced : {done : Type 0} → Syncs done current current' unsynced unsynced'
+      → KeepsPrefix current current' unsynced unsynced'
   prefix_synced syncs = record {
     same = λ p lt is_synced. syncs.outside p is_synced;
     unsyncs = λ p lt l.
         syncs.unsyncs p l;
   }
 
-  pub prefix_image : KeepsPrefix seen seen' unsynced unsynced' → (image : ℕ → ℕ) → IsImage seen' unsynced' image
-      → PrefixStays seen unsynced image
+  pub prefix_image : KeepsPrefix current current' unsynced unsynced' → (image : ℕ → ℕ)
+      → IsImage current' unsynced' image
+      → PrefixStays current unsynced image
   prefix_image keeps image is = record {
     same = λ p lt is_synced. is.same p (λ l. is_synced (keeps.unsyncs p lt l)) ∙ keeps.same p lt is_synced;
   }
@@ -54,22 +55,24 @@ prefix_on first then = record {
   unsyncs = λ p lt l. first.unsyncs p lt (then.unsyncs p lt l);
 }
 
-pub prefix_stays : {seen seen' : ℕ → ℕ} {unsynced unsynced' : ℕ → Type 0} → KeepsPrefix seen seen' unsynced unsynced'
-    → (image : ℕ → ℕ) → PrefixStays seen' unsynced' image → PrefixStays seen unsynced image
+pub prefix_stays : {current current' : ℕ → ℕ} {unsynced unsynced' : ℕ → Type 0}
+    → KeepsPrefix current current' unsynced unsynced'
+    → (image : ℕ → ℕ) → PrefixStays current' unsynced' image → PrefixStays current unsynced image
 prefix_stays keeps image stays = record {
   same = λ p lt is_synced. stays.same p lt (λ l. is_synced (keeps.unsyncs p lt l)) ∙ keeps.same p lt is_synced;
 }
 
-pub prefix_read : {seen seen' : ℕ → ℕ} {unsynced unsynced' : ℕ → Type 0} → Keeps seen seen' unsynced unsynced'
-    → KeepsPrefix seen seen' unsynced unsynced'
+pub prefix_read : {current current' : ℕ → ℕ} {unsynced unsynced' : ℕ → Type 0}
+    → Keeps current current' unsynced unsynced'
+    → KeepsPrefix current current' unsynced unsynced'
 prefix_read keeps = record { same = λ p lt is_synced. keeps.same p; unsyncs = λ p lt l. keeps.unsyncs p l }
 
 -- a call that only reads, and then what is made
 pub read_then : {D : Type 0} (disk : Ghosts D) (a b c : D) (n : ℕ) (x : IndexSet)
-    → Lasts disk a b (IsImage (disk.seen a) (disk.unsynced a))
-    → Keeps (disk.seen a) (disk.seen b) (disk.unsynced a) (disk.unsynced b)
-    → Lasts disk b c (LeftByFormat n x (disk.seen b) (disk.unsynced b))
-    → Lasts disk a c (LeftByFormat n x (disk.seen a) (disk.unsynced a))
+    → Lasts disk a b (IsImage (disk.current a) (disk.unsynced a))
+    → Keeps (disk.current a) (disk.current b) (disk.unsynced a) (disk.unsynced b)
+    → Lasts disk b c (LeftByFormat n x (disk.current b) (disk.unsynced b))
+    → Lasts disk a c (LeftByFormat n x (disk.current a) (disk.unsynced a))
 read_then disk a b c n x lasts keeps then =
     lasts_on (read_only disk a b n x lasts)
     (lasts_more then (λ image one. ⊎_elim (λ stays. inl (prefix_stays (prefix_read keeps) image stays))

@@ -43,22 +43,22 @@ fresh_zeros n x p from =
     ∙ get_or-eq_default (state_page Two 1) 0 (omega (arith, length-state Two 1, from))
 
 -- a page more
-pub fresh_more : {seen seen' : ℕ → ℕ} {unsynced unsynced' : ℕ
+pub fresh_more : {current current' : ℕ → ℕ} {unsynced unsynced' : ℕ
     → Type 0} {done : Type 0} (n : ℕ) (x : IndexSet) (page : ℕ)
-    (bytes : List ℕ) → IsFreshTo n x (4096 * page) seen
-    → Writes (4096 * page) bytes done seen seen' unsynced unsynced' → done
+    (bytes : List ℕ) → IsFreshTo n x (4096 * page) current
+    → Writes (4096 * page) bytes done current current' unsynced unsynced' → done
     → length bytes ≡ 4096 → ((i : ℕ) → i < 4096 → get_or bytes i 0 ≡ fresh_byte n x (4096 * page + i))
-    → IsFreshTo n x (4096 * (page + 1)) seen'
-fresh_more {seen = seen} {seen' = seen'} n x page bytes was writes done long here = record {
+    → IsFreshTo n x (4096 * (page + 1)) current'
+fresh_more {current = current} {current' = current'} n x page bytes was writes done long here = record {
   each = λ p from below. elim (cases_lt p (4096 * page)) [
     | inl before ↦ writes.outside p (λ within. omega (arith, within.from, before)) ∙ was.each p from before
     | inr after ↦
         let at : 4096 * page + (p - 4096 * page) ≡ p = omega (arith, after) in
-        let there : seen' (4096 * page + (p - 4096 * page)) ≡ get_or bytes (p - 4096 * page) 0 =
-        span_at seen' (4096 * page) bytes (p - 4096 * page) (writes.inside done)
+        let there : current' (4096 * page + (p - 4096 * page)) ≡ get_or bytes (p - 4096 * page) 0 =
+        span_at current' (4096 * page) bytes (p - 4096 * page) (writes.inside done)
         (omega (arith, long, below, after)) in
         let is = here (p - 4096 * page) (omega (arith, below, after)) in
-        subst (λ (q : ℕ). seen' q ≡ fresh_byte n x q) at (there ∙ is)
+        subst (λ (q : ℕ). current' q ≡ fresh_byte n x q) at (there ∙ is)
   ];
 }
 
@@ -85,8 +85,8 @@ fresh_all {c = c} n x bytes first writes two second long is was = record {
 }
 
 -- an image where nothing is unsynced
-pub fresh_on : {n : ℕ} {x : IndexSet} {seen image : ℕ → ℕ} {unsynced : ℕ → Type 0} → IsImage seen unsynced image
-    → ((p : ℕ) → unsynced p → ⊥) → IsFresh n x seen → IsFresh n x image
+pub fresh_on : {n : ℕ} {x : IndexSet} {current image : ℕ → ℕ} {unsynced : ℕ → Type 0} → IsImage current unsynced image
+    → ((p : ℕ) → unsynced p → ⊥) → IsFresh n x current → IsFresh n x image
 fresh_on is is_synced fresh = record {
   prefix = λ i lt. is.same i (is_synced i) ∙ fresh.prefix i lt;
   after = record { each = λ p from below. is.same p (is_synced p) ∙ fresh.after.each p from below };

@@ -39,14 +39,16 @@ module _ {D : Type 0} (disk : Ghosts D) (old new : D) (honest : disk.honest old 
   }
 
   -- a call that leaves what shows the same as what a read gives
-  pub quiet_shown : ((t : ℕ) (image : ℕ → ℕ) → t ≤ disk.moment old → IsImage (disk.seen old) (disk.unsynced old) image
+  pub quiet_shown : ((t : ℕ) (image : ℕ → ℕ) → t ≤ disk.moment old
+      → IsImage (disk.current old) (disk.unsynced old) image
       → disk.left_since old t image)
-      → Lasts disk old new (λ image. (k : ℕ) (m : Store) → ImageShows k (disk.seen old) m → ImageShows k image m)
+      → Lasts disk old new (λ image. (k : ℕ) (m : Store) → ImageShows k (disk.current old) m → ImageShows k image m)
       → Quiet (disk.moment old) (disk.moment new) (SpoolLeft disk old n) (SpoolLeft disk new n')
   quiet_shown now lasts = record {
     later = lasts.later;
     keeps = λ blocks t ms le left.
-        let one = left.1.each (disk.seen old) (now t (disk.seen old) le record { same = λ p is_synced. refl }) in (
+        let one = left.1.each (disk.current old) (now t
+        (disk.current old) le record { same = λ p is_synced. refl }) in (
           left.0 ∙ ap Some (sym size),
           left_on t ms lasts (λ image same. record {
             store = one.store;
@@ -59,9 +61,9 @@ module _ {D : Type 0} (disk : Ghosts D) (old new : D) (honest : disk.honest old 
 -- a call that only reads
 pub quiet_read : {D : Type 0} (disk : Ghosts D) (old new : D) (honest : disk.honest old ↔ disk.honest new)
     (long : disk.size new ≡ disk.size old) (n : ℕ) → disk.moment old ≤ disk.moment new
-    → ((t : ℕ) (image : ℕ → ℕ) → t ≤ disk.moment old → IsImage (disk.seen old) (disk.unsynced old) image
+    → ((t : ℕ) (image : ℕ → ℕ) → t ≤ disk.moment old → IsImage (disk.current old) (disk.unsynced old) image
     → disk.left_since old t image)
-    → (disk.honest old → Lasts disk old new (IsImage (disk.seen old) (disk.unsynced old)))
+    → (disk.honest old → Lasts disk old new (IsImage (disk.current old) (disk.unsynced old)))
     → Quiet (disk.moment old) (disk.moment new) (SpoolLeft disk old n) (SpoolLeft disk new n)
 quiet_read disk old new honest long n later now lasts = record {
   later = later;

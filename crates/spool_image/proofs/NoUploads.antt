@@ -14,7 +14,7 @@ use Rattle.spool_pages.specs.View.{SlotRecord, View, IsViewOf, Says, Stands, slo
 use Rattle.spool_pages.specs.View.{state_place}
 use Rattle.spool_pages.specs.declared.version.Version.TheVariants.{Two}
 use Rattle.spool_pages.specs.View.{slot_place, row_place, state_page, first_page}
-use Rattle.spool_kept.specs.Shows.{IsSound, ImageShows}
+use Rattle.spool_kept.specs.Shows.{IsValid, ImageShows}
 use Rattle.spool_image.specs.Format.{IsNewest}
 use Rattle.spool_image.specs.Fresh.{IsFresh}
 use Rattle.spool_image.proofs.Fresh.{fresh_prefix, fresh_area, fresh_state, fresh_zeros}
@@ -90,9 +90,9 @@ module _ (n : ℕ) (x : IndexSet) (image : ℕ → ℕ) (fresh : IsFresh n x ima
         texts = λ s r e. never (none_at 512 s) e;
       }
 
-  fresh_sound : 16 ≤ n → n ≤ 65536 → IsIndexSet x → IsSound (fresh_view n x)
+  fresh_valid : 16 ≤ n → n ≤ 65536 → IsIndexSet x → IsValid (fresh_view n x)
   unfolding fresh_view
-  fresh_sound least most valid = record {
+  fresh_valid least most valid = record {
     least = least;
     most = most;
     next_least = omega arith;
@@ -126,7 +126,7 @@ module _ (n : ℕ) (x : IndexSet) (image : ℕ → ℕ) (fresh : IsFresh n x ima
     blocks = refl;
     is = fresh_is;
     shows = record {
-      sound = fresh_sound least most valid;
+      valid = fresh_valid least most valid;
       next = refl;
       indexes = refl;
       rising = λ i k lt below. omega (arith, below);
@@ -139,4 +139,4 @@ module _ (n : ℕ) (x : IndexSet) (image : ℕ → ℕ) (fresh : IsFresh n x ima
   pub fresh_newest : 16 ≤ n → n ≤ 65536 → IsIndexSet x → IsNewest image
   unfolding fresh_view
   fresh_newest least most valid =
-      record { view = fresh_view n x; sound = fresh_sound least most valid; new = refl; is = fresh_is }
+      record { view = fresh_view n x; valid = fresh_valid least most valid; new = refl; is = fresh_is }

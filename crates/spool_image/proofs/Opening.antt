@@ -7,12 +7,12 @@ use Rattle.spool_load.specs.Loaded.{OpenedFrom}
 use Rattle.spool_load.specs.Refusals.{IsNoSpool, HasOtherVersion, IsDamaged, RefusedFor}
 use Rattle.spool_image.specs.Opening.{IsRefusedAs, OpensExactly}
 
-module _ {size : ℕ} {seen : ℕ → ℕ} where
+module _ {size : ℕ} {current : ℕ → ℕ} where
   -- it was opened
-  pub opened_exactly : {kept : Holding} → OpenedFrom size seen kept → (IsNoSpool size seen → ⊥)
-      → (HasOtherVersion size seen → ⊥) → (IsDamaged size seen → ⊥) → OpensExactly size seen None
+  pub opened_exactly : {kept : Holding} → OpenedFrom size current kept → (IsNoSpool size current → ⊥)
+      → (HasOtherVersion size current → ⊥) → (IsDamaged size current → ⊥) → OpensExactly size current None
   opened_exactly from spool known whole = record {
-    sound = λ opened. record { view = from.view; sound = from.sound; is = from.is; room = from.room };
+    valid = λ opened. record { view = from.view; valid = from.valid; is = from.is; room = from.room };
     refused = tt;
     not_a_spool = spool;
     version = known;
@@ -20,12 +20,12 @@ module _ {size : ℕ} {seen : ℕ → ℕ} where
   }
 
   -- it was refused
-  pub refused_exactly : (fault : OpenFault) → RefusedFor size seen fault
-      → (IsNoSpool size seen → IsRefusedAs (Some fault) NotASpool)
-      → (HasOtherVersion size seen → IsRefusedAs (Some fault) Version)
-      → (IsDamaged size seen → IsRefusedAs (Some fault) Damaged) → OpensExactly size seen (Some fault)
+  pub refused_exactly : (fault : OpenFault) → RefusedFor size current fault
+      → (IsNoSpool size current → IsRefusedAs (Some fault) NotASpool)
+      → (HasOtherVersion size current → IsRefusedAs (Some fault) Version)
+      → (IsDamaged size current → IsRefusedAs (Some fault) Damaged) → OpensExactly size current (Some fault)
   refused_exactly fault reason no_spool other damaged = record {
-    sound = λ opened. absurd (cc);
+    valid = λ opened. absurd (cc);
     refused = reason;
     not_a_spool = no_spool;
     version = other;
@@ -33,8 +33,9 @@ module _ {size : ℕ} {seen : ℕ → ℕ} where
   }
 
   -- it was opened, and then memory ran out
-  pub exhausted_exactly : (IsNoSpool size seen → ⊥) → (HasOtherVersion size seen → ⊥) → (IsDamaged size seen → ⊥)
-      → OpensExactly size seen (Some NoMemory)
+  pub exhausted_exactly : (IsNoSpool size current → ⊥) → (HasOtherVersion size current → ⊥)
+      → (IsDamaged size current → ⊥)
+      → OpensExactly size current (Some NoMemory)
   exhausted_exactly spool known whole =
       refused_exactly NoMemory tt (λ no. absurd (spool no)) (λ other. absurd (known other))
       (λ damaged. absurd (whole damaged))

@@ -9,7 +9,7 @@ use Rattle.spool_journal.specs.Phases.{ReadsAs}
 use Rattle.upload_rules.specs.Store.{Store}
 use Rattle.spool_pages.specs.View.{View, IsViewOf}
 use Rattle.spool_pages.proofs.Says.{says_same}
-use Rattle.spool_kept.specs.Shows.{ImageShows, IsSound}
+use Rattle.spool_kept.specs.Shows.{ImageShows, IsValid}
 use Rattle.spool_image.specs.LeftOnly.{IsSpool, LeftOrShows}
 
 -- what reads the same shows the same
@@ -36,10 +36,10 @@ view_room disk d n m is = subst (λ (k : ℕ). 4096 * all_pages k ≤ disk.size 
 
 -- what reads the same while a disk is opened shows the same
 pub lasts_shown : {D : Type 0} (disk : Ghosts D) (d d' : D) (n : ℕ) (m : Store) (is : IsSpool disk d n m)
-    → ((v : View) → IsSound v → IsViewOf (disk.seen d) v → 4096 * all_pages v.blocks ≤ disk.size d
-    → Lasts disk d d' (λ image. IsImage (disk.seen d) (disk.unsynced d) image
-    ⊎ ReadsAs (journal_pages v.blocks) image (overlaid (disk.seen d))))
+    → ((v : View) → IsValid v → IsViewOf (disk.current d) v → 4096 * all_pages v.blocks ≤ disk.size d
+    → Lasts disk d d' (λ image. IsImage (disk.current d) (disk.unsynced d) image
+    ⊎ ReadsAs (journal_pages v.blocks) image (overlaid (disk.current d))))
     → Lasts disk d d' (LeftOrShows disk d n m)
 lasts_shown disk d d' n m is lasts =
-    lasts_more (lasts is.shows.view is.shows.shows.sound is.shows.is (view_room disk d n m is))
-    (λ image one. ⊎_elim (λ here. inl here) (λ reads. inr (image_shows n m image (disk.seen d) is.shows reads)) one)
+    lasts_more (lasts is.shows.view is.shows.shows.valid is.shows.is (view_room disk d n m is))
+    (λ image one. ⊎_elim (λ here. inl here) (λ reads. inr (image_shows n m image (disk.current d) is.shows reads)) one)

@@ -1,4 +1,4 @@
--- At most one reason of a refusal holds, and none of a sound spool.
+-- At most one reason of a refusal holds, and none of a valid spool.
 use Rattle.std.proofs.Common.{◌≡◌, ◌⊎◌, inl, inr, ℕ, refl, subst, ap, arith}
 use Rattle.spool_journal.specs.Image.{overlaid}
 use Rattle.spool_pages.specs.View.{state_place, version_number}
@@ -25,67 +25,69 @@ told_as Damaged fault no_spool version damaged = inl (damaged refl)
 told_as NoMemory fault no_spool version damaged = inr (inl refl)
 told_as DiskFault fault no_spool version damaged = inr (inr refl)
 
-module _ (size : ℕ) (seen : ℕ → ℕ) where
+module _ (size : ℕ) (current : ℕ → ℕ) where
   -- the version of a disk doesn't depend on how its number of blocks is named
-  known_at : (n m : ℕ) → SaysBlocks size seen n → SaysBlocks size seen m → HasKnownVersion n (overlaid seen)
-      → HasKnownVersion m (overlaid seen)
-  known_at n m a b known = subst (λ (k : ℕ). HasKnownVersion k (overlaid seen)) (says_one size seen n m a b) known
+  known_at : (n m : ℕ) → SaysBlocks size current n → SaysBlocks size current m → HasKnownVersion n (overlaid current)
+      → HasKnownVersion m (overlaid current)
+  known_at n m a b known = subst (λ (k : ℕ). HasKnownVersion k (overlaid current)) (says_one size current n m a b) known
 
-  other_not_damaged : HasOtherVersion size seen → IsDamaged size seen → ⊥
+  other_not_damaged : HasOtherVersion size current → IsDamaged size current → ⊥
   other_not_damaged other damaged =
-      let e : other.blocks ≡ damaged.blocks = says_one size seen other.blocks damaged.blocks other.says damaged.says in
-      let J : ℕ → Type 0 = λ k. HasJournal k seen in
+      let e : other.blocks ≡ damaged.blocks = says_one size current other.blocks damaged.blocks other.says
+      damaged.says in
+      let J : ℕ → Type 0 = λ k. HasJournal k current in
       other.other (known_at damaged.blocks other.blocks damaged.says other.says
       (damaged.version (subst J e other.journal)))
 
-  module _ (kept : Holding) (opened : OpenedFrom size seen kept) where
-    opened_says : SaysBlocks size seen opened.view.blocks
-    opened_says = view_says_blocks size seen opened.view opened.sound opened.is opened.room
+  module _ (kept : Holding) (opened : OpenedFrom size current kept) where
+    opened_says : SaysBlocks size current opened.view.blocks
+    opened_says = view_says_blocks size current opened.view opened.valid opened.is opened.room
 
-    pub opened_is_spool : IsNoSpool size seen → ⊥
+    pub opened_is_spool : IsNoSpool size current → ⊥
     opened_is_spool none = none opened.view.blocks opened_says
 
-    pub opened_is_known : HasOtherVersion size seen → ⊥
+    pub opened_is_known : HasOtherVersion size current → ⊥
     opened_is_known other =
         let v = opened.view in
         other.other (known_at v.blocks other.blocks opened_says other.says
-        (known_stands (overlaid seen) (state_place v.blocks) 4096 v.version v.next (omega arith) opened.is.says.state))
+        (known_stands (overlaid current) (state_place v.blocks) 4096 v.version v.next
+        (omega arith) opened.is.says.state))
 
-    pub opened_is_old : opened.view.version ≡ One → IsAlreadyNew size seen → ⊥
+    pub opened_is_old : opened.view.version ≡ One → IsAlreadyNew size current → ⊥
     opened_is_old old new =
         let v = opened.view in
-        let N : ℕ → Type 0 = λ k. NamesVersion k (overlaid seen) Two in
-        let there = subst N (says_one size seen new.blocks v.blocks new.says opened_says) new.new in
-        let said = version_stands (overlaid seen) (state_place v.blocks) 4096 v.version v.next (omega arith)
+        let N : ℕ → Type 0 = λ k. NamesVersion k (overlaid current) Two in
+        let there = subst N (says_one size current new.blocks v.blocks new.says opened_says) new.new in
+        let said = version_stands (overlaid current) (state_place v.blocks) 4096 v.version v.next (omega arith)
         opened.is.says.state in
         let same : version_number v.version ≡ 2 =
-        version_one (overlaid seen) (state_place v.blocks) v.version Two said there in
+        version_one (overlaid current) (state_place v.blocks) v.version Two said there in
         let one : version_number v.version ≡ 1 = ap version_number old in
         omega (arith, same, one)
 
-    pub opened_is_whole : IsDamaged size seen → ⊥
+    pub opened_is_whole : IsDamaged size current → ⊥
     opened_is_whole damaged =
-        damaged.no_view opened.view opened.sound opened.is
-        (says_one size seen opened.view.blocks damaged.blocks opened_says damaged.says)
+        damaged.no_view opened.view opened.valid opened.is
+        (says_one size current opened.view.blocks damaged.blocks opened_says damaged.says)
 
   -- told with this fault, the reason is its own
-  given : (e fault : OpenFault) → RefusedFor size seen e → e ≡ fault → RefusedFor size seen fault
-  given e fault reason is = subst (RefusedFor size seen) is reason
+  given : (e fault : OpenFault) → RefusedFor size current e → e ≡ fault → RefusedFor size current fault
+  given e fault reason is = subst (RefusedFor size current) is reason
 
-  pub told_no_spool : (e : OpenFault) → RefusedFor size seen e → IsNoSpool size seen
+  pub told_no_spool : (e : OpenFault) → RefusedFor size current e → IsNoSpool size current
       → (e ≡ NotASpool) ⊎ (e ≡ NoMemory) ⊎ (e ≡ DiskFault)
   told_no_spool e reason none =
       told_as e NotASpool (λ is. is)
       (λ is. let other = given e Version reason is in absurd (none other.blocks other.says))
       (λ is. let damaged = given e Damaged reason is in absurd (none damaged.blocks damaged.says))
 
-  pub told_version : (e : OpenFault) → RefusedFor size seen e → HasOtherVersion size seen
+  pub told_version : (e : OpenFault) → RefusedFor size current e → HasOtherVersion size current
       → (e ≡ Version) ⊎ (e ≡ NoMemory) ⊎ (e ≡ DiskFault)
   told_version e reason other =
       told_as e Version (λ is. absurd (given e NotASpool reason is other.blocks other.says)) (λ is. is)
       (λ is. absurd (other_not_damaged other (given e Damaged reason is)))
 
-  pub told_damaged : (e : OpenFault) → RefusedFor size seen e → IsDamaged size seen
+  pub told_damaged : (e : OpenFault) → RefusedFor size current e → IsDamaged size current
       → (e ≡ Damaged) ⊎ (e ≡ NoMemory) ⊎ (e ≡ DiskFault)
   told_damaged e reason damaged =
       told_as e Damaged (λ is. absurd (given e NotASpool reason is damaged.blocks damaged.says))
@@ -102,33 +104,33 @@ module _ (size : ℕ) (seen : ℕ → ℕ) where
   opens e fault (inr (inl is)) = inr (inl (ap Open is))
   opens e fault (inr (inr is)) = inr (inr (ap Open is))
 
-  pub plain_reason : (e : OpenFault) → UpgradeRefusedFor size seen (Open e) → RefusedFor size seen e
+  pub plain_reason : (e : OpenFault) → UpgradeRefusedFor size current (Open e) → RefusedFor size current e
   plain_reason NotASpool is = is
   plain_reason Version is = is
   plain_reason Damaged is = is.0
   plain_reason NoMemory is = tt
   plain_reason DiskFault is = tt
 
-  new_is_known : IsAlreadyNew size seen → HasOtherVersion size seen → ⊥
+  new_is_known : IsAlreadyNew size current → HasOtherVersion size current → ⊥
   new_is_known new other =
       other.other (known_at new.blocks other.blocks new.says other.says (record { version = Two; said = new.new }))
 
-  pub upgrade_no_spool : (e : UpgradeError) → UpgradeRefusedFor size seen e → IsNoSpool size seen
+  pub upgrade_no_spool : (e : UpgradeError) → UpgradeRefusedFor size current e → IsNoSpool size current
       → Upgrades e (Open NotASpool)
   upgrade_no_spool AlreadyNew new none = absurd (none new.blocks new.says)
   upgrade_no_spool (Open e) reason none = opens e NotASpool (told_no_spool e (plain_reason e reason) none)
 
-  pub upgrade_version : (e : UpgradeError) → UpgradeRefusedFor size seen e → HasOtherVersion size seen
+  pub upgrade_version : (e : UpgradeError) → UpgradeRefusedFor size current e → HasOtherVersion size current
       → Upgrades e (Open Version)
   upgrade_version AlreadyNew new other = absurd (new_is_known new other)
   upgrade_version (Open e) reason other = opens e Version (told_version e (plain_reason e reason) other)
 
-  pub upgrade_damaged : (e : UpgradeError) → UpgradeRefusedFor size seen e → IsOldDamaged size seen
+  pub upgrade_damaged : (e : UpgradeError) → UpgradeRefusedFor size current e → IsOldDamaged size current
       → Upgrades e (Open Damaged)
   upgrade_damaged AlreadyNew new damaged = absurd (damaged.1 new)
   upgrade_damaged (Open e) reason damaged = opens e Damaged (told_damaged e (plain_reason e reason) damaged.0)
 
-  pub upgrade_new : (e : UpgradeError) → UpgradeRefusedFor size seen e → IsAlreadyNew size seen
+  pub upgrade_new : (e : UpgradeError) → UpgradeRefusedFor size current e → IsAlreadyNew size current
       → Upgrades e AlreadyNew
   upgrade_new AlreadyNew reason new = inl refl
   upgrade_new (Open NotASpool) reason new = absurd (reason new.blocks new.says)

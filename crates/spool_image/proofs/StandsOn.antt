@@ -44,7 +44,7 @@ begun_any number count declare (Some u) = tt
 
 module _ {D : Type 0} (disk : Ghosts D) (d d' : D) (h : Holding) (drafts : List (Option SpoolDraft)) (w : World) where
   pub stands_read : {sure : Bool} → (disk.honest d ↔ disk.honest d')
-      → (disk.honest d → Keeps (disk.seen d) (disk.seen d') (disk.unsynced d) (disk.unsynced d'))
+      → (disk.honest d → Keeps (disk.current d) (disk.current d') (disk.unsynced d) (disk.unsynced d'))
       → StandsFor sure disk d h drafts w → StandsFor sure disk d' h drafts w
   stands_read {sure = sure} honest keeps s = record {
     stored = record {
@@ -55,12 +55,12 @@ module _ {D : Type 0} (disk : Ghosts D) (d d' : D) (h : Holding) (drafts : List 
       shows = s.stored.shows;
     };
     stands = record {
-      each = λ k. held_on (Stands (disk.seen d)) (Stands (disk.seen d')) (find k w.patches) (draft_at drafts k)
+      each = λ k. held_on (Stands (disk.current d)) (Stands (disk.current d')) (find k w.patches) (draft_at drafts k)
           (λ p o there is. record {
             holds = is.holds;
             below = is.below;
-            carries = λ known. subst (λ (seen : ℕ → ℕ). IsStillOpen w.store p
-                → Carries w.store.indexes seen (text_page h.layout) p o)
+            carries = λ known. subst (λ (current : ℕ → ℕ). IsStillOpen w.store p
+                → Carries w.store.indexes current (text_page h.layout) p o)
                 (sym (same_function _ _ (keeps (s.stored.honest known)).same)) (is.carries known);
             tail = is.tail;
           }) (s.stands.each k);
@@ -72,7 +72,8 @@ module _ {D : Type 0} (disk : Ghosts D) (d d' : D) (h : Holding) (drafts : List 
   }
     where
       Stands : (ℕ → ℕ) → Patch → SpoolDraft → Type 0
-      Stands seen = DraftStands (sure ≡ true) w.store.indexes seen (text_page h.layout) h.slots h.blocks.rows w.store
+      Stands current = DraftStands (sure ≡ true) w.store.indexes current
+          (text_page h.layout) h.slots h.blocks.rows w.store
 
 -- AN OPENED SPOOL
 
@@ -82,13 +83,13 @@ none_reserved n b = elim (cases_lt b n) [
   | inr from ↦ get_or-eq_default (replicate n false) false (omega (arith, length-replicate n false, from))
 ]
 
-none_stands : {sure : Type 0} (x : IndexSet) (seen : ℕ → ℕ) (first : ℕ) (h : Holding) (m : Store) (v : View)
-    → KeepsAlone h v → Shows v m → DraftsStand sure x seen first h.slots h.blocks (at_rest m (Some v.blocks)) []
-none_stands x seen first h m v keeps shows = record {
+none_stands : {sure : Type 0} (x : IndexSet) (current : ℕ → ℕ) (first : ℕ) (h : Holding) (m : Store) (v : View)
+    → KeepsAlone h v → Shows v m → DraftsStand sure x current first h.slots h.blocks (at_rest m (Some v.blocks)) []
+none_stands x current first h m v keeps shows = record {
   each = λ d. tt;
   apart = tt;
   grown = record { each = λ d p found. absurd cc };
-  limit = ap Some (sym (ap length keeps.0.rows ∙ shows.sound.row_count));
+  limit = ap Some (sym (ap length keeps.0.rows ∙ shows.valid.row_count));
   all = λ b reserved.
       let free = none_reserved v.blocks b in
       let is = sym (ap (λ bs. get_or bs b false) keeps.1) ∙ reserved in
@@ -98,7 +99,7 @@ none_stands x seen first h m v keeps shows = record {
 pub stands_opened : {D : Type 0} {sure : Bool} (disk : Ghosts D) (d' : D) (was : ℕ → ℕ) (h : Holding)
     (drafts : List (Option SpoolDraft)) (m : Store) (v : View) → drafts ≡ [] → (sure ≡ true → disk.honest d')
     → (sure ≡ true → IsViewOf was v) → KeepsAlone h v → Shows v m
-    → (sure ≡ true → Settled (journal_pages h.layout) (overlaid was) (disk.seen d') (disk.unsynced d'))
+    → (sure ≡ true → Settled (journal_pages h.layout) (overlaid was) (disk.current d') (disk.unsynced d'))
     → StandsFor sure disk d' h drafts (at_rest m (Some v.blocks))
 stands_opened {sure = sure} disk d' was h drafts m v none honest is keeps shows settled = record {
   stored = record {
@@ -108,25 +109,26 @@ stands_opened {sure = sure} disk d' was h drafts m v none honest is keeps shows 
     keeps = keeps.0;
     shows = shows;
   };
-  stands = subst (DraftsStand (sure ≡ true) m.indexes (disk.seen d') (text_page h.layout) h.slots h.blocks
+  stands = subst (DraftsStand (sure ≡ true) m.indexes (disk.current d') (text_page h.layout) h.slots h.blocks
       (at_rest m (Some v.blocks))) (sym none)
-      (none_stands m.indexes (disk.seen d') (text_page h.layout) h m v keeps shows);
+      (none_stands m.indexes (disk.current d') (text_page h.layout) h m v keeps shows);
 }
 
 -- A NEW UPLOAD
 
-module _ {sure : Type 0} (seen seen' : ℕ → ℕ) (first : ℕ) (slots slots' : List (Option SlotRecord)) (w : World)
-    (new : New) (same : sure → (p : ℕ) → 4096 * first ≤ p → seen' p ≡ seen p)
+module _ {sure : Type 0} (current current' : ℕ → ℕ) (first : ℕ) (slots slots' : List (Option SlotRecord)) (w : World)
+    (new : New) (same : sure → (p : ℕ) → 4096 * first ≤ p → current' p ≡ current p)
     (used : (s n : ℕ) → IsUsedBy slots s n → IsUsedBy slots' s n) where
-  draft_still : (rows : List Row) (p : Patch) (o : SpoolDraft) → DraftStands sure w.store.indexes seen first slots rows
-      w.store p o → DraftStands sure w.store.indexes seen' first slots' rows (created_store w.store new) p o
+  draft_still : (rows : List Row) (p : Patch) (o : SpoolDraft)
+      → DraftStands sure w.store.indexes current first slots rows
+      w.store p o → DraftStands sure w.store.indexes current' first slots' rows (created_store w.store new) p o
   draft_still rows p o is =
       let found : upload_of (created_store w.store new) p.number ≡ upload_of w.store p.number =
       find_push_other p.number w.store.next (new_upload new) w.store.uploads (λ e. omega (arith, e, is.below)) in
       record {
         holds = is.holds;
         below = omega (arith, is.below);
-        carries = λ known still kept. bytes_same seen seen' first o.growth o.growth.on (same known)
+        carries = λ known still kept. bytes_same current current' first o.growth o.growth.on (same known)
             ∙ is.carries known (still.0, sym found ∙ still.1, still.2) kept;
         tail = λ still. owned (is.tail (still.0, sym found ∙ still.1, still.2));
       }
@@ -135,16 +137,17 @@ module _ {sure : Type 0} (seen seen' : ℕ → ℕ) (first : ℕ) (slots slots' 
       owned by = record { slot = by.slot; used = used by.slot p.number by.used; owned = by.owned }
 
   drafts_still : (h : Held) (drafts : List (Option SpoolDraft))
-      → DraftsStand sure w.store.indexes seen first slots h w drafts
-      → DraftsStand sure w.store.indexes seen' first slots' h (created w new) drafts
+      → DraftsStand sure w.store.indexes current first slots h w drafts
+      → DraftsStand sure w.store.indexes current' first slots' h (created w new) drafts
   drafts_still h drafts stand = record {
-    each = λ d. held_on (DraftStands sure w.store.indexes seen first slots h.rows w.store)
-        (DraftStands sure w.store.indexes seen' first slots' h.rows (created_store w.store new)) (find d w.patches)
+    each = λ d. held_on (DraftStands sure w.store.indexes current first slots h.rows w.store)
+        (DraftStands sure w.store.indexes current' first slots' h.rows (created_store w.store new)) (find d w.patches)
         (draft_at drafts d)
         (λ p o there. draft_still h.rows p o) (stand.each d);
     apart = stand.apart;
     grown = grown_created w stand.grown new
-        (λ d p there. (draft_of (DraftStands sure w.store.indexes seen first slots h.rows w.store) p (find d w.patches)
+        (λ d p there. (draft_of (DraftStands sure w.store.indexes current first slots h.rows w.store) p
+        (find d w.patches)
         (draft_at drafts d) there (stand.each d)).2.below);
     limit = stand.limit;
     all = stand.all;
@@ -153,16 +156,17 @@ module _ {sure : Type 0} (seen seen' : ℕ → ℕ) (first : ℕ) (slots slots' 
 pub stands_created : {D : Type 0} {sure : Bool} (disk : Ghosts D) (d d' : D) (h h' : Holding)
     (drafts : List (Option SpoolDraft)) (w : World) (new : New) → StandsFor sure disk d h drafts w
     → h'.layout ≡ h.layout → h'.blocks ≡ h.blocks → ((s n : ℕ) → IsUsedBy h.slots s n → IsUsedBy h'.slots s n)
-    → (sure ≡ true → (p : ℕ) → 4096 * text_page h.layout ≤ p → disk.seen d' p ≡ disk.seen d p)
+    → (sure ≡ true → (p : ℕ) → 4096 * text_page h.layout ≤ p → disk.current d' p ≡ disk.current d p)
     → Stored sure disk d' h' (created_store w.store new) → StandsFor sure disk d' h' drafts (created w new)
 stands_created {sure = sure} disk d d' h h' drafts w new s layout blocks used texts stored = record {
   stored = stored;
   stands =
       let S : ℕ → Held → Type 0 =
-      λ n held. DraftsStand (sure ≡ true) w.store.indexes (disk.seen d') (text_page n) h'.slots held (created w new)
+      λ n held. DraftsStand (sure ≡ true) w.store.indexes (disk.current d') (text_page n) h'.slots held (created w new)
       drafts in
       subst (λ (n : ℕ). S n h'.blocks) (sym layout) (subst (S h.layout) (sym blocks)
-      (drafts_still (disk.seen d) (disk.seen d') (text_page h.layout) h.slots h'.slots w new texts used h.blocks drafts
+      (drafts_still (disk.current d) (disk.current d')
+      (text_page h.layout) h.slots h'.slots w new texts used h.blocks drafts
       s.stands));
 }
 

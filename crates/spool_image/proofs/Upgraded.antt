@@ -18,7 +18,7 @@ use Rattle.spool_pages.specs.View.{View, IsViewOf, Stands, state_page, state_pla
 use Rattle.spool_pages.specs.declared.version.Version.{Version}
 use Rattle.spool_pages.specs.declared.version.Version.TheVariants.{One, Two}
 use Rattle.spool_pages.proofs.Resting.{rests_image, shut_is}
-use Rattle.spool_kept.specs.Shows.{ImageShows, IsSound}
+use Rattle.spool_kept.specs.Shows.{ImageShows, IsValid}
 use Rattle.spool_kept.specs.declared.error.OpenFault.{OpenFault}
 use Rattle.spool_kept.specs.declared.error.OpenFault.TheVariants.{NotASpool, DiskFault, Damaged, NoMemory}
 use Rattle.spool_kept.specs.declared.error.OpenFault.TheVariants as faults
@@ -36,15 +36,15 @@ use Rattle.spool_image.specs.declared.error.UpgradeError.TheVariants.{Open}
 use Rattle.spool_image.proofs.Opens.{view_room}
 
 -- a recovered spool rests
-pub settled_rests : {was seen : ℕ → ℕ} {unsynced : ℕ → Type 0} (v : View) (n : ℕ) → n ≡ v.blocks
-    → Settled (journal_pages n) (overlaid was) seen unsynced → IsViewOf was v → Rests v seen unsynced
-settled_rests {was = was} {seen = seen} {unsynced = unsynced} v n same settled is =
-    let J : ℕ → Type 0 = λ k. Settled (journal_pages k) (overlaid was) seen unsynced in
+pub settled_rests : {was current : ℕ → ℕ} {unsynced : ℕ → Type 0} (v : View) (n : ℕ) → n ≡ v.blocks
+    → Settled (journal_pages n) (overlaid was) current unsynced → IsViewOf was v → Rests v current unsynced
+settled_rests {was = was} {current = current} {unsynced = unsynced} v n same settled is =
+    let J : ℕ → Type 0 = λ k. Settled (journal_pages k) (overlaid was) current unsynced in
     let here = subst J same settled in
     record {
       closed = here.closed;
       is_synced = λ p l. absurd (here.is_synced p l);
-      is = shut_is seen v here.closed (settled_says v here is.says);
+      is = shut_is current v here.closed (settled_says v here is.says);
     }
 
 -- ANSWERS
@@ -54,11 +54,11 @@ pub upgrades_late : {T : Type 0} (version : Version) (r : Result T UpgradeError)
 upgrades_late version (Ok t) old late = old
 upgrades_late version (Err e) old late = inr late
 
-pub refused_late : {T : Type 0} (size : ℕ) (seen : ℕ → ℕ) (r : Result T UpgradeError) → IfErr r IsLateRefusal
-    → IfErr r (UpgradeRefusedFor size seen)
-refused_late size seen (Ok t) late = tt
-refused_late size seen (Err e) (inl is) = subst (UpgradeRefusedFor size seen) (sym is) tt
-refused_late size seen (Err e) (inr is) = subst (UpgradeRefusedFor size seen) (sym is) tt
+pub refused_late : {T : Type 0} (size : ℕ) (current : ℕ → ℕ) (r : Result T UpgradeError) → IfErr r IsLateRefusal
+    → IfErr r (UpgradeRefusedFor size current)
+refused_late size current (Ok t) late = tt
+refused_late size current (Err e) (inl is) = subst (UpgradeRefusedFor size current) (sym is) tt
+refused_late size current (Err e) (inr is) = subst (UpgradeRefusedFor size current) (sym is) tt
 
 pub on_ok_more : {T E A B : Type 0} (r : Result T E) → (A → B) → OnOk r A → OnOk r B
 on_ok_more (Ok t) more a = more a
@@ -83,7 +83,7 @@ other_err r e fault is fine bad = fine (same_Some _ _ (ap result_err (sym is ∙
 
 -- what shows after it
 pub rests_show : {D : Type 0} (disk : Ghosts D) (d' : D) (n : ℕ) (m : Store) (v : View) → v.blocks ≡ n
-    → disk.honest d' → 4096 * all_pages n ≤ disk.size d' → Rests v (disk.seen d') (disk.unsynced d')
+    → disk.honest d' → 4096 * all_pages n ≤ disk.size d' → Rests v (disk.current d') (disk.unsynced d')
     → ((image : ℕ → ℕ) → IsViewOf image v → ImageShows n image m) → AllShow disk d' n m
 rests_show disk d' n m v same honest room rests shows = record {
   honest = honest;
@@ -106,72 +106,72 @@ upgraded_view_shows n m was image shown is = record {
 }
 
 pub crash_shown : {D : Type 0} (disk : Ghosts D) (d d' : D) (n : ℕ) (m : Store) (is : IsSpool disk d n m)
-    → ((v : View) → IsSound v → IsViewOf (disk.seen d) v → 4096 * all_pages v.blocks ≤ disk.size d
-    → Lasts disk d d' (λ image. IsImage (disk.seen d) (disk.unsynced d) image ⊎ IsViewOf image v
+    → ((v : View) → IsValid v → IsViewOf (disk.current d) v → 4096 * all_pages v.blocks ≤ disk.size d
+    → Lasts disk d d' (λ image. IsImage (disk.current d) (disk.unsynced d) image ⊎ IsViewOf image v
     ⊎ IsViewOf image (upgraded v)))
     → Lasts disk d d' (LeftOrShows disk d n m)
 crash_shown disk d d' n m is lasts =
-    lasts_more (lasts is.shows.view is.shows.shows.sound is.shows.is (view_room disk d n m is))
+    lasts_more (lasts is.shows.view is.shows.shows.valid is.shows.is (view_room disk d n m is))
     (λ image one. ⊎_elim (λ here. inl here)
-    (λ then. inr (⊎_elim (view_shows n m (disk.seen d) image is.shows)
-    (upgraded_view_shows n m (disk.seen d) image is.shows) then)) one)
+    (λ then. inr (⊎_elim (view_shows n m (disk.current d) image is.shows)
+    (upgraded_view_shows n m (disk.current d) image is.shows) then)) one)
 
 -- what was found of version 2
-pub found_new : (size : ℕ) (seen : ℕ → ℕ) (found : Found) → FoundOn size seen found → found.version ≡ Two
-    → IsAlreadyNew size seen
-found_new size seen found is new = record {
+pub found_new : (size : ℕ) (current : ℕ → ℕ) (found : Found) → FoundOn size current found → found.version ≡ Two
+    → IsAlreadyNew size current
+found_new size current found is new = record {
   blocks = found.layout;
   says = is.says;
   journal = is.journal;
-  new = version_stands (overlaid seen) _ 12 Two found.next (omega arith)
-      (subst (λ (w : Version). Stands (overlaid seen) (state_place found.layout) 12 (state_page w found.next)) new
+  new = version_stands (overlaid current) _ 12 Two found.next (omega arith)
+      (subst (λ (w : Version). Stands (overlaid current) (state_place found.layout) 12 (state_page w found.next)) new
       is.state.fields);
 }
 
 -- and what was found of version 1
-pub found_old : (size : ℕ) (seen : ℕ → ℕ) (found : Found) → FoundOn size seen found → found.version ≡ One
-    → IsAlreadyNew size seen → ⊥
-found_old size seen found is old new =
+pub found_old : (size : ℕ) (current : ℕ → ℕ) (found : Found) → FoundOn size current found → found.version ≡ One
+    → IsAlreadyNew size current → ⊥
+found_old size current found is old new =
     let n = found.layout in
-    let N : ℕ → Type 0 = λ k. NamesVersion k (overlaid seen) Two in
-    let there = subst N (says_one size seen new.blocks n new.says is.says) new.new in
-    let said = version_stands (overlaid seen) (state_place n) 12 found.version found.next (omega arith)
+    let N : ℕ → Type 0 = λ k. NamesVersion k (overlaid current) Two in
+    let there = subst N (says_one size current new.blocks n new.says is.says) new.new in
+    let said = version_stands (overlaid current) (state_place n) 12 found.version found.next (omega arith)
     is.state.fields in
     let same : version_number found.version ≡ 2 =
-    version_one (overlaid seen) (state_place n) found.version Two said there in
+    version_one (overlaid current) (state_place n) found.version Two said there in
     let one : version_number found.version ≡ 1 = ap version_number old in
     omega (arith, same, one)
 
 -- a refusal to open an old spool is one to upgrade it
-pub old_reason : (size : ℕ) (seen : ℕ → ℕ) (e : OpenFault) → (e ≡ Damaged → IsAlreadyNew size seen → ⊥)
-    → RefusedFor size seen e → UpgradeRefusedFor size seen (Open e)
-old_reason size seen NotASpool old is = is
-old_reason size seen faults.Version old is = is
-old_reason size seen Damaged old is = (is, old refl)
-old_reason size seen NoMemory old is = tt
-old_reason size seen DiskFault old is = tt
+pub old_reason : (size : ℕ) (current : ℕ → ℕ) (e : OpenFault) → (e ≡ Damaged → IsAlreadyNew size current → ⊥)
+    → RefusedFor size current e → UpgradeRefusedFor size current (Open e)
+old_reason size current NotASpool old is = is
+old_reason size current faults.Version old is = is
+old_reason size current Damaged old is = (is, old refl)
+old_reason size current NoMemory old is = tt
+old_reason size current DiskFault old is = tt
 
 -- nor is why it isn't found another one
-pub unfound_upgrade : (size : ℕ) (seen : ℕ → ℕ) (e : OpenFault) → NotFoundFor size seen e
-    → UpgradeRefusedFor size seen (Open e)
-unfound_upgrade size seen NotASpool why = why
-unfound_upgrade size seen faults.Version why = why
-unfound_upgrade size seen Damaged why = (
-  unfound_reason size seen Damaged why,
-  λ new. why.bad (subst (λ (k : ℕ). HasJournal k seen)
-      (says_one size seen new.blocks why.blocks new.says why.says) new.journal),
+pub unfound_upgrade : (size : ℕ) (current : ℕ → ℕ) (e : OpenFault) → NotFoundFor size current e
+    → UpgradeRefusedFor size current (Open e)
+unfound_upgrade size current NotASpool why = why
+unfound_upgrade size current faults.Version why = why
+unfound_upgrade size current Damaged why = (
+  unfound_reason size current Damaged why,
+  λ new. why.bad (subst (λ (k : ℕ). HasJournal k current)
+      (says_one size current new.blocks why.blocks new.says why.says) new.journal),
 )
-unfound_upgrade size seen NoMemory why = absurd why
-unfound_upgrade size seen DiskFault why = tt
+unfound_upgrade size current NoMemory why = absurd why
+unfound_upgrade size current DiskFault why = tt
 
 -- a spool that a read shows is found, unless the disk fails
-pub unfound_device : {T : Type 0} (size : ℕ) (seen : ℕ → ℕ) (e : OpenFault) (P : T → Type 0)
-    → LoadsAs {T = T} (Err e) P → NotFoundFor size seen e → e ≡ DiskFault
-unfound_device size seen NotASpool P h why = absurd h
-unfound_device size seen faults.Version P h why = absurd h
-unfound_device size seen Damaged P h why = absurd h
-unfound_device size seen NoMemory P h why = absurd why
-unfound_device size seen DiskFault P h why = refl
+pub unfound_device : {T : Type 0} (size : ℕ) (current : ℕ → ℕ) (e : OpenFault) (P : T → Type 0)
+    → LoadsAs {T = T} (Err e) P → NotFoundFor size current e → e ≡ DiskFault
+unfound_device size current NotASpool P h why = absurd h
+unfound_device size current faults.Version P h why = absurd h
+unfound_device size current Damaged P h why = absurd h
+unfound_device size current NoMemory P h why = absurd why
+unfound_device size current DiskFault P h why = refl
 
 pub loads_upgrades : {T : Type 0} (U : Type 0) (version : Version) (e : OpenFault) (P : T → Type 0)
     → LoadsAs {T = T} (Err e) P
@@ -190,8 +190,8 @@ other_old Two not = absurd (not refl)
 pub after_shows : {D : Type 0} (disk : Ghosts D) (d' : D) (n : ℕ) (m : Store) (v : View)
     (r : Result (Unit {0}) UpgradeError) → v.blocks ≡ n → disk.honest d' → 4096 * all_pages n ≤ disk.size d'
     → (r ≡ Err (Open DiskFault) → ⊥)
-    → OnOk r (Rests (upgraded v) (disk.seen d') (disk.unsynced d'))
-    → IfErr r (λ e. (e ≡ Open DiskFault → ⊥) → Rests v (disk.seen d') (disk.unsynced d'))
+    → OnOk r (Rests (upgraded v) (disk.current d') (disk.unsynced d'))
+    → IfErr r (λ e. (e ≡ Open DiskFault → ⊥) → Rests v (disk.current d') (disk.unsynced d'))
     → ((image : ℕ → ℕ) → IsViewOf image v → ImageShows n image m)
     → ((image : ℕ → ℕ) → IsViewOf image (upgraded v) → ImageShows n image m) → AllShow disk d' n m
 after_shows disk d' n m v (Ok t) same honest room fine done stays old new =
@@ -203,9 +203,9 @@ after_shows disk d' n m v (Err e) same honest room fine done stays old new =
     old
 
 -- the same commit, over bytes that agree outside gate and journal
-pub commit_over : {seen : ℕ → ℕ} {unsynced : ℕ → Type 0} (v : View) (bytes bytes' : ℕ → ℕ)
+pub commit_over : {current : ℕ → ℕ} {unsynced : ℕ → Type 0} (v : View) (bytes bytes' : ℕ → ℕ)
     → ((p : ℕ) → Outside (journal_pages v.blocks) p → bytes p ≡ bytes' p)
-    → CommitOfUpgrade v bytes seen unsynced → CommitOfUpgrade v bytes' seen unsynced
+    → CommitOfUpgrade v bytes current unsynced → CommitOfUpgrade v bytes' current unsynced
 commit_over v bytes bytes' same commit = record {
   pages = commit.pages;
   count = commit.count;

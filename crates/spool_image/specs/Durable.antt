@@ -17,7 +17,7 @@ use Rattle.spool_kept.specs.Stored.{Stored}
 
 -- each image of a spool that stands for a store shows it
 pub stored_shows : {D : Type 0} (disk : Ghosts D) (d : D) (h : Holding) (m : Store) (image : ℕ → ℕ)
-    → Stored true disk d h m → IsImage (disk.seen d) (disk.unsynced d) image → ImageShows h.layout image m
+    → Stored true disk d h m → IsImage (disk.current d) (disk.unsynced d) image → ImageShows h.layout image m
 stored_shows disk d h m image stored is = record {
   view = stored.view;
   blocks = sym stored.keeps.blocks;
@@ -27,12 +27,12 @@ stored_shows disk d h m image stored is = record {
 
 pub durable_left : {D : Type 0} {disk : Ghosts D} (d : D) (h : Holding) (drafts : List (Option SpoolDraft)) (w : World)
     (ms : List Store) → 4096 * all_pages h.layout ≤ disk.size d
-    → ((image : ℕ → ℕ) → disk.left_since d (disk.moment d) image → IsImage (disk.seen d) (disk.unsynced d) image)
+    → ((image : ℕ → ℕ) → disk.left_since d (disk.moment d) image → IsImage (disk.current d) (disk.unsynced d) image)
     → StandsFor true disk d h drafts w → Among w.store ms → SpoolLeft disk d h.layout w.blocks (disk.moment d) ms
 durable_left {disk = disk} d h drafts w ms room only stands among =
     let stored = stands.stored in
     let rows : length h.blocks.rows ≡ h.layout =
-    ap length stored.keeps.rows ∙ stored.shows.sound.row_count ∙ sym stored.keeps.blocks in (
+    ap length stored.keeps.rows ∙ stored.shows.valid.row_count ∙ sym stored.keeps.blocks in (
       stands.stands.limit ∙ ap Some rows,
       record {
         honest = stored.honest refl;

@@ -4,16 +4,16 @@ use Rattle.enc_model.specs.Indexes.{IndexSet}
 use Rattle.spool_disk.specs.Disk.{span}
 use Rattle.spool_journal.specs.Image.{all_pages, byte_of}
 use Rattle.upload_rules.specs.Store.{no_uploads}
-use Rattle.spool_kept.specs.Shows.{ImageShows, IsSound}
+use Rattle.spool_kept.specs.Shows.{ImageShows, IsValid}
 use Rattle.spool_pages.specs.View.{View, IsViewOf, first_page, magic}
 use Rattle.spool_pages.specs.declared.version.Version.TheVariants.{Two}
 use Rattle.spool_image.specs.declared.error.FormatError.{FormatError}
 use Rattle.spool_image.specs.declared.error.FormatError.TheVariants.{AlreadySpool, Size, DiskFault}
 
 -- a disk of this size begins with the first bytes of a spool
-pub record HasMagic (size : ℕ) (seen : ℕ → ℕ) : Type 0 where
+pub record HasMagic (size : ℕ) (current : ℕ → ℕ) : Type 0 where
   pub room : 8 ≤ size
-  pub prefix : span seen 0 8 ≡ magic
+  pub prefix : span current 0 8 ≡ magic
 
 -- there are so many text blocks, and the disk has room for all pages
 pub record FitsSpool (blocks size : ℕ) : Type 0 where
@@ -22,23 +22,23 @@ pub record FitsSpool (blocks size : ℕ) : Type 0 where
   pub room : 4096 * all_pages blocks ≤ size
 
 -- what its page 0 holds is as a crash might have left it before
-pub record PrefixStays (seen : ℕ → ℕ) (unsynced : ℕ → Type 0) (image : ℕ → ℕ) : Type 0 where
-  pub same : (p : ℕ) → p < 4096 → (unsynced p → ⊥) → image p ≡ seen p
+pub record PrefixStays (current : ℕ → ℕ) (unsynced : ℕ → Type 0) (image : ℕ → ℕ) : Type 0 where
+  pub same : (p : ℕ) → p < 4096 → (unsynced p → ⊥) → image p ≡ current p
 
 -- where its page 0 is whole, it shows no uploads, these indexes and so many text blocks
 pub record FormatsTo (n : ℕ) (x : IndexSet) (image : ℕ → ℕ) : Type 0 where
   pub shows : ((p : ℕ) → p < 4096 → image p ≡ byte_of (first_page n) p) → ImageShows n image (no_uploads x)
 
--- read plainly, the image is a sound spool of version 2
+-- read plainly, the image is a valid spool of version 2
 pub record IsNewest (image : ℕ → ℕ) : Type 0 where
   pub view : View
-  pub sound : IsSound view
+  pub valid : IsValid view
   pub new : view.version ≡ Two
   pub is : IsViewOf image view
 
 -- What a crash may leave while a spool is made: page 0 as before, or a torn one, or the spool without uploads
 abbrev pub LeftByFormat : ℕ → IndexSet → (ℕ → ℕ) → (ℕ → Type 0) → (ℕ → ℕ) → Type 0
-LeftByFormat n x seen unsynced image = PrefixStays seen unsynced image ⊎ FormatsTo n x image
+LeftByFormat n x current unsynced image = PrefixStays current unsynced image ⊎ FormatsTo n x image
 
 -- nothing was written
 abbrev pub IsRefusal : {T : Type 0} → Result T FormatError → Type 0

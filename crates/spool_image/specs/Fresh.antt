@@ -18,8 +18,8 @@ pub record IsFreshTo (n : ℕ) (x : IndexSet) (end : ℕ) (image : ℕ → ℕ) 
   pub each : (p : ℕ) → 4096 ≤ p → p < end → image p ≡ fresh_byte n x p
 
 -- what page 0 holds is as before, or is synced and was unsynced
-pub record KeepsPrefix (seen seen' : ℕ → ℕ) (unsynced unsynced' : ℕ → Type 0) : Type 0 where
-  pub same : (p : ℕ) → p < 4096 → (unsynced p → ⊥) → seen' p ≡ seen p
+pub record KeepsPrefix (current current' : ℕ → ℕ) (unsynced unsynced' : ℕ → Type 0) : Type 0 where
+  pub same : (p : ℕ) → p < 4096 → (unsynced p → ⊥) → current' p ≡ current p
   pub unsyncs : (p : ℕ) → p < 4096 → unsynced' p → unsynced p
 
 -- and all of its pages

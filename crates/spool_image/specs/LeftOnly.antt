@@ -14,17 +14,17 @@ use Rattle.spool_kept.specs.Shows.{ImageShows}
 pub record IsSpool {D : Type 0} (disk : Ghosts D) (d : D) (n : ℕ) (m : Store) : Type 0 where
   pub honest : disk.honest d
   pub room : 4096 * all_pages n ≤ disk.size d
-  pub shows : ImageShows n (disk.seen d) m
+  pub shows : ImageShows n (disk.current d) m
 
 -- and so does every image that a crash may leave now
 pub record AllShow {D : Type 0} (disk : Ghosts D) (d : D) (n : ℕ) (m : Store) : Type 0 where
   pub honest : disk.honest d
   pub room : 4096 * all_pages n ≤ disk.size d
-  pub each : (image : ℕ → ℕ) → IsImage (disk.seen d) (disk.unsynced d) image → ImageShows n image m
+  pub each : (image : ℕ → ℕ) → IsImage (disk.current d) (disk.unsynced d) image → ImageShows n image m
 
 -- what a crash may leave while a disk is opened: what it may have left before, or what shows the same
 abbrev pub LeftOrShows : {D : Type 0} → Ghosts D → D → ℕ → Store → (ℕ → ℕ) → Type 0
-LeftOrShows disk before n m image = IsImage (disk.seen before) (disk.unsynced before) image ⊎ ImageShows n image m
+LeftOrShows disk before n m image = IsImage (disk.current before) (disk.unsynced before) image ⊎ ImageShows n image m
 
 -- SINCE SOME MOMENT
 

@@ -14,7 +14,7 @@ pub upload_below : {D : Type 0} {disk : Ghosts D} {sure : Bool} (d : D) (h : Hol
 upload_below d h drafts w number u stands there =
     let shows = stands.stored.shows in
     let slot = shows.all number u there in
-    let less = (shows.sound.records slot.slot slot.used slot.there).below in
+    let less = (shows.valid.records slot.slot slot.used slot.there).below in
     let is = slot.number in
     let next = shows.next in
     omega (arith, less, is, next)

@@ -4,7 +4,7 @@ use Rattle.spool_disk.specs.Disk.{IsImage, Keeps}
 use Rattle.spool_disk.specs.Views.{Lasts}
 use Rattle.spool_disk.specs.declared.disk.Disk.{Ghosts}
 use Rattle.spool_journal.specs.Image.{all_pages}
-use Rattle.spool_kept.specs.Shows.{IsSound}
+use Rattle.spool_kept.specs.Shows.{IsValid}
 use Rattle.spool_kept.specs.declared.error.OpenFault.{OpenFault}
 use Rattle.spool_kept.specs.declared.error.OpenFault.TheVariants.{NotASpool, DiskFault, Damaged, Version, NoMemory}
 use Rattle.spool_load.specs.Reads.{NeedsReplay}
@@ -13,11 +13,11 @@ use Rattle.spool_pages.specs.View.{View, IsViewOf}
 
 -- WHAT IS ANSWERED
 
--- a plain reading gives a sound view, and the disk has room for its blocks
-pub record HoldsSpool (size : ℕ) (seen : ℕ → ℕ) : Type 0 where
+-- a plain reading gives a valid view, and the disk has room for its blocks
+pub record HoldsSpool (size : ℕ) (current : ℕ → ℕ) : Type 0 where
   pub view : View
-  pub sound : IsSound view
-  pub is : IsViewOf seen view
+  pub valid : IsValid view
+  pub is : IsViewOf current view
   pub room : 4096 * all_pages view.blocks ≤ size
 
 -- why it wasn't opened, None where it was
@@ -30,24 +30,24 @@ abbrev pub IsRefusedAs : Option OpenFault → OpenFault → Type 0
 IsRefusedAs None fault = ⊥
 IsRefusedAs (Some e) fault = (e ≡ fault) ⊎ (e ≡ NoMemory) ⊎ (e ≡ DiskFault)
 
--- Of a disk of this size and these bytes: what is opened is a sound spool, each refusal has its reason, and each reason
+-- Of a disk of this size and these bytes: what is opened is a valid spool, each refusal has its reason, and each reason
 -- is answered so, unless memory or the disk refuses it
-pub record OpensExactly (size : ℕ) (seen : ℕ → ℕ) (refusal : Option OpenFault) : Type 0 where
-  pub sound : refusal ≡ None → HoldsSpool size seen
-  pub refused : IfSome refusal (RefusedFor size seen)
-  pub not_a_spool : IsNoSpool size seen → IsRefusedAs refusal NotASpool
-  pub version : HasOtherVersion size seen → IsRefusedAs refusal Version
-  pub damaged : IsDamaged size seen → IsRefusedAs refusal Damaged
+pub record OpensExactly (size : ℕ) (current : ℕ → ℕ) (refusal : Option OpenFault) : Type 0 where
+  pub valid : refusal ≡ None → HoldsSpool size current
+  pub refused : IfSome refusal (RefusedFor size current)
+  pub not_a_spool : IsNoSpool size current → IsRefusedAs refusal NotASpool
+  pub version : HasOtherVersion size current → IsRefusedAs refusal Version
+  pub damaged : IsDamaged size current → IsRefusedAs refusal Damaged
 
 -- WHAT IS LEFT, where no journal is to be replayed. So it is with every disk that is refused as no spool, and with one
 -- of another version behind a closed gate
 
 -- every image is one from before
 abbrev pub Unwritten : {D : Type 0} → Ghosts D → D → D → Type 0
-Unwritten disk before after = (NeedsReplay (disk.size before) (disk.seen before) → ⊥)
-    → Lasts disk before after (IsImage (disk.seen before) (disk.unsynced before))
+Unwritten disk before after = (NeedsReplay (disk.size before) (disk.current before) → ⊥)
+    → Lasts disk before after (IsImage (disk.current before) (disk.unsynced before))
 
 -- and a read gives what it gave, unless the disk failed
 abbrev pub ReadsSame : {D : Type 0} → Ghosts D → D → D → Type 0 → Type 0
-ReadsSame disk before after failed = (NeedsReplay (disk.size before) (disk.seen before) → ⊥) → (failed → ⊥)
-    → Keeps (disk.seen before) (disk.seen after) (disk.unsynced before) (disk.unsynced after)
+ReadsSame disk before after failed = (NeedsReplay (disk.size before) (disk.current before) → ⊥) → (failed → ⊥)
+    → Keeps (disk.current before) (disk.current after) (disk.unsynced before) (disk.unsynced after)

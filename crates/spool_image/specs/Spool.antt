@@ -22,9 +22,9 @@ size_of s = s.kept.layout
 abbrev pub Keeps : {D : Type 0} {disk : Ghosts D} → Spool D disk → View → Type 0
 Keeps s v = KeepsAlone s.kept v
 
--- what it keeps is a sound view, which a read of a disk of this size gave
+-- what it keeps is a valid view, which a read of a disk of this size gave
 abbrev pub OpensFrom : {D : Type 0} {disk : Ghosts D} → ℕ → (ℕ → ℕ) → Spool D disk → Type 0
-OpensFrom size seen s = OpenedFrom size seen s.kept
+OpensFrom size current s = OpenedFrom size current s.kept
 
 -- what it keeps of the disk and the drafts stand for the world, and where that is sure, the disk does too
 abbrev pub SpoolStands : {D : Type 0} {disk : Ghosts D} → Spool D disk → Bool → World → Type 0

@@ -44,12 +44,12 @@ fn write_pages<D: Disk>(disk: &mut D, layout: &Layout, indexes: &IndexSet) -> Re
     ensures honest { D.honest disk.old ↔ D.honest disk.new }
     ensures counts { Counts (IsErr result) (D.failures disk.old) (D.failures disk.new) }
     ensures fresh { D.honest disk.old → OnOk result
-        (IsFreshTo layout.now indexes.now (4096 * all_pages layout.now) (D.seen disk.new)) }
+        (IsFreshTo layout.now indexes.now (4096 * all_pages layout.now) (D.current disk.new)) }
     ensures valid { OnOk result (IsIndexSet indexes.now) }
     ensures prefix { D.honest disk.old
-        → KeepsPrefix (D.seen disk.old) (D.seen disk.new) (D.unsynced disk.old) (D.unsynced disk.new) }
+        → KeepsPrefix (D.current disk.old) (D.current disk.new) (D.unsynced disk.old) (D.unsynced disk.new) }
     ensures crash { D.honest disk.old
-        → Lasts D.Disk disk.old disk.new (PrefixStays (D.seen disk.old) (D.unsynced disk.old)) }
+        → Lasts D.Disk disk.old disk.new (PrefixStays (D.current disk.old) (D.unsynced disk.old)) }
 {
     for page in 1..layout.pages() {
         disk.write_at(4096 * page as u64, &fresh_page(layout, indexes, page))?;
@@ -65,13 +65,13 @@ fn write_first<D: Disk>(disk: &mut D, layout: &Layout) -> Result<(), DiskFault>
     ensures counts { Counts (IsErr result) (D.failures disk.old) (D.failures disk.new) }
     ensures is_synced { D.honest disk.old → OnOk result ((p : ℕ) → D.unsynced disk.new p → ⊥) }
     ensures fresh { D.honest disk.old → OnOk result
-        ((x : Indexes) → IsFreshTo layout.now x (4096 * all_pages layout.now) (D.seen disk.old)
-        → IsFresh layout.now x (D.seen disk.new)) }
+        ((x : Indexes) → IsFreshTo layout.now x (4096 * all_pages layout.now) (D.current disk.old)
+        → IsFresh layout.now x (D.current disk.new)) }
     ensures least { 16 ≤ layout.now }
     ensures most { layout.now ≤ 65536 }
     ensures crash { D.honest disk.old → (x : Indexes) → IsIndexSet x
-        → IsFreshTo layout.now x (4096 * all_pages layout.now) (D.seen disk.old)
-        → Lasts D.Disk disk.old disk.new (LeftByFormat layout.now x (D.seen disk.old) (D.unsynced disk.old)) }
+        → IsFreshTo layout.now x (4096 * all_pages layout.now) (D.current disk.old)
+        → Lasts D.Disk disk.old disk.new (LeftByFormat layout.now x (D.current disk.old) (D.unsynced disk.old)) }
 {
     let prefix = first_page(layout.blocks());
     disk.sync()?;
@@ -85,11 +85,12 @@ fn is_spool<D: Disk>(disk: &mut D) -> Result<bool, DiskFault>
     ensures honest { D.honest disk.old ↔ D.honest disk.new }
     ensures counts { Counts (IsErr result) (D.failures disk.old) (D.failures disk.new) }
     ensures keeps { D.honest disk.old
-        → Keeps (D.seen disk.old) (D.seen disk.new) (D.unsynced disk.old) (D.unsynced disk.new) }
+        → Keeps (D.current disk.old) (D.current disk.new) (D.unsynced disk.old) (D.unsynced disk.new) }
     ensures lasts { D.honest disk.old → Lasts D.Disk disk.old disk.new
-        (IsImage (D.seen disk.old) (D.unsynced disk.old)) }
-    ensures yes { D.honest disk.old → IfOk result (λ is. is ≡ true → HasMagic (D.size disk.old) (D.seen disk.old)) }
-    ensures no { D.honest disk.old → IfOk result (λ is. is ≡ false → HasMagic (D.size disk.old) (D.seen disk.old) → ⊥) }
+        (IsImage (D.current disk.old) (D.unsynced disk.old)) }
+    ensures yes { D.honest disk.old → IfOk result (λ is. is ≡ true → HasMagic (D.size disk.old) (D.current disk.old)) }
+    ensures no { D.honest disk.old → IfOk result (λ is. is ≡ false
+        → HasMagic (D.size disk.old) (D.current disk.old) → ⊥) }
 {
     if disk.len() < 8 {
         return Ok(false);
@@ -110,26 +111,26 @@ pub fn format<D: Disk>(disk: &mut D, blocks: u32, indexes: &IndexSet) -> Result<
 
     // It refuses exactly a spool, and then a size that doesn't fit.
     ensures already { D.honest disk.old → result ≡ Err FormatError.AlreadySpool
-        → HasMagic (D.size disk.old) (D.seen disk.old) }
+        → HasMagic (D.size disk.old) (D.current disk.old) }
     ensures no_spool { D.honest disk.old → (result ≡ Err FormatError.AlreadySpool → ⊥)
-        → (result ≡ Err FormatError.DiskFault → ⊥) → HasMagic (D.size disk.old) (D.seen disk.old) → ⊥ }
+        → (result ≡ Err FormatError.DiskFault → ⊥) → HasMagic (D.size disk.old) (D.current disk.old) → ⊥ }
     ensures fits { IsOk result → FitsSpool blocks (D.size disk.old) }
     ensures too_long { result ≡ Err FormatError.Size → FitsSpool blocks (D.size disk.old) → ⊥ }
 
     // Then every image is one from before.
     ensures same { D.honest disk.old → IsRefusal result
-        → Keeps (D.seen disk.old) (D.seen disk.new) (D.unsynced disk.old) (D.unsynced disk.new) }
+        → Keeps (D.current disk.old) (D.current disk.new) (D.unsynced disk.old) (D.unsynced disk.new) }
     ensures lasts { D.honest disk.old → IsRefusal result
-        → Lasts D.Disk disk.old disk.new (IsImage (D.seen disk.old) (D.unsynced disk.old)) }
+        → Lasts D.Disk disk.old disk.new (IsImage (D.current disk.old) (D.unsynced disk.old)) }
 
     // A crash at any moment of it leaves page 0 as it might have been before, or torn, or a whole spool.
     ensures crash { D.honest disk.old → Lasts D.Disk disk.old disk.new
-        (LeftByFormat blocks indexes.now (D.seen disk.old) (D.unsynced disk.old)) }
+        (LeftByFormat blocks indexes.now (D.current disk.old) (D.unsynced disk.old)) }
 
     // Else every image shows no uploads, these indexes and so many blocks, in version 2.
     ensures shows { D.honest disk.old → OnOk result (AllShow D.Disk disk.new blocks (no_uploads indexes.now)) }
     ensures newest { D.honest disk.old → OnOk result
-        ((image : ℕ → ℕ) → IsImage (D.seen disk.new) (D.unsynced disk.new) image → IsNewest image) }
+        ((image : ℕ → ℕ) → IsImage (D.current disk.new) (D.unsynced disk.new) image → IsNewest image) }
     ensures is_synced { D.honest disk.old → OnOk result ((p : ℕ) → D.unsynced disk.new p → ⊥) }
 {
     if is_spool(disk)? {
@@ -154,9 +155,9 @@ fn make<D: Disk>(disk: &mut D, layout: &Layout, indexes: &IndexSet) -> Result<()
     ensures is_synced { D.honest disk.old → OnOk result ((p : ℕ) → D.unsynced disk.new p → ⊥) }
     ensures shows { D.honest disk.old → OnOk result (AllShow D.Disk disk.new layout.now (no_uploads indexes.now)) }
     ensures newest { D.honest disk.old → OnOk result
-        ((image : ℕ → ℕ) → IsImage (D.seen disk.new) (D.unsynced disk.new) image → IsNewest image) }
+        ((image : ℕ → ℕ) → IsImage (D.current disk.new) (D.unsynced disk.new) image → IsNewest image) }
     ensures crash { D.honest disk.old → Lasts D.Disk disk.old disk.new
-        (LeftByFormat layout.now indexes.now (D.seen disk.old) (D.unsynced disk.old)) }
+        (LeftByFormat layout.now indexes.now (D.current disk.old) (D.unsynced disk.old)) }
 {
     write_pages(disk, layout, indexes)?;
     write_first(disk, layout)

@@ -15,7 +15,7 @@ use spool_disk::Disk;
 pub fn images_open<D: Disk>()
     ensures now { (d : D) (n : ℕ) (m : Store) → AllShow D.Disk d n m → IsSpool D.Disk d n m }
     ensures crashed { (d left : D) (n : ℕ) (m : Store) → AllShow D.Disk d n m → D.honest left → D.size left ≡ D.size d
-        → IsImage (D.seen d) (D.unsynced d) (D.seen left) → IsSpool D.Disk left n m }
+        → IsImage (D.current d) (D.unsynced d) (D.current left) → IsSpool D.Disk left n m }
     ensures synced { (d : D) (n : ℕ) (m : Store) → IsSpool D.Disk d n m → ((p : ℕ) → D.unsynced d p → ⊥)
         → AllShow D.Disk d n m }
 {}
@@ -25,7 +25,7 @@ pub fn images_open<D: Disk>()
 pub fn limits_open<D: Disk>()
     ensures { (d left : D) (n t : ℕ) (ms : List Store) → LeftOnly D.Disk d n t ms → D.honest left
         → D.size left ≡ D.size d
-        → D.left_since d t (D.seen left) → OpensOne D.Disk left n ms }
+        → D.left_since d t (D.current left) → OpensOne D.Disk left n ms }
 {}
 
 /// A disk that a crash left while it was being opened may be opened again, and has the same uploads. So it may in any
@@ -33,7 +33,7 @@ pub fn limits_open<D: Disk>()
 pub fn cut_openings<D: Disk>()
     ensures { (before d left : D) (n : ℕ) (m : Store) → AllShow D.Disk before n m
         → Lasts D.Disk before d (LeftOrShows D.Disk before n m) → D.honest left → D.size left ≡ D.size before
-        → D.left_since d (D.moment before) (D.seen left) → IsSpool D.Disk left n m }
+        → D.left_since d (D.moment before) (D.current left) → IsSpool D.Disk left n m }
 {}
 
 /// An image that shows uploads has the text of each: all of its accepted bytes, decoded and encoded.

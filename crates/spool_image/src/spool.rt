@@ -8,7 +8,7 @@ ghost use Rattle.upload_rules.specs.Store.{Store};
 ghost use Rattle.upload_rules.specs.World.{at_rest};
 ghost use Rattle.spool_kept.proofs.Facts.{fits_prop};
 ghost use Rattle.spool_kept.specs.Drafting.{DraftsFit};
-ghost use Rattle.spool_kept.specs.Shows.{IsSound, Shows};
+ghost use Rattle.spool_kept.specs.Shows.{IsValid, Shows};
 ghost use Rattle.spool_pages.specs.View.{View, IsViewOf};
 ghost use Rattle.spool_load.specs.Refusals.{IsNoSpool, HasOtherVersion, IsDamaged, RefusedFor};
 ghost use Rattle.spool_image.specs.LeftOnly.{AllShow, IsSpool, LeftOrShows};
@@ -60,20 +60,20 @@ impl<D: Disk> Spool<D> {
 
         // A disk of which a read shows uploads is opened, and what a read shows is kept, or memory or the disk
         // refuses it.
-        ensures opened { D.honest disk → (v : View) → IsSound v → IsViewOf (D.seen disk) v
+        ensures opened { D.honest disk → (v : View) → IsValid v → IsViewOf (D.current disk) v
             → 4096 * all_pages v.blocks ≤ D.size disk → OpensAs result (λ s. Keeps s v) }
 
-        // What is opened is a sound spool, and it is what a read shows. Each refusal has its reason.
-        ensures sound { D.honest disk → IfOk result (OpensFrom (D.size disk) (D.seen disk)) }
-        ensures refused { D.honest disk → IfErr result (λ e. RefusedFor (D.size disk) (D.seen disk) e.1) }
+        // What is opened is a valid spool, and it is what a read shows. Each refusal has its reason.
+        ensures valid { D.honest disk → IfOk result (OpensFrom (D.size disk) (D.current disk)) }
+        ensures refused { D.honest disk → IfErr result (λ e. RefusedFor (D.size disk) (D.current disk) e.1) }
 
-        // And each reason is answered so, unless memory or the disk refuses it: no two hold, and none of a sound
+        // And each reason is answered so, unless memory or the disk refuses it: no two hold, and none of a valid
         // spool.
-        ensures not_a_spool { D.honest disk → IsNoSpool (D.size disk) (D.seen disk)
+        ensures not_a_spool { D.honest disk → IsNoSpool (D.size disk) (D.current disk)
             → RefusesAs result OpenFault.NotASpool }
-        ensures version { D.honest disk → HasOtherVersion (D.size disk) (D.seen disk)
+        ensures version { D.honest disk → HasOtherVersion (D.size disk) (D.current disk)
             → RefusesAs result OpenFault.Version }
-        ensures damaged { D.honest disk → IsDamaged (D.size disk) (D.seen disk)
+        ensures damaged { D.honest disk → IsDamaged (D.size disk) (D.current disk)
             → RefusesAs result OpenFault.Damaged }
 
         // Where no journal is to be replayed it writes nothing: every image is one from before, and so is what a read
@@ -83,7 +83,7 @@ impl<D: Disk> Spool<D> {
 
         // And so a commit may be made.
         ensures idle { D.honest disk → IfOk result
-            (λ s. Idle (journal_pages (size_of s)) (D.seen (disk_of s)) (D.unsynced (disk_of s))) }
+            (λ s. Idle (journal_pages (size_of s)) (D.current (disk_of s)) (D.unsynced (disk_of s))) }
 
         // A crash during it leaves what it might have left before, or what shows the same uploads and so many blocks.
         ensures lasts { (n : ℕ) (m : Store) → IsSpool D.Disk disk n m

@@ -6,7 +6,7 @@ ghost use Rattle.spool_journal.specs.Image.{all_pages, journal_pages, overlaid};
 ghost use Rattle.spool_journal.specs.Phases.{ReadsAs, Settled};
 ghost use Rattle.upload_rules.specs.Store.{Store};
 ghost use Rattle.spool_kept.specs.Kept.{KeepsAlone, KeepsView};
-ghost use Rattle.spool_kept.specs.Shows.{IsSound};
+ghost use Rattle.spool_kept.specs.Shows.{IsValid};
 ghost use Rattle.spool_load.specs.Loaded.{OpenedFrom};
 ghost use Rattle.spool_load.specs.Reads.{NeedsReplay};
 ghost use Rattle.spool_kept.specs.declared.error.OpenFault.{OpenFault as Fault};
@@ -33,28 +33,29 @@ fn load_old<D: Disk>(alloc: Global, disk: &mut D) -> Result<Kept, UpgradeError>
     ensures counts { Counts (result ≡ Err (UpgradeError.Open Fault.DiskFault)) (D.failures disk.old)
         (D.failures disk.new) }
     ensures room { IfOk result (λ kept. 4096 * all_pages kept.layout ≤ D.size disk.old) }
-    ensures said { D.honest disk.old → (v : View) → IsSound v → IsViewOf (D.seen disk.old) v
+    ensures said { D.honest disk.old → (v : View) → IsValid v → IsViewOf (D.current disk.old) v
         → 4096 * all_pages v.blocks ≤ D.size disk.old → UpgradesOf v.version result }
-    ensures kept { D.honest disk.old → (v : View) → IsSound v → IsViewOf (D.seen disk.old) v
+    ensures kept { D.honest disk.old → (v : View) → IsValid v → IsViewOf (D.current disk.old) v
         → 4096 * all_pages v.blocks ≤ D.size disk.old → IfOk result (λ kept. KeepsAlone kept v) }
-    ensures sound { D.honest disk.old → IfOk result (OpenedFrom (D.size disk.old) (D.seen disk.old)) }
+    ensures valid { D.honest disk.old → IfOk result (OpenedFrom (D.size disk.old) (D.current disk.old)) }
     ensures version { IfOk result (λ kept. kept.version ≡ Known.One) }
-    ensures refused { D.honest disk.old → IfErr result (UpgradeRefusedFor (D.size disk.old) (D.seen disk.old)) }
+    ensures refused { D.honest disk.old → IfErr result (UpgradeRefusedFor (D.size disk.old) (D.current disk.old)) }
     ensures settled { D.honest disk.old → IfOk result (λ kept.
-        Settled (journal_pages kept.layout) (overlaid (D.seen disk.old)) (D.seen disk.new) (D.unsynced disk.new)) }
-    ensures stays { D.honest disk.old → (v : View) → IsSound v → IsViewOf (D.seen disk.old) v
+        Settled (journal_pages kept.layout) (overlaid (D.current disk.old)) (D.current disk.new)
+        (D.unsynced disk.new)) }
+    ensures stays { D.honest disk.old → (v : View) → IsValid v → IsViewOf (D.current disk.old) v
         → 4096 * all_pages v.blocks ≤ D.size disk.old
         → IfErr result (λ e. (e ≡ UpgradeError.Open Fault.DiskFault → ⊥)
-        → Rests v (D.seen disk.new) (D.unsynced disk.new)) }
-    ensures lasts { D.honest disk.old → (v : View) → IsSound v → IsViewOf (D.seen disk.old) v
+        → Rests v (D.current disk.new) (D.unsynced disk.new)) }
+    ensures lasts { D.honest disk.old → (v : View) → IsValid v → IsViewOf (D.current disk.old) v
         → 4096 * all_pages v.blocks ≤ D.size disk.old → Lasts D.Disk disk.old disk.new (λ image.
-        IsImage (D.seen disk.old) (D.unsynced disk.old) image
-        ⊎ ReadsAs (journal_pages v.blocks) image (overlaid (D.seen disk.old))) }
-    ensures unwritten { D.honest disk.old → (NeedsReplay (D.size disk.old) (D.seen disk.old) → ⊥)
-        → Lasts D.Disk disk.old disk.new (IsImage (D.seen disk.old) (D.unsynced disk.old)) }
-    ensures same { D.honest disk.old → (NeedsReplay (D.size disk.old) (D.seen disk.old) → ⊥)
+        IsImage (D.current disk.old) (D.unsynced disk.old) image
+        ⊎ ReadsAs (journal_pages v.blocks) image (overlaid (D.current disk.old))) }
+    ensures unwritten { D.honest disk.old → (NeedsReplay (D.size disk.old) (D.current disk.old) → ⊥)
+        → Lasts D.Disk disk.old disk.new (IsImage (D.current disk.old) (D.unsynced disk.old)) }
+    ensures same { D.honest disk.old → (NeedsReplay (D.size disk.old) (D.current disk.old) → ⊥)
         → (result ≡ Err (UpgradeError.Open Fault.DiskFault) → ⊥)
-        → Keeps (D.seen disk.old) (D.seen disk.new) (D.unsynced disk.old) (D.unsynced disk.new) }
+        → Keeps (D.current disk.old) (D.current disk.new) (D.unsynced disk.old) (D.unsynced disk.new) }
 {
     let found = find(disk)?;
     if found.version == Version::Two {
@@ -72,14 +73,14 @@ fn rewrite<D: Disk>(alloc: Global, disk: &mut D, kept: &Kept) -> Result<(), Upgr
     ensures counts { Counts (result ≡ Err (UpgradeError.Open Fault.DiskFault)) (D.failures disk.old)
         (D.failures disk.new) }
     ensures done { D.honest disk.old → (v : View) → KeepsView kept.now v
-        → Rests v (D.seen disk.old) (D.unsynced disk.old)
-        → OnOk result (Rests (upgraded v) (D.seen disk.new) (D.unsynced disk.new)) }
+        → Rests v (D.current disk.old) (D.unsynced disk.old)
+        → OnOk result (Rests (upgraded v) (D.current disk.new) (D.unsynced disk.new)) }
     ensures commit { D.honest disk.old → (v : View) → KeepsView kept.now v
-        → Rests v (D.seen disk.old) (D.unsynced disk.old)
-        → OnOk result (CommitOfUpgrade v (D.seen disk.old) (D.seen disk.new) (D.unsynced disk.new)) }
+        → Rests v (D.current disk.old) (D.unsynced disk.old)
+        → OnOk result (CommitOfUpgrade v (D.current disk.old) (D.current disk.new) (D.unsynced disk.new)) }
     ensures late { IfErr result IsLateRefusal }
     ensures lasts { D.honest disk.old → (v : View) → KeepsView kept.now v
-        → Rests v (D.seen disk.old) (D.unsynced disk.old)
+        → Rests v (D.current disk.old) (D.unsynced disk.old)
         → Lasts D.Disk disk.old disk.new (λ image. IsViewOf image v ⊎ IsViewOf image (upgraded v)) }
     ensures untouched { IfErr result (λ e. (e ≡ UpgradeError.Open Fault.DiskFault → ⊥) → disk.new ≡ disk.old) }
 {
@@ -103,43 +104,43 @@ pub fn upgrade<D: Disk>(alloc: Global, disk: &mut D) -> Result<(), UpgradeError>
         (D.failures disk.new) }
 
     // A spool that a read shows is brought to version 2 where it is of version 1, or memory or the disk refuses it.
-    ensures upgraded { D.honest disk.old → (v : View) → IsSound v → IsViewOf (D.seen disk.old) v
+    ensures upgraded { D.honest disk.old → (v : View) → IsValid v → IsViewOf (D.current disk.old) v
         → 4096 * all_pages v.blocks ≤ D.size disk.old → UpgradesOf v.version result }
 
-    // What was brought to version 2 was a sound spool of version 1, and each image now says the same in version 2: by
+    // What was brought to version 2 was a valid spool of version 1, and each image now says the same in version 2: by
     // one commit of 257 pages, which changed nothing else that a plain reading gives.
-    ensures sound { D.honest disk.old
-        → OnOk result (UpgradedFrom (D.size disk.old) (D.seen disk.old) (D.seen disk.new) (D.unsynced disk.new)) }
+    ensures valid { D.honest disk.old
+        → OnOk result (UpgradedFrom (D.size disk.old) (D.current disk.old) (D.current disk.new) (D.unsynced disk.new)) }
 
     // Each refusal has its reason, and each reason is answered so, unless memory or the disk refuses it.
-    ensures refused { D.honest disk.old → IfErr result (UpgradeRefusedFor (D.size disk.old) (D.seen disk.old)) }
-    ensures not_a_spool { D.honest disk.old → IsNoSpool (D.size disk.old) (D.seen disk.old)
+    ensures refused { D.honest disk.old → IfErr result (UpgradeRefusedFor (D.size disk.old) (D.current disk.old)) }
+    ensures not_a_spool { D.honest disk.old → IsNoSpool (D.size disk.old) (D.current disk.old)
         → RefusesUpgradeAs result (UpgradeError.Open Fault.NotASpool) }
-    ensures version { D.honest disk.old → HasOtherVersion (D.size disk.old) (D.seen disk.old)
+    ensures version { D.honest disk.old → HasOtherVersion (D.size disk.old) (D.current disk.old)
         → RefusesUpgradeAs result (UpgradeError.Open Fault.Version) }
-    ensures already_new { D.honest disk.old → IsAlreadyNew (D.size disk.old) (D.seen disk.old)
+    ensures already_new { D.honest disk.old → IsAlreadyNew (D.size disk.old) (D.current disk.old)
         → RefusesUpgradeAs result UpgradeError.AlreadyNew }
-    ensures damaged { D.honest disk.old → IsOldDamaged (D.size disk.old) (D.seen disk.old)
+    ensures damaged { D.honest disk.old → IsOldDamaged (D.size disk.old) (D.current disk.old)
         → RefusesUpgradeAs result (UpgradeError.Open Fault.Damaged) }
 
     // A refusal leaves what a read shows, in the version that it was.
-    ensures stays { D.honest disk.old → (v : View) → IsSound v → IsViewOf (D.seen disk.old) v
+    ensures stays { D.honest disk.old → (v : View) → IsValid v → IsViewOf (D.current disk.old) v
         → 4096 * all_pages v.blocks ≤ D.size disk.old
         → IfErr result (λ e. (e ≡ UpgradeError.Open Fault.DiskFault → ⊥)
-        → Rests v (D.seen disk.new) (D.unsynced disk.new)) }
+        → Rests v (D.current disk.new) (D.unsynced disk.new)) }
 
     // A refusal of a spool of which no journal is to be replayed has written nothing, whatever is on the disk.
-    ensures unwritten { D.honest disk.old → (NeedsReplay (D.size disk.old) (D.seen disk.old) → ⊥)
+    ensures unwritten { D.honest disk.old → (NeedsReplay (D.size disk.old) (D.current disk.old) → ⊥)
         → IfErr result (λ e. (e ≡ UpgradeError.Open Fault.DiskFault → ⊥)
-        → Lasts D.Disk disk.old disk.new (IsImage (D.seen disk.old) (D.unsynced disk.old))) }
-    ensures same { D.honest disk.old → (NeedsReplay (D.size disk.old) (D.seen disk.old) → ⊥)
+        → Lasts D.Disk disk.old disk.new (IsImage (D.current disk.old) (D.unsynced disk.old))) }
+    ensures same { D.honest disk.old → (NeedsReplay (D.size disk.old) (D.current disk.old) → ⊥)
         → IfErr result (λ e. (e ≡ UpgradeError.Open Fault.DiskFault → ⊥)
-        → Keeps (D.seen disk.old) (D.seen disk.new) (D.unsynced disk.old) (D.unsynced disk.new)) }
+        → Keeps (D.current disk.old) (D.current disk.new) (D.unsynced disk.old) (D.unsynced disk.new)) }
 
     // A crash during it leaves what it might have left before, or the same in the old version or in version 2.
-    ensures lasts { D.honest disk.old → (v : View) → IsSound v → IsViewOf (D.seen disk.old) v
+    ensures lasts { D.honest disk.old → (v : View) → IsValid v → IsViewOf (D.current disk.old) v
         → 4096 * all_pages v.blocks ≤ D.size disk.old → Lasts D.Disk disk.old disk.new (λ image.
-        IsImage (D.seen disk.old) (D.unsynced disk.old) image ⊎ IsViewOf image v ⊎ IsViewOf image (upgraded v)) }
+        IsImage (D.current disk.old) (D.unsynced disk.old) image ⊎ IsViewOf image v ⊎ IsViewOf image (upgraded v)) }
 
     // And so it leaves what it might have left before, or what shows the same uploads and so many blocks.
     ensures crash { (n : ℕ) (m : Store) → IsSpool D.Disk disk.old n m

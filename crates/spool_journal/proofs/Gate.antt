@@ -61,8 +61,8 @@ pub hit_from : (j : ℕ) (image : ℕ → ℕ) (p : ℕ) → InForm j (count ima
     → 4096 * (25 + j) ≤ p
 hit_from j image p form hit = let h = form.inside hit.k hit.below in omega (arith, h.from, hit.here)
 
-module _ {j : ℕ} {opened seen image : ℕ → ℕ} {unsynced : ℕ → Type 0} where
-  pub placing_image : j ≤ 385 → Placing j opened seen unsynced → IsImage seen unsynced image
+module _ {j : ℕ} {opened current image : ℕ → ℕ} {unsynced : ℕ → Type 0} where
+  pub placing_image : j ≤ 385 → Placing j opened current unsynced → IsImage current unsynced image
       → ReadsAs j image (replayed opened)
   placing_image few placing is =
       record {
@@ -82,7 +82,7 @@ module _ {j : ℕ} {opened seen image : ℕ → ℕ} {unsynced : ℕ → Type 0}
         same = λ p within. at p (λ hit. omega (arith, hit_from j opened p placing.form hit, within.below));
       }
 
-  pub closing_image : j ≤ 385 → Placed j opened seen unsynced → ((p : ℕ) → (p ≡ 4096 → ⊥) → image p ≡ seen p)
+  pub closing_image : j ≤ 385 → Placed j opened current unsynced → ((p : ℕ) → (p ≡ 4096 → ⊥) → image p ≡ current p)
       → ReadsAs j image (replayed opened)
   closing_image few placed same =
       record {
@@ -113,10 +113,11 @@ module _ {j : ℕ} {opened seen image : ℕ → ℕ} {unsynced : ℕ → Type 0}
       }
 
 -- while the gate opens
-pub opening_image : {j : ℕ} {pages : List (ℕ × List ℕ)} {was seen image : ℕ → ℕ} {unsynced free : ℕ → Type 0} → j ≤ 385
-    → Ready j pages was seen unsynced → ((p : ℕ) → (p ≡ 4096 → ⊥) → image p ≡ seen p)
+pub opening_image : {j : ℕ} {pages : List (ℕ × List ℕ)} {was current image : ℕ → ℕ} {unsynced free : ℕ → Type 0}
+    → j ≤ 385
+    → Ready j pages was current unsynced → ((p : ℕ) → (p ≡ 4096 → ⊥) → image p ≡ current p)
     → IsBefore j was free image ⊎ ReadsAs j image (laid pages was)
-opening_image {j = j} {pages = pages} {was = was} {seen = seen} {image = image} few ready same =
+opening_image {j = j} {pages = pages} {was = was} {current = current} {image = image} few ready same =
     ⊎_elim
     (λ (e : image 4096 ≡ 165). inr (record {
       form = λ _. form_on few (omega (arith, ready.form.some, ready.form.few)) journal ready.form;
@@ -136,59 +137,63 @@ opening_image {j = j} {pages = pages} {was = was} {seen = seen} {image = image} 
     old : (p : ℕ) → Outside j p → image p ≡ was p
     old p outside = same p (gateless p outside) ∙ ready.same p (away p outside)
 
-    journal : SameJournal j image seen
+    journal : SameJournal j image current
     journal = record { same = λ p within. same p (λ e. omega (arith, e, within.from)) }
 
     laid_over : (p : ℕ) → Outside j p → replayed image p ≡ laid pages was p
     laid_over p outside =
         replay_on few journal ready.form p (λ _. same p (gateless p outside))
-        ∙ ap (λ (n : ℕ). over (number seen) (content seen) seen n p) ready.matches.size
-        ∙ over_same (number seen) (page_number pages) (content seen) (page_byte pages) seen was (length pages) p
+        ∙ ap (λ (n : ℕ). over (number current) (content current) current n p) ready.matches.size
+        ∙ over_same (number current) (page_number pages) (content current) (page_byte pages) current was
+        (length pages) p
         ready.matches.numbers (λ k x lt below. ready.matches.contents k x lt below)
         (λ _. ready.same p (away p outside))
 
 -- the gate's byte alone was written
-pub gate_step : {seen seen' : ℕ → ℕ} {unsynced unsynced' : ℕ → Type 0} {done : Type 0} (v : ℕ)
-    → Writes 4096 (v ∷ []) done seen seen' unsynced unsynced' → (p : ℕ) → (p ≡ 4096 → ⊥) → seen' p ≡ seen p
+pub gate_step : {current current' : ℕ → ℕ} {unsynced unsynced' : ℕ → Type 0} {done : Type 0} (v : ℕ)
+    → Writes 4096 (v ∷ []) done current current' unsynced unsynced' → (p : ℕ) → (p ≡ 4096 → ⊥) → current' p ≡ current p
 gate_step v writes p away = writes.outside p (λ here. away (alone p here))
   where
     alone : (p : ℕ) → In 4096 1 p → p ≡ 4096
     alone p here = omega (arith, here.from, here.below)
 
-pub gate_image : {seen seen' image : ℕ → ℕ} {unsynced unsynced' : ℕ → Type 0} {done : Type 0} (v : ℕ)
-    → ((p : ℕ) → unsynced p → ⊥) → Writes 4096 (v ∷ []) done seen seen' unsynced unsynced'
-    → IsImage seen' unsynced' image → (p : ℕ)
-    → (p ≡ 4096 → ⊥) → image p ≡ seen p
+pub gate_image : {current current' image : ℕ → ℕ} {unsynced unsynced' : ℕ → Type 0} {done : Type 0} (v : ℕ)
+    → ((p : ℕ) → unsynced p → ⊥) → Writes 4096 (v ∷ []) done current current' unsynced unsynced'
+    → IsImage current' unsynced' image → (p : ℕ)
+    → (p ≡ 4096 → ⊥) → image p ≡ current p
 gate_image v is_synced writes is p away =
     is.same p (λ l. ⊎_elim (is_synced p) (λ here. away (alone p here)) (writes.unsyncs p l)) ∙ gate_step v writes p away
   where
     alone : (p : ℕ) → In 4096 1 p → p ≡ 4096
     alone p here = omega (arith, here.from, here.below)
 
-pub gate_now : {seen seen' seen'' : ℕ → ℕ} {unsynced unsynced' unsynced'' : ℕ → Type 0} {done synced : Type 0} (v : ℕ)
-    → Writes 4096 (v ∷ []) done seen seen' unsynced unsynced' → done
-    → Syncs synced seen' seen'' unsynced' unsynced'' → synced
-    → seen'' 4096 ≡ v
+pub gate_now : {current current' current'' : ℕ → ℕ} {unsynced unsynced' unsynced'' : ℕ
+    → Type 0} {done synced : Type 0} (v : ℕ)
+    → Writes 4096 (v ∷ []) done current current' unsynced unsynced' → done
+    → Syncs synced current' current'' unsynced' unsynced'' → synced
+    → current'' 4096 ≡ v
 unfolding span
-gate_now {seen' = seen'} v writes wrote syncs synced =
-    syncs.same synced 4096 ∙ span_at seen' 4096 (v ∷ []) 0 (writes.inside wrote) (omega arith)
+gate_now {current' = current'} v writes wrote syncs synced =
+    syncs.same synced 4096 ∙ span_at current' 4096 (v ∷ []) 0 (writes.inside wrote) (omega arith)
 
 -- the gate is open
-pub opened : {j : ℕ} {pages : List (ℕ × List ℕ)} {was seen seen' : ℕ → ℕ} {unsynced unsynced' : ℕ → Type 0} → j ≤ 385
-    → Ready j pages was seen unsynced → ((p : ℕ) → (p ≡ 4096 → ⊥) → seen' p ≡ seen p) → seen' 4096 ≡ 165
-    → ((p : ℕ) → unsynced' p → ⊥) → Opened j pages was seen' unsynced'
-opened {j = j} {pages = pages} {was = was} {seen = seen} {seen' = seen'} few ready same gate is_synced = record {
-  gate = gate;
-  form = form_on few some journal ready.form;
-  is_synced = is_synced;
-  matches = record {
-    size = same_count some journal ∙ ready.matches.size;
-    numbers = λ k lt. same_number few some journal k (omega (arith, lt, fits)) ∙ ready.matches.numbers k lt;
-    contents = λ k x lt below. same_content journal k x (omega (arith, lt, fits)) below
-        ∙ ready.matches.contents k x lt below;
-  };
-  laid_over = laid_over;
-}
+pub opened : {j : ℕ} {pages : List (ℕ × List ℕ)} {was current current' : ℕ → ℕ} {unsynced unsynced' : ℕ → Type 0}
+    → j ≤ 385
+    → Ready j pages was current unsynced → ((p : ℕ) → (p ≡ 4096 → ⊥) → current' p ≡ current p) → current' 4096 ≡ 165
+    → ((p : ℕ) → unsynced' p → ⊥) → Opened j pages was current' unsynced'
+opened {j = j} {pages = pages} {was = was} {current = current}
+    {current' = current'} few ready same gate is_synced = record {
+      gate = gate;
+      form = form_on few some journal ready.form;
+      is_synced = is_synced;
+      matches = record {
+        size = same_count some journal ∙ ready.matches.size;
+        numbers = λ k lt. same_number few some journal k (omega (arith, lt, fits)) ∙ ready.matches.numbers k lt;
+        contents = λ k x lt below. same_content journal k x (omega (arith, lt, fits)) below
+            ∙ ready.matches.contents k x lt below;
+      };
+      laid_over = laid_over;
+    }
   where
     some : 1 ≤ j
     some = omega (arith, ready.form.some, ready.form.few)
@@ -204,20 +209,22 @@ opened {j = j} {pages = pages} {was = was} {seen = seen} {seen' = seen'} few rea
     gateless p (inl lt) e = omega (arith, lt, e)
     gateless p (inr le) e = omega (arith, le, e)
 
-    journal : SameJournal j seen' seen
+    journal : SameJournal j current' current
     journal = record { same = λ p within. same p (λ e. omega (arith, e, within.from)) }
 
-    laid_over : (p : ℕ) → Outside j p → replayed seen' p ≡ laid pages was p
+    laid_over : (p : ℕ) → Outside j p → replayed current' p ≡ laid pages was p
     laid_over p outside =
         replay_on few journal ready.form p (λ _. same p (gateless p outside))
-        ∙ ap (λ (n : ℕ). over (number seen) (content seen) seen n p) ready.matches.size
-        ∙ over_same (number seen) (page_number pages) (content seen) (page_byte pages) seen was (length pages) p
+        ∙ ap (λ (n : ℕ). over (number current) (content current) current n p) ready.matches.size
+        ∙ over_same (number current) (page_number pages) (content current) (page_byte pages) current was
+        (length pages) p
         ready.matches.numbers (λ k x lt below. ready.matches.contents k x lt below)
         (λ _. ready.same p (away p outside))
 
-pub settled : {j : ℕ} {opened seen seen' : ℕ → ℕ} {unsynced unsynced' : ℕ → Type 0} → Placed j opened seen unsynced
-    → ((p : ℕ) → (p ≡ 4096 → ⊥) → seen' p ≡ seen p) → seen' 4096 ≡ 0 → ((p : ℕ) → unsynced' p → ⊥)
-    → Settled j (replayed opened) seen' unsynced'
+pub settled : {j : ℕ} {opened current current' : ℕ → ℕ} {unsynced unsynced' : ℕ → Type 0}
+    → Placed j opened current unsynced
+    → ((p : ℕ) → (p ≡ 4096 → ⊥) → current' p ≡ current p) → current' 4096 ≡ 0 → ((p : ℕ) → unsynced' p → ⊥)
+    → Settled j (replayed opened) current' unsynced'
 settled {j = j} placed same gate is_synced = record {
   is_synced = is_synced;
   closed = λ e. omega (arith, e, gate);
@@ -228,10 +235,11 @@ settled {j = j} placed same gate is_synced = record {
     gateless p (inl lt) e = omega (arith, lt, e)
     gateless p (inr le) e = omega (arith, le, e)
 
-module _ {j : ℕ} {opened seen seen' : ℕ → ℕ} {unsynced unsynced' : ℕ → Type 0} {done : Type 0} where
-  pub placing_writes : (i page : ℕ) (bytes : List ℕ) → Placing j opened seen unsynced → i < count opened
-      → number opened i ≡ page → length bytes ≡ 4096 → Writes (4096 * page) bytes done seen seen' unsynced unsynced'
-      → Placing j opened seen' unsynced'
+module _ {j : ℕ} {opened current current' : ℕ → ℕ} {unsynced unsynced' : ℕ → Type 0} {done : Type 0} where
+  pub placing_writes : (i page : ℕ) (bytes : List ℕ) → Placing j opened current unsynced → i < count opened
+      → number opened i ≡ page → length bytes ≡ 4096
+      → Writes (4096 * page) bytes done current current' unsynced unsynced'
+      → Placing j opened current' unsynced'
   placing_writes i page bytes placing lt e size writes = record {
     gate = placing.gate;
     form = placing.form;
@@ -242,13 +250,15 @@ module _ {j : ℕ} {opened seen seen' : ℕ → ℕ} {unsynced unsynced' : ℕ �
       hit : (p : ℕ) → In (4096 * page) (length bytes) p → Hit opened p
       hit p here = record { k = i; below = lt; here = omega (arith, here.from, here.below, e, size) }
 
-pub upto_writes : {seen seen' : ℕ → ℕ} {unsynced unsynced' : ℕ → Type 0} {done : Type 0} (opened : ℕ → ℕ) (i page : ℕ)
-    (bytes : List ℕ) → Upto opened seen i → number opened i ≡ page → length bytes ≡ 4096
-    → ((x : ℕ) → x < 4096 → content opened i x ≡ byte_of bytes x) → Writes (4096 * page) bytes done seen seen' unsynced
-    unsynced' → done → Upto opened seen' (i + 1)
-upto_writes {seen' = seen'} opened i page bytes upto e size same writes wrote p =
+pub upto_writes : {current current' : ℕ → ℕ} {unsynced unsynced' : ℕ → Type 0} {done : Type 0} (opened : ℕ
+    → ℕ) (i page : ℕ)
+    (bytes : List ℕ) → Upto opened current i → number opened i ≡ page → length bytes ≡ 4096
+    → ((x : ℕ) → x < 4096 → content opened i x ≡ byte_of bytes x)
+    → Writes (4096 * page) bytes done current current' unsynced
+    unsynced' → done → Upto opened current' (i + 1)
+upto_writes {current' = current'} opened i page bytes upto e size same writes wrote p =
     let more : suc i ≡ i + 1 = omega arith in
-    subst (λ (n : ℕ). seen' p ≡ over (number opened) (content opened) opened n p) more
+    subst (λ (n : ℕ). current' p ≡ over (number opened) (content opened) opened n p) more
     (⊎_elim
     (λ (h : number opened i ≡ p / 4096). inside h ∙ sym (over_hit (number opened) (content opened) opened i p h))
     (λ (h : number opened i ≡ p / 4096 → ⊥). writes.outside p
@@ -256,17 +266,18 @@ upto_writes {seen' = seen'} opened i page bytes upto e size same writes wrote p 
     ∙ sym (over_pass (number opened) (content opened) opened i p h))
     (cases_eq (number opened i) (p / 4096)))
   where
-    inside : number opened i ≡ p / 4096 → seen' p ≡ content opened i (p % 4096)
+    inside : number opened i ≡ p / 4096 → current' p ≡ content opened i (p % 4096)
     inside h =
         let below : p % 4096 < 4096 = omega arith in
         let at : 4096 * page + p % 4096 ≡ p = omega (arith, h, e) in
-        subst (λ (q : ℕ). seen' q ≡ content opened i (p % 4096)) at
-        (span_at seen' (4096 * page) bytes (p % 4096) (writes.inside wrote) (omega (arith, below, size))
+        subst (λ (q : ℕ). current' q ≡ content opened i (p % 4096)) at
+        (span_at current' (4096 * page) bytes (p % 4096) (writes.inside wrote) (omega (arith, below, size))
         ∙ sym (same (p % 4096) below))
 
-pub placed_syncs : {j : ℕ} {opened seen seen' : ℕ → ℕ} {unsynced unsynced' : ℕ → Type 0} {done : Type 0}
-    → Placing j opened seen unsynced → Upto opened seen (count opened) → Syncs done seen seen' unsynced unsynced' → done
-    → Placed j opened seen' unsynced'
+pub placed_syncs : {j : ℕ} {opened current current' : ℕ → ℕ} {unsynced unsynced' : ℕ → Type 0} {done : Type 0}
+    → Placing j opened current unsynced → Upto opened current (count opened)
+    → Syncs done current current' unsynced unsynced' → done
+    → Placed j opened current' unsynced'
 placed_syncs placing upto syncs done = record {
   gate = placing.gate;
   form = placing.form;
@@ -278,8 +289,8 @@ pub upto_none : (opened : ℕ → ℕ) → Upto opened opened 0
 unfolding over
 upto_none opened p = refl
 
-pub opened_placing : {j : ℕ} {pages : List (ℕ × List ℕ)} {was seen : ℕ → ℕ} {unsynced : ℕ → Type 0}
-    → Opened j pages was seen unsynced → Placing j seen seen unsynced
+pub opened_placing : {j : ℕ} {pages : List (ℕ × List ℕ)} {was current : ℕ → ℕ} {unsynced : ℕ → Type 0}
+    → Opened j pages was current unsynced → Placing j current current unsynced
 opened_placing opened = record {
   gate = opened.gate;
   form = opened.form;
@@ -291,8 +302,8 @@ pub reads_more : {j : ℕ} {image a b : ℕ → ℕ} → ((p : ℕ) → Outside 
     → ReadsAs j image b
 reads_more same reads = record { form = reads.form; same = λ p outside. reads.same p outside ∙ same p outside }
 
-pub settled_more : {j : ℕ} {seen a b : ℕ → ℕ} {unsynced : ℕ → Type 0} → ((p : ℕ) → Outside j p → a p ≡ b p)
-    → Settled j a seen unsynced → Settled j b seen unsynced
+pub settled_more : {j : ℕ} {current a b : ℕ → ℕ} {unsynced : ℕ → Type 0} → ((p : ℕ) → Outside j p → a p ≡ b p)
+    → Settled j a current unsynced → Settled j b current unsynced
 settled_more same s = record {
   is_synced = s.is_synced;
   closed = s.closed;
@@ -306,8 +317,8 @@ pub ready_before : {j : ℕ} {was image : ℕ → ℕ} {risk free : ℕ → Type
 ready_before none before = record { closed = before.closed; same = λ p outside _. before.same p outside (none p) }
 
 -- where all is settled, the gate is closed and the metadata is what a read gives
-pub settled_idle : {j : ℕ} {bytes seen : ℕ → ℕ} {unsynced : ℕ → Type 0} → Settled j bytes seen unsynced
-    → Idle j seen unsynced
+pub settled_idle : {j : ℕ} {bytes current : ℕ → ℕ} {unsynced : ℕ → Type 0} → Settled j bytes current unsynced
+    → Idle j current unsynced
 settled_idle settled = record {
   gate = settled.is_synced 4096;
   closed = settled.closed;

@@ -26,9 +26,10 @@ get_span f at (suc n) zero lt = let e : at ≡ at + 0 = omega arith in ap f e
 get_span f at (suc n) (suc x) lt = let e : at + 1 + x ≡ at + suc x =
     omega arith in get_span f (at + 1) n x (omega (arith, lt)) ∙ ap f e
 
-module _ {seen seen' : ℕ → ℕ} {unsynced unsynced' : ℕ → Type 0} where
-  pub placing_keeps : {j : ℕ} {opened : ℕ → ℕ} → Placing j opened seen unsynced → Keeps seen seen' unsynced unsynced'
-      → Placing j opened seen' unsynced'
+module _ {current current' : ℕ → ℕ} {unsynced unsynced' : ℕ → Type 0} where
+  pub placing_keeps : {j : ℕ} {opened : ℕ → ℕ} → Placing j opened current unsynced
+      → Keeps current current' unsynced unsynced'
+      → Placing j opened current' unsynced'
   placing_keeps placing keeps = record {
     gate = placing.gate;
     form = placing.form;
@@ -36,15 +37,15 @@ module _ {seen seen' : ℕ → ℕ} {unsynced unsynced' : ℕ → Type 0} where
     is_synced = λ p l. placing.is_synced p (keeps.unsyncs p l);
   }
 
-  pub still_keeps : {bytes : ℕ → ℕ} → Still bytes seen unsynced → Keeps seen seen' unsynced unsynced'
-      → Still bytes seen' unsynced'
+  pub still_keeps : {bytes : ℕ → ℕ} → Still bytes current unsynced → Keeps current current' unsynced unsynced'
+      → Still bytes current' unsynced'
   still_keeps still keeps = record {
     reads = λ p. keeps.same p ∙ still.reads p;
     is_synced = λ p l. still.is_synced p (keeps.unsyncs p l);
   }
 
-pub still_image : {bytes seen image : ℕ → ℕ} {unsynced : ℕ → Type 0} → Still bytes seen unsynced
-    → IsImage seen unsynced image
+pub still_image : {bytes current image : ℕ → ℕ} {unsynced : ℕ → Type 0} → Still bytes current unsynced
+    → IsImage current unsynced image
     → (p : ℕ) → image p ≡ bytes p
 still_image still is p = is.same p (still.is_synced p) ∙ still.reads p
 
@@ -55,14 +56,16 @@ page_read f g at bytes n size e x lt same =
     ap (λ (l : List ℕ). get_or l x 0) e ∙ get_span f at n x (omega (arith, size, lt)) ∙ same
 
 -- the journal is as it was when the gate opened
-pub placing_content : {j : ℕ} {opened seen : ℕ → ℕ} {unsynced : ℕ → Type 0} → Placing j opened seen unsynced → (i x : ℕ)
-    → i < count opened → x < 4096 → content seen i x ≡ content opened i x
+pub placing_content : {j : ℕ} {opened current : ℕ → ℕ} {unsynced : ℕ → Type 0} → Placing j opened current unsynced
+    → (i x : ℕ)
+    → i < count opened → x < 4096 → content current i x ≡ content opened i x
 placing_content {j = j} {opened = opened} placing i x lt below =
     placing.same (4096 * (3 + i) + x)
     (λ hit. omega (arith, hit_from j opened _ placing.form hit, lt, below, placing.form.few))
 
-pub still_placing : {j : ℕ} {bytes seen : ℕ → ℕ} {unsynced : ℕ → Type 0} → Still bytes seen unsynced → bytes 4096 ≡ 165
-    → InForm j (count bytes) (number bytes) → Placing j bytes seen unsynced
+pub still_placing : {j : ℕ} {bytes current : ℕ → ℕ} {unsynced : ℕ → Type 0} → Still bytes current unsynced
+    → bytes 4096 ≡ 165
+    → InForm j (count bytes) (number bytes) → Placing j bytes current unsynced
 still_placing still gate form = record {
   gate = gate;
   form = form;
@@ -70,9 +73,9 @@ still_placing still gate form = record {
   is_synced = λ p l. absurd (still.is_synced p l);
 }
 
-pub still_upto : (bytes seen : ℕ → ℕ) {unsynced : ℕ → Type 0} → Still bytes seen unsynced → Upto bytes seen 0
+pub still_upto : (bytes current : ℕ → ℕ) {unsynced : ℕ → Type 0} → Still bytes current unsynced → Upto bytes current 0
 unfolding over
-still_upto bytes seen still p = still.reads p
+still_upto bytes current still p = still.reads p
 
 -- what the head says is what the disk says
 pub head_count : (bytes : ℕ → ℕ) (head : List ℕ) → HeadOf bytes head → word (byte_of head) 0 ≡ count bytes
@@ -101,9 +104,9 @@ form_head j bytes head few here form =
     (λ k lt. sym (head_number bytes head here k (omega (arith, few, lt, form.few)))) form
 
 -- a gate that is closed from the first
-pub still_settled : {j : ℕ} {bytes seen : ℕ → ℕ} {unsynced : ℕ → Type 0} → Still bytes seen unsynced
+pub still_settled : {j : ℕ} {bytes current : ℕ → ℕ} {unsynced : ℕ → Type 0} → Still bytes current unsynced
     → (bytes 4096 ≡ 165 → ⊥)
-    → Settled j (overlaid bytes) seen unsynced
+    → Settled j (overlaid bytes) current unsynced
 still_settled {bytes = bytes} still closed = record {
   is_synced = still.is_synced;
   closed = λ e. closed (sym (still.reads 4096) ∙ e);
@@ -135,19 +138,20 @@ items_room n items pages size e inside room k lt =
 pub in_items : (i j : ℕ) (items pages : List (ℕ × List ℕ)) → i ≡ j → items ≡ pages → InArea j pages → InArea i items
 in_items i j items pages e f inside = subst (λ (n : ℕ). InArea n items) (sym e) (subst (InArea j) (sym f) inside)
 
-pub lasts_laid : {D : Type 0} {disk : Ghosts D} {old new : D} {i j : ℕ} {seen : ℕ → ℕ} {unsynced : ℕ → Type 0}
+pub lasts_laid : {D : Type 0} {disk : Ghosts D} {old new : D} {i j : ℕ} {current : ℕ → ℕ} {unsynced : ℕ → Type 0}
     {items pages : List (ℕ × List ℕ)} → i ≡ j → items ≡ pages
-    → Lasts disk old new (λ image. IsBefore i seen unsynced image ⊎ ReadsAs i image (laid items seen))
-    → Lasts disk old new (λ image. IsBefore j seen unsynced image ⊎ ReadsAs j image (laid pages seen))
-lasts_laid {j = j} {seen = seen} {unsynced = unsynced} {items = items} same e lasts = lasts_more lasts (λ image either.
-    ⊎_elim (λ before. inl (subst (λ (n : ℕ). IsBefore n seen unsynced image) same before))
-    (λ reads. inr (subst (λ (l : List (ℕ × List ℕ)). ReadsAs j image (laid l seen)) e
-    (subst (λ (n : ℕ). ReadsAs n image (laid items seen)) same reads))) either)
+    → Lasts disk old new (λ image. IsBefore i current unsynced image ⊎ ReadsAs i image (laid items current))
+    → Lasts disk old new (λ image. IsBefore j current unsynced image ⊎ ReadsAs j image (laid pages current))
+lasts_laid {j = j} {current = current} {unsynced = unsynced} {items = items} same e lasts = lasts_more lasts
+    (λ image either.
+    ⊎_elim (λ before. inl (subst (λ (n : ℕ). IsBefore n current unsynced image) same before))
+    (λ reads. inr (subst (λ (l : List (ℕ × List ℕ)). ReadsAs j image (laid l current)) e
+    (subst (λ (n : ℕ). ReadsAs n image (laid items current)) same reads))) either)
 
-pub gate_is : (gate : List ℕ) (seen bytes : ℕ → ℕ) → gate ≡ span seen 4096 1 → ((p : ℕ) → seen p ≡ bytes p)
+pub gate_is : (gate : List ℕ) (current bytes : ℕ → ℕ) → gate ≡ span current 4096 1 → ((p : ℕ) → current p ≡ bytes p)
     → (get_or gate 0 0 == 165) ≡ (bytes 4096 == 165)
 unfolding span
-gate_is gate seen bytes e same = ap (λ (b : ℕ). b == 165) (ap (λ (l : List ℕ). get_or l 0 0) e ∙ same 4096)
+gate_is gate current bytes e same = ap (λ (b : ℕ). b == 165) (ap (λ (l : List ℕ). get_or l 0 0) e ∙ same 4096)
 
 -- a number under the one that was due
 pub not_in_form : (j n k least : ℕ) (num : ℕ → ℕ) → k < n → (k ≡ 0 → least ≡ 25 + j)

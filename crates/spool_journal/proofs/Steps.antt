@@ -30,8 +30,9 @@ word_same f g a b same =
     omega arith in ap f (sym z) ∙ same 0 (omega arith) ∙ ap g y in
     omega (arith, e0, same 1 (omega arith), same 2 (omega arith), same 3 (omega arith))
 
-module _ {was seen : ℕ → ℕ} {risk unsynced : ℕ → Type 0} {j : ℕ} where
-  pub staged_before : {image : ℕ → ℕ} → Idle j was risk → Staging j was risk seen unsynced → IsImage seen unsynced image
+module _ {was current : ℕ → ℕ} {risk unsynced : ℕ → Type 0} {j : ℕ} where
+  pub staged_before : {image : ℕ → ℕ} → Idle j was risk → Staging j was risk current unsynced
+      → IsImage current unsynced image
       → IsBefore j was risk image
   staged_before idle staging is =
       let gate : InJournal j 4096 → ⊥ = λ within. omega (arith, within.from) in
@@ -46,7 +47,7 @@ module _ {was seen : ℕ → ℕ} {risk unsynced : ℕ → Type 0} {j : ℕ} whe
       outside_journal p (inl e) within = omega (arith, within.from, e)
       outside_journal p (inr e) within = omega (arith, within.below, e)
 
-  pub idle_on : Idle j was risk → Staging j was risk seen unsynced → Idle j seen unsynced
+  pub idle_on : Idle j was risk → Staging j was risk current unsynced → Idle j current unsynced
   idle_on idle staging =
       let gate : InJournal j 4096 → ⊥ = λ within. omega (arith, within.from) in
       record {
@@ -56,10 +57,10 @@ module _ {was seen : ℕ → ℕ} {risk unsynced : ℕ → Type 0} {j : ℕ} whe
             (staging.is_synced p (λ in_journal. omega (arith, within.from, in_journal.below)) l);
       }
 
-  pub staging_writes : {seen' : ℕ → ℕ} {unsynced' : ℕ → Type 0} {at : ℕ} {bytes : List ℕ} {done : Type 0}
-      → Staging j was risk seen unsynced → Writes at bytes done seen seen' unsynced unsynced' → 8192 ≤ at
-      → at + length bytes ≤ 4096 * (3 + j) → Staging j was risk seen' unsynced'
-  staging_writes {seen' = seen'} {at = at} {bytes = bytes} staging writes from below = record {
+  pub staging_writes : {current' : ℕ → ℕ} {unsynced' : ℕ → Type 0} {at : ℕ} {bytes : List ℕ} {done : Type 0}
+      → Staging j was risk current unsynced → Writes at bytes done current current' unsynced unsynced' → 8192 ≤ at
+      → at + length bytes ≤ 4096 * (3 + j) → Staging j was risk current' unsynced'
+  staging_writes {current' = current'} {at = at} {bytes = bytes} staging writes from below = record {
     same = λ p away. writes.outside p (λ here. away record {
       from = omega (arith, here.from, from);
       below = omega (arith, here.below, below);
@@ -69,17 +70,17 @@ module _ {was seen : ℕ → ℕ} {risk unsynced : ℕ → Type 0} {j : ℕ} whe
         { from = omega (arith, here.from, from); below = omega (arith, here.below, below) })) (writes.unsyncs p l);
   }
 
-pub staging_syncs : {was seen seen' : ℕ → ℕ} {risk unsynced unsynced' : ℕ → Type 0} {j : ℕ} {done : Type 0}
-    → Staging j was risk seen unsynced → Syncs done seen seen' unsynced unsynced' → done
-    → Staging j was risk seen' unsynced'
+pub staging_syncs : {was current current' : ℕ → ℕ} {risk unsynced unsynced' : ℕ → Type 0} {j : ℕ} {done : Type 0}
+    → Staging j was risk current unsynced → Syncs done current current' unsynced unsynced' → done
+    → Staging j was risk current' unsynced'
 staging_syncs staging syncs done = record {
   same = λ p away. syncs.same done p ∙ staging.same p away;
   is_synced = λ p away l. absurd (syncs.is_synced done p l);
 }
 
 -- an image of a sync is one from before it
-pub sync_image : {seen seen' image : ℕ → ℕ} {unsynced unsynced' : ℕ → Type 0} {done : Type 0}
-    → Syncs done seen seen' unsynced unsynced' → IsImage seen' unsynced' image → IsImage seen unsynced image
+pub sync_image : {current current' image : ℕ → ℕ} {unsynced unsynced' : ℕ → Type 0} {done : Type 0}
+    → Syncs done current current' unsynced unsynced' → IsImage current' unsynced' image → IsImage current unsynced image
 sync_image syncs is = record {
   same = λ p is_synced. is.same p (λ l. is_synced (syncs.unsyncs p l))
       ∙ syncs.outside p is_synced;
@@ -88,8 +89,8 @@ sync_image syncs is = record {
 pub staging_start : {was : ℕ → ℕ} {risk : ℕ → Type 0} {j : ℕ} → Staging j was risk was risk
 staging_start = record { same = λ p away. refl; is_synced = λ p away l. l }
 
-pub staging_on : {was mid seen : ℕ → ℕ} {risk between unsynced : ℕ → Type 0} {j : ℕ} → Staging j was risk mid between
-    → Staging j mid between seen unsynced → Staging j was risk seen unsynced
+pub staging_on : {was mid current : ℕ → ℕ} {risk between unsynced : ℕ → Type 0} {j : ℕ} → Staging j was risk mid between
+    → Staging j mid between current unsynced → Staging j was risk current unsynced
 staging_on a b = record {
   same = λ p away. b.same p away ∙ a.same p away;
   is_synced = λ p away l. a.is_synced p away (b.is_synced p away l);
@@ -108,18 +109,19 @@ before_on {j = j} a b = record {
     outside_journal p (inr e) within = omega (arith, within.below, e)
 
 -- one page more in the journal
-pub copied_more : {seen seen' : ℕ → ℕ} {unsynced unsynced' : ℕ
+pub copied_more : {current current' : ℕ → ℕ} {unsynced unsynced' : ℕ
     → Type 0} {done : Type 0} (pages : List (ℕ × List ℕ)) (n : ℕ)
-    (bytes : List ℕ) → Copied pages seen n → Writes (4096 * (3 + n)) bytes done seen seen' unsynced unsynced' → done
-    → length bytes ≡ 4096 → ((x : ℕ) → page_byte pages n x ≡ get_or bytes x 0) → Copied pages seen' (n + 1)
-copied_more {seen = seen} {seen' = seen'} pages n bytes copied writes done size same k x lt below =
+    (bytes : List ℕ) → Copied pages current n
+    → Writes (4096 * (3 + n)) bytes done current current' unsynced unsynced' → done
+    → length bytes ≡ 4096 → ((x : ℕ) → page_byte pages n x ≡ get_or bytes x 0) → Copied pages current' (n + 1)
+copied_more {current = current} {current' = current'} pages n bytes copied writes done size same k x lt below =
     ⊎_elim
     (λ (before : k < n). writes.outside (4096 * (3 + k) + x) (λ here. omega (arith, here.from, before, below))
     ∙ copied k x before below)
     (λ (from : n ≤ k).
     let e : k ≡ n = omega (arith, lt, from) in
-    subst (λ (i : ℕ). content seen' i x ≡ page_byte pages i x) (sym e)
-    (span_at seen' (4096 * (3 + n)) bytes x (writes.inside done) (omega (arith, below, size)) ∙ sym (same x)))
+    subst (λ (i : ℕ). content current' i x ≡ page_byte pages i x) (sym e)
+    (span_at current' (4096 * (3 + n)) bytes x (writes.inside done) (omega (arith, below, size)) ∙ sym (same x)))
     (cases_lt k n)
 
 -- a call that did not fail
@@ -129,9 +131,9 @@ no_failure {a = a} {b = b} counts not =
     (cases_lt a b)
 
 -- what was written and synced, by index
-pub head_at : {seen mid seen' : ℕ → ℕ} {unsynced between unsynced' : ℕ → Type 0} {wrote synced : Type 0} (at : ℕ)
-    (bytes : List ℕ) → length bytes ≡ 4096 → Writes at bytes wrote seen mid unsynced between → wrote
-    → Syncs synced mid seen' between unsynced' → synced → (i : ℕ) → i < 4096 → seen' (at + i) ≡ byte_of bytes i
+pub head_at : {current mid current' : ℕ → ℕ} {unsynced between unsynced' : ℕ → Type 0} {wrote synced : Type 0} (at : ℕ)
+    (bytes : List ℕ) → length bytes ≡ 4096 → Writes at bytes wrote current mid unsynced between → wrote
+    → Syncs synced mid current' between unsynced' → synced → (i : ℕ) → i < 4096 → current' (at + i) ≡ byte_of bytes i
 head_at {mid = mid} at bytes size writes wrote syncs synced i lt =
     syncs.same synced (at + i) ∙ span_at mid at bytes i (writes.inside wrote) (omega (arith, lt, size))
 
@@ -172,14 +174,15 @@ form_same j n n' num num' e same form = record {
 }
 
 -- the journal is written whole
-pub ready : {was mid seen : ℕ → ℕ} {risk between unsynced : ℕ
+pub ready : {was mid current : ℕ → ℕ} {risk between unsynced : ℕ
     → Type 0} {j : ℕ} (pages : List (ℕ × List ℕ)) (head : List ℕ)
     → 1 ≤ length pages → length pages ≤ 385 → length pages ≤ j → InArea j pages → Ascends pages
     → Staging j was risk mid between → Copied pages mid (length pages) → word (byte_of head) 0 ≡ length pages
     → ((k : ℕ) → k < length pages → word (byte_of head) (4 + 4 * k) ≡ page_number pages k)
-    → Staging j mid between seen unsynced → ((i : ℕ) → i < 4096 → seen (8192 + i) ≡ byte_of head i)
-    → ((p : ℕ) → 12288 ≤ p → seen p ≡ mid p) → ((p : ℕ) → unsynced p → ⊥) → Ready j pages was seen unsynced
-ready {seen = seen} {j = j} pages head some few fits inside ascends a copied counted numbered b here kept is_synced =
+    → Staging j mid between current unsynced → ((i : ℕ) → i < 4096 → current (8192 + i) ≡ byte_of head i)
+    → ((p : ℕ) → 12288 ≤ p → current p ≡ mid p) → ((p : ℕ) → unsynced p → ⊥) → Ready j pages was current unsynced
+ready {current = current} {j = j} pages head some few fits inside ascends a copied counted numbered b here kept
+    is_synced =
     record {
       is_synced = is_synced;
       same = λ p away. b.same p away ∙ a.same p away;
@@ -188,7 +191,7 @@ ready {seen = seen} {j = j} pages head some few fits inside ascends a copied cou
         numbers = numbers;
         contents = λ k x lt below. kept _ (omega arith) ∙ copied k x lt below;
       };
-      form = form_same j (length pages) (count seen) (page_number pages) (number seen) (sym size)
+      form = form_same j (length pages) (count current) (page_number pages) (number current) (sym size)
           (λ k lt. sym (numbers k lt)) record {
             some = some;
             few = fits;
@@ -197,14 +200,14 @@ ready {seen = seen} {j = j} pages head some few fits inside ascends a copied cou
           };
     }
   where
-    size : count seen ≡ length pages
-    size = word_same seen (byte_of head) 8192 0
+    size : count current ≡ length pages
+    size = word_same current (byte_of head) 8192 0
         (λ i lt. let e : i ≡ 0 + i = omega arith in here i (omega (arith, lt)) ∙ ap (byte_of head) e) ∙ counted
 
-    numbers : (k : ℕ) → k < length pages → number seen k ≡ page_number pages k
-    numbers k lt = word_same seen (byte_of head) (8196 + 4 * k) (4 + 4 * k) (λ i below.
+    numbers : (k : ℕ) → k < length pages → number current k ≡ page_number pages k
+    numbers k lt = word_same current (byte_of head) (8196 + 4 * k) (4 + 4 * k) (λ i below.
         let e : 8192 + (4 + 4 * k + i) ≡ 8196 + 4 * k + i = omega arith in
-        subst (λ (p : ℕ). seen p ≡ byte_of head (4 + 4 * k + i)) e
+        subst (λ (p : ℕ). current p ≡ byte_of head (4 + 4 * k + i)) e
         (here (4 + 4 * k + i) (omega (arith, lt, below, few)))) ∙ numbered k lt
 
 pub ready_ok : {T E A B C F X : Type 0} (r : Result T E) → OnOk r A → OnOk r B → OnOk r C → OnOk r F

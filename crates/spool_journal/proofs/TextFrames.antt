@@ -17,14 +17,15 @@ pub aside_else : (page : ℕ) (was image : ℕ → ℕ) (p : ℕ) → (page ≡ 
 aside_else page was image p e = ap (λ (b : Bool). cond b (was p) (image p)) (no page (p / 4096) e)
 
 -- but for the page, an image after the write is one from before it
-pub aside_image : {seen seen' image : ℕ → ℕ} {unsynced unsynced' : ℕ
+pub aside_image : {current current' image : ℕ → ℕ} {unsynced unsynced' : ℕ
     → Type 0} {done : Type 0} (page at : ℕ) (bytes : List ℕ)
-    → 4096 * page ≤ at → at + length bytes ≤ 4096 * (page + 1) → Writes at bytes done seen seen' unsynced unsynced'
-    → IsImage seen' unsynced' image → IsImage seen unsynced (aside page seen image)
-aside_image {seen = seen} {image = image} page at bytes from below writes is = record {
+    → 4096 * page ≤ at → at + length bytes ≤ 4096 * (page + 1)
+    → Writes at bytes done current current' unsynced unsynced'
+    → IsImage current' unsynced' image → IsImage current unsynced (aside page current image)
+aside_image {current = current} {image = image} page at bytes from below writes is = record {
   same = λ p is_synced. ⊎_elim
-      (λ (e : page ≡ p / 4096). aside_there page seen image p e)
-      (λ (e : page ≡ p / 4096 → ⊥). aside_else page seen image p e ∙ is.same p
+      (λ (e : page ≡ p / 4096). aside_there page current image p e)
+      (λ (e : page ≡ p / 4096 → ⊥). aside_else page current image p e ∙ is.same p
       (λ l. ⊎_elim is_synced (λ here. e (inside p here)) (writes.unsyncs p l))
       ∙ writes.outside p (λ here. e (inside p here)))
       (cases_eq page (p / 4096));
@@ -33,10 +34,10 @@ aside_image {seen = seen} {image = image} page at bytes from below writes is = r
     inside : (p : ℕ) → In at (length bytes) p → page ≡ p / 4096
     inside p here = omega (arith, here.from, here.below, from, below)
 
-pub idle_writes : {j : ℕ} {seen seen' : ℕ → ℕ} {unsynced unsynced' : ℕ
+pub idle_writes : {j : ℕ} {current current' : ℕ → ℕ} {unsynced unsynced' : ℕ
     → Type 0} {done : Type 0} (at : ℕ) (bytes : List ℕ)
-    → 4096 * area_end j ≤ at → Idle j seen unsynced → Writes at bytes done seen seen' unsynced unsynced'
-    → Idle j seen' unsynced'
+    → 4096 * area_end j ≤ at → Idle j current unsynced → Writes at bytes done current current' unsynced unsynced'
+    → Idle j current' unsynced'
 idle_writes at bytes from idle writes = record {
   gate = λ l. ⊎_elim idle.gate (λ here. omega (arith, here.from, from)) (writes.unsyncs 4096 l);
   closed = λ e. idle.closed (sym (writes.outside 4096 (λ here. omega (arith, here.from, from))) ∙ e);

@@ -19,10 +19,10 @@ fn finish<D: Disk>(disk: &mut D, items: &[(u32, [u8; PAGE])]) -> Result<(), Disk
     ensures honest { D.honest disk.old ↔ D.honest disk.new }
     ensures counts { Counts (IsErr result) (D.failures disk.old) (D.failures disk.new) }
     ensures settled { D.honest disk.old → (j : ℕ) (opened : ℕ → ℕ) → Matches items.now opened
-        → Placing j opened (D.seen disk.old) (D.unsynced disk.old) → Upto opened (D.seen disk.old) 0
-        → OnOk result (Settled j (replayed opened) (D.seen disk.new) (D.unsynced disk.new)) }
+        → Placing j opened (D.current disk.old) (D.unsynced disk.old) → Upto opened (D.current disk.old) 0
+        → OnOk result (Settled j (replayed opened) (D.current disk.new) (D.unsynced disk.new)) }
     ensures lasts { D.honest disk.old → (j : ℕ) → j ≤ 385 → (opened : ℕ → ℕ) → Matches items.now opened
-        → Placing j opened (D.seen disk.old) (D.unsynced disk.old) → Upto opened (D.seen disk.old) 0
+        → Placing j opened (D.current disk.old) (D.unsynced disk.old) → Upto opened (D.current disk.old) 0
         → Lasts D.Disk disk.old disk.new (λ image. ReadsAs j image (replayed opened)) }
 {
     place_pages(disk, items)?;
@@ -44,13 +44,15 @@ fn commit_items<D: Disk>(
     ensures size { D.size disk.new ≡ D.size disk.old }
     ensures honest { D.honest disk.old ↔ D.honest disk.new }
     ensures counts { Counts (IsErr result) (D.failures disk.old) (D.failures disk.new) }
-    ensures done { D.honest disk.old → Idle journal (D.seen disk.old) (D.unsynced disk.old) → InArea journal items.now
+    ensures done { D.honest disk.old → Idle journal (D.current disk.old) (D.unsynced disk.old)
+        → InArea journal items.now
         → Ascends items.now → OnOk result
-        (Settled journal (laid items.now (D.seen disk.old)) (D.seen disk.new) (D.unsynced disk.new)) }
-    ensures lasts { D.honest disk.old → Idle journal (D.seen disk.old) (D.unsynced disk.old) → InArea journal items.now
+        (Settled journal (laid items.now (D.current disk.old)) (D.current disk.new) (D.unsynced disk.new)) }
+    ensures lasts { D.honest disk.old → Idle journal (D.current disk.old) (D.unsynced disk.old)
+        → InArea journal items.now
         → Ascends items.now → Lasts D.Disk disk.old disk.new
-        (λ image. IsBefore journal (D.seen disk.old) (D.unsynced disk.old) image ⊎ ReadsAs journal image
-        (laid items.now (D.seen disk.old))) }
+        (λ image. IsBefore journal (D.current disk.old) (D.unsynced disk.old) image ⊎ ReadsAs journal image
+        (laid items.now (D.current disk.old))) }
 {
     stage(disk, items)?;
     open_gate(disk)?;
@@ -70,20 +72,20 @@ pub fn commit<D: Disk>(disk: &mut D, layout: &Layout, pages: &Pages) -> Result<(
     ensures ascends { Ascends pages.now }
 
     // Outside gate and journal every image then has exactly these pages changed, and all that a read gave.
-    ensures done { D.honest disk.old → Idle (journal_pages layout.now) (D.seen disk.old) (D.unsynced disk.old)
+    ensures done { D.honest disk.old → Idle (journal_pages layout.now) (D.current disk.old) (D.unsynced disk.old)
         → 1 ≤ length pages.now → OnOk result
-        (Settled (journal_pages layout.now) (laid pages.now (D.seen disk.old)) (D.seen disk.new)
+        (Settled (journal_pages layout.now) (laid pages.now (D.current disk.old)) (D.current disk.new)
         (D.unsynced disk.new)) }
 
     // And so it may be called again.
-    ensures idle { D.honest disk.old → Idle (journal_pages layout.now) (D.seen disk.old) (D.unsynced disk.old)
-        → OnOk result (Idle (journal_pages layout.now) (D.seen disk.new) (D.unsynced disk.new)) }
+    ensures idle { D.honest disk.old → Idle (journal_pages layout.now) (D.current disk.old) (D.unsynced disk.old)
+        → OnOk result (Idle (journal_pages layout.now) (D.current disk.new) (D.unsynced disk.new)) }
 
     // A crash during it leaves all old pages, or all new ones with all that a read gave.
-    ensures lasts { D.honest disk.old → Idle (journal_pages layout.now) (D.seen disk.old) (D.unsynced disk.old)
+    ensures lasts { D.honest disk.old → Idle (journal_pages layout.now) (D.current disk.old) (D.unsynced disk.old)
         → Lasts D.Disk disk.old disk.new
-        (λ image. IsBefore (journal_pages layout.now) (D.seen disk.old) (D.unsynced disk.old) image ⊎ ReadsAs
-        (journal_pages layout.now) image (laid pages.now (D.seen disk.old))) }
+        (λ image. IsBefore (journal_pages layout.now) (D.current disk.old) (D.unsynced disk.old) image ⊎ ReadsAs
+        (journal_pages layout.now) image (laid pages.now (D.current disk.old))) }
 {
     let items = pages.items();
     if items.is_empty() {

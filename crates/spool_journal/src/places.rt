@@ -15,10 +15,10 @@ pub(crate) fn open_gate<D: Disk>(disk: &mut D) -> Result<(), DiskFault>
     ensures honest { D.honest disk.old ↔ D.honest disk.new }
     ensures counts { Counts (IsErr result) (D.failures disk.old) (D.failures disk.new) }
     ensures opened { D.honest disk.old → (j : ℕ) → j ≤ 385 → (pages : List (ℕ × List ℕ)) (was : ℕ → ℕ)
-        → Ready j pages was (D.seen disk.old) (D.unsynced disk.old) → OnOk result
-        (Opened j pages was (D.seen disk.new) (D.unsynced disk.new)) }
+        → Ready j pages was (D.current disk.old) (D.unsynced disk.old) → OnOk result
+        (Opened j pages was (D.current disk.new) (D.unsynced disk.new)) }
     ensures lasts { D.honest disk.old → (j : ℕ) → j ≤ 385 → (pages : List (ℕ × List ℕ)) (was : ℕ → ℕ)
-        → Ready j pages was (D.seen disk.old) (D.unsynced disk.old) → Lasts D.Disk disk.old disk.new
+        → Ready j pages was (D.current disk.old) (D.unsynced disk.old) → Lasts D.Disk disk.old disk.new
         (λ image. IsBefore j was (D.unsynced disk.old) image ⊎ ReadsAs j image (laid pages was)) }
 {
     disk.write_at(4096, &[165])?;
@@ -31,14 +31,14 @@ pub(crate) fn place<D: Disk>(disk: &mut D, page: u32, bytes: &[u8; PAGE]) -> Res
     ensures size { D.size disk.new ≡ D.size disk.old }
     ensures honest { D.honest disk.old ↔ D.honest disk.new }
     ensures counts { Counts (IsErr result) (D.failures disk.old) (D.failures disk.new) }
-    ensures placing { D.honest disk.old → (j i : ℕ) (opened : ℕ → ℕ) → Placing j opened (D.seen disk.old)
-        (D.unsynced disk.old) → i < count opened → number opened i ≡ page → Placing j opened (D.seen disk.new)
+    ensures placing { D.honest disk.old → (j i : ℕ) (opened : ℕ → ℕ) → Placing j opened (D.current disk.old)
+        (D.unsynced disk.old) → i < count opened → number opened i ≡ page → Placing j opened (D.current disk.new)
         (D.unsynced disk.new) }
-    ensures upto { D.honest disk.old → (i : ℕ) (opened : ℕ → ℕ) → Upto opened (D.seen disk.old) i
+    ensures upto { D.honest disk.old → (i : ℕ) (opened : ℕ → ℕ) → Upto opened (D.current disk.old) i
         → number opened i ≡ page → ((x : ℕ) → x < 4096 → content opened i x ≡ byte_of bytes.now x)
-        → OnOk result (Upto opened (D.seen disk.new) (i + 1)) }
+        → OnOk result (Upto opened (D.current disk.new) (i + 1)) }
     ensures lasts { D.honest disk.old → (j i : ℕ) → j ≤ 385 → (opened : ℕ → ℕ)
-        → Placing j opened (D.seen disk.old) (D.unsynced disk.old) → i < count opened → number opened i ≡ page
+        → Placing j opened (D.current disk.old) (D.unsynced disk.old) → i < count opened → number opened i ≡ page
         → Lasts D.Disk disk.old disk.new (λ image. ReadsAs j image (replayed opened)) }
 {
     disk.write_at(4096 * page as u64, bytes)
@@ -54,12 +54,12 @@ pub(crate) fn place_pages<D: Disk>(
     ensures honest { D.honest disk.old ↔ D.honest disk.new }
     ensures counts { Counts (IsErr result) (D.failures disk.old) (D.failures disk.new) }
     ensures placing { D.honest disk.old → (j : ℕ) (opened : ℕ → ℕ) → Matches items.now opened
-        → Placing j opened (D.seen disk.old) (D.unsynced disk.old)
-        → Placing j opened (D.seen disk.new) (D.unsynced disk.new) }
-    ensures upto { D.honest disk.old → (opened : ℕ → ℕ) → Matches items.now opened → Upto opened (D.seen disk.old) 0
-        → OnOk result (Upto opened (D.seen disk.new) (length items.now)) }
+        → Placing j opened (D.current disk.old) (D.unsynced disk.old)
+        → Placing j opened (D.current disk.new) (D.unsynced disk.new) }
+    ensures upto { D.honest disk.old → (opened : ℕ → ℕ) → Matches items.now opened → Upto opened (D.current disk.old) 0
+        → OnOk result (Upto opened (D.current disk.new) (length items.now)) }
     ensures lasts { D.honest disk.old → (j : ℕ) → j ≤ 385 → (opened : ℕ → ℕ) → Matches items.now opened
-        → Placing j opened (D.seen disk.old) (D.unsynced disk.old) → Lasts D.Disk disk.old disk.new
+        → Placing j opened (D.current disk.old) (D.unsynced disk.old) → Lasts D.Disk disk.old disk.new
         (λ image. ReadsAs j image (replayed opened)) }
 {
     for i in 0..items.len() {
@@ -74,10 +74,10 @@ pub(crate) fn close_gate<D: Disk>(disk: &mut D) -> Result<(), DiskFault>
     ensures size { D.size disk.new ≡ D.size disk.old }
     ensures honest { D.honest disk.old ↔ D.honest disk.new }
     ensures counts { Counts (IsErr result) (D.failures disk.old) (D.failures disk.new) }
-    ensures settled { D.honest disk.old → (j : ℕ) (opened : ℕ → ℕ) → Placed j opened (D.seen disk.old)
-        (D.unsynced disk.old) → OnOk result (Settled j (replayed opened) (D.seen disk.new) (D.unsynced disk.new)) }
+    ensures settled { D.honest disk.old → (j : ℕ) (opened : ℕ → ℕ) → Placed j opened (D.current disk.old)
+        (D.unsynced disk.old) → OnOk result (Settled j (replayed opened) (D.current disk.new) (D.unsynced disk.new)) }
     ensures lasts { D.honest disk.old → (j : ℕ) → j ≤ 385 → (opened : ℕ → ℕ)
-        → Placed j opened (D.seen disk.old) (D.unsynced disk.old) → Lasts D.Disk disk.old disk.new
+        → Placed j opened (D.current disk.old) (D.unsynced disk.old) → Lasts D.Disk disk.old disk.new
         (λ image. ReadsAs j image (replayed opened)) }
 {
     disk.write_at(4096, &[0])?;

@@ -18,9 +18,10 @@ fn settle<D: Disk>(disk: &mut D) -> Result<(), DiskFault>
     ensures size { D.size disk.new ≡ D.size disk.old }
     ensures honest { D.honest disk.old ↔ D.honest disk.new }
     ensures counts { Counts (IsErr result) (D.failures disk.old) (D.failures disk.new) }
-    ensures still { D.honest disk.old → OnOk result (Still (D.seen disk.old) (D.seen disk.new) (D.unsynced disk.new)) }
+    ensures still { D.honest disk.old → OnOk result (Still (D.current disk.old) (D.current disk.new)
+        (D.unsynced disk.new)) }
     ensures lasts { D.honest disk.old → Lasts D.Disk disk.old disk.new
-        (IsImage (D.seen disk.old) (D.unsynced disk.old)) }
+        (IsImage (D.current disk.old) (D.unsynced disk.old)) }
 {
     disk.sync()
 }
@@ -31,11 +32,11 @@ fn is_open<D: Disk>(disk: &mut D) -> Result<bool, DiskFault>
     ensures size { D.size disk.new ≡ D.size disk.old }
     ensures honest { D.honest disk.old ↔ D.honest disk.new }
     ensures counts { Counts (IsErr result) (D.failures disk.old) (D.failures disk.new) }
-    ensures still { D.honest disk.old → (bytes : ℕ → ℕ) → Still bytes (D.seen disk.old) (D.unsynced disk.old)
-        → Still bytes (D.seen disk.new) (D.unsynced disk.new) }
-    ensures open { D.honest disk.old → (bytes : ℕ → ℕ) → Still bytes (D.seen disk.old) (D.unsynced disk.old)
+    ensures still { D.honest disk.old → (bytes : ℕ → ℕ) → Still bytes (D.current disk.old) (D.unsynced disk.old)
+        → Still bytes (D.current disk.new) (D.unsynced disk.new) }
+    ensures open { D.honest disk.old → (bytes : ℕ → ℕ) → Still bytes (D.current disk.old) (D.unsynced disk.old)
         → IfOk result (λ shown. shown ≡ (bytes 4096 == 165)) }
-    ensures lasts { D.honest disk.old → (bytes : ℕ → ℕ) → Still bytes (D.seen disk.old) (D.unsynced disk.old)
+    ensures lasts { D.honest disk.old → (bytes : ℕ → ℕ) → Still bytes (D.current disk.old) (D.unsynced disk.old)
         → Lasts D.Disk disk.old disk.new (λ image. (p : ℕ) → image p ≡ bytes p) }
 {
     let mut gate = [0];
@@ -49,11 +50,11 @@ fn read_head<D: Disk>(disk: &mut D, head: &mut [u8; PAGE]) -> Result<(), DiskFau
     ensures size { D.size disk.new ≡ D.size disk.old }
     ensures honest { D.honest disk.old ↔ D.honest disk.new }
     ensures counts { Counts (IsErr result) (D.failures disk.old) (D.failures disk.new) }
-    ensures still { D.honest disk.old → (bytes : ℕ → ℕ) → Still bytes (D.seen disk.old) (D.unsynced disk.old)
-        → Still bytes (D.seen disk.new) (D.unsynced disk.new) }
-    ensures head { D.honest disk.old → (bytes : ℕ → ℕ) → Still bytes (D.seen disk.old) (D.unsynced disk.old)
+    ensures still { D.honest disk.old → (bytes : ℕ → ℕ) → Still bytes (D.current disk.old) (D.unsynced disk.old)
+        → Still bytes (D.current disk.new) (D.unsynced disk.new) }
+    ensures head { D.honest disk.old → (bytes : ℕ → ℕ) → Still bytes (D.current disk.old) (D.unsynced disk.old)
         → OnOk result (HeadOf bytes head.new) }
-    ensures lasts { D.honest disk.old → (bytes : ℕ → ℕ) → Still bytes (D.seen disk.old) (D.unsynced disk.old)
+    ensures lasts { D.honest disk.old → (bytes : ℕ → ℕ) → Still bytes (D.current disk.old) (D.unsynced disk.old)
         → Lasts D.Disk disk.old disk.new (λ image. (p : ℕ) → image p ≡ bytes p) }
 {
     disk.read(8192, head)
@@ -101,14 +102,15 @@ fn copy_page<D: Disk>(disk: &mut D, from: u32, to: u32) -> Result<(), DiskFault>
     ensures size { D.size disk.new ≡ D.size disk.old }
     ensures honest { D.honest disk.old ↔ D.honest disk.new }
     ensures counts { Counts (IsErr result) (D.failures disk.old) (D.failures disk.new) }
-    ensures placing { D.honest disk.old → (j i : ℕ) (opened : ℕ → ℕ) → Placing j opened (D.seen disk.old)
-        (D.unsynced disk.old) → i < count opened → number opened i ≡ to → Placing j opened (D.seen disk.new)
+    ensures placing { D.honest disk.old → (j i : ℕ) (opened : ℕ → ℕ) → Placing j opened (D.current disk.old)
+        (D.unsynced disk.old) → i < count opened → number opened i ≡ to → Placing j opened (D.current disk.new)
         (D.unsynced disk.new) }
-    ensures upto { D.honest disk.old → (j i : ℕ) (opened : ℕ → ℕ) → Placing j opened (D.seen disk.old)
-        (D.unsynced disk.old) → Upto opened (D.seen disk.old) i → i < count opened → number opened i ≡ to → from ≡ 3 + i
-        → OnOk result (Upto opened (D.seen disk.new) (i + 1)) }
+    ensures upto { D.honest disk.old → (j i : ℕ) (opened : ℕ → ℕ) → Placing j opened (D.current disk.old)
+        (D.unsynced disk.old) → Upto opened (D.current disk.old) i → i < count opened → number opened i ≡ to
+        → from ≡ 3 + i
+        → OnOk result (Upto opened (D.current disk.new) (i + 1)) }
     ensures lasts { D.honest disk.old → (j i : ℕ) → j ≤ 385 → (opened : ℕ → ℕ)
-        → Placing j opened (D.seen disk.old) (D.unsynced disk.old) → i < count opened → number opened i ≡ to
+        → Placing j opened (D.current disk.old) (D.unsynced disk.old) → i < count opened → number opened i ≡ to
         → Lasts D.Disk disk.old disk.new (λ image. ReadsAs j image (replayed opened)) }
 {
     let mut bytes = [0; PAGE];
@@ -125,13 +127,14 @@ fn replay<D: Disk>(disk: &mut D, head: &[u8; PAGE], journal: u32) -> Result<(), 
     ensures honest { D.honest disk.old ↔ D.honest disk.new }
     ensures counts { Counts (IsErr result) (D.failures disk.old) (D.failures disk.new) }
     ensures placing { D.honest disk.old → (opened : ℕ → ℕ) → HeadOf opened head.now
-        → Placing journal opened (D.seen disk.old) (D.unsynced disk.old) → Placing journal opened (D.seen disk.new)
+        → Placing journal opened (D.current disk.old) (D.unsynced disk.old)
+        → Placing journal opened (D.current disk.new)
         (D.unsynced disk.new) }
     ensures upto { D.honest disk.old → (opened : ℕ → ℕ) → HeadOf opened head.now
-        → Placing journal opened (D.seen disk.old) (D.unsynced disk.old) → Upto opened (D.seen disk.old) 0
-        → OnOk result (Upto opened (D.seen disk.new) (count opened)) }
+        → Placing journal opened (D.current disk.old) (D.unsynced disk.old) → Upto opened (D.current disk.old) 0
+        → OnOk result (Upto opened (D.current disk.new) (count opened)) }
     ensures lasts { D.honest disk.old → (opened : ℕ → ℕ) → HeadOf opened head.now
-        → Placing journal opened (D.seen disk.old) (D.unsynced disk.old) → Lasts D.Disk disk.old disk.new
+        → Placing journal opened (D.current disk.old) (D.unsynced disk.old) → Lasts D.Disk disk.old disk.new
         (λ image. ReadsAs journal image (replayed opened)) }
 {
     let count = get_word(head, 0);
@@ -151,10 +154,10 @@ fn replay_all<D: Disk>(disk: &mut D, head: &[u8; PAGE], journal: u32) -> Result<
     ensures honest { D.honest disk.old ↔ D.honest disk.new }
     ensures counts { Counts (IsErr result) (D.failures disk.old) (D.failures disk.new) }
     ensures settled { D.honest disk.old → (bytes : ℕ → ℕ) → HeadOf bytes head.now
-        → Still bytes (D.seen disk.old) (D.unsynced disk.old) → bytes 4096 ≡ 165
-        → OnOk result (Settled journal (replayed bytes) (D.seen disk.new) (D.unsynced disk.new)) }
+        → Still bytes (D.current disk.old) (D.unsynced disk.old) → bytes 4096 ≡ 165
+        → OnOk result (Settled journal (replayed bytes) (D.current disk.new) (D.unsynced disk.new)) }
     ensures lasts { D.honest disk.old → (bytes : ℕ → ℕ) → HeadOf bytes head.now
-        → Still bytes (D.seen disk.old) (D.unsynced disk.old) → bytes 4096 ≡ 165
+        → Still bytes (D.current disk.old) (D.unsynced disk.old) → bytes 4096 ≡ 165
         → Lasts D.Disk disk.old disk.new (λ image. ReadsAs journal image (replayed bytes)) }
 {
     replay(disk, head, journal)?;
@@ -170,13 +173,13 @@ fn mend<D: Disk>(disk: &mut D, journal: u32) -> Result<(), RecoverError>
     ensures size { D.size disk.new ≡ D.size disk.old }
     ensures honest { D.honest disk.old ↔ D.honest disk.new }
     ensures counts { Counts (result ≡ Err RecoverError.DiskFault) (D.failures disk.old) (D.failures disk.new) }
-    ensures settled { D.honest disk.old → (bytes : ℕ → ℕ) → Still bytes (D.seen disk.old) (D.unsynced disk.old)
-        → bytes 4096 ≡ 165 → OnOk result (Settled journal (replayed bytes) (D.seen disk.new) (D.unsynced disk.new)) }
-    ensures form { D.honest disk.old → (bytes : ℕ → ℕ) → Still bytes (D.seen disk.old) (D.unsynced disk.old)
+    ensures settled { D.honest disk.old → (bytes : ℕ → ℕ) → Still bytes (D.current disk.old) (D.unsynced disk.old)
+        → bytes 4096 ≡ 165 → OnOk result (Settled journal (replayed bytes) (D.current disk.new) (D.unsynced disk.new)) }
+    ensures form { D.honest disk.old → (bytes : ℕ → ℕ) → Still bytes (D.current disk.old) (D.unsynced disk.old)
         → OnOk result (InForm journal (count bytes) (number bytes)) }
-    ensures damaged { D.honest disk.old → (bytes : ℕ → ℕ) → Still bytes (D.seen disk.old) (D.unsynced disk.old)
+    ensures damaged { D.honest disk.old → (bytes : ℕ → ℕ) → Still bytes (D.current disk.old) (D.unsynced disk.old)
         → result ≡ Err RecoverError.Damaged → InForm journal (count bytes) (number bytes) → ⊥ }
-    ensures lasts { D.honest disk.old → (bytes : ℕ → ℕ) → Still bytes (D.seen disk.old) (D.unsynced disk.old)
+    ensures lasts { D.honest disk.old → (bytes : ℕ → ℕ) → Still bytes (D.current disk.old) (D.unsynced disk.old)
         → bytes 4096 ≡ 165 → Lasts D.Disk disk.old disk.new
         (λ image. ((p : ℕ) → image p ≡ bytes p) ⊎ ReadsAs journal image (replayed bytes)) }
 {
@@ -201,30 +204,31 @@ pub fn recover<D: Disk>(disk: &mut D, layout: &Layout) -> Result<(), RecoverErro
 
     // Every image then is, outside gate and journal, what a plain reading gave.
     ensures settled { D.honest disk.old → OnOk result
-        (Settled (journal_pages layout.now) (overlaid (D.seen disk.old)) (D.seen disk.new) (D.unsynced disk.new)) }
+        (Settled (journal_pages layout.now) (overlaid (D.current disk.old)) (D.current disk.new)
+        (D.unsynced disk.new)) }
 
     // And so a commit may be made.
     ensures idle { D.honest disk.old → OnOk result
-        (Idle (journal_pages layout.now) (D.seen disk.new) (D.unsynced disk.new)) }
+        (Idle (journal_pages layout.now) (D.current disk.new) (D.unsynced disk.new)) }
 
     // It refuses exactly a journal head after an open gate that is out of form.
     ensures form { D.honest disk.old → OnOk result
-        (D.seen disk.old 4096 ≡ 165 → InForm (journal_pages layout.now) (count (D.seen disk.old))
-        (number (D.seen disk.old))) }
+        (D.current disk.old 4096 ≡ 165 → InForm (journal_pages layout.now) (count (D.current disk.old))
+        (number (D.current disk.old))) }
     ensures damaged { D.honest disk.old → result ≡ Err RecoverError.Damaged
-        → (D.seen disk.old 4096 ≡ 165) × (InForm (journal_pages layout.now) (count (D.seen disk.old))
-        (number (D.seen disk.old)) → ⊥) }
+        → (D.current disk.old 4096 ≡ 165) × (InForm (journal_pages layout.now) (count (D.current disk.old))
+        (number (D.current disk.old)) → ⊥) }
 
     // A crash during it leaves what it might have left before, or what reads the same.
     ensures lasts { D.honest disk.old → Lasts D.Disk disk.old disk.new
-        (λ image. IsImage (D.seen disk.old) (D.unsynced disk.old) image ⊎ ReadsAs (journal_pages layout.now) image
-        (overlaid (D.seen disk.old))) }
+        (λ image. IsImage (D.current disk.old) (D.unsynced disk.old) image ⊎ ReadsAs (journal_pages layout.now) image
+        (overlaid (D.current disk.old))) }
 
     // Where the gate is closed it writes nothing: every image is one from before, and so is what a read gives.
-    ensures unwritten { D.honest disk.old → (D.seen disk.old 4096 ≡ 165 → ⊥)
-        → Lasts D.Disk disk.old disk.new (IsImage (D.seen disk.old) (D.unsynced disk.old)) }
-    ensures same { D.honest disk.old → (D.seen disk.old 4096 ≡ 165 → ⊥) → (result ≡ Err RecoverError.DiskFault → ⊥)
-        → Still (D.seen disk.old) (D.seen disk.new) (D.unsynced disk.new) }
+    ensures unwritten { D.honest disk.old → (D.current disk.old 4096 ≡ 165 → ⊥)
+        → Lasts D.Disk disk.old disk.new (IsImage (D.current disk.old) (D.unsynced disk.old)) }
+    ensures same { D.honest disk.old → (D.current disk.old 4096 ≡ 165 → ⊥) → (result ≡ Err RecoverError.DiskFault → ⊥)
+        → Still (D.current disk.old) (D.current disk.new) (D.unsynced disk.new) }
 {
     settle(disk)?;
     if is_open(disk)? {

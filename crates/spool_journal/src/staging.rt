@@ -16,10 +16,11 @@ fn stage_pages<D: Disk>(disk: &mut D, items: &[(u32, [u8; PAGE])]) -> Result<(),
     ensures honest { D.honest disk.old ↔ D.honest disk.new }
     ensures counts { Counts (IsErr result) (D.failures disk.old) (D.failures disk.new) }
     ensures staging { D.honest disk.old → (j : ℕ) → length items.now ≤ j
-        → Staging j (D.seen disk.old) (D.unsynced disk.old) (D.seen disk.new) (D.unsynced disk.new) }
-    ensures copied { D.honest disk.old → OnOk result (Copied items.now (D.seen disk.new) (length items.now)) }
-    ensures lasts { D.honest disk.old → (j : ℕ) → length items.now ≤ j → Idle j (D.seen disk.old) (D.unsynced disk.old)
-        → Lasts D.Disk disk.old disk.new (IsBefore j (D.seen disk.old) (D.unsynced disk.old)) }
+        → Staging j (D.current disk.old) (D.unsynced disk.old) (D.current disk.new) (D.unsynced disk.new) }
+    ensures copied { D.honest disk.old → OnOk result (Copied items.now (D.current disk.new) (length items.now)) }
+    ensures lasts { D.honest disk.old → (j : ℕ) → length items.now ≤ j
+        → Idle j (D.current disk.old) (D.unsynced disk.old)
+        → Lasts D.Disk disk.old disk.new (IsBefore j (D.current disk.old) (D.unsynced disk.old)) }
 {
     for i in 0..items.len() {
         disk.write_at(4096 * (3 + i as u64), &items[i].1)?;
@@ -61,13 +62,13 @@ fn write_head<D: Disk>(disk: &mut D, head: &[u8; PAGE]) -> Result<(), DiskFault>
     ensures honest { D.honest disk.old ↔ D.honest disk.new }
     ensures counts { Counts (IsErr result) (D.failures disk.old) (D.failures disk.new) }
     ensures staging { D.honest disk.old → OnOk result
-        ((j : ℕ) → Staging j (D.seen disk.old) (D.unsynced disk.old) (D.seen disk.new) (D.unsynced disk.new)) }
+        ((j : ℕ) → Staging j (D.current disk.old) (D.unsynced disk.old) (D.current disk.new) (D.unsynced disk.new)) }
     ensures is_synced { D.honest disk.old → OnOk result ((p : ℕ) → D.unsynced disk.new p → ⊥) }
     ensures head { D.honest disk.old → OnOk result
-        ((i : ℕ) → i < 4096 → D.seen disk.new (8192 + i) ≡ byte_of head.now i) }
-    ensures kept { D.honest disk.old → OnOk result ((p : ℕ) → 12288 ≤ p → D.seen disk.new p ≡ D.seen disk.old p) }
-    ensures lasts { D.honest disk.old → (j : ℕ) → Idle j (D.seen disk.old) (D.unsynced disk.old)
-        → Lasts D.Disk disk.old disk.new (IsBefore j (D.seen disk.old) (D.unsynced disk.old)) }
+        ((i : ℕ) → i < 4096 → D.current disk.new (8192 + i) ≡ byte_of head.now i) }
+    ensures kept { D.honest disk.old → OnOk result ((p : ℕ) → 12288 ≤ p → D.current disk.new p ≡ D.current disk.old p) }
+    ensures lasts { D.honest disk.old → (j : ℕ) → Idle j (D.current disk.old) (D.unsynced disk.old)
+        → Lasts D.Disk disk.old disk.new (IsBefore j (D.current disk.old) (D.unsynced disk.old)) }
 {
     disk.write_at(8192, head)?;
     disk.sync()
@@ -82,9 +83,10 @@ pub(crate) fn stage<D: Disk>(disk: &mut D, items: &[(u32, [u8; PAGE])]) -> Resul
     ensures honest { D.honest disk.old ↔ D.honest disk.new }
     ensures counts { Counts (IsErr result) (D.failures disk.old) (D.failures disk.new) }
     ensures ready { D.honest disk.old → (j : ℕ) → length items.now ≤ j → InArea j items.now → Ascends items.now
-        → OnOk result (Ready j items.now (D.seen disk.old) (D.seen disk.new) (D.unsynced disk.new)) }
-    ensures lasts { D.honest disk.old → (j : ℕ) → length items.now ≤ j → Idle j (D.seen disk.old) (D.unsynced disk.old)
-        → Lasts D.Disk disk.old disk.new (IsBefore j (D.seen disk.old) (D.unsynced disk.old)) }
+        → OnOk result (Ready j items.now (D.current disk.old) (D.current disk.new) (D.unsynced disk.new)) }
+    ensures lasts { D.honest disk.old → (j : ℕ) → length items.now ≤ j
+        → Idle j (D.current disk.old) (D.unsynced disk.old)
+        → Lasts D.Disk disk.old disk.new (IsBefore j (D.current disk.old) (D.unsynced disk.old)) }
 {
     stage_pages(disk, items)?;
     let head = head_of(items);

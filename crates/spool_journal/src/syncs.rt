@@ -13,11 +13,11 @@ pub(crate) fn sync_places<D: Disk>(disk: &mut D) -> Result<(), DiskFault>
     ensures size { D.size disk.new ≡ D.size disk.old }
     ensures honest { D.honest disk.old ↔ D.honest disk.new }
     ensures counts { Counts (IsErr result) (D.failures disk.old) (D.failures disk.new) }
-    ensures placed { D.honest disk.old → (j : ℕ) (opened : ℕ → ℕ) → Placing j opened (D.seen disk.old)
-        (D.unsynced disk.old) → Upto opened (D.seen disk.old) (count opened)
-        → OnOk result (Placed j opened (D.seen disk.new) (D.unsynced disk.new)) }
+    ensures placed { D.honest disk.old → (j : ℕ) (opened : ℕ → ℕ) → Placing j opened (D.current disk.old)
+        (D.unsynced disk.old) → Upto opened (D.current disk.old) (count opened)
+        → OnOk result (Placed j opened (D.current disk.new) (D.unsynced disk.new)) }
     ensures lasts { D.honest disk.old → (j : ℕ) → j ≤ 385 → (opened : ℕ → ℕ)
-        → Placing j opened (D.seen disk.old) (D.unsynced disk.old) → Lasts D.Disk disk.old disk.new
+        → Placing j opened (D.current disk.old) (D.unsynced disk.old) → Lasts D.Disk disk.old disk.new
         (λ image. ReadsAs j image (replayed opened)) }
 {
     disk.sync()

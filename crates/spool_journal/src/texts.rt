@@ -24,17 +24,17 @@ pub fn write_block<D: Disk>(
     ensures honest { D.honest disk.old ↔ D.honest disk.new }
     ensures counts { Counts (IsErr result) (D.failures disk.old) (D.failures disk.new) }
     ensures writes { D.honest disk.old → Writes (4096 * (text_page layout.now + block) + offset) bytes.now
-        (IsOk result) (D.seen disk.old) (D.seen disk.new) (D.unsynced disk.old) (D.unsynced disk.new) }
-    ensures idle { D.honest disk.old → Idle (journal_pages layout.now) (D.seen disk.old) (D.unsynced disk.old)
-        → Idle (journal_pages layout.now) (D.seen disk.new) (D.unsynced disk.new) }
+        (IsOk result) (D.current disk.old) (D.current disk.new) (D.unsynced disk.old) (D.unsynced disk.new) }
+    ensures idle { D.honest disk.old → Idle (journal_pages layout.now) (D.current disk.old) (D.unsynced disk.old)
+        → Idle (journal_pages layout.now) (D.current disk.new) (D.unsynced disk.new) }
 
     // But for the block, every image is one from before.
-    ensures image { D.honest disk.old → (image : ℕ → ℕ) → IsImage (D.seen disk.new) (D.unsynced disk.new) image
-        → IsImage (D.seen disk.old) (D.unsynced disk.old)
-        (aside (text_page layout.now + block) (D.seen disk.old) image) }
+    ensures image { D.honest disk.old → (image : ℕ → ℕ) → IsImage (D.current disk.new) (D.unsynced disk.new) image
+        → IsImage (D.current disk.old) (D.unsynced disk.old)
+        (aside (text_page layout.now + block) (D.current disk.old) image) }
     ensures lasts { D.honest disk.old → Lasts D.Disk disk.old disk.new
-        (λ image. IsImage (D.seen disk.old) (D.unsynced disk.old)
-        (aside (text_page layout.now + block) (D.seen disk.old) image)) }
+        (λ image. IsImage (D.current disk.old) (D.unsynced disk.old)
+        (aside (text_page layout.now + block) (D.current disk.old) image)) }
 
     // And where no row owns the block, the two show the same.
     ensures frame { (image was : ℕ → ℕ) → Frame (journal_pages layout.now) (text_page layout.now) block

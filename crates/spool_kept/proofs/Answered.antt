@@ -19,7 +19,7 @@ use Rattle.spool_kept.specs.Kept.{KeepsView}
 use Rattle.spool_kept.specs.Records.{said_of, IsUnpacked, KeepsOf}
 use Rattle.spool_kept.specs.Shows.{Shows}
 use Rattle.spool_kept.proofs.Numbered.{above_is, above_none}
-use Rattle.spool_kept.proofs.Sound.{in_use}
+use Rattle.spool_kept.proofs.Valid.{in_use}
 use Rattle.spool_kept.proofs.Told.{keeps}
 
 pub kept_none : (x : IndexSet) (n : ℕ) (o : Option Upload) → o ≡ None → KeepsOf x n o None
@@ -116,7 +116,7 @@ module _ (h : Holding) (v : View) (m : Store) (kept : KeepsView h v) (shows : Sh
   listed j w e =
       let has = shows.all j w e in
       let lt : has.slot < 512 = let inside =
-      in_use v.slots has.slot has.used has.there in omega (arith, inside, shows.sound.slot_count) in
+      in_use v.slots has.slot has.used has.there in omega (arith, inside, shows.valid.slot_count) in
       let l = kept.ordered.all has.slot has.used lt has.there in
       (l.place, l.below, ap (λ (p : NumberedSlot). p.number) l.here ∙ has.number)
 

@@ -10,7 +10,7 @@ use Rattle.upload_rules.proofs.Finds.{find_replaced_same, find_replaced_other}
 use Rattle.spool_blocks.specs.Blocks.{Row}
 use Rattle.spool_blocks.specs.Chains.{Owns, OwnsOneEach}
 use Rattle.spool_pages.specs.View.{SlotRecord, View, slot_at}
-use Rattle.spool_kept.specs.Shows.{IsSoundRecord, IsSound, IsRecordOf, IsTold, HasSlot, Shows}
+use Rattle.spool_kept.specs.Shows.{IsValidRecord, IsValid, IsRecordOf, IsTold, HasSlot, Shows}
 use Rattle.spool_kept.specs.Changed.{texts_with, appended_view, SameOthers}
 use Rattle.spool_kept.proofs.ChangedSlots.{one_value, slot_here, slot_else, slot_is, in_use, text_here, text_else}
 use Rattle.spool_kept.proofs.Entries.{numbers_replaced}
@@ -42,7 +42,7 @@ module _ (v : View) (m : Store) (shows : Shows v m) (s : ℕ) (r r' : SlotRecord
 
   -- a record in another slot has another number
   other_number : (t : ℕ) (q : SlotRecord) → t ≢ s → slot_at v t ≡ Some q → q.number ≢ r.number
-  other_number t q other e same = other (shows.sound.distinct t s q r e there same)
+  other_number t q other e same = other (shows.valid.distinct t s q r e there same)
 
   used_still : (t : ℕ) (q : SlotRecord) → slot_at v t ≡ Some q
       → (p : SlotRecord) × (slot_at (appended_view v s r' rows text) t ≡ Some p) × (p.number ≡ q.number)
@@ -56,21 +56,21 @@ module _ (v : View) (m : Store) (shows : Shows v m) (s : ℕ) (r r' : SlotRecord
     | inr other ↦ (q, slot_else v.slots s r' t other ∙ e, refl)
   ]
 
-  appended_sound : IsSoundRecord m.next r' → length rows ≡ length v.rows → SameOthers s v.rows rows
+  appended_valid : IsValidRecord m.next r' → length rows ≡ length v.rows → SameOthers s v.rows rows
       → OwnsOneEach rows s (blocks_of r'.text_len) → ((b i : ℕ) → Owns rows b s i → i < 2 ^ 32)
-      → IsSound (appended_view v s r' rows text)
-  appended_sound sound size others one fits = record {
-    least = shows.sound.least;
-    most = shows.sound.most;
-    next_least = shows.sound.next_least;
-    next_most = shows.sound.next_most;
-    indexes = shows.sound.indexes;
-    slot_count = length-set v.slots s (Some r') ∙ shows.sound.slot_count;
-    row_count = size ∙ shows.sound.row_count;
+      → IsValid (appended_view v s r' rows text)
+  appended_valid valid size others one fits = record {
+    least = shows.valid.least;
+    most = shows.valid.most;
+    next_least = shows.valid.next_least;
+    next_most = shows.valid.next_most;
+    indexes = shows.valid.indexes;
+    slot_count = length-set v.slots s (Some r') ∙ shows.valid.slot_count;
+    row_count = size ∙ shows.valid.row_count;
     records = λ t q e. elim (slot_is v.slots s r' t q inside e) [
-      | inl here ↦ subst (IsSoundRecord v.next) (sym here.1)
-          (subst (λ (n : ℕ). IsSoundRecord n r') (sym shows.next) sound)
-      | inr old ↦ shows.sound.records t q old.1
+      | inl here ↦ subst (IsValidRecord v.next) (sym here.1)
+          (subst (λ (n : ℕ). IsValidRecord n r') (sym shows.next) valid)
+      | inr old ↦ shows.valid.records t q old.1
     ];
     distinct = λ t k q p e f same. elim (slot_is v.slots s r' t q inside e) [
       | inl here ↦ elim (slot_is v.slots s r' k p inside f) [
@@ -79,7 +79,7 @@ module _ (v : View) (m : Store) (shows : Shows v m) (s : ℕ) (r r' : SlotRecord
       ]
       | inr old ↦ elim (slot_is v.slots s r' k p inside f) [
         | inl here' ↦ absurd (other_number t q old.0 old.1 (same ∙ number_is here'.1 ∙ number))
-        | inr old' ↦ shows.sound.distinct t k q p old.1 old'.1 same
+        | inr old' ↦ shows.valid.distinct t k q p old.1 old'.1 same
       ]
     ];
     owners = λ b slot ordinal owns. elim (cases_eq slot s) [
@@ -91,13 +91,13 @@ module _ (v : View) (m : Store) (shows : Shows v m) (s : ℕ) (r r' : SlotRecord
             fits = fits b ordinal own;
           }
       | inr other ↦
-          let owned = shows.sound.owners b slot ordinal (others.before b slot ordinal other owns) in
+          let owned = shows.valid.owners b slot ordinal (others.before b slot ordinal other owns) in
           record { used = owned.used; there = slot_else v.slots s r' slot other ∙ owned.there; fits = owned.fits }
     ];
     lists = λ t q e. elim (slot_is v.slots s r' t q inside e) [
       | inl here ↦ subst (λ (k : ℕ). OwnsOneEach rows k (blocks_of q.text_len)) (sym here.0)
           (subst (λ (x : SlotRecord). OwnsOneEach rows s (blocks_of x.text_len)) (sym here.1) one)
-      | inr old ↦ others_listed v.rows rows s t (blocks_of q.text_len) others old.0 (shows.sound.lists t q old.1)
+      | inr old ↦ others_listed v.rows rows s t (blocks_of q.text_len) others old.0 (shows.valid.lists t q old.1)
     ];
   }
 
@@ -141,14 +141,14 @@ module _ (v : View) (m : Store) (shows : Shows v m) (s : ℕ) (r r' : SlotRecord
           record { slot = has.slot; used = used.0; there = used.1; number = used.2 ∙ has.number }
     ]
 
-    pub appended_shows : IsSoundRecord m.next r' → length rows ≡ length v.rows → SameOthers s v.rows rows
+    pub appended_shows : IsValidRecord m.next r' → length rows ≡ length v.rows → SameOthers s v.rows rows
         → OwnsOneEach rows s (blocks_of r'.text_len) → ((b i : ℕ) → Owns rows b s i → i < 2 ^ 32)
         → Shows (appended_view v s r' rows text) (patched_store m r.number declare bytes)
     unfolding changed
-    appended_shows sound size others one fits =
+    appended_shows valid size others one fits =
         subst (λ (o : Option Upload). Shows (appended_view v s r' rows text) (patched_at m r.number declare bytes o))
         (sym found) (record {
-          sound = appended_sound sound size others one fits;
+          valid = appended_valid valid size others one fits;
           next = shows.next;
           indexes = shows.indexes;
           rising = subst IsRising (sym (numbers_replaced r.number (patched u declare bytes) m.uploads)) shows.rising;
@@ -158,16 +158,16 @@ module _ (v : View) (m : Store) (shows : Shows v m) (s : ℕ) (r r' : SlotRecord
         })
 
     -- where no text is added its rows stay
-    pub append_without_text : IsSoundRecord m.next r' → rows ≡ v.rows → r'.text_len ≡ r.text_len
+    pub append_without_text : IsValidRecord m.next r' → rows ≡ v.rows → r'.text_len ≡ r.text_len
         → Shows (appended_view v s r' rows text) (patched_store m r.number declare bytes)
-    append_without_text sound same len =
-        appended_shows sound (ap length same) record {
+    append_without_text valid same len =
+        appended_shows valid (ap length same) record {
           still = λ b t i other owns. ap (λ (x : List Row). get_or x b None) same ∙ owns;
           before = λ b t i other owns. along b same owns;
         }
         (subst (λ (n : ℕ). OwnsOneEach rows s (blocks_of n)) (sym len)
-        (subst (λ (x : List Row). OwnsOneEach x s (blocks_of r.text_len)) (sym same) (shows.sound.lists s r there)))
-        (λ b i owns. (shows.sound.owners b s i (along b same owns)).fits)
+        (subst (λ (x : List Row). OwnsOneEach x s (blocks_of r.text_len)) (sym same) (shows.valid.lists s r there)))
+        (λ b i owns. (shows.valid.owners b s i (along b same owns)).fits)
       where
         along : {a c : List Row} {t i : ℕ} (b : ℕ) → a ≡ c → Owns a b t i → Owns c b t i
         along b same owns = ap (λ (x : List Row). get_or x b None) (sym same) ∙ owns

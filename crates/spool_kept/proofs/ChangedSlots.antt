@@ -6,7 +6,7 @@ use Rattle.std.proofs.lemmas.List.{get_or-set_other, get_or-set_same}
 use Rattle.std.proofs.lemmas.Option.{same_Some}
 use Rattle.std.proofs.Math.ListN.{get_or-eq_default}
 use Rattle.spool_pages.specs.View.{SlotRecord, View}
-use Rattle.spool_kept.specs.Shows.{IsSoundRecord}
+use Rattle.spool_kept.specs.Shows.{IsValidRecord}
 use Rattle.spool_kept.specs.Changed.{texts_with}
 
 pub clash : {A X : Type 0} {o : Option A} {a : A} → o ≡ None → o ≡ Some a → X
@@ -45,7 +45,7 @@ text_here v slot text s same = rw (eq-eqb s slot same) refl
 pub text_else : (v : View) (slot : ℕ) (text : List ℕ) (s : ℕ) → s ≢ slot → texts_with v slot text s ≡ v.texts s
 text_else v slot text s other = rw (ne_eqb s slot other) refl
 
--- a record that was sound is so with a greater next number
-pub sound_more : {next next' : ℕ} {r : SlotRecord} → next ≤ next' → IsSoundRecord next r → IsSoundRecord next' r
-sound_more {next' = next'} {r = r} more is = let below : r.number < next' =
+-- a record that was valid is so with a greater next number
+pub valid_more : {next next' : ℕ} {r : SlotRecord} → next ≤ next' → IsValidRecord next r → IsValidRecord next' r
+valid_more {next' = next'} {r = r} more is = let below : r.number < next' =
     omega (arith, is.below, more) in assumption (below, is)

@@ -110,10 +110,10 @@ module _ {D : Type 0} {sure : Bool} (disk : Ghosts D) (d d' : D) (h h' : Holding
 
   -- THE DRAFT
 
-  pub own_draft : DraftStands (sure ≡ true) w.store.indexes (disk.seen d) (text_page h.layout) h.slots h.blocks.rows
+  pub own_draft : DraftStands (sure ≡ true) w.store.indexes (disk.current d) (text_page h.layout) h.slots h.blocks.rows
       w.store p o
   own_draft =
-      let R = DraftStands (sure ≡ true) w.store.indexes (disk.seen d) (text_page h.layout) h.slots h.blocks.rows
+      let R = DraftStands (sure ≡ true) w.store.indexes (disk.current d) (text_page h.layout) h.slots h.blocks.rows
       w.store in
       let at = draft_of R p (find number w.patches) (draft_at drafts number) is.patch (is.stands.stands.each number) in
       subst (R p) (some_draft at.0 o (sym at.1 ∙ is.here)) at.2
@@ -182,18 +182,18 @@ module _ {D : Type 0} {sure : Bool} (disk : Ghosts D) (d d' : D) (h h' : Holding
 
         -- and the bytes on its blocks
         pub ends_on : ((q' : Patch) → disk.honest d → Holds h.indexes q' o → is_complete q'.began ≡ false
-            → Carries h.indexes (disk.seen d) (text_page h.layout) q' o
-            → IfOk result (λ e. 1 ≤ length (list_of o') → bytes_with (disk.seen d') (text_page h.layout) (list_of o')
+            → Carries h.indexes (disk.current d) (text_page h.layout) q' o
+            → IfOk result (λ e. 1 ≤ length (list_of o') → bytes_with (disk.current d') (text_page h.layout) (list_of o')
             e.last.items ≡ open_text h.indexes q' done)) → sure ≡ true
-            → IfOk result (λ e. 1 ≤ length (list_of o') → bytes_with (disk.seen d') (text_page h.layout) (list_of o')
+            → IfOk result (λ e. 1 ≤ length (list_of o') → bytes_with (disk.current d') (text_page h.layout) (list_of o')
             e.last.items ≡ open_text w.store.indexes p (completes w.store p))
         ends_on content known =
             let P : IndexSet → Bool → Type 0 =
-            λ y b. IfOk result (λ e. 1 ≤ length (list_of o') → bytes_with (disk.seen d')
+            λ y b. IfOk result (λ e. 1 ≤ length (list_of o') → bytes_with (disk.current d')
             (text_page h.layout) (list_of o') e.last.items ≡ open_text y p b) in
             subst (P w.store.indexes) done_then (subst (λ (y : IndexSet). P y done) indexes_are
             (content p (s.honest known) (subst (λ (y : IndexSet). Holds y p o) (sym indexes_are) held) open_began
-            (subst (λ (y : IndexSet). Carries y (disk.seen d) (text_page h.layout) p o) (sym indexes_are)
+            (subst (λ (y : IndexSet). Carries y (disk.current d) (text_page h.layout) p o) (sym indexes_are)
             (own_draft.carries known is.still))))
 
   -- THE RULES
@@ -217,7 +217,7 @@ module _ {D : Type 0} {sure : Bool} (disk : Ghosts D) (d d' : D) (h h' : Holding
     roomy : (done : Bool) → p.short ≡ false → length (list_of o') ≡ wants w.store.indexes p done
         → is_short w number p done ≡ false
     roomy done =
-        holds_all w (disk.seen d) (disk.seen d') first h.layout h.slots h.blocks h'.blocks drafts
+        holds_all w (disk.current d) (disk.current d') first h.layout h.slots h.blocks h'.blocks drafts
         (set drafts number (Some o')) is.stands.stands is.fits number o o' is.here effect.own effect.grasp
         changed_mid
         only.rows s.view s.shows s.keeps.rows size fit_mid p done
@@ -225,7 +225,7 @@ module _ {D : Type 0} {sure : Bool} (disk : Ghosts D) (d d' : D) (h h' : Holding
     short : (done : Bool) → RunsShort h.blocks h'.blocks (list_of o) (wants w.store.indexes p done)
         → is_short w number p done ≡ true
     short done =
-        lacks w (disk.seen d) (disk.seen d') first h.layout h.slots h.blocks h'.blocks drafts
+        lacks w (disk.current d) (disk.current d') first h.layout h.slots h.blocks h'.blocks drafts
         (set drafts number (Some o')) is.stands.stands is.fits number o o' is.here effect.own effect.grasp
         changed_mid
         only.rows s.view s.shows s.keeps.rows size fit_mid p done
@@ -278,14 +278,14 @@ module _ {D : Type 0} {sure : Bool} (disk : Ghosts D) (d d' : D) (h h' : Holding
           → longer.accepted ≡ reached p → longer.text_len ≡ end.text_len → longer.state ≡ end.state
           → Stored sure disk d' h' w.store
           → (1 ≤ length (list_of o') → (length end.last.items + 4095) / 4096 ≤ length (list_of o'))
-          → (sure ≡ true → 1 ≤ length (list_of o') → bytes_with (disk.seen d') (text_page h.layout) (list_of o')
+          → (sure ≡ true → 1 ≤ length (list_of o') → bytes_with (disk.current d') (text_page h.layout) (list_of o')
           end.last.items ≡ open_text w.store.indexes p (completes w.store p))
           → IsPending sure disk d' h' w.store p.number p.declare p.body longer (list_of o') end.last.items
       pending longer at declared accepted len is_state stored fits content = record {
         stored = stored;
         text = open_text w.store.indexes p (completes w.store p);
         fits = fits;
-        held = subst (λ (n : ℕ). sure ≡ true → 1 ≤ length (list_of o') → bytes_with (disk.seen d') (text_page n)
+        held = subst (λ (n : ℕ). sure ≡ true → 1 ≤ length (list_of o') → bytes_with (disk.current d') (text_page n)
             (list_of o') end.last.items ≡ open_text w.store.indexes p (completes w.store p))
             (sym (ap (λ (k : Holding). k.layout) only.same)) content;
         append = λ e stored' written. record {
@@ -300,7 +300,7 @@ module _ {D : Type 0} {sure : Bool} (disk : Ghosts D) (d d' : D) (h h' : Holding
           added = texts.more w.store.indexes p is.still.0 o' end is.still.2 (within found finds) held.small
               (completes w.store p) (whole_is found finds) whole;
           extension = texts.extension w.store.indexes p is.still.0 o' end is.still.2 (within found finds) held.small
-              (completes w.store p) (whole_is found finds) whole longer (disk.seen e)
+              (completes w.store p) (whole_is found finds) whole longer (disk.current e)
               (text_page h'.layout) (declared ∙ declared_is found finds) accepted len is_state written;
         };
       }

@@ -118,7 +118,7 @@ module _ {D : Type 0} {sure : Bool} (disk : Ghosts D) (d : D) (h : Holding) (dra
     (patch : find number w.patches ≡ Some p) (here : draft_at drafts number ≡ Some o) where
   held : Holds w.store.indexes p o
   held =
-      let R = DraftStands (sure ≡ true) w.store.indexes (disk.seen d)
+      let R = DraftStands (sure ≡ true) w.store.indexes (disk.current d)
       (text_page h.layout) h.slots h.blocks.rows w.store in
       let at = draft_of R p (find number w.patches) (draft_at drafts number) patch (s.stands.each number) in
       (subst (R p) (some_draft at.0 o (sym at.1 ∙ here)) at.2).holds

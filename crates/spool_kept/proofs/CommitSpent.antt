@@ -111,10 +111,12 @@ module _ {D : Type 0} {sure : Bool} (disk : Ghosts D) (d d' : D) (h h' : Holding
 
   -- the other drafts after the call
   others : (e : ℕ) → number ≢ e → (r : Patch) (a : SpoolDraft) → draft_at drafts e ≡ Some a
-      → DraftStands (sure ≡ true) w.store.indexes (disk.seen d) (text_page h.layout) h.slots h.blocks.rows w.store r a
-      → DraftStands (sure ≡ true) w.store.indexes (disk.seen d') (text_page h.layout) h.slots h'.blocks.rows w.store r a
+      → DraftStands (sure ≡ true) w.store.indexes (disk.current d)
+      (text_page h.layout) h.slots h.blocks.rows w.store r a
+      → DraftStands (sure ≡ true) w.store.indexes (disk.current d')
+      (text_page h.layout) h.slots h'.blocks.rows w.store r a
   others =
-      other_stands w.store.indexes (disk.seen d) (disk.seen d') (text_page h.layout) h.layout h.slots
+      other_stands w.store.indexes (disk.current d) (disk.current d') (text_page h.layout) h.layout h.slots
       h.blocks h'.blocks w drafts (set drafts number (Some o')) is.stands.stands is.fits number o o' is.here
       effect.own effect.grasp changed_mid only.rows (λ known.
       (effect.writes (is.stands.stored.honest known)).writes.outside)
@@ -124,7 +126,7 @@ module _ {D : Type 0} {sure : Bool} (disk : Ghosts D) (d d' : D) (h h' : Holding
       → Stored sure disk d' h' w.store → StandsFor sure disk d' h'' (set drafts number None) (dropped w number)
   stands_dropped h'' only' gives stored = record {
     stored = stored_on disk d' h' h'' w.store only' stored;
-    stands = subst (λ (k : ℕ × List (Option SlotRecord)). DraftsStand (sure ≡ true) w.store.indexes (disk.seen d')
+    stands = subst (λ (k : ℕ × List (Option SlotRecord)). DraftsStand (sure ≡ true) w.store.indexes (disk.current d')
         (text_page k.0) k.1 h''.blocks (dropped w number) (set drafts number None)) (sym fields) here;
   }
     where
@@ -135,13 +137,13 @@ module _ {D : Type 0} {sure : Bool} (disk : Ghosts D) (d d' : D) (h h' : Holding
       rows : h''.blocks.rows ≡ h'.blocks.rows
       rows = gives.rows
 
-      here : DraftsStand (sure ≡ true) w.store.indexes (disk.seen d') (text_page h.layout) h.slots h''.blocks
+      here : DraftsStand (sure ≡ true) w.store.indexes (disk.current d') (text_page h.layout) h.slots h''.blocks
           (dropped w number) (set drafts number None)
       here =
-          stand_spent w.store.indexes (disk.seen d) (disk.seen d') (text_page h.layout) h.slots h.slots
+          stand_spent w.store.indexes (disk.current d) (disk.current d') (text_page h.layout) h.slots h.slots
           h.blocks h''.blocks w w.store drafts number is.stands.stands
           (λ e other r a found there s. subst
-          (λ (z : List Row). DraftStands (sure ≡ true) w.store.indexes (disk.seen d') (text_page h.layout) h.slots z
+          (λ (z : List Row). DraftStands (sure ≡ true) w.store.indexes (disk.current d') (text_page h.layout) h.slots z
           w.store r a) (sym rows) (others e other r a there s))
           (grown_dropped w is.stands.stands.grown number is.stands.stands.apart)
           (omega (arith, ap length rows, ap length only.rows))
@@ -160,7 +162,7 @@ module _ {D : Type 0} {sure : Bool} (disk : Ghosts D) (d d' : D) (h h' : Holding
   module _ (longer : Longer) (append : IsAppend sure disk d' h' w.store p.number p.declare p.body longer (list_of o'))
       (used : SlotRecord) (d'' : D) (h'' : Holding) (is_longer : IsLonger h' used longer (list_of o') h'')
       (hands : HandsOn h'.blocks.reserved h''.blocks.reserved (list_of o'))
-      (texts : sure ≡ true → (q : ℕ) → 4096 * text_page h'.layout ≤ q → disk.seen d'' q ≡ disk.seen d' q)
+      (texts : sure ≡ true → (q : ℕ) → 4096 * text_page h'.layout ≤ q → disk.current d'' q ≡ disk.current d' q)
       (stored : Stored sure disk d'' h'' (patched_store w.store p.number p.declare p.body)) where
     abbrev after : Store
     after = record w.store
@@ -180,20 +182,20 @@ module _ {D : Type 0} {sure : Bool} (disk : Ghosts D) (d d' : D) (h h' : Holding
         (with_length p.began is.still.0) p.declare p.body is.still.1
 
     put_stands : (e : ℕ) → number ≢ e → (r : Patch) (a : SpoolDraft) → find e w.patches ≡ Some r
-        → draft_at drafts e ≡ Some a → DraftStands (sure ≡ true) w.store.indexes (disk.seen d) (text_page h.layout)
-        h.slots h.blocks.rows w.store r a → DraftStands (sure ≡ true) w.store.indexes (disk.seen d'')
+        → draft_at drafts e ≡ Some a → DraftStands (sure ≡ true) w.store.indexes (disk.current d) (text_page h.layout)
+        h.slots h.blocks.rows w.store r a → DraftStands (sure ≡ true) w.store.indexes (disk.current d'')
         (text_page h.layout) h''.slots h''.blocks.rows after r a
     put_stands e other r a found there s =
         let mid = others e other r a there s in
         let other_number = other_upload w is.stands.stands.grown p.number (with_length p.began is.still.0) is.still.1
         p.declare p.body brings e r found in
-        let same : sure ≡ true → (q : ℕ) → 4096 * text_page h.layout ≤ q → disk.seen d'' q ≡ disk.seen d' q =
+        let same : sure ≡ true → (q : ℕ) → 4096 * text_page h.layout ≤ q → disk.current d'' q ≡ disk.current d' q =
         λ known q from. texts known q (subst (λ (n : ℕ). 4096 * text_page n ≤ q)
         (sym (ap (λ (k : Holding). k.layout) only.same)) from) in
         record {
           holds = mid.holds;
           below = mid.below;
-          carries = λ known still kept. bytes_same (disk.seen d') (disk.seen d'') (text_page h.layout) a.growth
+          carries = λ known still kept. bytes_same (disk.current d') (disk.current d'') (text_page h.layout) a.growth
               a.growth.on (same known)
               ∙ mid.carries known (other_number still).1 kept;
           tail = λ still.
@@ -204,10 +206,10 @@ module _ {D : Type 0} {sure : Bool} (disk : Ghosts D) (d d' : D) (h h' : Holding
               (sym slots_same) (mid.tail away.1));
         }
 
-    here : DraftsStand (sure ≡ true) w.store.indexes (disk.seen d'') (text_page h.layout) h''.slots h''.blocks
+    here : DraftsStand (sure ≡ true) w.store.indexes (disk.current d'') (text_page h.layout) h''.slots h''.blocks
         (record w { store = after; patches = without number w.patches }) (set drafts number None)
     here =
-        stand_spent w.store.indexes (disk.seen d) (disk.seen d'') (text_page h.layout) h.slots h''.slots
+        stand_spent w.store.indexes (disk.current d) (disk.current d'') (text_page h.layout) h.slots h''.slots
         h.blocks h''.blocks w after drafts number is.stands.stands put_stands grown
         (omega (arith, (rows_handed h' h'' used longer (list_of o') is_longer).size, ap length only.rows))
         (all_handed h.layout h.blocks h'.blocks drafts is.fits number o o' is.here effect.own effect.grasp reserved
@@ -219,7 +221,8 @@ module _ {D : Type 0} {sure : Bool} (disk : Ghosts D) (d d' : D) (h h' : Holding
         (record w { store = m; patches = without number w.patches })) (sym
         (rules.store_changed w.store p is.changes ∙ after_is)) record {
           stored = subst (Stored sure disk d'' h'') after_is stored;
-          stands = subst (λ (n : ℕ). DraftsStand (sure ≡ true) w.store.indexes (disk.seen d'') (text_page n) h''.slots
+          stands = subst (λ (n : ℕ). DraftsStand (sure ≡ true) w.store.indexes (disk.current d'')
+              (text_page n) h''.slots
               h''.blocks (record w { store = after; patches = without number w.patches }) (set drafts number None))
               (sym layout) here;
         }
@@ -232,7 +235,7 @@ module _ {D : Type 0} {sure : Bool} (disk : Ghosts D) (d d' d'' : D) (h h' : Hol
     (used : SlotRecord) (n : ℕ) (there : get_or h.slots longer.slot None ≡ Some used) (declare : Option ℕ)
     (append : IsAppend sure disk d' h w.store n declare [] longer []) (unknown : append.upload.declared ≡ None)
     (is_longer : IsLonger h used longer [] h') (only : sure ≡ true → OnlyWrites disk (journal_pages h.layout) [] d d')
-    (texts : sure ≡ true → (q : ℕ) → 4096 * text_page h.layout ≤ q → disk.seen d'' q ≡ disk.seen d' q)
+    (texts : sure ≡ true → (q : ℕ) → 4096 * text_page h.layout ≤ q → disk.current d'' q ≡ disk.current d' q)
     (stored : Stored sure disk d'' h' (patched_store w.store n declare [])) where
   abbrev named : Store
   named = record w.store { uploads = replaced n (patched append.upload declare []) w.store.uploads }
@@ -240,22 +243,22 @@ module _ {D : Type 0} {sure : Bool} (disk : Ghosts D) (d d' d'' : D) (h h' : Hol
   named_is : patched_store w.store n declare [] ≡ named
   named_is = ap (patched_at w.store n declare []) append.there
 
-  seen_same : sure ≡ true → (q : ℕ) → 4096 * text_page h.layout ≤ q → disk.seen d'' q ≡ disk.seen d q
-  seen_same known q from = texts known q from ∙ (only known).writes.outside q (λ i. absurd (omega arith))
+  current_same : sure ≡ true → (q : ℕ) → 4096 * text_page h.layout ≤ q → disk.current d'' q ≡ disk.current d q
+  current_same known q from = texts known q from ∙ (only known).writes.outside q (λ i. absurd (omega arith))
 
   each_named : (e : ℕ) → DraftOf
-      (DraftStands (sure ≡ true) w.store.indexes (disk.seen d'') (text_page h.layout) h'.slots h'.blocks.rows named)
+      (DraftStands (sure ≡ true) w.store.indexes (disk.current d'') (text_page h.layout) h'.slots h'.blocks.rows named)
       (find e w.patches) (draft_at drafts e)
   each_named e = held_both
-      (DraftStands (sure ≡ true) w.store.indexes (disk.seen d) (text_page h.layout) h.slots h.blocks.rows w.store)
-      (DraftStands (sure ≡ true) w.store.indexes (disk.seen d'') (text_page h.layout) h'.slots h'.blocks.rows named)
+      (DraftStands (sure ≡ true) w.store.indexes (disk.current d) (text_page h.layout) h.slots h.blocks.rows w.store)
+      (DraftStands (sure ≡ true) w.store.indexes (disk.current d'') (text_page h.layout) h'.slots h'.blocks.rows named)
       (find e w.patches) (draft_at drafts e) (λ r a found at s.
       let before = open_before w stands.stands.grown n append.upload append.there declare [] unknown refl e r found in
       record {
         holds = s.holds;
         below = s.below;
-        carries = λ known still kept. bytes_same (disk.seen d) (disk.seen d'') (text_page h.layout) a.growth
-            a.growth.on (seen_same known)
+        carries = λ known still kept. bytes_same (disk.current d) (disk.current d'') (text_page h.layout) a.growth
+            a.growth.on (current_same known)
             ∙ s.carries known (before still) kept;
         tail = λ still. owned_declared h h' used longer r.number (tail_of a) there is_longer (s.tail (before still));
       }) (stands.stands.each e)
@@ -264,7 +267,7 @@ module _ {D : Type 0} {sure : Bool} (disk : Ghosts D) (d d' d'' : D) (h h' : Hol
   stands_declared = subst (λ (m : Store). StandsFor sure disk d'' h' drafts (record w { store = m })) (sym named_is)
       record {
         stored = subst (Stored sure disk d'' h') named_is stored;
-        stands = subst (λ (k : ℕ). DraftsStand (sure ≡ true) w.store.indexes (disk.seen d'') (text_page k) h'.slots
+        stands = subst (λ (k : ℕ). DraftsStand (sure ≡ true) w.store.indexes (disk.current d'') (text_page k) h'.slots
             h'.blocks
             (record w { store = named }) drafts) (sym is_longer.layout) record {
               each = each_named;

@@ -5,7 +5,7 @@ use Rattle.std.proofs.Common.{length-drop}
 use Rattle.std.proofs.lemmas.Bool.{cases_lt}
 use Rattle.std.proofs.lemmas.List.{drop-append-le}
 use Rattle.enc_model.specs.Indexes.{IndexSet}
-use Rattle.enc_stream.specs.StateBytes.{IsSound}
+use Rattle.enc_stream.specs.StateBytes.{IsValid}
 use Rattle.upload_rules.specs.Lengths.{is_length, is_too_large, known_or, longest}
 use Rattle.upload_rules.specs.Room.{wants}
 use Rattle.upload_rules.specs.States.{state_with, transcoder_with}
@@ -102,13 +102,13 @@ module _ (x : IndexSet) (p : Patch) (since : Option ℕ) (o : SpoolDraft) (end :
 
   -- THE BYTES
 
-  pub extension : {sure : Type 0} (longer : Longer) (seen : ℕ → ℕ) (first : ℕ)
+  pub extension : {sure : Type 0} (longer : Longer) (current : ℕ → ℕ) (first : ℕ)
       → longer.declared ≡ known_or (known_or p.began.declared since) p.declare → longer.accepted ≡ reached p
       → longer.text_len ≡ end.text_len → longer.state ≡ end.state
-      → (sure → 1 ≤ length (list_of o) → text_on seen first (list_of o) (length (open_text x p done)) ≡ open_text x p
-      done) → IsExtension sure x (with_length p.began since) p.declare p.body more longer (list_of o) seen first
+      → (sure → 1 ≤ length (list_of o) → text_on current first (list_of o) (length (open_text x p done)) ≡ open_text x p
+      done) → IsExtension sure x (with_length p.began since) p.declare p.body more longer (list_of o) current first
   unfolding state_with
-  extension longer seen first declared accepted len is content =
+  extension longer current first declared accepted len is content =
       let t = length (text_of x p.began) in
       let total : longer.text_len ≡ t + length more = len ∙ whole.len ∙ all_len in
       let same_text = text_since x p.began since open_still in
@@ -120,15 +120,15 @@ module _ (x : IndexSet) (p : Patch) (since : Option ℕ) (o : SpoolDraft) (end :
         small = small;
         state = is ∙ whole.state_is ∙ ap (state_with x u p.body) (sym is_done) ∙ sym
             (state_patched x u p.declare p.body);
-        sound = subst IsSound (sym (transcoder_patched x u p.declare p.body
-            ∙ ap (transcoder_with x u p.body) is_done)) whole.sound;
+        valid = subst IsValid (sym (transcoder_patched x u p.declare p.body
+            ∙ ap (transcoder_with x u p.body) is_done)) whole.valid;
         encodable = ap (λ r. r.fault)
             (whole_patched x u p.declare p.body ∙ ap (text_with x u p.body) is_done) ∙ fine;
         text = grown.1;
         text_len = omega (arith, total, same_len, ap length grown.1, length-append (text_of x u) more);
         nothing = λ none. nil_of more (none_added none);
         content = λ known listed.
-            subst (λ (xs : List ℕ). text_on seen first (list_of o) (longer.text_len - full_bytes (length xs)) ≡ drop
+            subst (λ (xs : List ℕ). text_on current first (list_of o) (longer.text_len - full_bytes (length xs)) ≡ drop
             (full_bytes (length xs)) xs ++ more) (sym same_text) (
             let prefix : 4096 * (t / 4096) ≡ full_bytes t = omega arith in
             let size : longer.text_len - full_bytes t ≡ length (open_text x p done) =
@@ -137,5 +137,5 @@ module _ (x : IndexSet) (p : Patch) (since : Option ℕ) (o : SpoolDraft) (end :
             ap (λ (xs : List ℕ). drop (4096 * (t / 4096)) xs) all_is ∙ drop-append-le (4096 * (t / 4096))
             (text_of x p.began) more (omega arith)
             ∙ ap (λ (n : ℕ). drop n (text_of x p.began) ++ more) prefix in
-            ap (λ (n : ℕ). text_on seen first (list_of o) n) size ∙ content known (omega (arith, listed)) ∙ bytes);
+            ap (λ (n : ℕ). text_on current first (list_of o) n) size ∙ content known (omega (arith, listed)) ∙ bytes);
       }

@@ -12,16 +12,16 @@ use Rattle.spool_journal.specs.Texts.{text_shown}
 use Rattle.spool_journal.specs.Image.{text_page}
 use Rattle.spool_pages.specs.View.{SlotRecord, View, slot_at}
 use Rattle.spool_pages.specs.Rests.{HasTexts}
-use Rattle.spool_kept.specs.Shows.{IsSoundRecord, IsSound, IsRecordOf, IsTold, Shows}
+use Rattle.spool_kept.specs.Shows.{IsValidRecord, IsValid, IsRecordOf, IsTold, Shows}
 use Rattle.spool_kept.specs.Changed.{texts_with, created_view}
-use Rattle.spool_kept.proofs.ChangedSlots.{clash, slot_here, slot_else, slot_is, text_here, text_else, sound_more}
+use Rattle.spool_kept.proofs.ChangedSlots.{clash, slot_here, slot_else, slot_is, text_here, text_else, valid_more}
 use Rattle.spool_kept.proofs.Entries.{find_push_same, rising_more}
 
 -- an upload's number is below the next one
 pub number_below : (v : View) (m : Store) → Shows v m → (n : ℕ) (u : Upload) → find n m.uploads ≡ Some u → n < m.next
 number_below v m shows n u there =
     let has = shows.all n u there in
-    omega (arith, (shows.sound.records has.slot has.used has.there).below, has.number, shows.next)
+    omega (arith, (shows.valid.records has.slot has.used has.there).below, has.number, shows.next)
 
 -- no upload has the next number
 pub next_unused : (v : View) (m : Store) → Shows v m → find m.next m.uploads ≡ None
@@ -40,7 +40,7 @@ module _ (v : View) (m : Store) (new : New) (s : ℕ) (r : SlotRecord) (shows : 
     (free : slot_at v s ≡ None) (number : r.number ≡ m.next)
     (is : IsRecordOf m.indexes r [] (new_upload new)) where
   inside : s < length v.slots
-  inside = omega (arith, shows.sound.slot_count, within)
+  inside = omega (arith, shows.valid.slot_count, within)
 
   -- a record that was there is in another slot
   apart : (t : ℕ) (q : SlotRecord) → slot_at v t ≡ Some q → t ≢ s
@@ -50,7 +50,7 @@ module _ (v : View) (m : Store) (new : New) (s : ℕ) (r : SlotRecord) (shows : 
   kept t q e = slot_else v.slots s r t (apart t q e) ∙ e
 
   unowned : (b i : ℕ) → Owns v.rows b s i → ⊥
-  unowned b i owns = let owned = shows.sound.owners b s i owns in clash free owned.there
+  unowned b i owns = let owned = shows.valid.owners b s i owns in clash free owned.there
 
   no_blocks : OwnsOneEach v.rows s (blocks_of r.text_len)
   no_blocks = record {
@@ -61,20 +61,20 @@ module _ (v : View) (m : Store) (new : New) (s : ℕ) (r : SlotRecord) (shows : 
 
   -- the new number is none of those that were there
   fresh : (t : ℕ) (q : SlotRecord) → slot_at v t ≡ Some q → q.number ≡ r.number → ⊥
-  fresh t q e same = omega (arith, (shows.sound.records t q e).below, shows.next, same, number)
+  fresh t q e same = omega (arith, (shows.valid.records t q e).below, shows.next, same, number)
 
-  created_sound : IsSoundRecord (m.next + 1) r → m.next + 1 ≤ 10 ^ 18 → IsSound (created_view v s r)
-  created_sound sound most = record {
-    least = shows.sound.least;
-    most = shows.sound.most;
+  created_valid : IsValidRecord (m.next + 1) r → m.next + 1 ≤ 10 ^ 18 → IsValid (created_view v s r)
+  created_valid valid most = record {
+    least = shows.valid.least;
+    most = shows.valid.most;
     next_least = omega arith;
     next_most = omega (arith, most, shows.next);
-    indexes = shows.sound.indexes;
-    slot_count = length-set v.slots s (Some r) ∙ shows.sound.slot_count;
-    row_count = shows.sound.row_count;
+    indexes = shows.valid.indexes;
+    slot_count = length-set v.slots s (Some r) ∙ shows.valid.slot_count;
+    row_count = shows.valid.row_count;
     records = λ t q e. elim (slot_is v.slots s r t q inside e) [
-      | inl here ↦ subst (IsSoundRecord (v.next + 1)) (sym here.1) (sound_more (omega (arith, shows.next)) sound)
-      | inr old ↦ sound_more (omega arith) (shows.sound.records t q old.1)
+      | inl here ↦ subst (IsValidRecord (v.next + 1)) (sym here.1) (valid_more (omega (arith, shows.next)) valid)
+      | inr old ↦ valid_more (omega arith) (shows.valid.records t q old.1)
     ];
     distinct = λ t k q p e f same. elim (slot_is v.slots s r t q inside e) [
       | inl here ↦ elim (slot_is v.slots s r k p inside f) [
@@ -83,16 +83,16 @@ module _ (v : View) (m : Store) (new : New) (s : ℕ) (r : SlotRecord) (shows : 
       ]
       | inr old ↦ elim (slot_is v.slots s r k p inside f) [
         | inl here' ↦ absurd (fresh t q old.1 (same ∙ ap (λ (x : SlotRecord). x.number) here'.1))
-        | inr old' ↦ shows.sound.distinct t k q p old.1 old'.1 same
+        | inr old' ↦ shows.valid.distinct t k q p old.1 old'.1 same
       ]
     ];
     owners = λ b slot ordinal owns.
-        let owned = shows.sound.owners b slot ordinal owns in
+        let owned = shows.valid.owners b slot ordinal owns in
         record { used = owned.used; there = kept slot owned.used owned.there; fits = owned.fits };
     lists = λ t q e. elim (slot_is v.slots s r t q inside e) [
       | inl here ↦ subst (λ (k : ℕ). OwnsOneEach v.rows k (blocks_of q.text_len)) (sym here.0)
           (subst (λ (x : SlotRecord). OwnsOneEach v.rows s (blocks_of x.text_len)) (sym here.1) no_blocks)
-      | inr old ↦ shows.sound.lists t q old.1
+      | inr old ↦ shows.valid.lists t q old.1
     ];
   }
 
@@ -116,10 +116,10 @@ module _ (v : View) (m : Store) (new : New) (s : ℕ) (r : SlotRecord) (shows : 
             (sym (text_else v s [] t (apart t q e))) told.tells;
       }
 
-  pub created_shows : IsSoundRecord (m.next + 1) r → m.next + 1 ≤ 10 ^ 18
+  pub created_shows : IsValidRecord (m.next + 1) r → m.next + 1 ≤ 10 ^ 18
       → Shows (created_view v s r) (created_store m new)
-  created_shows sound most = record {
-    sound = created_sound sound most;
+  created_shows valid most = record {
+    valid = created_valid valid most;
     next = ap (λ (n : ℕ). n + 1) shows.next;
     indexes = shows.indexes;
     rising = rising_more m.uploads m.next (new_upload new) shows.rising (number_below v m shows);
@@ -134,10 +134,10 @@ module _ (v : View) (m : Store) (new : New) (s : ℕ) (r : SlotRecord) (shows : 
   }
 
   -- and its texts are those that the rows show
-  pub created_texts : (seen : ℕ → ℕ) → HasTexts seen v → HasTexts seen (created_view v s r)
-  created_texts seen texts t q e = elim (slot_is v.slots s r t q inside e) [
+  pub created_texts : (current : ℕ → ℕ) → HasTexts current v → HasTexts current (created_view v s r)
+  created_texts current texts t q e = elim (slot_is v.slots s r t q inside e) [
     | inl here ↦
         let none : q.text_len ≡ 0 = ap (λ (x : SlotRecord). x.text_len) here.1 ∙ no_text m new r [] is in
-        text_here v s [] t here.0 ∙ sym (ap (text_shown seen (text_page v.blocks) v.rows t) none)
+        text_here v s [] t here.0 ∙ sym (ap (text_shown current (text_page v.blocks) v.rows t) none)
     | inr old ↦ text_else v s [] t old.0 ∙ texts t q old.1
   ]

@@ -3,7 +3,7 @@ use Rattle.std.proofs.Common.{◌≡◌, ◌∙◌, ◌≤◌, ◌+◌, ◌++◌
 use Rattle.std.proofs.Common.{get_or}
 use Rattle.std.proofs.Common.{refl, sym, ap, subst, arith}
 use Rattle.std.proofs.lemmas.List.{append-nil}
-use Rattle.enc_stream.specs.StateBytes.{IsSound}
+use Rattle.enc_stream.specs.StateBytes.{IsValid}
 use Rattle.spool_disk.specs.declared.disk.Disk.{Ghosts}
 use Rattle.spool_journal.specs.Image.{text_page}
 use Rattle.spool_pages.specs.View.{SlotRecord}
@@ -92,10 +92,10 @@ module _ {D : Type 0} {sure : Bool} (disk : Ghosts D) (d : D) (h : Holding) (m :
       text_patched m.indexes told.upload declared []
       ∙ ap (λ (b : Bool). (text_with m.indexes told.upload [] b).bytes) alike ∙ sym (text_of_is m.indexes told.upload)
 
-  extension : {known : Type 0} (seen : ℕ → ℕ) → IsExtension known m.indexes told.upload declared [] []
-      (named may.used slot declared) [] seen (text_page h.layout)
+  extension : {known : Type 0} (current : ℕ → ℕ) → IsExtension known m.indexes told.upload declared [] []
+      (named may.used slot declared) [] current (text_page h.layout)
   unfolding state_with
-  extension seen = record {
+  extension current = record {
     declared = sym known_is;
     accepted = told.tells.accepted ∙ ap length (sym (append-nil told.upload.accepted));
     few = subst (λ (k : Option ℕ). length (told.upload.accepted ++ []) ≤ longest k) (sym known_is)
@@ -103,8 +103,8 @@ module _ {D : Type 0} {sure : Bool} (disk : Ghosts D) (d : D) (h : Holding) (m :
     small = small;
     state = told.tells.state ∙ ap (state_with m.indexes told.upload []) (sym alike)
         ∙ sym (state_patched m.indexes told.upload declared []);
-    sound = subst IsSound (sym (transcoder_patched m.indexes told.upload declared []
-        ∙ ap (transcoder_with m.indexes told.upload []) alike)) told.tells.sound;
+    valid = subst IsValid (sym (transcoder_patched m.indexes told.upload declared []
+        ∙ ap (transcoder_with m.indexes told.upload []) alike)) told.tells.valid;
     encodable = ap (λ r. r.fault) (whole_patched m.indexes told.upload declared []
         ∙ ap (text_with m.indexes told.upload []) alike) ∙ told.tells.encodable;
     text = same_text ∙ sym (append-nil (text_of m.indexes told.upload));
@@ -126,6 +126,6 @@ module _ {D : Type 0} {sure : Bool} (disk : Ghosts D) (d : D) (h : Holding) (m :
       upload = told.upload;
       there = there;
       added = [];
-      extension = extension (disk.seen e);
+      extension = extension (disk.current e);
     };
   }

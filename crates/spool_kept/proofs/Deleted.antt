@@ -8,7 +8,7 @@ use Rattle.upload_rules.proofs.Deleted.{find_in_others, none_in_others}
 use Rattle.spool_blocks.specs.Blocks.{Row}
 use Rattle.spool_pages.specs.Rests.{HasTexts}
 use Rattle.spool_pages.specs.View.{SlotRecord, View, slot_at}
-use Rattle.spool_kept.specs.Shows.{IsSound, Shows}
+use Rattle.spool_kept.specs.Shows.{IsValid, Shows}
 use Rattle.spool_kept.specs.Terminating.{FreesRows, deleted_view}
 use Rattle.spool_kept.proofs.Appended.{others_listed}
 use Rattle.spool_kept.proofs.AppendedTexts.{text_still}
@@ -28,32 +28,32 @@ module _ (v : View) (m : Store) (shows : Shows v m) (s : ℕ) (r : SlotRecord) (
 
   -- a record in another slot has another number
   other_number : (t : ℕ) (q : SlotRecord) → t ≢ s → slot_at v t ≡ Some q → r.number ≡ q.number → ⊥
-  other_number t q other e same = other (shows.sound.distinct t s q r e there (sym same))
+  other_number t q other e same = other (shows.valid.distinct t s q r e there (sym same))
 
-  deleted_sound : IsSound (deleted_view v s rows)
-  deleted_sound = record {
-    least = shows.sound.least;
-    most = shows.sound.most;
-    next_least = shows.sound.next_least;
-    next_most = shows.sound.next_most;
-    indexes = shows.sound.indexes;
-    slot_count = length-set v.slots s None ∙ shows.sound.slot_count;
-    row_count = frees.size ∙ shows.sound.row_count;
-    records = λ t q e. shows.sound.records t q (was t q e).1;
-    distinct = λ t k q p e f same. shows.sound.distinct t k q p (was t q e).1 (was k p f).1 same;
+  deleted_valid : IsValid (deleted_view v s rows)
+  deleted_valid = record {
+    least = shows.valid.least;
+    most = shows.valid.most;
+    next_least = shows.valid.next_least;
+    next_most = shows.valid.next_most;
+    indexes = shows.valid.indexes;
+    slot_count = length-set v.slots s None ∙ shows.valid.slot_count;
+    row_count = frees.size ∙ shows.valid.row_count;
+    records = λ t q e. shows.valid.records t q (was t q e).1;
+    distinct = λ t k q p e f same. shows.valid.distinct t k q p (was t q e).1 (was k p f).1 same;
     owners = λ b slot ordinal owns.
         let old = was_owned s v.rows rows frees b slot ordinal owns in
-        let owned = shows.sound.owners b slot ordinal old.1 in
+        let owned = shows.valid.owners b slot ordinal old.1 in
         record { used = owned.used; there = still_there v.slots s slot old.0 ∙ owned.there; fits = owned.fits };
     lists = λ t q e.
         let old = was t q e in
         others_listed v.rows rows s t (blocks_of q.text_len) (others_stay s v.rows rows frees) old.0
-        (shows.sound.lists t q old.1);
+        (shows.valid.lists t q old.1);
   }
 
   pub deleted_shows : Shows (deleted_view v s rows) (deleted_store m r.number)
   deleted_shows = record {
-    sound = deleted_sound;
+    valid = deleted_valid;
     next = shows.next;
     indexes = shows.indexes;
     rising = others_rise r.number m.uploads shows.rising;
@@ -83,11 +83,11 @@ module _ (v : View) (m : Store) (shows : Shows v m) (s : ℕ) (r : SlotRecord) (
   }
 
   -- and its texts are those that the rows show
-  pub deleted_texts : (seen : ℕ → ℕ) → HasTexts seen v → HasTexts seen (deleted_view v s rows)
-  deleted_texts seen texts t q e =
+  pub deleted_texts : (current : ℕ → ℕ) → HasTexts current v → HasTexts current (deleted_view v s rows)
+  deleted_texts current texts t q e =
       let old = was t q e in
       let stay = others_stay s v.rows rows frees in
-      let one = shows.sound.lists t q old.1 in
+      let one = shows.valid.lists t q old.1 in
       texts t q old.1
-      ∙ sym (text_still seen (text_page v.blocks) v.rows rows t q.text_len one
+      ∙ sym (text_still current (text_page v.blocks) v.rows rows t q.text_len one
       (others_listed v.rows rows s t (blocks_of q.text_len) stay old.0 one) (λ b i owns. stay.still b t i old.0 owns))

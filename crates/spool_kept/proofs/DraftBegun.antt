@@ -49,7 +49,7 @@ module _ (old new : List (Option SpoolDraft)) (place : ℕ) (o : SpoolDraft) (pl
 below_next : (v : View) (m : Store) (n : ℕ) (u : Upload) → Shows v m → upload_of m n ≡ Some u → n < m.next
 below_next v m n u shows there =
     let has = shows.all n u there in
-    omega (arith, has.number, (shows.sound.records has.slot has.used has.there).below, shows.next)
+    omega (arith, has.number, (shows.valid.records has.slot has.used has.there).below, shows.next)
 
 module _ {D : Type 0} {sure : Bool} (disk : Ghosts D) (d : D) (h : Holding) (old : List (Option SpoolDraft)) (w : World)
     (s : StandsFor sure disk d h old w) (n offset count : ℕ) (declare : Option ℕ) where
@@ -75,9 +75,10 @@ module _ {D : Type 0} {sure : Bool} (disk : Ghosts D) (d : D) (h : Holding) (old
 
   module _ (new : List (Option SpoolDraft)) (place : ℕ) (o : SpoolDraft) (placed : IsPlaced old o place new)
       (none : list_of o ≡ []) (owned : IsOwnedBy h.slots h.blocks.rows n (tail_of o))
-      (carries : sure ≡ true → CarriesFor w.store n count declare (disk.seen d) (text_page h.layout) o) where
+      (carries : sure ≡ true → CarriesFor w.store n count declare (disk.current d) (text_page h.layout) o) where
     abbrev Stands : Patch → SpoolDraft → Type 0
-    Stands = DraftStands (sure ≡ true) w.store.indexes (disk.seen d) (text_page h.layout) h.slots h.blocks.rows w.store
+    Stands = DraftStands (sure ≡ true) w.store.indexes (disk.current d)
+        (text_page h.layout) h.slots h.blocks.rows w.store
 
     number_free : place ≡ free_number w
     number_free = sym (is_free w place
@@ -98,7 +99,7 @@ module _ {D : Type 0} {sure : Bool} (disk : Ghosts D) (d : D) (h : Holding) (old
         go (Some p) (Some o) h e = absurd cc
 
     stand_begun : (u : Upload) → upload_of w.store n ≡ Some u → Opens (Some u) (Ok o)
-        → DraftsStand (sure ≡ true) w.store.indexes (disk.seen d) (text_page h.layout) h.slots h.blocks
+        → DraftsStand (sure ≡ true) w.store.indexes (disk.current d) (text_page h.layout) h.slots h.blocks
         (record w { patches = (place, first_patch n count declare u) ∷ w.patches }) new
     stand_begun u there opens = record {
       each = begun_stand Stands w.patches old new s.stands.each place (first_patch n count declare u) o placed record {

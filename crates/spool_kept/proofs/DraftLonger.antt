@@ -118,8 +118,8 @@ module _ (n : ℕ) (h : Held) (old : List (Option SpoolDraft)) (fit : DraftsHold
 
 -- THE RULE OF ROOM
 
-module _ {sure : Type 0} (w : World) (x : IndexSet) (seen : ℕ → ℕ) (first : ℕ) (records : List (Option SlotRecord))
-    (h : Held) (old : List (Option SpoolDraft)) (stand : DraftsStand sure w.store.indexes seen first records h w old)
+module _ {sure : Type 0} (w : World) (x : IndexSet) (current : ℕ → ℕ) (first : ℕ) (records : List (Option SlotRecord))
+    (h : Held) (old : List (Option SpoolDraft)) (stand : DraftsStand sure w.store.indexes current first records h w old)
     (v : View) (shows : Shows v w.store) where
   abbrev slots : ℕ → ℕ
   slots n = slot_of n v.slots
@@ -139,7 +139,7 @@ module _ {sure : Type 0} (w : World) (x : IndexSet) (seen : ℕ → ℕ) (first 
 
   needed : (e : ℕ) (p : Patch) → find e w.patches ≡ Some p → length (lists_at old e) ≡ need w.store.indexes p false
   needed e p found =
-      let a = draft_of (DraftStands sure w.store.indexes seen first records h.rows w.store) p (find e w.patches)
+      let a = draft_of (DraftStands sure w.store.indexes current first records h.rows w.store) p (find e w.patches)
       (draft_at old e) found (stand.each e) in
       ap length (ap list_in a.1) ∙ a.2.holds.needs
 
@@ -147,7 +147,7 @@ module _ {sure : Type 0} (w : World) (x : IndexSet) (seen : ℕ → ℕ) (first 
   no_list e none = go (find e w.patches) (draft_at old e) none (stand.each e)
     where
       go : (q : Option Patch) (a : Option SpoolDraft) → q ≡ None
-          → DraftOf (DraftStands sure w.store.indexes seen first records h.rows w.store) q a → list_in a ≡ []
+          → DraftOf (DraftStands sure w.store.indexes current first records h.rows w.store) q a → list_in a ≡ []
       go None None e is = refl
       go None (Some a) e is = absurd is
       go (Some p) a e is = absurd cc
@@ -176,14 +176,15 @@ owned_apart : (slots : List (Option SlotRecord)) (rows : List Row) (number : ℕ
 owned_apart slots rows number tail own is unowned i k lt lt' e = let owned = (is.owned i lt).1 in let none =
     ap (λ (b : ℕ). get_or rows b None) e ∙ unowned k lt' in cc
 
-pub still_stands : {sure : Type 0} (x : IndexSet) (seen seen' : ℕ → ℕ) (first : ℕ) (records : List (Option SlotRecord))
+pub still_stands : {sure : Type 0} (x : IndexSet) (current current' : ℕ
+    → ℕ) (first : ℕ) (records : List (Option SlotRecord))
     (rows : List Row) (m : Store) (own : List ℕ) (p : Patch) (a : SpoolDraft)
-    → (sure → SameOutside first own seen seen') → NoneOf (list_of a) own → Unowned rows own
-    → DraftStands sure x seen first records rows m p a → DraftStands sure x seen' first records rows m p a
-still_stands x seen seen' first records rows m own p a same apart unowned is = record {
+    → (sure → SameOutside first own current current') → NoneOf (list_of a) own → Unowned rows own
+    → DraftStands sure x current first records rows m p a → DraftStands sure x current' first records rows m p a
+still_stands x current current' first records rows m own p a same apart unowned is = record {
   holds = is.holds;
   below = is.below;
-  carries = λ known there kept. bytes_kept seen seen' first own a.growth a.growth.on (same known) apart
+  carries = λ known there kept. bytes_kept current current' first own a.growth a.growth.on (same known) apart
       (owned_apart records rows p.number (tail_of a) own (is.tail there) unowned) ∙ is.carries known there kept;
   tail = is.tail;
 }
@@ -213,7 +214,7 @@ each_longer R S ps old new d p q o there changed all weaker stands e =
 
 -- THE LONGER PATCH
 
-module _ (w : World) (d : ℕ) (x : IndexSet) (q : Patch) (o' : SpoolDraft) (seen : ℕ → ℕ) (first : ℕ) where
+module _ (w : World) (d : ℕ) (x : IndexSet) (q : Patch) (o' : SpoolDraft) (current : ℕ → ℕ) (first : ℕ) where
   pub went_on : (h : Held) (list : List ℕ) → x ≡ w.store.indexes → RuleHolds w d list h → list ≡ list_of o'
       → Holds x q o' → is_short w d q false ≡ q.short
   went_on h list same rule is holds =
@@ -244,31 +245,31 @@ changed_back old mid new d o o' there out back = record {
     inside : d < length mid
     inside = omega (arith, within, ap length out, length-set old d None)
 
-module _ {sure : Type 0} (x : IndexSet) (seen seen' : ℕ → ℕ) (first n : ℕ) (records : List (Option SlotRecord))
+module _ {sure : Type 0} (x : IndexSet) (current current' : ℕ → ℕ) (first n : ℕ) (records : List (Option SlotRecord))
     (h h' : Held) (w : World) (old new : List (Option SpoolDraft))
-    (stand : DraftsStand sure x seen first records h w old) (fit : DraftsHold n h old) (d : ℕ) (o o' : SpoolDraft)
+    (stand : DraftsStand sure x current first records h w old) (fit : DraftsHold n h old) (d : ℕ) (o o' : SpoolDraft)
     (here : draft_at old d ≡ Some o) (own : List ℕ) (grasp : Regrasps h h' (list_of o) (list_of o') own)
     (changed : IsChanged old d (Some o') new) (rows : h'.rows ≡ h.rows)
-    (same : sure → SameOutside first own seen seen') where
+    (same : sure → SameOutside first own current current') where
   unowned : Unowned h.rows own
   unowned i lt = ap (λ (r : List Row). get_or r (get_or own i 0) None) (sym grasp.takes.rows)
       ∙ grasp.reserved.no_owner i lt
 
   pub other_stands : (e : ℕ) → d ≢ e → (r : Patch) (a : SpoolDraft) → draft_at old e ≡ Some a
-      → DraftStands sure x seen first records h.rows w.store r a
-      → DraftStands sure x seen' first records h'.rows w.store r a
+      → DraftStands sure x current first records h.rows w.store r a
+      → DraftStands sure x current' first records h'.rows w.store r a
   other_stands e other r a there is =
-      subst (λ (z : List Row). DraftStands sure x seen' first records z w.store r a) (sym rows)
-      (still_stands x seen seen' first records h.rows w.store own r a same
+      subst (λ (z : List Row). DraftStands sure x current' first records z w.store r a) (sym rows)
+      (still_stands x current current' first records h.rows w.store own r a same
       (subst (λ (xs : List ℕ). NoneOf xs own) (ap list_in there)
       (none_sym own (lists_at old e) (own_apart n h old fit d o here grasp.takes e other))) unowned is)
 
   pub stand_longer : (p q : Patch) → find d w.patches ≡ Some p → IsGrown (record w { patches = replaced d q w.patches })
-      → DraftStands sure x seen' first records h'.rows w.store q o'
-      → DraftsStand sure x seen' first records h' (record w { patches = replaced d q w.patches }) new
+      → DraftStands sure x current' first records h'.rows w.store q o'
+      → DraftsStand sure x current' first records h' (record w { patches = replaced d q w.patches }) new
   stand_longer p q there grown is = record {
-    each = each_longer (DraftStands sure x seen first records h.rows w.store)
-        (DraftStands sure x seen' first records h'.rows w.store) w.patches old new d p q o' there changed stand.each
+    each = each_longer (DraftStands sure x current first records h.rows w.store)
+        (DraftStands sure x current' first records h'.rows w.store) w.patches old new d p q o' there changed stand.each
         other_stands is;
     apart = apart_replaced d q w.patches stand.apart;
     grown = grown;
@@ -276,9 +277,9 @@ module _ {sure : Type 0} (x : IndexSet) (seen seen' : ℕ → ℕ) (first n : �
     all = all_longer n h old fit d o here h' new o' own grasp changed stand.all;
   }
 
-module _ {sure : Type 0} (w : World) (seen seen' : ℕ → ℕ) (first n : ℕ) (records : List (Option SlotRecord))
+module _ {sure : Type 0} (w : World) (current current' : ℕ → ℕ) (first n : ℕ) (records : List (Option SlotRecord))
     (h h' : Held) (old new : List (Option SpoolDraft))
-    (stand : DraftsStand sure w.store.indexes seen first records h w old) (fit : DraftsHold n h old) (d : ℕ)
+    (stand : DraftsStand sure w.store.indexes current first records h w old) (fit : DraftsHold n h old) (d : ℕ)
     (o o' : SpoolDraft) (here : draft_at old d ≡ Some o) (own : List ℕ)
     (grasp : Regrasps h h' (list_of o) (list_of o') own) (changed : IsChanged old d (Some o') new)
     (rows : h'.rows ≡ h.rows) (v : View) (shows : Shows v w.store) (known : h.rows ≡ v.rows)
@@ -300,7 +301,7 @@ module _ {sure : Type 0} (w : World) (seen seen' : ℕ → ℕ) (first n : ℕ) 
 
   pub rule_after : RuleHolds w d (lists_at new d) h'
   rule_after =
-      room_rule w w.store.indexes seen first records h old stand v shows h' d (list_of o') (lists_at new) rows known
+      room_rule w w.store.indexes current first records h old stand v shows h' d (list_of o') (lists_at new) rows known
       size_after (changed_lists old new d (Some o') changed) after.reserved after.distinct
       (all_longer n h old fit d o here h' new o' own grasp changed stand.all)
 
@@ -319,7 +320,7 @@ module _ {sure : Type 0} (w : World) (seen seen' : ℕ → ℕ) (first n : ℕ) 
         here = rw (eq-eqb d d refl) refl;
         others = λ e other. rw (ne_eqb e d (λ s. other (sym s))) refl;
       } in
-      let rule = room_rule w w.store.indexes seen first records h old stand v shows short.held d short.own lists
+      let rule = room_rule w w.store.indexes current first records h old stand v shows short.held d short.own lists
       short.takes.rows known (omega (arith, short.takes.size, size, ap length short.takes.rows)) swap
       (all_reserved (lists_at old) lists d short.own swap short.held short.reserved
       (λ e other. taken_keeps (lists_at old e) short.takes (fit.reserved e)))
@@ -332,7 +333,7 @@ module _ {sure : Type 0} (w : World) (seen seen' : ℕ → ℕ) (first n : ℕ) 
     more = with_piece p piece
 
     kept_short : Holds w.store.indexes more o' → is_short w d more false ≡ p.short
-    kept_short holds = went_on w d w.store.indexes more o' seen' first h' (lists_at new d) refl rule_after
+    kept_short holds = went_on w d w.store.indexes more o' current' first h' (lists_at new d) refl rule_after
         (changed_lists old new d (Some o') changed).here holds
 
     pub longer_holds : IsLonger w.store.indexes more o o' h h' → Holds w.store.indexes (longer w d p piece) o'
@@ -342,10 +343,10 @@ module _ {sure : Type 0} (w : World) (seen seen' : ℕ → ℕ) (first n : ℕ) 
         subst (λ (b : Bool). Holds w.store.indexes (record more { short = b }) o') (sym (lacks more false short.1))
         short.0
 
-    pub longer_carries : IsLonger w.store.indexes more o o' h h' → Carries w.store.indexes seen' first more o'
-        → Carries w.store.indexes seen' first (longer w d p piece) o'
+    pub longer_carries : IsLonger w.store.indexes more o o' h h' → Carries w.store.indexes current' first more o'
+        → Carries w.store.indexes current' first (longer w d p piece) o'
     longer_carries (inl holds) carries =
-        subst (λ (b : Bool). Carries w.store.indexes seen' first (record more { short = b }) o')
+        subst (λ (b : Bool). Carries w.store.indexes current' first (record more { short = b }) o')
         (sym (kept_short holds)) carries
     longer_carries (inr short) carries = λ kept. absurd (both_ways o'.growth.short kept.roomy short.0.short)
 
@@ -354,7 +355,7 @@ module _ {sure : Type 0} (w : World) (seen seen' : ℕ → ℕ) (first n : ℕ) 
 pub moved : {D : Type 0} {sure : Bool} (disk : Ghosts D) (d d' : D) (old new : Holding) (m : Store) (n : ℕ)
     (s : Stored sure disk d old m) → OnlyReserves old new → (disk.honest d → disk.honest d') → (own : List ℕ)
     → Unowned s.view.rows own → n ≡ old.layout
-    → (sure ≡ true → WritesIn (text_page n) own (disk.seen d) (disk.seen d') (disk.unsynced d) (disk.unsynced d'))
+    → (sure ≡ true → WritesIn (text_page n) own (disk.current d) (disk.current d') (disk.unsynced d) (disk.unsynced d'))
     → Stored sure disk d' new m
 moved disk d d' old new m n s same honest own unowned size writes = record {
   honest = λ known. honest (s.honest known);
@@ -377,7 +378,7 @@ answered X Y (Err (Refused e)) done same refused = absurd (refused e refl)
 
 pub longer_world : {D : Type 0} {sure : Bool} (disk : Ghosts D) (d : D) (h : Holding)
     (drafts : List (Option SpoolDraft)) (w : World) (number : ℕ) (piece : List ℕ) (p : Patch) (a : Option Patch)
-    → a ≡ Some p → Stored sure disk d h w.store → DraftsStand (sure ≡ true) w.store.indexes (disk.seen d)
+    → a ≡ Some p → Stored sure disk d h w.store → DraftsStand (sure ≡ true) w.store.indexes (disk.current d)
     (text_page h.layout) h.slots h.blocks (record w { patches = replaced number (longer w number p piece) w.patches })
     drafts → StandsFor sure disk d h drafts (appended_at w number piece a)
 longer_world {sure = sure} disk d h drafts w number piece p a e stored stands =

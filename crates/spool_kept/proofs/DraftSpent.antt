@@ -146,24 +146,26 @@ each_spent R S ps old d none all weaker e =
           (held_both R S (find e ps) (draft_at old e) (weaker e other) (all e))
     ]
 
-pub stand_spent : {sure : Type 0} (x : IndexSet) (seen seen' : ℕ → ℕ) (first : ℕ)
+pub stand_spent : {sure : Type 0} (x : IndexSet) (current current' : ℕ → ℕ) (first : ℕ)
     (records records' : List (Option SlotRecord)) (h h' : Held) (w : World) (m : Store) (old : List (Option SpoolDraft))
-    (d : ℕ) → DraftsStand sure x seen first records h w old
+    (d : ℕ) → DraftsStand sure x current first records h w old
     → ((e : ℕ) → d ≢ e → (r : Patch) (a : SpoolDraft) → find e w.patches ≡ Some r → draft_at old e ≡ Some a
-    → DraftStands sure x seen first records h.rows w.store r a → DraftStands sure x seen' first records' h'.rows m r a)
+    → DraftStands sure x current first records h.rows w.store r a
+    → DraftStands sure x current' first records' h'.rows m r a)
     → IsGrown (record w { store = m; patches = without d w.patches }) → length h'.rows ≡ length h.rows
     → ((b : ℕ) → get_or h'.reserved b false ≡ true → IsInSome (lists_at (set old d None)) b)
-    → DraftsStand sure x seen' first records' h' (record w { store = m; patches = without d w.patches })
+    → DraftsStand sure x current' first records' h' (record w { store = m; patches = without d w.patches })
     (set old d None)
-stand_spent {sure = sure} x seen seen' first records records' h h' w m old d stand weaker grown size all = record {
-  each = each_spent (DraftStands sure x seen first records h.rows w.store)
-      (DraftStands sure x seen' first records' h'.rows m)
-      w.patches old d (find_without_same d w.patches stand.apart) stand.each weaker;
-  apart = apart_without d w.patches stand.apart;
-  grown = grown;
-  limit = stand.limit ∙ ap (λ (n : ℕ). Some n) (sym size);
-  all = all;
-}
+stand_spent {sure = sure} x current current' first records records' h h' w m old d stand weaker grown size all =
+    record {
+      each = each_spent (DraftStands sure x current first records h.rows w.store)
+          (DraftStands sure x current' first records' h'.rows m)
+          w.patches old d (find_without_same d w.patches stand.apart) stand.each weaker;
+      apart = apart_without d w.patches stand.apart;
+      grown = grown;
+      limit = stand.limit ∙ ap (λ (n : ℕ). Some n) (sym size);
+      all = all;
+    }
 
 -- WHERE AN UPLOAD HAS MORE
 

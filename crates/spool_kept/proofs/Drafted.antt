@@ -125,12 +125,12 @@ module _ (n : ℕ) (h h' : Held) (old new : List (Option SpoolDraft)) (d : ℕ) 
       (λ e other. given_keeps (lists_at old e) gives (fit.reserved e) (fit.distinct d e other)) (λ a e. absurd cc)
       (λ e other. none_in_nothing [] (lists_at old e) refl)
 
-  pub stand_dropped : {sure : Type 0} (x : IndexSet) (seen : ℕ → ℕ) (first : ℕ) (records : List (Option SlotRecord))
-      (w : World) → GivesBack h h' (lists_at old d) → DraftsStand sure x seen first records h w old
-      → DraftsStand sure x seen first records h' (dropped w d) new
-  stand_dropped {sure = sure} x seen first records w gives stand = record {
-    each = dropped_stand (DraftStands sure x seen first records h'.rows w.store) w.patches old new
-        (subst (λ (rows : List Row). (e : ℕ) → DraftOf (DraftStands sure x seen first records rows w.store)
+  pub stand_dropped : {sure : Type 0} (x : IndexSet) (current : ℕ → ℕ) (first : ℕ) (records : List (Option SlotRecord))
+      (w : World) → GivesBack h h' (lists_at old d) → DraftsStand sure x current first records h w old
+      → DraftsStand sure x current first records h' (dropped w d) new
+  stand_dropped {sure = sure} x current first records w gives stand = record {
+    each = dropped_stand (DraftStands sure x current first records h'.rows w.store) w.patches old new
+        (subst (λ (rows : List Row). (e : ℕ) → DraftOf (DraftStands sure x current first records rows w.store)
         (find e w.patches) (draft_at old e)) (sym gives.rows) stand.each) d stand.apart is;
     apart = apart_without d w.patches stand.apart;
     grown = grown_dropped w stand.grown d stand.apart;
@@ -163,9 +163,10 @@ pub drops : {D : Type 0} {sure : Bool} (disk : Ghosts D) (d : D) (old new : Hold
     → StandsFor sure disk d old drafts w → StandsFor sure disk d new drafts' (dropped w number)
 drops {sure = sure} disk d old new drafts drafts' number w same is gives s = record {
   stored = stored_on disk d old new w.store same s.stored;
-  stands = subst (λ (h : Holding). DraftsStand (sure ≡ true) w.store.indexes (disk.seen d) (text_page h.layout) h.slots
+  stands = subst (λ (h : Holding). DraftsStand (sure ≡ true) w.store.indexes (disk.current d)
+      (text_page h.layout) h.slots
       new.blocks (dropped w number) drafts') (sym same.same)
-      (stand_dropped old.layout old.blocks new.blocks drafts drafts' number is w.store.indexes (disk.seen d)
+      (stand_dropped old.layout old.blocks new.blocks drafts drafts' number is w.store.indexes (disk.current d)
       (text_page old.layout) old.slots w gives s.stands);
 }
 
@@ -231,11 +232,11 @@ list_owned h fits s lt number used list is =
       );
     }
 
-pub carries_for : (m : Store) (number count : ℕ) (declare : Option ℕ) (seen : ℕ → ℕ) (first : ℕ) (u : Upload)
+pub carries_for : (m : Store) (number count : ℕ) (declare : Option ℕ) (current : ℕ → ℕ) (first : ℕ) (u : Upload)
     (r : Result SpoolDraft UploadRefusal) → upload_of m number ≡ Some u
-    → IfOk r (λ d. Carries m.indexes seen first (first_patch number count declare u) d)
-    → IfOk r (CarriesFor m number count declare seen first)
-carries_for m number count declare seen first u (Ok o) there carries = λ w found.
-    subst (λ (k : Upload). Carries m.indexes seen first (first_patch number count declare k) o)
+    → IfOk r (λ d. Carries m.indexes current first (first_patch number count declare u) d)
+    → IfOk r (CarriesFor m number count declare current first)
+carries_for m number count declare current first u (Ok o) there carries = λ w found.
+    subst (λ (k : Upload). Carries m.indexes current first (first_patch number count declare k) o)
     (same_Some u w (sym there ∙ found)) carries
-carries_for m number count declare seen first u (Err e) there carries = tt
+carries_for m number count declare current first u (Err e) there carries = tt

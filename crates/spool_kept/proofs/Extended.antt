@@ -27,7 +27,7 @@ use Rattle.spool_kept.specs.Extending.{MayExtend, IsAppend, IsLonger, IsExtensio
 use Rattle.spool_kept.specs.declared.extending.Longer.{Longer}
 use Rattle.spool_kept.specs.Holding.{Holding, FitsTogether}
 use Rattle.spool_kept.specs.Kept.{KeepsView}
-use Rattle.spool_kept.specs.Shows.{IsRecordOf, IsSoundRecord, Shows}
+use Rattle.spool_kept.specs.Shows.{IsRecordOf, IsValidRecord, Shows}
 use Rattle.spool_kept.specs.Stored.{Stored, ShowsEither}
 use Rattle.spool_kept.proofs.ChangedSlots.{one_value}
 use Rattle.spool_kept.proofs.Appended.{told_upload, append_without_text}
@@ -96,7 +96,7 @@ module _ (h new : Holding) (v : View) (m : Store) (keeps : KeepsView h v) (shows
       let all = room_for v.rows longer.slot (may.used.text_len / 4096) (get_or h.lists longer.slot []) more
       (keeps.listed longer.slot may.used there).owned (omega (arith, keeps.sizes longer.slot may.used there))
       no_owner below reserved.distinct in
-      omega (arith, all, shows.sound.row_count, shows.sound.most)
+      omega (arith, all, shows.valid.row_count, shows.valid.most)
 
   -- the rows that the change is to write
   pub rows_none : length more ≡ 0 → SameRowsBut [] v.rows new.blocks.rows
@@ -107,12 +107,12 @@ module _ (h new : Holding) (v : View) (m : Store) (keeps : KeepsView h v) (shows
   rows_some some =
       rows_but_last v.rows longer.slot (may.used.text_len / 4096) more new.blocks.rows (hands some) no_owner
       (blocks_of may.used.text_len) (get_or h.lists longer.slot [])
-      (shows.sound.lists longer.slot may.used there) (keeps.listed longer.slot may.used there)
+      (shows.valid.lists longer.slot may.used there) (keeps.listed longer.slot may.used there)
       (keeps.sizes longer.slot may.used there)
 
   module _ {sure : Type 0} (n : ℕ) (number : may.used.number ≡ n) (u : Upload) (found : upload_of m n ≡ Some u)
-      (declare : Option ℕ) (bytes added : List ℕ) (seen : ℕ → ℕ)
-      (ext : IsExtension sure m.indexes u declare bytes added longer more seen (text_page h.layout)) where
+      (declare : Option ℕ) (bytes added : List ℕ) (current : ℕ → ℕ)
+      (ext : IsExtension sure m.indexes u declare bytes added longer more current (text_page h.layout)) where
     found' : find may.used.number m.uploads ≡ Some u
     found' = ap (λ (k : ℕ). find k m.uploads) number ∙ found
 
@@ -131,20 +131,20 @@ module _ (h new : Holding) (v : View) (m : Store) (keeps : KeepsView h v) (shows
       text_len = ext.text_len;
       text = ap (λ (xs : List ℕ). xs ++ added) told.text ∙ sym ext.text;
       encodable = ext.encodable;
-      sound = ext.sound;
+      valid = ext.valid;
       state = ext.state;
     }
 
-    text_fits : {k : ℕ} → IsSoundRecord k may.used → longer.text_len < 2 ^ 64
+    text_fits : {k : ℕ} → IsValidRecord k may.used → longer.text_len < 2 ^ 64
     text_fits old = elim (cases_lt 0 (length more)) [
       | inl some ↦ omega (arith, may.blocks some, room)
       | inr none ↦ omega (arith, may.same (omega (arith, none)), old.text_fits)
     ]
 
-    record_sound : IsSoundRecord m.next (longer_record may.used longer)
-    record_sound =
-        let old = subst (λ (k : ℕ). IsSoundRecord k may.used) shows.next
-        (shows.sound.records longer.slot may.used there) in
+    record_valid : IsValidRecord m.next (longer_record may.used longer)
+    record_valid =
+        let old = subst (λ (k : ℕ). IsValidRecord k may.used) shows.next
+        (shows.valid.records longer.slot may.used there) in
         record {
           some = old.some;
           below = old.below;
@@ -184,17 +184,17 @@ module _ (h new : Holding) (v : View) (m : Store) (keeps : KeepsView h v) (shows
           % 4096 + (longer.text_len - (may.used.text_len - may.used.text_len % 4096))
       total = omega (arith, grown)
 
-      content : sure → text_on seen (text_page v.blocks) more (longer.text_len - full_bytes may.used.text_len) ≡ drop
+      content : sure → text_on current (text_page v.blocks) more (longer.text_len - full_bytes may.used.text_len) ≡ drop
           (full_bytes may.used.text_len) (v.texts longer.slot) ++ added
       content known =
-          let P : ℕ → Type 0 = λ k. text_on seen (text_page v.blocks) more (longer.text_len - full_bytes k) ≡ drop
+          let P : ℕ → Type 0 = λ k. text_on current (text_page v.blocks) more (longer.text_len - full_bytes k) ≡ drop
           (full_bytes k) (v.texts longer.slot) ++ added in
           let Q : List ℕ → Type 0 =
-          λ xs. text_on seen (text_page v.blocks) more
+          λ xs. text_on current (text_page v.blocks) more
           (longer.text_len - full_bytes (length (text_of m.indexes u))) ≡ drop
           (full_bytes (length (text_of m.indexes u))) xs ++ added in
           subst P (sym told.text_len) (subst Q (sym told.text)
-          (subst (λ (k : ℕ). text_on seen (text_page k) more
+          (subst (λ (k : ℕ). text_on current (text_page k) more
           (longer.text_len - full_bytes (length (text_of m.indexes u))) ≡ drop
           (full_bytes (length (text_of m.indexes u))) (text_of m.indexes u) ++ added) keeps.blocks
           (ext.content known some)))
@@ -206,16 +206,16 @@ module _ (h new : Holding) (v : View) (m : Store) (keeps : KeepsView h v) (shows
           (v.texts longer.slot ++ added) (get_or h.lists longer.slot []) more
           (longer.text_len - (may.used.text_len - may.used.text_len % 4096))
           (keeps.listed longer.slot may.used there) (keeps.sizes longer.slot may.used there) (hands some) no_owner
-          more_size total u declare bytes refl found' tells record_sound room
+          more_size total u declare bytes refl found' tells record_valid room
 
-      texts_some : sure → HasTexts seen v → HasTexts seen
+      texts_some : sure → HasTexts current v → HasTexts current
           (appended_view v longer.slot (longer_record may.used longer) new.blocks.rows (v.texts longer.slot ++ added))
       texts_some known texts =
           handed_texts v m shows longer.slot may.used (longer_record may.used longer) there new.blocks.rows
           (v.texts longer.slot ++ added) (get_or h.lists longer.slot []) more
           (longer.text_len - (may.used.text_len - may.used.text_len % 4096))
           (keeps.listed longer.slot may.used there) (keeps.sizes longer.slot may.used there) (hands some) no_owner
-          more_size total seen added texts (content known) refl
+          more_size total current added texts (content known) refl
 
     module _ (none : length more ≡ 0) where
       text_same : v.texts longer.slot ++ added ≡ v.texts longer.slot
@@ -225,13 +225,13 @@ module _ (h new : Holding) (v : View) (m : Store) (keeps : KeepsView h v) (shows
           (v.texts longer.slot ++ added)) (patched_store m may.used.number declare bytes)
       shows_none =
           append_without_text v m shows longer.slot may.used (longer_record may.used longer) there refl new.blocks.rows
-          (v.texts longer.slot ++ added) u declare bytes found' tells record_sound (same_rows none) (may.same none)
+          (v.texts longer.slot ++ added) u declare bytes found' tells record_valid (same_rows none) (may.same none)
 
-      texts_none : HasTexts seen v → HasTexts seen
+      texts_none : HasTexts current v → HasTexts current
           (appended_view v longer.slot (longer_record may.used longer) new.blocks.rows (v.texts longer.slot ++ added))
       texts_none texts =
           texts_without_text v m shows longer.slot may.used (longer_record may.used longer) there new.blocks.rows
-          (v.texts longer.slot ++ added) seen texts (same_rows none) (may.same none) text_same
+          (v.texts longer.slot ++ added) current texts (same_rows none) (may.same none) text_same
 
     pub extended_shows : Shows
         (appended_view v longer.slot (longer_record may.used longer) new.blocks.rows (v.texts longer.slot ++ added))
@@ -243,7 +243,7 @@ module _ (h new : Holding) (v : View) (m : Store) (keeps : KeepsView h v) (shows
           | inr none ↦ shows_none (omega (arith, none))
         ])
 
-    pub extended_texts : sure → HasTexts seen v → HasTexts seen
+    pub extended_texts : sure → HasTexts current v → HasTexts current
         (appended_view v longer.slot (longer_record may.used longer) new.blocks.rows (v.texts longer.slot ++ added))
     extended_texts known texts = elim (cases_lt 0 (length more)) [
       | inl some ↦ texts_some some known texts
@@ -254,7 +254,7 @@ module _ (h new : Holding) (v : View) (m : Store) (keeps : KeepsView h v) (shows
         (appended_view v longer.slot (longer_record may.used longer) new.blocks.rows (v.texts longer.slot ++ added))
     extended_keeps fits' =
         keeps_said new (appended_view v longer.slot (longer_record may.used longer) new.blocks.rows
-        (v.texts longer.slot ++ added)) fits' extended_shows.sound
+        (v.texts longer.slot ++ added)) fits' extended_shows.valid
         (sym keeps.blocks ∙ sym longer_is.layout) (longer_is.version ∙ keeps.version) (longer_is.next ∙ keeps.next)
         (longer_is.indexes ∙ keeps.indexes)
         (longer_is.slots ∙ ap (λ (xs : List (Option SlotRecord)). set xs longer.slot
@@ -291,24 +291,24 @@ module _ {D : Type 0} {sure : Bool} (disk : Ghosts D) (old : D) (h new : Holding
 
   pub after_shows : Shows after (patched_store m n declare bytes)
   after_shows = extended_shows h new append.stored.view m append.stored.keeps append.stored.shows longer more may
-      reserved is state_size n number append.upload append.there declare bytes append.added (disk.seen old)
+      reserved is state_size n number append.upload append.there declare bytes append.added (disk.current old)
       append.extension
 
-  pub after_texts : sure ≡ true → HasTexts (disk.seen old) after
+  pub after_texts : sure ≡ true → HasTexts (disk.current old) after
   after_texts known =
       extended_texts h new append.stored.view m append.stored.keeps append.stored.shows longer more may reserved is
-      state_size n number append.upload append.there declare bytes append.added (disk.seen old) append.extension
+      state_size n number append.upload append.there declare bytes append.added (disk.current old) append.extension
       known (rests_says (append.stored.rests known)).texts
 
   pub after_stored : (d : D) → (disk.honest old → disk.honest d)
-      → (sure ≡ true → Rests after (disk.seen d) (disk.unsynced d))
+      → (sure ≡ true → Rests after (disk.current d) (disk.unsynced d))
       → Stored sure disk d new (patched_store m n declare bytes)
   after_stored d honest rests = record {
     honest = λ known. honest (append.stored.honest known);
     view = after;
     rests = rests;
     keeps = extended_keeps h new append.stored.view m append.stored.keeps append.stored.shows longer more may reserved
-        is state_size n number append.upload append.there declare bytes append.added (disk.seen old) append.extension
+        is state_size n number append.upload append.there declare bytes append.added (disk.current old) append.extension
         fits';
     shows = after_shows;
   }

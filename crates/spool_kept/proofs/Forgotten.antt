@@ -52,11 +52,11 @@ module _ (number : ℕ) (old new : List (Option SpoolDraft)) (forgets : EachForg
         (subst (NoneOf (lists_at old d)) (sym (lists_same e)) (hold.distinct d e apart));
   }
 
-  module _ (sure : Type 0) (x : IndexSet) (seen : ℕ → ℕ) (first : ℕ) (slots : List (Option SlotRecord)) (h : Held)
+  module _ (sure : Type 0) (x : IndexSet) (current : ℕ → ℕ) (first : ℕ) (slots : List (Option SlotRecord)) (h : Held)
       (w : World) (gone : upload_of w.store number ≡ None) where
     stands_of : (p : Patch) (o o' : SpoolDraft) → ForgetsTail number o o'
-        → DraftStands sure x seen first slots h.rows w.store p o
-        → DraftStands sure x seen first slots h.rows w.store p o'
+        → DraftStands sure x current first slots h.rows w.store p o
+        → DraftStands sure x current first slots h.rows w.store p o'
     stands_of p o o' forgot s = elim (cases_eq (number_of o) number) [
       | inl same ↦
           let none : upload_of w.store p.number ≡ None =
@@ -68,12 +68,12 @@ module _ (number : ℕ) (old new : List (Option SpoolDraft)) (forgets : EachForg
             tail = λ still. clash none still.1;
           }
       | inr other ↦
-          subst (DraftStands sure x seen first slots h.rows w.store p) (sym (forgot.others other)) s
+          subst (DraftStands sure x current first slots h.rows w.store p) (sym (forgot.others other)) s
     ]
 
     each_of : (q : Option Patch) (o o' : Option SpoolDraft) → ForgetsOf number o o'
-        → DraftOf (DraftStands sure x seen first slots h.rows w.store) q o
-        → DraftOf (DraftStands sure x seen first slots h.rows w.store) q o'
+        → DraftOf (DraftStands sure x current first slots h.rows w.store) q o
+        → DraftOf (DraftStands sure x current first slots h.rows w.store) q o'
     each_of None None None forgot s = tt
     each_of None None (Some o') forgot s = absurd forgot
     each_of None (Some o) o' forgot s = absurd s
@@ -81,7 +81,7 @@ module _ (number : ℕ) (old new : List (Option SpoolDraft)) (forgets : EachForg
     each_of (Some p) (Some o) None forgot s = absurd forgot
     each_of (Some p) (Some o) (Some o') forgot s = stands_of p o o' forgot s
 
-    stand_forgotten : DraftsStand sure x seen first slots h w old → DraftsStand sure x seen first slots h w new
+    stand_forgotten : DraftsStand sure x current first slots h w old → DraftsStand sure x current first slots h w new
     stand_forgotten stand = record {
       each = λ d. each_of (find d w.patches) (draft_at old d) (draft_at new d) (forgets d) (stand.each d);
       apart = stand.apart;
@@ -101,7 +101,7 @@ module _ (number : ℕ) (old new : List (Option SpoolDraft)) (forgets : EachForg
       → upload_of w.store number ≡ None → StandsFor sure disk d h old w → StandsFor sure disk d h new w
   stands_forgotten {sure = sure} disk d h w gone stands = record {
     stored = stands.stored;
-    stands = stand_forgotten (sure ≡ true) w.store.indexes (disk.seen d) (text_page h.layout) h.slots h.blocks w gone
+    stands = stand_forgotten (sure ≡ true) w.store.indexes (disk.current d) (text_page h.layout) h.slots h.blocks w gone
         stands.stands;
   }
 

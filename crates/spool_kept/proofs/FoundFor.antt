@@ -61,7 +61,7 @@ module _ (slots : List (Option SlotRecord)) (o : SpoolDraft) (slot : ℕ) (r : R
           → IsFound slots o (record { slot = slot; declares = declares; declared = declared; stays = stays })
       found stays nothing something = record {
         same = same;
-        state = record { transcoder = unpacked.transcoder; sound = unpacked.sound; is = unpacked.is };
+        state = record { transcoder = unpacked.transcoder; valid = unpacked.valid; is = unpacked.is };
         allowed = refusal_is ∙ allowed;
         declares = declares_is ∙ ap (is_new r.declared) declare_is;
         declared = declared_is ∙ ap (known_or r.declared) declare_is;

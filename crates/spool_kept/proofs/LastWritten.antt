@@ -39,8 +39,9 @@ module _ {D : Type 0} {sure : Bool} (disk : Ghosts D) (d mid : D) (h : Holding) 
 
   pub appended : (disk.honest d → disk.honest mid)
       → (sure ≡ true → (length last + 4095) / 4096 ≤ length more
-      → text_on (disk.seen mid) (text_page h.layout) more
-      (length (bytes_with (disk.seen d) (text_page h.layout) more last)) ≡ bytes_with (disk.seen d) (text_page h.layout)
+      → text_on (disk.current mid) (text_page h.layout) more
+      (length (bytes_with (disk.current d) (text_page h.layout) more last)) ≡ bytes_with (disk.current d)
+      (text_page h.layout)
       more last) → IsAppend sure disk mid h m n declare bytes longer more
   appended honest written =
       pending.append mid
@@ -48,5 +49,5 @@ module _ {D : Type 0} {sure : Bool} (disk : Ghosts D) (d mid : D) (h : Holding) 
         same = refl;
         rows = refl;
       } honest more unowned refl (λ known. (only known).writes))
-      (λ known some. subst (λ (text : List ℕ). text_on (disk.seen mid) (text_page h.layout) more
+      (λ known some. subst (λ (text : List ℕ). text_on (disk.current mid) (text_page h.layout) more
       (length text) ≡ text) (pending.held known some) (written known (pending.fits some)))

@@ -1,4 +1,4 @@
-pub mod Sound
+pub mod Valid
 pub mod OwnedOnce
 pub mod ChangedSlots
 pub mod Entries

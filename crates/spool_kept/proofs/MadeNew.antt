@@ -20,7 +20,7 @@ use Rattle.spool_kept.specs.Changed.{created_view}
 use Rattle.spool_kept.specs.Creating.{HasRoomAt, IsTakenIn, IsNewRecord}
 use Rattle.spool_kept.specs.Holding.{Holding}
 use Rattle.spool_kept.specs.Kept.{KeepsView}
-use Rattle.spool_kept.specs.Shows.{IsSoundRecord, Shows}
+use Rattle.spool_kept.specs.Shows.{IsValidRecord, Shows}
 use Rattle.spool_kept.specs.Stored.{Stored, ShowsEither}
 use Rattle.spool_kept.proofs.Created.{created_shows, created_texts}
 use Rattle.spool_kept.proofs.Keeps.{keeps_said}
@@ -45,17 +45,18 @@ module _ (h : Holding) (v : View) (m : Store) (new : New) (slot : ℕ) (r : Slot
   free : slot_at v slot ≡ None
   free = ap (λ (xs : List (Option SlotRecord)). get_or xs slot None) (sym keeps.slots) ∙ room.free
 
-  sound : IsSoundRecord (m.next + 1) r
-  sound = subst (λ (n : ℕ). IsSoundRecord (n + 1) r) next_is
-      (is.sound (omega (arith, keeps.next, shows.sound.next_least)) small)
+  valid : IsValidRecord (m.next + 1) r
+  valid = subst (λ (n : ℕ). IsValidRecord (n + 1) r) next_is
+      (is.valid (omega (arith, keeps.next, shows.valid.next_least)) small)
 
   shows_new : Shows (created_view v slot r) (created_store m new)
-  shows_new = created_shows v m new slot r shows room.within free (is.number_is ∙ next_is) (is.tells m.indexes) sound
+  shows_new = created_shows v m new slot r shows room.within free (is.number_is ∙ next_is) (is.tells m.indexes) valid
       (omega (arith, room.next, next_is))
 
-  texts_new : {seen : ℕ → ℕ} {unsynced : ℕ → Type 0} → Rests v seen unsynced → HasTexts seen (created_view v slot r)
-  texts_new {seen = seen} rests =
-      created_texts v m new slot r shows room.within free (is.number_is ∙ next_is) (is.tells m.indexes) seen
+  texts_new : {current : ℕ → ℕ} {unsynced : ℕ → Type 0} → Rests v current unsynced
+      → HasTexts current (created_view v slot r)
+  texts_new {current = current} rests =
+      created_texts v m new slot r shows room.within free (is.number_is ∙ next_is) (is.tells m.indexes) current
       ((rests_says rests).texts)
 
   changes_new : {pages : List (ℕ × List ℕ)} → Changes pages v (record (with_record v slot r) { next = h.next + 1 })
@@ -77,7 +78,7 @@ module _ (h : Holding) (v : View) (m : Store) (new : New) (slot : ℕ) (r : Slot
           }
 
   keeps_new : (h' : Holding) → IsTakenIn h slot r h' → KeepsView h' (created_view v slot r)
-  keeps_new h' taken = keeps_said h' (created_view v slot r) taken.fits shows_new.sound
+  keeps_new h' taken = keeps_said h' (created_view v slot r) taken.fits shows_new.valid
       (sym (taken.layout ∙ keeps.blocks)) (taken.version ∙ keeps.version)
       (taken.next ∙ ap (λ (n : ℕ). n + 1) keeps.next) (taken.indexes ∙ keeps.indexes)
       (taken.slots ∙ ap (λ (xs : List (Option SlotRecord)). slice_set xs slot (Some r)) keeps.slots)
@@ -94,11 +95,11 @@ module _ (h : Holding) (v : View) (m : Store) (new : New) (slot : ℕ) (r : Slot
   })
 
   module _ {D : Type 0} {sure : Bool} (disk : Ghosts D) (before after : D) {pages : List (ℕ × List ℕ)}
-      (rests : sure ≡ true → Rests v (disk.seen before) (disk.unsynced before))
+      (rests : sure ≡ true → Rests v (disk.current before) (disk.unsynced before))
       (changes : Changes pages v (record (with_record v slot r) { next = h.next + 1 })) where
     -- a crash leaves the old store or the new one
     pub crash_new : sure ≡ true
-        → ((v' : View) → Changes pages v v' → HasTexts (disk.seen before) v'
+        → ((v' : View) → Changes pages v v' → HasTexts (disk.current before) v'
         → Lasts disk before after (λ image. IsViewOf image v ⊎ IsViewOf image v'))
         → Lasts disk before after
         (ShowsEither h.layout m (outcome (create_refusal (at_rest m None) new) m (created_store m new)))
@@ -109,8 +110,8 @@ module _ (h : Holding) (v : View) (m : Store) (new : New) (slot : ℕ) (r : Slot
 
     -- and the new one stands after the change
     pub stored_new : (h' : Holding) → IsTakenIn h slot r h' → (sure ≡ true → disk.honest after)
-        → (sure ≡ true → (v' : View) → Changes pages v v' → HasTexts (disk.seen before) v'
-        → Rests v' (disk.seen after) (disk.unsynced after)) → Stored sure disk after h' (created_store m new)
+        → (sure ≡ true → (v' : View) → Changes pages v v' → HasTexts (disk.current before) v'
+        → Rests v' (disk.current after) (disk.unsynced after)) → Stored sure disk after h' (created_store m new)
     stored_new h' taken honest done = record {
       honest = honest;
       view = created_view v slot r;

@@ -10,7 +10,7 @@ use Rattle.upload_rules.specs.declared.records.Record.{Record}
 use Rattle.upload_rules.proofs.NewUploads.{new_text}
 use Rattle.spool_kept.specs.Creating.{IsNewRecord}
 use Rattle.spool_kept.specs.Records.{said_of, FitsMemory}
-use Rattle.spool_kept.specs.Shows.{IsRecordOf, IsSoundRecord}
+use Rattle.spool_kept.specs.Shows.{IsRecordOf, IsValidRecord}
 use Rattle.spool_kept.proofs.Extended.{small_is, state_length}
 use Rattle.spool_kept.proofs.Told.{told_state, with_from, with_to, with_mode}
 
@@ -25,7 +25,7 @@ module _ (x : IndexSet) (n : ℕ) (r : Record) (new : New) (keeps : Keeps x n r 
       record {
         unpacked = record {
           transcoder = transcoder_with x u [] (is_complete u);
-          sound = keeps.sound;
+          valid = keeps.valid;
           is = state_is;
           from = keeps.tells.from ∙ sym (with_from x u (is_complete u));
           to = keeps.tells.to ∙ sym (with_to x u (is_complete u));
@@ -42,15 +42,15 @@ module _ (x : IndexSet) (n : ℕ) (r : Record) (new : New) (keeps : Keeps x n r 
     text_len = keeps.tells.text_len;
     text = sym (new_text x new);
     encodable = keeps.encodable;
-    sound = keeps.sound;
+    valid = keeps.valid;
     state = keeps.tells.state;
   }
 
   no_text : r.text_len ≡ 0
   no_text = keeps.tells.text_len ∙ ap length (new_text x new)
 
-  sound_new : IsWellFormed new → 1 ≤ n → is_too_large new.declared ≡ false → IsSoundRecord (n + 1) (said_of r)
-  sound_new well some small = record {
+  valid_new : IsWellFormed new → 1 ≤ n → is_too_large new.declared ≡ false → IsValidRecord (n + 1) (said_of r)
+  valid_new well some small = record {
     some = omega (arith, keeps.tells.number_is, some);
     below = omega (arith, keeps.tells.number_is);
     accepted = omega (arith, keeps.tells.accepted);
@@ -71,5 +71,5 @@ new_record x n r new keeps well = record {
   number_is = (keeps x).tells.number_is;
   tells = λ y. tells_new y n r new (keeps y);
   no_text = no_text x n r new (keeps x);
-  sound = sound_new x n r new (keeps x) well;
+  valid = valid_new x n r new (keeps x) well;
 }

@@ -99,27 +99,28 @@ module _ (h h' : Holding) (number slot : ℕ) (used : IsUsedBy h.slots slot numb
             (own.0, stay.still (get_or list i 0) owned.slot own.0 other own.1);
       }
 
-  module _ {sure : Type 0} (w : World) (seen seen' : ℕ → ℕ) (first : ℕ)
-      (same : sure → (p : ℕ) → 4096 * first ≤ p → seen' p ≡ seen p) where
-    stands_still : (p : Patch) (o : SpoolDraft) → DraftStands sure w.store.indexes seen first h.slots h.blocks.rows
-        w.store p o → DraftStands sure w.store.indexes seen' first h'.slots h'.blocks.rows
+  module _ {sure : Type 0} (w : World) (current current' : ℕ → ℕ) (first : ℕ)
+      (same : sure → (p : ℕ) → 4096 * first ≤ p → current' p ≡ current p) where
+    stands_still : (p : Patch) (o : SpoolDraft) → DraftStands sure w.store.indexes current first h.slots h.blocks.rows
+        w.store p o → DraftStands sure w.store.indexes current' first h'.slots h'.blocks.rows
         (deleted_store w.store number) p o
     stands_still p o s = record {
       holds = s.holds;
       below = s.below;
       carries = λ known there kept.
-          bytes_same seen seen' first o.growth o.growth.on (same known)
+          bytes_same current current' first o.growth o.growth.on (same known)
           ∙ s.carries known (still_was w number p there).1 kept;
       tail = λ there.
           let was = still_was w number p there in
           owned_still p.number (tail_of o) was.0 (s.tail was.1);
     }
 
-    pub drafts_still : (drafts : List (Option SpoolDraft)) → DraftsStand sure w.store.indexes seen first h.slots
-        h.blocks w drafts → DraftsStand sure w.store.indexes seen' first h'.slots h'.blocks (terminated w number) drafts
+    pub drafts_still : (drafts : List (Option SpoolDraft)) → DraftsStand sure w.store.indexes current first h.slots
+        h.blocks w drafts → DraftsStand sure w.store.indexes current' first h'.slots h'.blocks
+        (terminated w number) drafts
     drafts_still drafts stand = record {
-      each = λ d. held_both (DraftStands sure w.store.indexes seen first h.slots h.blocks.rows w.store)
-          (DraftStands sure w.store.indexes seen' first h'.slots h'.blocks.rows (deleted_store w.store number))
+      each = λ d. held_both (DraftStands sure w.store.indexes current first h.slots h.blocks.rows w.store)
+          (DraftStands sure w.store.indexes current' first h'.slots h'.blocks.rows (deleted_store w.store number))
           (find d w.patches) (draft_at drafts d) (λ p o found there s. stands_still p o s) (stand.each d);
       apart = stand.apart;
       grown = still_grown w number stand.grown;
@@ -129,11 +130,12 @@ module _ (h h' : Holding) (number slot : ℕ) (used : IsUsedBy h.slots slot numb
 
   pub stands_after : {D : Type 0} {sure : Bool} (disk : Ghosts D) (d d' : D) (drafts : List (Option SpoolDraft))
       (w : World) → StandsFor sure disk d h drafts w → Stored sure disk d' h' (deleted_store w.store number)
-      → (sure ≡ true → (p : ℕ) → 4096 * text_page h.layout ≤ p → disk.seen d' p ≡ disk.seen d p)
+      → (sure ≡ true → (p : ℕ) → 4096 * text_page h.layout ≤ p → disk.current d' p ≡ disk.current d p)
       → StandsFor sure disk d' h' drafts (terminated w number)
   stands_after {sure = sure} disk d d' drafts w stands stored same = record {
     stored = stored;
-    stands = subst (λ (n : ℕ). DraftsStand (sure ≡ true) w.store.indexes (disk.seen d') (text_page n) h'.slots h'.blocks
+    stands = subst (λ (n : ℕ). DraftsStand (sure ≡ true) w.store.indexes (disk.current d')
+        (text_page n) h'.slots h'.blocks
         (terminated w number) drafts) (sym out.layout)
-        (drafts_still w (disk.seen d) (disk.seen d') (text_page h.layout) same drafts stands.stands);
+        (drafts_still w (disk.current d) (disk.current d') (text_page h.layout) same drafts stands.stands);
   }

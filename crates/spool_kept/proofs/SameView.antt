@@ -20,8 +20,8 @@ use Rattle.spool_pages.proofs.RecordBytes.{stands_beyond}
 use Rattle.spool_pages.proofs.Resting.{rests_aside}
 use Rattle.spool_pages.proofs.RowBytes.{slot_at, ordinal_at, free_at}
 use Rattle.upload_rules.specs.Store.{Store}
-use Rattle.spool_kept.specs.Shows.{IsSound, ImageShows}
-use Rattle.spool_kept.proofs.Sound.{rows_fit, said_row}
+use Rattle.spool_kept.specs.Shows.{IsValid, ImageShows}
+use Rattle.spool_kept.proofs.Valid.{rows_fit, said_row}
 
 module _ (f : ℕ → ℕ) (at : ℕ) where
   one_number : (m n : ℕ) → m < 2 ^ 32 → n < 2 ^ 32 → Stands f at 4 (to_be_bytes w32 m)
@@ -58,7 +58,7 @@ pub rows_cover : (n : ℕ) → n ≤ 512 * (journal_pages n - 257)
 unfolding journal_pages
 rows_cover n = omega arith
 
-module _ (f : ℕ → ℕ) (v v' : View) (sound : IsSound v) (sound' : IsSound v') (says : Says f v) (says' : Says f v') where
+module _ (f : ℕ → ℕ) (v v' : View) (valid : IsValid v) (valid' : IsValid v') (says : Says f v) (says' : Says f v') where
   number_at : (n : ℕ) → Stands f 0 4096 (first_page n) → Stands f 8 4 (to_be_bytes w32 n)
   unfolding first_page
   number_at n stands =
@@ -66,58 +66,60 @@ module _ (f : ℕ → ℕ) (v v' : View) (sound : IsSound v) (sound' : IsSound v
       stands_beyond magic (to_be_bytes w32 n) 8 4 refl (omega arith) prefix
 
   same_blocks : v.blocks ≡ v'.blocks
-  same_blocks = one_number f 8 v.blocks v'.blocks (omega (arith, sound.most)) (omega (arith, sound'.most))
+  same_blocks = one_number f 8 v.blocks v'.blocks (omega (arith, valid.most)) (omega (arith, valid'.most))
       (number_at v.blocks says.first) (number_at v'.blocks says'.first)
 
   same_row : (b : ℕ) → get_or v.rows b None ≡ get_or v'.rows b None
   same_row b = elim (cases_lt b v.blocks) [
     | inl lt ↦
         let within : b < 512 * (journal_pages v.blocks - 257) = omega (arith, lt, rows_cover v.blocks) in
-        one_row f _ (get_or v.rows b None) (get_or v'.rows b None) (rows_fit v sound b) (rows_fit v' sound' b)
+        one_row f _ (get_or v.rows b None) (get_or v'.rows b None) (rows_fit v valid b) (rows_fit v' valid' b)
         (says.rows b within)
         (said_row f v' v.blocks (sym same_blocks) says' b within)
-    | inr over ↦ get_or-eq_default v.rows None (omega (arith, over, sound.row_count))
-        ∙ sym (get_or-eq_default v'.rows None (omega (arith, over, sound'.row_count, same_blocks)))
+    | inr over ↦ get_or-eq_default v.rows None (omega (arith, over, valid.row_count))
+        ∙ sym (get_or-eq_default v'.rows None (omega (arith, over, valid'.row_count, same_blocks)))
   ]
 
 -- a spool at rest rests with whatever view its bytes have
-pub rests_other : {seen : ℕ → ℕ} {unsynced : ℕ → Type 0} (v v' : View) → IsSound v → IsSound v' → Says (overlaid seen) v
-    → Rests v seen unsynced → IsViewOf seen v' → Rests v' seen unsynced
-rests_other {seen = seen} v v' sound sound' says rests is = record {
+pub rests_other : {current : ℕ → ℕ} {unsynced : ℕ → Type 0} (v v' : View) → IsValid v → IsValid v'
+    → Says (overlaid current) v
+    → Rests v current unsynced → IsViewOf current v' → Rests v' current unsynced
+rests_other {current = current} v v' valid valid' says rests is = record {
   closed = rests.closed;
   is_synced = λ p l.
       let free = rests.is_synced p l in
       record {
         block = free.block;
         here = ap (λ (n : ℕ). text_page n + free.block)
-            (sym (same_blocks (overlaid seen) v v' sound sound' says is.says)) ∙ free.here;
-        free = sym (same_row (overlaid seen) v v' sound sound' says is.says free.block) ∙ free.free;
+            (sym (same_blocks (overlaid current) v v' valid valid' says is.says)) ∙ free.here;
+        free = sym (same_row (overlaid current) v v' valid valid' says is.says free.block) ∙ free.free;
       };
   is = is;
 }
 
 -- Whatever the resting bytes show, an image shows that differs from them only in blocks that no row owns.
-pub shows_aside : {seen : ℕ → ℕ} {unsynced : ℕ → Type 0} (v : View) (own : List ℕ) (n : ℕ) (image : ℕ → ℕ) (m : Store)
-    → IsSound v → v.blocks ≡ n → Rests v seen unsynced → Unowned v.rows own
-    → IsImage seen unsynced (aside_blocks (text_page n) own seen image) → (k : ℕ) → ImageShows k seen m
+pub shows_aside : {current : ℕ → ℕ} {unsynced : ℕ → Type 0} (v : View) (own : List ℕ) (n : ℕ) (image : ℕ
+    → ℕ) (m : Store)
+    → IsValid v → v.blocks ≡ n → Rests v current unsynced → Unowned v.rows own
+    → IsImage current unsynced (aside_blocks (text_page n) own current image) → (k : ℕ) → ImageShows k current m
     → ImageShows k image m
-shows_aside {seen = seen} v own n image m sound size rests unowned is k shown =
+shows_aside {current = current} v own n image m valid size rests unowned is k shown =
     let v' = shown.view in
-    let blocks = same_blocks (overlaid seen) v v' sound shown.shows.sound rests.is.says shown.is.says in
+    let blocks = same_blocks (overlaid current) v v' valid shown.shows.valid rests.is.says shown.is.says in
     record {
       view = v';
       blocks = shown.blocks;
-      is = rests_aside own image (sym blocks ∙ size) (rests_other v v' sound shown.shows.sound rests.is.says rests
+      is = rests_aside own image (sym blocks ∙ size) (rests_other v v' valid shown.shows.valid rests.is.says rests
           shown.is)
-          (λ i lt. sym (same_row (overlaid seen) v v' sound shown.shows.sound rests.is.says shown.is.says
+          (λ i lt. sym (same_row (overlaid current) v v' valid shown.shows.valid rests.is.says shown.is.says
           (get_or own i 0)) ∙ unowned i lt) is;
       shows = shown.shows;
     }
 
 -- and so a call that writes only such blocks leaves what shows
 pub shows_still : {D : Type 0} (disk : Ghosts D) (d d' : D) (v : View) (own : List ℕ) (n : ℕ)
-    → OnlyWrites disk (journal_pages n) own d d' → IsSound v → v.blocks ≡ n → Rests v (disk.seen d) (disk.unsynced d)
+    → OnlyWrites disk (journal_pages n) own d d' → IsValid v → v.blocks ≡ n → Rests v (disk.current d) (disk.unsynced d)
     → Unowned v.rows own
-    → Lasts disk d d' (λ image. (k : ℕ) (m : Store) → ImageShows k (disk.seen d) m → ImageShows k image m)
-shows_still disk d d' v own n only sound size rests unowned =
-    lasts_more only.lasts (λ image is k m shown. shows_aside v own n image m sound size rests unowned is k shown)
+    → Lasts disk d d' (λ image. (k : ℕ) (m : Store) → ImageShows k (disk.current d) m → ImageShows k image m)
+shows_still disk d d' v own n only valid size rests unowned =
+    lasts_more only.lasts (λ image is k m shown. shows_aside v own n image m valid size rests unowned is k shown)

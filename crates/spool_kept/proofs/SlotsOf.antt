@@ -30,7 +30,7 @@ module _ (v : View) (m : Store) (shows : Shows v m) where
   -- each record is in the slot of its number
   pub own_slot : (s : ℕ) (r : SlotRecord) → slot_at v s ≡ Some r → slot_of r.number v.slots ≡ s
   own_slot s r e = slot_of_is r.number v.slots s r e refl
-      (λ t q lt f same. omega (arith, lt, shows.sound.distinct t s q r f e same))
+      (λ t q lt f same. omega (arith, lt, shows.valid.distinct t s q r f e same))
 
   pub upload_slot : (n : ℕ) (u : Upload) → find n m.uploads ≡ Some u → HasUpload v m.indexes n u
   upload_slot n u found =
@@ -40,7 +40,7 @@ module _ (v : View) (m : Store) (shows : Shows v m) where
       let tells = told_upload v m shows has.slot has.used has.there u
       (ap (λ (k : ℕ). find k m.uploads) has.number ∙ found) in
       let blocks = subst (λ (k : ℕ). OwnsOneEach v.rows has.slot (blocks_of k)) tells.text_len
-      (shows.sound.lists has.slot has.used has.there) in
+      (shows.valid.lists has.slot has.used has.there) in
       record {
         used = has.used;
         there = ap (slot_at v) at ∙ has.there;
@@ -62,6 +62,6 @@ module _ (v : View) (m : Store) (shows : Shows v m) where
   pub owner_upload : (b slot ordinal : ℕ) → Owns v.rows b slot ordinal
       → (n : ℕ) × (u : Upload) × (find n m.uploads ≡ Some u) × (slot ≡ slot_of n v.slots)
   owner_upload b slot ordinal owns =
-      let owned = shows.sound.owners b slot ordinal owns in
+      let owned = shows.valid.owners b slot ordinal owns in
       let told = shows.told slot owned.used owned.there in
       (owned.used.number, told.upload, told.there, sym (own_slot slot owned.used owned.there))

@@ -56,17 +56,17 @@ module _ (h : Holding) (v : View) (m : Store) (number slot : ℕ) (keeps : Keeps
     shows_after = subst (λ (n : ℕ). Shows (deleted_view v slot h'.blocks.rows) (deleted_store m n)) used.is
         (deleted_shows v m shows slot used.used there h'.blocks.rows frees)
 
-    texts_after : (seen : ℕ → ℕ) → HasTexts seen v → HasTexts seen (deleted_view v slot h'.blocks.rows)
+    texts_after : (current : ℕ → ℕ) → HasTexts current v → HasTexts current (deleted_view v slot h'.blocks.rows)
     texts_after = deleted_texts v m shows slot used.used there h'.blocks.rows frees
 
     rows_but : SameRowsBut (get_or h.lists slot []) v.rows h'.blocks.rows
     rows_but =
         rows_but_own slot v.rows h'.blocks.rows frees (blocks_of used.used.text_len) (get_or h.lists slot [])
-        (shows.sound.lists slot used.used there) (keeps.listed slot used.used there) (keeps.sizes slot used.used there)
+        (shows.valid.lists slot used.used there) (keeps.listed slot used.used there) (keeps.sizes slot used.used there)
 
     keeps_after : FitsTogether h' → KeepsView h' (deleted_view v slot h'.blocks.rows)
     keeps_after fits =
-        keeps_said h' after fits shows_after.sound (sym (out.layout ∙ keeps.blocks))
+        keeps_said h' after fits shows_after.valid (sym (out.layout ∙ keeps.blocks))
         (out.version ∙ keeps.version) (out.next ∙ keeps.next) (out.indexes ∙ keeps.indexes)
         (out.slots ∙ ap (λ (xs : List (Option SlotRecord)). slice_set xs slot None) keeps.slots) refl
 
@@ -101,16 +101,16 @@ module _ {D : Type 0} {sure : Bool} (disk : Ghosts D) (d : D) (h h' : Holding) (
       fill old new blocks (but old (sym stored.keeps.blocks) (sym stored.keeps.version) (sym stored.keeps.slots)
       h'.blocks.rows rows) refl
 
-  texts : sure ≡ true → HasTexts (disk.seen d) new
+  texts : sure ≡ true → HasTexts (disk.current d) new
   texts known =
-      texts_after h old m number slot stored.keeps stored.shows used h' out (disk.seen d)
+      texts_after h old m number slot stored.keeps stored.shows used h' out (disk.current d)
       (rests_says (stored.rests known)).texts
 
   -- what the commit of the pages makes of a view
   abbrev Makes : (View → View → Type 0) → Type 0
   Makes Made =
-      (v v' : View) → v.blocks ≡ h'.layout → Rests v (disk.seen d) (disk.unsynced d)
-      → Changes filled v v' → HasTexts (disk.seen d) v' → Made v v'
+      (v v' : View) → v.blocks ≡ h'.layout → Rests v (disk.current d) (disk.unsynced d)
+      → Changes filled v v' → HasTexts (disk.current d) v' → Made v v'
 
   -- a crash leaves the upload or its deletion
   pub crash_after : sure ≡ true → (d' : D) → Makes
@@ -124,7 +124,7 @@ module _ {D : Type 0} {sure : Bool} (disk : Ghosts D) (d : D) (h h' : Holding) (
       (shows_either h old m number slot stored.keeps stored.shows used h' out))
 
   pub stored_after : (d' : D) → FitsTogether h' → (disk.honest d → disk.honest d')
-      → (sure ≡ true → Makes (λ v v'. Rests v' (disk.seen d') (disk.unsynced d')))
+      → (sure ≡ true → Makes (λ v v'. Rests v' (disk.current d') (disk.unsynced d')))
       → Stored sure disk d' h' (deleted_store m number)
   stored_after d' fits honest done = record {
     honest = λ known. honest (stored.honest known);

@@ -56,7 +56,7 @@ module _ (x : IndexSet) (r : SlotRecord) (shown : List ℕ) (u : Upload) (is : I
   unfolding state_with
   told_state = record {
     transcoder = transcoder_with x u [] (is_complete u);
-    sound = is.sound;
+    valid = is.valid;
     is = is.state;
     phase = subst (λ (n : ℕ). FitsPhase (transcoder_with x u [] (is_complete u)).phase n r.declared) (sym is.accepted)
         (subst (λ (k : Option ℕ). FitsPhase (transcoder_with x u [] (is_complete u)).phase (length u.accepted) k)
@@ -153,5 +153,5 @@ module _ (x : IndexSet) (q : SlotRecord) (shown : List ℕ) (u : Upload) (is : I
           metadata = ap (λ (p : SlotRecord). p.metadata) said ∙ is.metadata;
         };
         encodable = is.encodable;
-        sound = is.sound;
+        valid = is.valid;
       }

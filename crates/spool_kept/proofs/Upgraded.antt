@@ -1,29 +1,29 @@
--- A view in version 2 is as sound as before, and shows the same uploads.
+-- A view in version 2 is as valid as before, and shows the same uploads.
 use Rattle.upload_rules.specs.Store.{Store}
 use Rattle.spool_pages.specs.Changes.{upgraded}
 use Rattle.spool_pages.specs.View.{View}
-use Rattle.spool_kept.specs.Shows.{IsSound, Shows}
+use Rattle.spool_kept.specs.Shows.{IsValid, Shows}
 
-pub upgraded_sound : (v : View) → IsSound v → IsSound (upgraded v)
-upgraded_sound v sound = record {
-  least = sound.least;
-  most = sound.most;
-  next_least = sound.next_least;
-  next_most = sound.next_most;
-  indexes = sound.indexes;
-  slot_count = sound.slot_count;
-  row_count = sound.row_count;
-  records = sound.records;
-  distinct = sound.distinct;
+pub upgraded_valid : (v : View) → IsValid v → IsValid (upgraded v)
+upgraded_valid v valid = record {
+  least = valid.least;
+  most = valid.most;
+  next_least = valid.next_least;
+  next_most = valid.next_most;
+  indexes = valid.indexes;
+  slot_count = valid.slot_count;
+  row_count = valid.row_count;
+  records = valid.records;
+  distinct = valid.distinct;
   owners = λ b slot ordinal owns.
-      let owned = sound.owners b slot ordinal owns in
+      let owned = valid.owners b slot ordinal owns in
       record { used = owned.used; there = owned.there; fits = owned.fits };
-  lists = sound.lists;
+  lists = valid.lists;
 }
 
 pub upgraded_shows : (v : View) (m : Store) → Shows v m → Shows (upgraded v) m
 upgraded_shows v m shows = record {
-  sound = upgraded_sound v shows.sound;
+  valid = upgraded_valid v shows.valid;
   next = shows.next;
   indexes = shows.indexes;
   rising = shows.rising;

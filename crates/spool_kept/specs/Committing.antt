@@ -92,5 +92,5 @@ pub record IsCommit {D : Type 0} (sure : Bool) (disk : Ghosts D) (d : D) (h : Ho
 
 -- the disk is as a call that only reads leaves it
 pub record OnlyRead {D : Type 0} (disk : Ghosts D) (old new : D) : Type 0 where
-  pub keeps : Keeps (disk.seen old) (disk.seen new) (disk.unsynced old) (disk.unsynced new)
-  pub lasts : Lasts disk old new (IsImage (disk.seen old) (disk.unsynced old))
+  pub keeps : Keeps (disk.current old) (disk.current new) (disk.unsynced old) (disk.unsynced new)
+  pub lasts : Lasts disk old new (IsImage (disk.current old) (disk.unsynced old))

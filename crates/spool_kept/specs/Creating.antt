@@ -5,7 +5,7 @@ use Rattle.upload_rules.specs.Lengths.{is_too_large}
 use Rattle.upload_rules.specs.Store.{New, new_upload}
 use Rattle.spool_pages.specs.View.{SlotRecord}
 use Rattle.spool_kept.specs.Holding.{Holding, FitsTogether, IsAdded}
-use Rattle.spool_kept.specs.Shows.{IsSoundRecord, IsRecordOf}
+use Rattle.spool_kept.specs.Shows.{IsValidRecord, IsRecordOf}
 
 -- a free slot, and a next number that may be followed by another
 pub record HasRoomAt (h : Holding) (slot : ℕ) : Type 0 where
@@ -30,4 +30,4 @@ pub record IsNewRecord (number : ℕ) (new : New) (r : SlotRecord) : Type 0 wher
   pub number_is : r.number ≡ number
   pub tells : (x : IndexSet) → IsRecordOf x r [] (new_upload new)
   pub no_text : r.text_len ≡ 0
-  pub sound : 1 ≤ number → is_too_large new.declared ≡ false → IsSoundRecord (number + 1) r
+  pub valid : 1 ≤ number → is_too_large new.declared ≡ false → IsValidRecord (number + 1) r

@@ -91,17 +91,17 @@ IsStillOpen m p =
 
 -- The draft is the patch's, and its bytes are where the disk is sure to hold what was written. Once another draft made
 -- the upload longer or complete, only its need matters: it can't put anything after the upload's text.
-pub record DraftStands (sure : Type 0) (x : IndexSet) (seen : ℕ → ℕ) (first : ℕ) (slots : List (Option SlotRecord))
+pub record DraftStands (sure : Type 0) (x : IndexSet) (current : ℕ → ℕ) (first : ℕ) (slots : List (Option SlotRecord))
     (rows : List Row) (m : Store) (p : Patch) (o : SpoolDraft) : Type 0 where
   pub holds : Holds x p o
   pub below : p.number < m.next
-  pub carries : sure → IsStillOpen m p → Carries x seen first p o
+  pub carries : sure → IsStillOpen m p → Carries x current first p o
   pub tail : IsStillOpen m p → IsOwnedBy slots rows p.number (tail_of o)
 
 -- each patch has its draft, and the drafts reserve all blocks that are reserved
-pub record DraftsStand (sure : Type 0) (x : IndexSet) (seen : ℕ → ℕ) (first : ℕ) (slots : List (Option SlotRecord))
+pub record DraftsStand (sure : Type 0) (x : IndexSet) (current : ℕ → ℕ) (first : ℕ) (slots : List (Option SlotRecord))
     (h : Held) (w : World) (drafts : List (Option SpoolDraft)) : Type 0 where
-  pub each : (d : ℕ) → DraftOf (DraftStands sure x seen first slots h.rows w.store) (find d w.patches)
+  pub each : (d : ℕ) → DraftOf (DraftStands sure x current first slots h.rows w.store) (find d w.patches)
       (draft_at drafts d)
   pub apart : IsApart w.patches
   pub grown : IsGrown w
@@ -113,7 +113,7 @@ pub record DraftsStand (sure : Type 0) (x : IndexSet) (seen : ℕ → ℕ) (firs
 pub record StandsFor {D : Type 0} (sure : Bool) (disk : Ghosts D) (d : D) (h : Holding)
     (drafts : List (Option SpoolDraft)) (w : World) : Type 0 where
   pub stored : Stored sure disk d h w.store
-  pub stands : DraftsStand (sure ≡ true) w.store.indexes (disk.seen d) (text_page h.layout) h.slots h.blocks w drafts
+  pub stands : DraftsStand (sure ≡ true) w.store.indexes (disk.current d) (text_page h.layout) h.slots h.blocks w drafts
 
 -- WHAT A DRAFT BEGINS AFTER
 
@@ -128,5 +128,5 @@ OpensAs m number offset count declare result = OpensFor m number offset count de
 
 -- and it carries the upload's last bytes
 abbrev pub CarriesFor : Store → ℕ → ℕ → Option ℕ → (ℕ → ℕ) → ℕ → SpoolDraft → Type 0
-CarriesFor m number count declare seen first o =
-    (u : Upload) → upload_of m number ≡ Some u → Carries m.indexes seen first (first_patch number count declare u) o
+CarriesFor m number count declare current first o =
+    (u : Upload) → upload_of m number ≡ Some u → Carries m.indexes current first (first_patch number count declare u) o

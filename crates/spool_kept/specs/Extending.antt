@@ -2,7 +2,7 @@
 use Rattle.std.specs.Prelude.{◌≡◌, ◌≢◌, ◌⊎◌, ℕ, ◌*◌, ◌+◌, ◌-◌, ◌/◌, ◌%◌, ◌<◌, ◌≤◌, ◌++◌, List, [], Some, None, Bool}
 use Rattle.std.specs.Prelude.{true, false, Option, length, get_or, drop, slice_set}
 use Rattle.enc_model.specs.Indexes.{IndexSet}
-use Rattle.enc_stream.specs.StateBytes.{IsSound}
+use Rattle.enc_stream.specs.StateBytes.{IsValid}
 use Rattle.spool_disk.specs.declared.disk.Disk.{Ghosts}
 use Rattle.spool_drafts.specs.Effect.{OnlyWrites}
 use Rattle.spool_journal.specs.Image.{journal_pages, text_page}
@@ -70,18 +70,19 @@ pub record IsLonger (h : Holding) (used : SlotRecord) (longer : Longer) (more : 
 -- with this length, where none was known, and these bytes the upload's text has these after it, and where the disk is
 -- sure to hold what was written, the blocks hold what is not on the old full ones
 pub record IsExtension (sure : Type 0) (x : IndexSet) (u : Upload) (declare : Option ℕ) (bytes added : List ℕ)
-    (longer : Longer) (more : List ℕ) (seen : ℕ → ℕ) (first : ℕ) : Type 0 where
+    (longer : Longer) (more : List ℕ) (current : ℕ → ℕ) (first : ℕ) : Type 0 where
   pub declared : longer.declared ≡ known_or u.declared declare
   pub accepted : longer.accepted ≡ length (u.accepted ++ bytes)
   pub few : length (u.accepted ++ bytes) ≤ longest (known_or u.declared declare)
   pub small : is_too_large declare ≡ false
   pub state : longer.state ≡ state_of x (patched u declare bytes)
-  pub sound : IsSound (transcoder_with x (patched u declare bytes) [] (is_complete (patched u declare bytes)))
+  pub valid : IsValid (transcoder_with x (patched u declare bytes) [] (is_complete (patched u declare bytes)))
   pub encodable : (text_with x (patched u declare bytes) [] (is_complete (patched u declare bytes))).fault ≡ None
   pub text : text_of x (patched u declare bytes) ≡ text_of x u ++ added
   pub text_len : longer.text_len ≡ length (text_of x (patched u declare bytes))
   pub nothing : length more ≡ 0 → added ≡ []
-  pub content : sure → 0 < length more → text_on seen first more (longer.text_len - full_bytes (length (text_of x u))) ≡
+  pub content : sure → 0 < length more → text_on current first more (longer.text_len - full_bytes (length
+      (text_of x u))) ≡
       drop (full_bytes (length (text_of x u))) (text_of x u) ++ added
 
 -- the disk and what is kept stand for the store, and this is what a patch makes of the slot's upload
@@ -92,7 +93,7 @@ pub record IsAppend {D : Type 0} (sure : Bool) (disk : Ghosts D) (d : D) (h : Ho
   pub upload : Upload
   pub there : upload_of m n ≡ Some upload
   pub added : List ℕ
-  pub extension : IsExtension (sure ≡ true) m.indexes upload declare bytes added longer more (disk.seen d)
+  pub extension : IsExtension (sure ≡ true) m.indexes upload declare bytes added longer more (disk.current d)
       (text_page h.layout)
 
 -- one whose last bytes are still to be written: with its text on its blocks it is one
@@ -101,9 +102,9 @@ pub record IsPending {D : Type 0} (sure : Bool) (disk : Ghosts D) (d : D) (h : H
   pub stored : Stored sure disk d h m
   pub text : List ℕ
   pub fits : 1 ≤ length more → (length last + 4095) / 4096 ≤ length more
-  pub held : sure ≡ true → 1 ≤ length more → bytes_with (disk.seen d) (text_page h.layout) more last ≡ text
+  pub held : sure ≡ true → 1 ≤ length more → bytes_with (disk.current d) (text_page h.layout) more last ≡ text
   pub append : (e : D) → Stored sure disk e h m
-      → (sure ≡ true → 1 ≤ length more → text_on (disk.seen e) (text_page h.layout) more (length text) ≡ text)
+      → (sure ≡ true → 1 ≤ length more → text_on (disk.current e) (text_page h.layout) more (length text) ≡ text)
       → IsAppend sure disk e h m n declare bytes longer more
 
 -- the text's last bytes were written to its blocks alone, and then no byte of a text block
@@ -112,4 +113,4 @@ pub record IsWritten {D : Type 0} (sure : Bool) (disk : Ghosts D) (old new : D) 
   pub mid : D
   pub only : disk.honest old → OnlyWrites disk (journal_pages h.layout) more old mid
   pub append : IsAppend sure disk mid h m n declare bytes longer more
-  pub texts : sure ≡ true → (p : ℕ) → 4096 * text_page h.layout ≤ p → disk.seen new p ≡ disk.seen mid p
+  pub texts : sure ≡ true → (p : ℕ) → 4096 * text_page h.layout ≤ p → disk.current new p ≡ disk.current mid p

@@ -2,7 +2,7 @@
 use Rattle.std.specs.Prelude.{◌≡◌, ◌≤◌, ℕ, All, List, Option, Some, None}
 use Rattle.enc_model.specs.Indexes.{IndexSet}
 use Rattle.enc_model.specs.Transcode.{Transcoder}
-use Rattle.enc_stream.specs.StateBytes.{IsSound, state_bytes}
+use Rattle.enc_stream.specs.StateBytes.{IsValid, state_bytes}
 use Rattle.upload_rules.specs.declared.records.Record.{Record}
 use Rattle.upload_rules.specs.Records.{IsShort, Keeps}
 use Rattle.upload_rules.specs.Store.{Upload, Store, upload_of, text_of}
@@ -25,7 +25,7 @@ said_of r = record {
 -- the encodings and the mode are those of its state
 pub record IsUnpacked (r : Record) : Type 0 where
   pub transcoder : Transcoder
-  pub sound : IsSound transcoder
+  pub valid : IsValid transcoder
   pub is : r.state ≡ state_bytes transcoder
   pub from : r.from ≡ transcoder.from
   pub to : r.to ≡ transcoder.to
@@ -44,7 +44,7 @@ FitsKept (Some r) = FitsSlotOf (Some r) × HasState r
 -- its state is a transcoder's, and its metadata is printable
 pub record IsReadable (r : SlotRecord) : Type 0 where
   pub transcoder : Transcoder
-  pub sound : IsSound transcoder
+  pub valid : IsValid transcoder
   pub is : r.state ≡ state_bytes transcoder
   pub printable : All (λ b. (0x20 ≤ b) × (b ≤ 0x7E)) r.metadata
 
@@ -62,5 +62,5 @@ pub record IsUploadOf (m : Store) (number : ℕ) (r : Record) : Type 0 where
 
 -- the upload's text is on the listed blocks
 abbrev pub HasTextOn : Store → ℕ → (ℕ → ℕ) → ℕ → Record → List ℕ → Type 0
-HasTextOn m number seen first r list =
-    (u : Upload) → upload_of m number ≡ Some u → text_on seen first list r.text_len ≡ text_of m.indexes u
+HasTextOn m number current first r list =
+    (u : Upload) → upload_of m number ≡ Some u → text_on current first list r.text_len ≡ text_of m.indexes u

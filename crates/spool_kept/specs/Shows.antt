@@ -3,7 +3,7 @@ use Rattle.std.specs.Prelude.{◌≡◌, ℕ, ◌^◌, ◌<◌, ◌≤◌, true,
 use Rattle.enc_model.specs.Indexes.{IndexSet}
 use Rattle.enc_model.specs.Transcode.{Transcoder, Phase, Before, During, Over}
 use Rattle.enc_index.specs.Sets.{IsIndexSet}
-use Rattle.enc_stream.specs.StateBytes.{IsSound as IsSoundState, state_bytes}
+use Rattle.enc_stream.specs.StateBytes.{IsValid as IsValidState, state_bytes}
 use Rattle.spool_blocks.specs.Chains.{Owns, OwnsOneEach}
 use Rattle.upload_rules.specs.Lengths.{is_length, longest}
 use Rattle.upload_rules.specs.Store.{Upload, Store, find, is_complete, text_with, text_of}
@@ -24,11 +24,11 @@ FitsPhase Over accepted declared = is_length declared accepted ≡ true
 -- the state bytes are those of a transcoder that may stand after so many bytes
 pub record HasState (r : SlotRecord) : Type 0 where
   pub transcoder : Transcoder
-  pub sound : IsSoundState transcoder
+  pub valid : IsValidState transcoder
   pub is : r.state ≡ state_bytes transcoder
   pub phase : FitsPhase transcoder.phase r.accepted r.declared
 
-pub record IsSoundRecord (next : ℕ) (r : SlotRecord) : Type 0 where
+pub record IsValidRecord (next : ℕ) (r : SlotRecord) : Type 0 where
   pub some : 1 ≤ r.number
   pub below : r.number < next
   pub accepted : r.accepted ≤ longest r.declared
@@ -45,7 +45,7 @@ pub record IsOwned (v : View) (slot ordinal : ℕ) : Type 0 where
   pub there : slot_at v slot ≡ Some used
   pub fits : ordinal < 2 ^ 32
 
-pub record IsSound (v : View) : Type 0 where
+pub record IsValid (v : View) : Type 0 where
   pub least : 16 ≤ v.blocks
   pub most : v.blocks ≤ 65536
   pub next_least : 1 ≤ v.next
@@ -53,7 +53,7 @@ pub record IsSound (v : View) : Type 0 where
   pub indexes : IsIndexSet v.indexes
   pub slot_count : length v.slots ≡ 512
   pub row_count : length v.rows ≡ v.blocks
-  pub records : (s : ℕ) (r : SlotRecord) → slot_at v s ≡ Some r → IsSoundRecord v.next r
+  pub records : (s : ℕ) (r : SlotRecord) → slot_at v s ≡ Some r → IsValidRecord v.next r
   pub distinct : (s t : ℕ) (r q : SlotRecord) → slot_at v s ≡ Some r → slot_at v t ≡ Some q → r.number ≡ q.number
       → s ≡ t
   pub owners : (b slot ordinal : ℕ) → Owns v.rows b slot ordinal → IsOwned v slot ordinal
@@ -69,7 +69,7 @@ pub record IsRecordOf (x : IndexSet) (r : SlotRecord) (shown : List ℕ) (u : Up
   pub text_len : r.text_len ≡ length (text_of x u)
   pub text : shown ≡ text_of x u
   pub encodable : (text_with x u [] (is_complete u)).fault ≡ None
-  pub sound : IsSoundState (transcoder_with x u [] (is_complete u))
+  pub valid : IsValidState (transcoder_with x u [] (is_complete u))
   pub state : r.state ≡ state_of x u
 
 -- the upload that a record tells of
@@ -86,7 +86,7 @@ pub record HasSlot (v : View) (n : ℕ) : Type 0 where
   pub number : used.number ≡ n
 
 pub record Shows (v : View) (m : Store) : Type 0 where
-  pub sound : IsSound v
+  pub valid : IsValid v
   pub next : v.next ≡ m.next
   pub indexes : v.indexes ≡ m.indexes
   pub rising : IsRising (map (λ e. e.0) m.uploads)

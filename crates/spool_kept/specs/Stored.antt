@@ -15,7 +15,7 @@ use Rattle.spool_kept.specs.Shows.{Shows, ImageShows}
 pub record Stored {D : Type 0} (sure : Bool) (disk : Ghosts D) (d : D) (h : Holding) (m : Store) : Type 0 where
   pub honest : sure ≡ true → disk.honest d
   pub view : View
-  pub rests : sure ≡ true → Rests view (disk.seen d) (disk.unsynced d)
+  pub rests : sure ≡ true → Rests view (disk.current d) (disk.unsynced d)
   pub keeps : KeepsView h view
   pub shows : Shows view m
 

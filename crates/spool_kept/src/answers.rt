@@ -99,13 +99,13 @@ impl Kept {
             → Answers (no_such (upload_of m number)) result
             (λ n. n ≡ min (length (text_at m (upload_of m number)) - at) (length buf.old)) (Unit {0}) }
         ensures answer { D.honest disk.old → (m : Store) (v : View) → KeepsView self.now v → Shows v m
-            → Says (D.seen disk.old) v
+            → Says (D.current disk.old) v
             → Answers (no_such (upload_of m number)) result
             (λ n. IsRead (text_at m (upload_of m number)) at n buf.old buf.new) (Unit {0}) }
         ensures keeps { D.honest disk.old
-            → Keeps (D.seen disk.old) (D.seen disk.new) (D.unsynced disk.old) (D.unsynced disk.new) }
+            → Keeps (D.current disk.old) (D.current disk.new) (D.unsynced disk.old) (D.unsynced disk.new) }
         ensures lasts { D.honest disk.old
-            → Lasts D.Disk disk.old disk.new (IsImage (D.seen disk.old) (D.unsynced disk.old)) }
+            → Lasts D.Disk disk.old disk.new (IsImage (D.current disk.old) (D.unsynced disk.old)) }
     {
         let Some(found) = self.upload(number) else {
             return Err(UploadError::Refused(UploadRefusal::NoSuch));

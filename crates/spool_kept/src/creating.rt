@@ -155,7 +155,7 @@ pub fn create<D: Disk>(
     ensures refused { (e : UploadRefusal) → IsErrOf result (UploadError.Refused e)
         → (disk.new ≡ disk.old) × (kept.new ≡ kept.old) }
     ensures texts { (m : Store) → Stored true D.Disk disk.old kept.old m
-        → OnOk result ((p : ℕ) → 4096 * text_page kept.old.layout ≤ p → D.seen disk.new p ≡ D.seen disk.old p) }
+        → OnOk result ((p : ℕ) → 4096 * text_page kept.old.layout ≤ p → D.current disk.new p ≡ D.current disk.old p) }
 {
     if is_too_large(new.declared) {
         return Err(UploadError::Refused(UploadRefusal::TooLarge));

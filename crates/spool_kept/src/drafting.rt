@@ -102,7 +102,7 @@ pub fn append<D: Disk>(
     ensures quiet { (w : World) (p : Patch) → StandsFor true D.Disk disk.old kept.old drafts.old.items w
         → find number w.patches ≡ Some p
         → Lasts D.Disk disk.old disk.new
-        (λ image. (n : ℕ) (m : Store) → ImageShows n (D.seen disk.old) m → ImageShows n image m) }
+        (λ image. (n : ℕ) (m : Store) → ImageShows n (D.current disk.old) m → ImageShows n image m) }
 {
     let Some(mut draft) = taken(drafts, number) else {
         return Err(UploadError::Refused(UploadRefusal::NoSuch));

@@ -5,7 +5,7 @@ ghost use Rattle.spool_blocks.specs.Chains.{OwnsOneEach};
 ghost use Rattle.upload_rules.specs.Room.{blocks_of};
 ghost use Rattle.spool_kept.specs.Holding.{AreBelow, AreDistinct};
 ghost use Rattle.spool_kept.specs.Kept.{KeepsAlone};
-ghost use Rattle.spool_kept.specs.Shows.{IsSound};
+ghost use Rattle.spool_kept.specs.Shows.{IsValid};
 ghost use Rattle.spool_pages.specs.Changes.{neighbour};
 ghost use Rattle.spool_pages.specs.Fits.{FitsRow};
 ghost use Rattle.spool_pages.specs.View.{SlotRecord as Said, View};
@@ -81,7 +81,7 @@ impl Kept {
         ensures distinct { OnOk result (AreDistinct slots.items) }
         ensures whole { OnOk result ((s : ℕ) (r : Said) → get_or slots.items s None ≡ Some r
             → OwnsOneEach blocks.rows s (blocks_of r.text_len)) }
-        ensures said { (v : View) → IsSound v → v.blocks ≡ layout → version ≡ v.version → next ≡ v.next
+        ensures said { (v : View) → IsValid v → v.blocks ≡ layout → version ≡ v.version → next ≡ v.next
             → indexes ≡ v.indexes → slots.items ≡ v.slots → blocks.rows ≡ v.rows
             → blocks.reserved ≡ replicate v.blocks false
             → MatchResult result (λ kept. KeepsAlone kept v) (λ e. e ≡ CheckError.NoMemory) }

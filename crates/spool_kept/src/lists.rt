@@ -5,7 +5,7 @@ ghost use Rattle.spool_blocks.specs.Blocks.{Row, slot_count, IsWhole};
 ghost use Rattle.spool_blocks.specs.Chains.{OwnsOneEach};
 ghost use Rattle.upload_rules.specs.Room.{blocks_of};
 ghost use Rattle.spool_kept.specs.Holding.{HasBlocks, AreListsTo, OwnsText};
-ghost use Rattle.spool_kept.specs.Shows.{IsSound};
+ghost use Rattle.spool_kept.specs.Shows.{IsValid};
 ghost use Rattle.spool_pages.specs.View.{View};
 
 use crate::CheckError;
@@ -128,7 +128,7 @@ fn push_list(
     ensures lists { length lists.old.items ≡ slot → AreListsTo blocks.now.rows slots.now lists.old.items slot
         → OnOk result (AreListsTo blocks.now.rows slots.now lists.new.items (slot + 1)) }
     ensures whole { OnOk result (OwnsText blocks.now.rows slot (get_or slots.now slot None)) }
-    ensures passes { (v : View) → IsSound v → slots.now ≡ v.slots → blocks.now.rows ≡ v.rows
+    ensures passes { (v : View) → IsValid v → slots.now ≡ v.slots → blocks.now.rows ≡ v.rows
         → IsOkUnless result CheckError.NoMemory }
 {
     let list = match record_at(slots, slot as usize) {
@@ -152,7 +152,7 @@ pub(crate) fn lists_of(
     ensures long { IfOk result (λ lists. length lists.items ≡ 512) }
     ensures lists { IfOk result (λ lists. AreListsTo blocks.now.rows slots.now lists.items 512) }
     ensures whole { OnOk result ((s : ℕ) → s < 512 → OwnsText blocks.now.rows s (get_or slots.now s None)) }
-    ensures passes { (v : View) → IsSound v → slots.now ≡ v.slots → blocks.now.rows ≡ v.rows
+    ensures passes { (v : View) → IsValid v → slots.now ≡ v.slots → blocks.now.rows ≡ v.rows
         → IsOkUnless result CheckError.NoMemory }
 {
     let mut lists = Vec::new(alloc);

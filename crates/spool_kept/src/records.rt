@@ -44,7 +44,7 @@ impl KeptRecord {
         requires { length «record».now.metadata ≤ 1536 }
         ensures passes { FitsKept (Some «record».now) → IsOkUnless result CheckError.NoMemory }
         ensures same { IfOk result (λ kept. kept ≡ «record».now) }
-        ensures sound { OnOk result (IsReadable «record».now) }
+        ensures valid { OnOk result (IsReadable «record».now) }
     {
         let Some(transcoder) = Transcoder::unpack(&record.state) else {
             return Err(CheckError::Damaged);

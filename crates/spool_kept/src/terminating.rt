@@ -132,7 +132,7 @@ pub fn terminate<D: Disk>(
 
     // No block is written by it.
     ensures texts { (w : World) → StandsFor true D.Disk disk.old kept.old drafts.old.items w
-        → OnOk result ((p : ℕ) → 4096 * text_page kept.old.layout ≤ p → D.seen disk.new p ≡ D.seen disk.old p) }
+        → OnOk result ((p : ℕ) → 4096 * text_page kept.old.layout ≤ p → D.current disk.new p ≡ D.current disk.old p) }
 {
     let Some(slot) = kept.slot_of(number) else {
         return Err(UploadError::Refused(UploadRefusal::NoSuch));

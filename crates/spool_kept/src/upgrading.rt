@@ -2,7 +2,7 @@
 ghost use Rattle.std.specs.Prelude.{◌≡◌, ◌≤◌, ℕ, None, IfOk, IfSome, length, get_or};
 ghost use Rattle.spool_journal.specs.Image.{journal_pages, InArea};
 ghost use Rattle.spool_kept.specs.Kept.{KeepsView};
-ghost use Rattle.spool_kept.specs.Shows.{IsSound, Shows};
+ghost use Rattle.spool_kept.specs.Shows.{IsValid, Shows};
 ghost use Rattle.spool_pages.specs.Changes.{Changes, upgraded};
 ghost use Rattle.spool_pages.specs.View.{View};
 ghost use Rattle.upload_rules.specs.Store.{Store};
@@ -13,9 +13,9 @@ use spool_journal::Pages;
 use spool_pages::{SlotRecord, pages_of_upgrade};
 use std::alloc::{AllocError, Global};
 
-/// In version 2 a sound spool is sound, and it shows the same uploads.
+/// In version 2 a valid spool is valid, and it shows the same uploads.
 pub fn upgraded_shows()
-    ensures sound { (v : View) → IsSound v → IsSound (upgraded v) }
+    ensures valid { (v : View) → IsValid v → IsValid (upgraded v) }
     ensures shows { (v : View) (m : Store) → Shows v m → Shows (upgraded v) m }
 {}
 

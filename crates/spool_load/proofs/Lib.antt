@@ -2,4 +2,4 @@ pub mod Faults
 pub mod Looks
 pub mod Opens
 pub mod Refused
-pub mod Sounds
+pub mod ValidViews

@@ -34,11 +34,13 @@ reads_on first second = record {
 pub before_texts : (n size end : ℕ) → 4096 * all_pages n ≤ size → end ≤ 4096 * text_page n → end ≤ size
 before_texts n size end room few = omega (arith, all_is n, room, few)
 
-pub read_bytes : (seen bytes : ℕ → ℕ) {unsynced : ℕ → Type 0} (place n : ℕ) (buf : List ℕ) → Still bytes seen unsynced
-    → buf ≡ span seen place n → length buf ≡ n → IsReadAt bytes place buf
-read_bytes seen bytes place n buf still is long = record {
+pub read_bytes : (current bytes : ℕ → ℕ) {unsynced : ℕ → Type 0} (place n : ℕ) (buf : List ℕ)
+    → Still bytes current unsynced
+    → buf ≡ span current place n → length buf ≡ n → IsReadAt bytes place buf
+read_bytes current bytes place n buf still is long = record {
   each =
-      λ i lt. ap (λ (xs : List ℕ). get_or xs i 0) is ∙ get_span seen place n i (omega (arith, lt, long)) ∙ still.reads
+      λ i lt. ap (λ (xs : List ℕ). get_or xs i 0) is ∙ get_span current place n i (omega (arith, lt, long))
+      ∙ still.reads
       (place + i);
 }
 

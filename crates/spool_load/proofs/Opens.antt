@@ -11,7 +11,7 @@ use Rattle.spool_journal.specs.Phases.{Settled, ReadsAs, Still}
 use Rattle.spool_journal.proofs.Over.{over_none}
 use Rattle.spool_journal.proofs.Gate.{open_view, shut_view}
 use Rattle.spool_pages.specs.View.{View, Says, IsViewOf, first_page}
-use Rattle.spool_kept.specs.Shows.{IsSound}
+use Rattle.spool_kept.specs.Shows.{IsValid}
 use Rattle.spool_load.specs.Reads.{NeedsReplay, OnlyReads, SaysBlocks}
 use Rattle.spool_pages.proofs.Says.{says_same}
 
@@ -42,22 +42,22 @@ first_plain image v is i lt =
     subst (λ (p : ℕ). overlaid image p ≡ get_or (first_page v.blocks) i 0) at (is.says.first.each i lt) in
     prefix_plain (journal_pages v.blocks) image is.form i lt ∙ there
 
-pub view_says_blocks : (size : ℕ) (image : ℕ → ℕ) (v : View) → IsSound v → IsViewOf image v
+pub view_says_blocks : (size : ℕ) (image : ℕ → ℕ) (v : View) → IsValid v → IsViewOf image v
     → 4096 * all_pages v.blocks ≤ size → SaysBlocks size image v.blocks
-view_says_blocks size image v sound is room = record {
-  least = sound.least;
-  most = sound.most;
+view_says_blocks size image v valid is room = record {
+  least = valid.least;
+  most = valid.most;
   room = room;
   prefix = λ i lt. first_plain image v is i (omega (arith, lt));
 }
 
 -- where the bytes are the same and none is unsynced, nothing was written
-pub still_as : {seen seen' : ℕ → ℕ} {unsynced unsynced' : ℕ → Type 0} → Still seen seen' unsynced'
-    → Keeps seen seen' unsynced unsynced'
+pub still_as : {current current' : ℕ → ℕ} {unsynced unsynced' : ℕ → Type 0} → Still current current' unsynced'
+    → Keeps current current' unsynced unsynced'
 still_as still = record { same = still.reads; unsyncs = λ p l. absurd (still.is_synced p l) }
 
-pub still_as_image : {seen : ℕ → ℕ} {unsynced : ℕ → Type 0} (image : ℕ → ℕ) → ((p : ℕ) → image p ≡ seen p)
-    → IsImage seen unsynced image
+pub still_as_image : {current : ℕ → ℕ} {unsynced : ℕ → Type 0} (image : ℕ → ℕ) → ((p : ℕ) → image p ≡ current p)
+    → IsImage current unsynced image
 still_as_image image same = record { same = λ p is_synced. same p }
 
 pub keeps_on : {a b c : ℕ → ℕ} {la lb lc : ℕ → Type 0} → Keeps a b la lb → Keeps b c lb lc → Keeps a c la lc
@@ -67,22 +67,23 @@ keeps_on first then = record {
 }
 
 -- where no journal is to be replayed the gate is shut, also after a read
-pub gate_shut : {seen seen' : ℕ → ℕ} {unsynced unsynced' : ℕ → Type 0} {size n : ℕ}
-    → Keeps seen seen' unsynced unsynced'
-    → SaysBlocks size seen n → (NeedsReplay size seen → ⊥) → seen' 4096 ≡ 165 → ⊥
+pub gate_shut : {current current' : ℕ → ℕ} {unsynced unsynced' : ℕ → Type 0} {size n : ℕ}
+    → Keeps current current' unsynced unsynced'
+    → SaysBlocks size current n → (NeedsReplay size current → ⊥) → current' 4096 ≡ 165 → ⊥
 gate_shut {n = n} keeps says none ajar = none (record { blocks = n; says = says; gate = sym (keeps.same 4096) ∙ ajar })
 
 -- after a recovery
-pub settled_still : {j : ℕ} {bytes seen : ℕ → ℕ} {unsynced : ℕ → Type 0} → Settled j bytes seen unsynced
-    → Still seen seen unsynced
+pub settled_still : {j : ℕ} {bytes current : ℕ → ℕ} {unsynced : ℕ → Type 0} → Settled j bytes current unsynced
+    → Still current current unsynced
 settled_still settled = record { reads = λ p. refl; is_synced = settled.is_synced }
 
-pub settled_says : {bytes seen : ℕ → ℕ} {unsynced : ℕ → Type 0} (v : View)
-    → Settled (journal_pages v.blocks) bytes seen unsynced → Says bytes v → Says seen v
-settled_says {bytes = bytes} {seen = seen} v settled says = says_same seen bytes v settled.same says
+pub settled_says : {bytes current : ℕ → ℕ} {unsynced : ℕ → Type 0} (v : View)
+    → Settled (journal_pages v.blocks) bytes current unsynced → Says bytes v → Says current v
+settled_says {bytes = bytes} {current = current} v settled says = says_same current bytes v settled.same says
 
-pub settled_reads : {j : ℕ} {bytes seen : ℕ → ℕ} {unsynced : ℕ → Type 0} (image : ℕ → ℕ) → Settled j bytes seen unsynced
-    → ((p : ℕ) → image p ≡ seen p) → ReadsAs j image bytes
+pub settled_reads : {j : ℕ} {bytes current : ℕ → ℕ} {unsynced : ℕ → Type 0} (image : ℕ → ℕ)
+    → Settled j bytes current unsynced
+    → ((p : ℕ) → image p ≡ current p) → ReadsAs j image bytes
 settled_reads image settled same =
     let shut : image 4096 ≡ 165 → ⊥ = λ ajar. settled.closed (sym (same 4096) ∙ ajar) in
     record {
@@ -90,8 +91,9 @@ settled_reads image settled same =
       same = λ p outside. shut_view image p shut ∙ same p ∙ settled.same p outside;
     }
 
-pub settled_on : {j : ℕ} {bytes seen seen' : ℕ → ℕ} {unsynced unsynced' : ℕ → Type 0} → Settled j bytes seen unsynced
-    → Still seen seen' unsynced' → Settled j bytes seen' unsynced'
+pub settled_on : {j : ℕ} {bytes current current' : ℕ → ℕ} {unsynced unsynced' : ℕ → Type 0}
+    → Settled j bytes current unsynced
+    → Still current current' unsynced' → Settled j bytes current' unsynced'
 settled_on settled still = record {
   is_synced = still.is_synced;
   closed = λ ajar. settled.closed (sym (still.reads 4096) ∙ ajar);
@@ -103,45 +105,46 @@ if_ok (Ok t) x = x
 if_ok (Err e) x = tt
 
 -- a read before it changes nothing of this
-pub keeps_image : {seen seen' image : ℕ → ℕ} {unsynced unsynced' : ℕ → Type 0} → Keeps seen seen' unsynced unsynced'
-    → IsImage seen' unsynced' image → IsImage seen unsynced image
+pub keeps_image : {current current' image : ℕ → ℕ} {unsynced unsynced' : ℕ → Type 0}
+    → Keeps current current' unsynced unsynced'
+    → IsImage current' unsynced' image → IsImage current unsynced image
 keeps_image keeps is = record { same = λ p is_synced. is.same p (λ l. is_synced (keeps.unsyncs p l)) ∙ keeps.same p }
 
 -- A READ AFTER A RECOVERY
 
 -- what was recovered says the view that was on the disk
-pub recovered_says : {was seen : ℕ → ℕ} {unsynced : ℕ → Type 0} (n : ℕ) (v : View) → n ≡ v.blocks
-    → Settled (journal_pages n) (overlaid was) seen unsynced → IsViewOf was v → Says seen v
-recovered_says {was = was} {seen = seen} {unsynced = unsynced} n v same settled is =
-    let J : ℕ → Type 0 = λ k. Settled (journal_pages k) (overlaid was) seen unsynced in
+pub recovered_says : {was current : ℕ → ℕ} {unsynced : ℕ → Type 0} (n : ℕ) (v : View) → n ≡ v.blocks
+    → Settled (journal_pages n) (overlaid was) current unsynced → IsViewOf was v → Says current v
+recovered_says {was = was} {current = current} {unsynced = unsynced} n v same settled is =
+    let J : ℕ → Type 0 = λ k. Settled (journal_pages k) (overlaid was) current unsynced in
     settled_says v (subst J same settled) is.says
 
 module _ {D : Type 0} (disk : Ghosts D) (old mid new : D) (n : ℕ) (honest : disk.honest mid)
-    (settled : Settled (journal_pages n) (overlaid (disk.seen old)) (disk.seen mid) (disk.unsynced mid))
+    (settled : Settled (journal_pages n) (overlaid (disk.current old)) (disk.current mid) (disk.unsynced mid))
     (reads : OnlyReads disk mid new) where
-  pub read_settled : Settled (journal_pages n) (overlaid (disk.seen old)) (disk.seen new) (disk.unsynced new)
+  pub read_settled : Settled (journal_pages n) (overlaid (disk.current old)) (disk.current new) (disk.unsynced new)
   read_settled = settled_on settled (reads.still honest _ (settled_still settled))
 
   pub read_lasts : (blocks : ℕ) → n ≡ blocks
-      → Lasts disk old mid (λ image. IsImage (disk.seen old) (disk.unsynced old) image
-      ⊎ ReadsAs (journal_pages blocks) image (overlaid (disk.seen old)))
-      → Lasts disk old new (λ image. IsImage (disk.seen old) (disk.unsynced old) image
-      ⊎ ReadsAs (journal_pages blocks) image (overlaid (disk.seen old)))
+      → Lasts disk old mid (λ image. IsImage (disk.current old) (disk.unsynced old) image
+      ⊎ ReadsAs (journal_pages blocks) image (overlaid (disk.current old)))
+      → Lasts disk old new (λ image. IsImage (disk.current old) (disk.unsynced old) image
+      ⊎ ReadsAs (journal_pages blocks) image (overlaid (disk.current old)))
   read_lasts blocks equal first =
       let J : ℕ → Type 0 =
-      λ k. Settled (journal_pages k) (overlaid (disk.seen old)) (disk.seen mid) (disk.unsynced mid) in
+      λ k. Settled (journal_pages k) (overlaid (disk.current old)) (disk.current mid) (disk.unsynced mid) in
       lasts_on first
       (lasts_more (reads.lasts honest _ (settled_still settled))
       (λ image same. inr (settled_reads image (subst J equal settled) same)))
 
-  pub read_unwritten : Keeps (disk.seen old) (disk.seen mid) (disk.unsynced old) (disk.unsynced mid)
-      → Lasts disk old mid (IsImage (disk.seen old) (disk.unsynced old))
-      → Lasts disk old new (IsImage (disk.seen old) (disk.unsynced old))
+  pub read_unwritten : Keeps (disk.current old) (disk.current mid) (disk.unsynced old) (disk.unsynced mid)
+      → Lasts disk old mid (IsImage (disk.current old) (disk.unsynced old))
+      → Lasts disk old new (IsImage (disk.current old) (disk.unsynced old))
   read_unwritten keeps first =
       lasts_on first
       (lasts_more (reads.lasts honest _ (settled_still settled))
       (λ image same. keeps_image keeps (still_as_image image same)))
 
-  pub read_same : Keeps (disk.seen old) (disk.seen mid) (disk.unsynced old) (disk.unsynced mid)
-      → Keeps (disk.seen old) (disk.seen new) (disk.unsynced old) (disk.unsynced new)
+  pub read_same : Keeps (disk.current old) (disk.current mid) (disk.unsynced old) (disk.unsynced mid)
+      → Keeps (disk.current old) (disk.current new) (disk.unsynced old) (disk.unsynced new)
   read_same keeps = keeps_on keeps (still_as (reads.still honest _ (settled_still settled)))

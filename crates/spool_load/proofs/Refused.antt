@@ -18,7 +18,7 @@ use Rattle.spool_kept.specs.declared.error.OpenFault.{OpenFault}
 use Rattle.spool_kept.specs.declared.error.OpenFault.TheVariants.{NotASpool, DiskFault, Damaged, Version, NoMemory}
 use Rattle.spool_kept.specs.Holding.{Holding}
 use Rattle.spool_kept.specs.Loads.{LoadsAs}
-use Rattle.spool_kept.specs.Shows.{IsSound}
+use Rattle.spool_kept.specs.Shows.{IsValid}
 use Rattle.spool_load.specs.Faults.{TellsNothing, load_fault}
 use Rattle.spool_load.specs.declared.error.LoadError.{LoadError}
 use Rattle.spool_load.specs.declared.error.LoadError.TheVariants as loads
@@ -38,21 +38,22 @@ number_one f at n m fits fits' a b =
     sym (from_be_bytes-to_be_bytes_4 n fits) ∙ ap (from_be_bytes w32) (sym (four_at f at n a) ∙ four_at f at m b)
     ∙ from_be_bytes-to_be_bytes_4 m fits'
 
-number_stands : (size : ℕ) (seen : ℕ → ℕ) (n : ℕ) → SaysBlocks size seen n → Stands seen 8 4 (to_be_bytes w32 n)
+number_stands : (size : ℕ) (current : ℕ → ℕ) (n : ℕ) → SaysBlocks size current n
+    → Stands current 8 4 (to_be_bytes w32 n)
 unfolding first_page
-number_stands size seen n says =
-    let whole : Stands seen 0 12 (magic ++ to_be_bytes w32 n) = record {
+number_stands size current n says =
+    let whole : Stands current 0 12 (magic ++ to_be_bytes w32 n) = record {
       each = λ i lt.
           let at : i ≡ 0 + i = omega arith in
-          subst (λ (p : ℕ). seen p ≡ get_or (magic ++ to_be_bytes w32 n) i 0) at (says.prefix i lt);
+          subst (λ (p : ℕ). current p ≡ get_or (magic ++ to_be_bytes w32 n) i 0) at (says.prefix i lt);
     } in
     stands_beyond magic (to_be_bytes w32 n) 8 4 refl (omega arith) whole
 
 -- a disk says one number of blocks
-pub says_one : (size : ℕ) (seen : ℕ → ℕ) (n m : ℕ) → SaysBlocks size seen n → SaysBlocks size seen m → n ≡ m
-says_one size seen n m a b =
-    number_one seen 8 n m (omega (arith, a.most)) (omega (arith, b.most)) (number_stands size seen n a)
-    (number_stands size seen m b)
+pub says_one : (size : ℕ) (current : ℕ → ℕ) (n m : ℕ) → SaysBlocks size current n → SaysBlocks size current m → n ≡ m
+says_one size current n m a b =
+    number_one current 8 n m (omega (arith, a.most)) (omega (arith, b.most)) (number_stands size current n a)
+    (number_stands size current m b)
 
 pub version_stands : (f : ℕ → ℕ) (at size : ℕ) (version : Known) (next : ℕ) → 4 ≤ size
     → Stands f at size (state_page version next) → SaysVersion f at version
@@ -110,28 +111,28 @@ state_read bytes n place buf None read long here same fields rest unknown = λ k
 
 -- AFTER A RECOVERY
 
-module _ (n : ℕ) (old seen : ℕ → ℕ) (unsynced : ℕ
-    → Type 0) (settled : Settled (journal_pages n) (overlaid old) seen unsynced)
+module _ (n : ℕ) (old current : ℕ → ℕ) (unsynced : ℕ
+    → Type 0) (settled : Settled (journal_pages n) (overlaid old) current unsynced)
     (journal : HasJournal n old) where
-  pub state_same : (i : ℕ) → seen (state_place n + i) ≡ overlaid old (state_place n + i)
+  pub state_same : (i : ℕ) → current (state_place n + i) ≡ overlaid old (state_place n + i)
   state_same i = let j = some_journal n in settled.same (state_place n + i) (inr (omega arith))
 
-  pub state_on : (size : ℕ) (xs : List ℕ) → Stands seen (state_place n) size xs
+  pub state_on : (size : ℕ) (xs : List ℕ) → Stands current (state_place n) size xs
       → Stands (overlaid old) (state_place n) size xs
   state_on size xs stands = record { each = λ i lt. sym (state_same i) ∙ stands.each i lt }
 
   pub state_back : (size : ℕ) (xs : List ℕ) → Stands (overlaid old) (state_place n) size xs
-      → Stands seen (state_place n) size xs
+      → Stands current (state_place n) size xs
   state_back size xs stands = record { each = λ i lt. state_same i ∙ stands.each i lt }
 
   -- a state page that says no version that is known is refused
-  pub unrestored : (said : Option Found) → MatchOption said (SaysKnownVersion seen (state_place n) → ⊥)
-      (StandsFound seen) → IfErr (ok_or said Version) (RefusedAt n old)
+  pub unrestored : (said : Option Found) → MatchOption said (SaysKnownVersion current (state_place n) → ⊥)
+      (StandsFound current) → IfErr (ok_or said Version) (RefusedAt n old)
   unrestored (Some found) told = tt
   unrestored None told =
       (journal, λ known. told (record { version = known.version; said = state_back 4 _ known.said }))
 
-  found_on : (size : ℕ) (found : Found) → found.layout ≡ n → SaysBlocks size old n → StandsFound seen found
+  found_on : (size : ℕ) (found : Found) → found.layout ≡ n → SaysBlocks size old n → StandsFound current found
       → FoundOn size old found
   found_on size found same says stands =
       let said = state_page found.version found.next in
@@ -140,23 +141,23 @@ module _ (n : ℕ) (old seen : ℕ → ℕ) (unsynced : ℕ
         says = subst (SaysBlocks size old) (sym same) says;
         journal = subst (λ (k : ℕ). HasJournal k old) (sym same) journal;
         state = record {
-          fields = subst (S (overlaid old) 12) (sym same) (state_on 12 said (subst (S seen 12) same stands.fields));
+          fields = subst (S (overlaid old) 12) (sym same) (state_on 12 said (subst (S current 12) same stands.fields));
           rest = (
             λ blank. subst (S (overlaid old) 4096) (sym same)
-                (state_on 4096 said (subst (S seen 4096) same (stands.rest.0 blank))),
-            λ there. stands.rest.1 (subst (S seen 4096) (sym same)
+                (state_on 4096 said (subst (S current 4096) same (stands.rest.0 blank))),
+            λ there. stands.rest.1 (subst (S current 4096) (sym same)
                 (state_back 4096 said (subst (S (overlaid old) 4096) same there))),
           );
         };
       }
 
   pub restored : (size : ℕ) (said : Option Found) → IfSome said (λ found. found.layout ≡ n) → SaysBlocks size old n
-      → MatchOption said (SaysKnownVersion seen (state_place n) → ⊥) (StandsFound seen)
+      → MatchOption said (SaysKnownVersion current (state_place n) → ⊥) (StandsFound current)
       → IfOk (ok_or said Version) (FoundOn size old)
   restored size (Some found) same says stands = found_on size found same says stands
   restored size None same says told = tt
 
-  pub says_on : (size size' : ℕ) → size' ≡ size → SaysBlocks size old n → SaysBlocks size' seen n
+  pub says_on : (size size' : ℕ) → size' ≡ size → SaysBlocks size old n → SaysBlocks size' current n
   says_on size size' same says = record {
     least = says.least;
     most = says.most;
@@ -166,33 +167,34 @@ module _ (n : ℕ) (old seen : ℕ → ℕ) (unsynced : ℕ
         settled.same i (inl inside) ∙ sym (prefix_plain (journal_pages n) old journal i inside) ∙ says.prefix i lt;
   }
 
-  pub opened_on : (size : ℕ) (kept : Holding) → SaysBlocks size old n → LoadedFrom seen n kept
+  pub opened_on : (size : ℕ) (kept : Holding) → SaysBlocks size old n → LoadedFrom current n kept
       → OpenedFrom size old kept
   opened_on size kept says loaded =
       let v = loaded.view in
       let J : ℕ → Type 0 = λ k. HasJournal k old in
-      let S : ℕ → Type 0 = λ k. Settled (journal_pages k) (overlaid old) seen unsynced in
-      let here : Settled (journal_pages v.blocks) (overlaid old) seen unsynced = subst S (sym loaded.blocks) settled in
+      let S : ℕ → Type 0 = λ k. Settled (journal_pages k) (overlaid old) current unsynced in
+      let here : Settled (journal_pages v.blocks) (overlaid old) current unsynced = subst S
+      (sym loaded.blocks) settled in
       record {
         view = v;
-        sound = loaded.sound;
+        valid = loaded.valid;
         is = record {
           form = subst J (sym loaded.blocks) journal;
-          says = says_same (overlaid old) seen v (λ p outside. sym (here.same p outside)) loaded.says;
+          says = says_same (overlaid old) current v (λ p outside. sym (here.same p outside)) loaded.says;
         };
         room = subst (λ (k : ℕ). 4096 * all_pages k ≤ size) (sym loaded.blocks) says.room;
         keeps = loaded.keeps;
       }
 
 -- and of what was found
-pub found_back : (size : ℕ) (found : Found) (old seen : ℕ → ℕ) (unsynced : ℕ → Type 0)
-    → Settled (journal_pages found.layout) (overlaid old) seen unsynced → FoundOn size old found
-    → StandsFound seen found
-found_back size found old seen unsynced settled is =
+pub found_back : (size : ℕ) (found : Found) (old current : ℕ → ℕ) (unsynced : ℕ → Type 0)
+    → Settled (journal_pages found.layout) (overlaid old) current unsynced → FoundOn size old found
+    → StandsFound current found
+found_back size found old current unsynced settled is =
     let n = found.layout in
     let said = state_page found.version found.next in
-    let back = λ (many : ℕ). state_back n old seen unsynced settled is.journal many said in
-    let on = λ (many : ℕ). state_on n old seen unsynced settled is.journal many said in
+    let back = λ (many : ℕ). state_back n old current unsynced settled is.journal many said in
+    let on = λ (many : ℕ). state_on n old current unsynced settled is.journal many said in
     record {
       fields = back 12 is.state.fields;
       rest = (λ blank. back 4096 (is.state.rest.0 blank), λ there. is.state.rest.1 (on 4096 there));
@@ -212,41 +214,43 @@ restored_view v n None blocks says same = absurd says
 
 -- THE REASON OF A REFUSAL
 
-pub found_reason : {T : Type 0} (size : ℕ) (seen : ℕ → ℕ) (n : ℕ) (r : Result T OpenFault) → SaysBlocks size seen n
-    → IfErr r (RefusedAt n seen) → IfErr r (NotFoundFor size seen)
-found_reason size seen n (Ok t) says refused = tt
-found_reason size seen n (Err NotASpool) says refused = absurd refused
-found_reason size seen n (Err Version) says refused =
+pub found_reason : {T : Type 0} (size : ℕ) (current : ℕ → ℕ) (n : ℕ) (r : Result T OpenFault)
+    → SaysBlocks size current n
+    → IfErr r (RefusedAt n current) → IfErr r (NotFoundFor size current)
+found_reason size current n (Ok t) says refused = tt
+found_reason size current n (Err NotASpool) says refused = absurd refused
+found_reason size current n (Err Version) says refused =
     record { blocks = n; says = says; journal = refused.0; other = refused.1 }
-found_reason size seen n (Err Damaged) says refused = record { blocks = n; says = says; bad = refused }
-found_reason size seen n (Err NoMemory) says refused = absurd refused
-found_reason size seen n (Err DiskFault) says refused = tt
+found_reason size current n (Err Damaged) says refused = record { blocks = n; says = says; bad = refused }
+found_reason size current n (Err NoMemory) says refused = absurd refused
+found_reason size current n (Err DiskFault) says refused = tt
 
 -- why it isn't found is why it isn't opened
-pub unfound_reason : (size : ℕ) (seen : ℕ → ℕ) (e : OpenFault) → NotFoundFor size seen e → RefusedFor size seen e
-unfound_reason size seen NotASpool why = why
-unfound_reason size seen Version why = why
-unfound_reason size seen Damaged why = record {
+pub unfound_reason : (size : ℕ) (current : ℕ → ℕ) (e : OpenFault) → NotFoundFor size current e
+    → RefusedFor size current e
+unfound_reason size current NotASpool why = why
+unfound_reason size current Version why = why
+unfound_reason size current Damaged why = record {
   blocks = why.blocks;
   says = why.says;
   version = λ form. absurd (why.bad form);
-  no_view = λ v sound is e. why.bad (subst (λ (k : ℕ). HasJournal k seen) e is.form);
+  no_view = λ v valid is e. why.bad (subst (λ (k : ℕ). HasJournal k current) e is.form);
 }
-unfound_reason size seen NoMemory why = absurd why
-unfound_reason size seen DiskFault why = tt
+unfound_reason size current NoMemory why = absurd why
+unfound_reason size current DiskFault why = tt
 
 -- and so is why what was found isn't read
-pub read_reason : (size : ℕ) (seen : ℕ → ℕ) (found : Found) (e : LoadError) → FoundOn size seen found
-    → ((v : View) → IsSound v → IsViewOf seen v → 4096 * all_pages v.blocks ≤ size → TellsNothing e)
-    → RefusedFor size seen (load_fault e)
-read_reason size seen found loads.DiskFault is said = tt
-read_reason size seen found (loads.Check checks.NoMemory) is said = tt
-read_reason size seen found (loads.Check checks.Damaged) is said = record {
+pub read_reason : (size : ℕ) (current : ℕ → ℕ) (found : Found) (e : LoadError) → FoundOn size current found
+    → ((v : View) → IsValid v → IsViewOf current v → 4096 * all_pages v.blocks ≤ size → TellsNothing e)
+    → RefusedFor size current (load_fault e)
+read_reason size current found loads.DiskFault is said = tt
+read_reason size current found (loads.Check checks.NoMemory) is said = tt
+read_reason size current found (loads.Check checks.Damaged) is said = record {
   blocks = found.layout;
   says = is.says;
-  version = λ form. known_stands (overlaid seen) (state_place found.layout) 12 found.version found.next (omega arith)
+  version = λ form. known_stands (overlaid current) (state_place found.layout) 12 found.version found.next (omega arith)
       is.state.fields;
-  no_view = λ v sound view e.
-      let nothing = said v sound view (subst (λ (k : ℕ). 4096 * all_pages k ≤ size) (sym e) is.says.room) in
+  no_view = λ v valid view e.
+      let nothing = said v valid view (subst (λ (k : ℕ). 4096 * all_pages k ≤ size) (sym e) is.says.room) in
       absurd (cc);
 }

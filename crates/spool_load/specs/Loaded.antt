@@ -1,9 +1,9 @@
--- What is kept of a spool is a sound view that its bytes say.
+-- What is kept of a spool is a valid view that its bytes say.
 use Rattle.std.specs.Prelude.{◌≡◌, ◌↔◌, ℕ, ◌*◌, ◌≤◌, IsTrue}
 use Rattle.spool_journal.specs.Image.{all_pages, overlaid}
 use Rattle.spool_kept.specs.Holding.{Holding}
 use Rattle.spool_kept.specs.Kept.{KeepsAlone}
-use Rattle.spool_kept.specs.Shows.{IsSound}
+use Rattle.spool_kept.specs.Shows.{IsValid}
 use Rattle.spool_pages.specs.View.{View, Stands, Says, IsViewOf, state_place, state_page}
 use Rattle.spool_pages.specs.declared.version.Version.{Version}
 use Rattle.spool_load.specs.Reads.{SaysBlocks}
@@ -17,10 +17,10 @@ pub record StandsFound (bytes : ℕ → ℕ) (found : Found) : Type 0 where
       (state_page found.version found.next)
 
 -- the disk begins as a spool of so many blocks does, its journal is in form, and the state page is read plainly
-pub record FoundOn (size : ℕ) (seen : ℕ → ℕ) (found : Found) : Type 0 where
-  pub says : SaysBlocks size seen found.layout
-  pub journal : HasJournal found.layout seen
-  pub state : StandsFound (overlaid seen) found
+pub record FoundOn (size : ℕ) (current : ℕ → ℕ) (found : Found) : Type 0 where
+  pub says : SaysBlocks size current found.layout
+  pub journal : HasJournal found.layout current
+  pub state : StandsFound (overlaid current) found
 
 -- this version and this next number were found, and zeros after them
 pub record SaysState (said : Version) (number : ℕ) (found : Found) : Type 0 where
@@ -36,15 +36,15 @@ pub record IsFoundOf (v : View) (found : Found) : Type 0 where
 -- the bytes say it, of so many blocks
 pub record LoadedFrom (bytes : ℕ → ℕ) (n : ℕ) (kept : Holding) : Type 0 where
   pub view : View
-  pub sound : IsSound view
+  pub valid : IsValid view
   pub blocks : view.blocks ≡ n
   pub says : Says bytes view
   pub keeps : KeepsAlone kept view
 
 -- a plain reading gives it, and the disk has room for its blocks
-pub record OpenedFrom (size : ℕ) (seen : ℕ → ℕ) (kept : Holding) : Type 0 where
+pub record OpenedFrom (size : ℕ) (current : ℕ → ℕ) (kept : Holding) : Type 0 where
   pub view : View
-  pub sound : IsSound view
-  pub is : IsViewOf seen view
+  pub valid : IsValid view
+  pub is : IsViewOf current view
   pub room : 4096 * all_pages view.blocks ≤ size
   pub keeps : KeepsAlone kept view

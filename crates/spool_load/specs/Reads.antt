@@ -17,23 +17,23 @@ pub record OnlyReads {D : Type 0} (disk : Ghosts D) (old new : D) : Type 0 where
   pub size : disk.size new ≡ disk.size old
   pub honest : disk.honest old → disk.honest new
   pub back : disk.honest new → disk.honest old
-  pub still : disk.honest old → (bytes : ℕ → ℕ) → Still bytes (disk.seen old) (disk.unsynced old)
-      → Still bytes (disk.seen new) (disk.unsynced new)
-  pub lasts : disk.honest old → (bytes : ℕ → ℕ) → Still bytes (disk.seen old) (disk.unsynced old)
+  pub still : disk.honest old → (bytes : ℕ → ℕ) → Still bytes (disk.current old) (disk.unsynced old)
+      → Still bytes (disk.current new) (disk.unsynced new)
+  pub lasts : disk.honest old → (bytes : ℕ → ℕ) → Still bytes (disk.current old) (disk.unsynced old)
       → Lasts disk old new (λ image. (p : ℕ) → image p ≡ bytes p)
 
 -- the disk begins as a spool of so many text blocks does, and has room for it
-pub record SaysBlocks (size : ℕ) (seen : ℕ → ℕ) (blocks : ℕ) : Type 0 where
+pub record SaysBlocks (size : ℕ) (current : ℕ → ℕ) (blocks : ℕ) : Type 0 where
   pub least : 16 ≤ blocks
   pub most : blocks ≤ 65536
   pub room : 4096 * all_pages blocks ≤ size
-  pub prefix : (i : ℕ) → i < 12 → seen i ≡ get_or (first_page blocks) i 0
+  pub prefix : (i : ℕ) → i < 12 → current i ≡ get_or (first_page blocks) i 0
 
 -- and after it the gate is open: a journal is to be replayed
-pub record NeedsReplay (size : ℕ) (seen : ℕ → ℕ) : Type 0 where
+pub record NeedsReplay (size : ℕ) (current : ℕ → ℕ) : Type 0 where
   pub blocks : ℕ
-  pub says : SaysBlocks size seen blocks
-  pub gate : seen 4096 ≡ 165
+  pub says : SaysBlocks size current blocks
+  pub gate : current 4096 ≡ 165
 
 -- the buffer holds the bytes from a place on
 pub record IsReadAt (bytes : ℕ → ℕ) (place : ℕ) (buf : List ℕ) : Type 0 where

@@ -1,18 +1,18 @@
 -- Why a disk is not opened: it is no spool, a spool of a version that isn't known, or a damaged one. No two of these
--- hold, and none of a disk of which a plain reading gives a sound view.
+-- hold, and none of a disk of which a plain reading gives a valid view.
 use Rattle.std.specs.Prelude.{◌≡◌, ℕ}
 use Rattle.std.specs.Int.{to_be_bytes, w32}
 use Rattle.spool_journal.specs.Image.{journal_pages, InForm, count, number, overlaid}
 use Rattle.spool_kept.specs.declared.error.OpenFault.{OpenFault}
 use Rattle.spool_kept.specs.declared.error.OpenFault.TheVariants.{NotASpool, DiskFault, Damaged, Version, NoMemory}
-use Rattle.spool_kept.specs.Shows.{IsSound}
+use Rattle.spool_kept.specs.Shows.{IsValid}
 use Rattle.spool_pages.specs.View.{View, Stands, IsViewOf, state_place, version_number}
 use Rattle.spool_pages.specs.declared.version.Version.{Version as Known}
 use Rattle.spool_load.specs.Reads.{SaysBlocks}
 
 -- where the gate is open, the journal's head is in form
 abbrev pub HasJournal : ℕ → (ℕ → ℕ) → Type 0
-HasJournal n seen = seen 4096 ≡ 165 → InForm (journal_pages n) (count seen) (number seen)
+HasJournal n current = current 4096 ≡ 165 → InForm (journal_pages n) (count current) (number current)
 
 -- from the place on the number of this version stands
 abbrev pub SaysVersion : (ℕ → ℕ) → ℕ → Known → Type 0
@@ -33,48 +33,48 @@ HasKnownVersion n bytes = SaysKnownVersion bytes (state_place n)
 
 -- the disk begins as no spool does, or is too short for what it says
 abbrev pub IsNoSpool : ℕ → (ℕ → ℕ) → Type 0
-IsNoSpool size seen = (n : ℕ) → SaysBlocks size seen n → ⊥
+IsNoSpool size current = (n : ℕ) → SaysBlocks size current n → ⊥
 
 -- a spool whose journal is in form, and whose state page, read plainly, says no version that is known
-pub record HasOtherVersion (size : ℕ) (seen : ℕ → ℕ) : Type 0 where
+pub record HasOtherVersion (size : ℕ) (current : ℕ → ℕ) : Type 0 where
   pub blocks : ℕ
-  pub says : SaysBlocks size seen blocks
-  pub journal : HasJournal blocks seen
-  pub other : HasKnownVersion blocks (overlaid seen) → ⊥
+  pub says : SaysBlocks size current blocks
+  pub journal : HasJournal blocks current
+  pub other : HasKnownVersion blocks (overlaid current) → ⊥
 
--- a spool of a known version unless its journal is out of form, of which a plain reading gives no sound view
-pub record IsDamaged (size : ℕ) (seen : ℕ → ℕ) : Type 0 where
+-- a spool of a known version unless its journal is out of form, of which a plain reading gives no valid view
+pub record IsDamaged (size : ℕ) (current : ℕ → ℕ) : Type 0 where
   pub blocks : ℕ
-  pub says : SaysBlocks size seen blocks
-  pub version : HasJournal blocks seen → HasKnownVersion blocks (overlaid seen)
-  pub no_view : (v : View) → IsSound v → IsViewOf seen v → v.blocks ≡ blocks → ⊥
+  pub says : SaysBlocks size current blocks
+  pub version : HasJournal blocks current → HasKnownVersion blocks (overlaid current)
+  pub no_view : (v : View) → IsValid v → IsViewOf current v → v.blocks ≡ blocks → ⊥
 
 -- a spool whose journal is out of form
-pub record HasBadJournal (size : ℕ) (seen : ℕ → ℕ) : Type 0 where
+pub record HasBadJournal (size : ℕ) (current : ℕ → ℕ) : Type 0 where
   pub blocks : ℕ
-  pub says : SaysBlocks size seen blocks
-  pub bad : HasJournal blocks seen → ⊥
+  pub says : SaysBlocks size current blocks
+  pub bad : HasJournal blocks current → ⊥
 
 -- what a refusal to find it says of a disk that begins as a spool of n blocks
 abbrev pub RefusedAt : ℕ → (ℕ → ℕ) → OpenFault → Type 0
-RefusedAt n seen NotASpool = ⊥
-RefusedAt n seen Version = HasJournal n seen × (HasKnownVersion n (overlaid seen) → ⊥)
-RefusedAt n seen Damaged = HasJournal n seen → ⊥
-RefusedAt n seen NoMemory = ⊥
-RefusedAt n seen DiskFault = Unit {0}
+RefusedAt n current NotASpool = ⊥
+RefusedAt n current Version = HasJournal n current × (HasKnownVersion n (overlaid current) → ⊥)
+RefusedAt n current Damaged = HasJournal n current → ⊥
+RefusedAt n current NoMemory = ⊥
+RefusedAt n current DiskFault = Unit {0}
 
 -- what a refusal to find a spool says of the disk
 abbrev pub NotFoundFor : ℕ → (ℕ → ℕ) → OpenFault → Type 0
-NotFoundFor size seen NotASpool = IsNoSpool size seen
-NotFoundFor size seen Version = HasOtherVersion size seen
-NotFoundFor size seen Damaged = HasBadJournal size seen
-NotFoundFor size seen NoMemory = ⊥
-NotFoundFor size seen DiskFault = Unit {0}
+NotFoundFor size current NotASpool = IsNoSpool size current
+NotFoundFor size current Version = HasOtherVersion size current
+NotFoundFor size current Damaged = HasBadJournal size current
+NotFoundFor size current NoMemory = ⊥
+NotFoundFor size current DiskFault = Unit {0}
 
 -- what a refusal says of the disk
 abbrev pub RefusedFor : ℕ → (ℕ → ℕ) → OpenFault → Type 0
-RefusedFor size seen NotASpool = IsNoSpool size seen
-RefusedFor size seen Version = HasOtherVersion size seen
-RefusedFor size seen Damaged = IsDamaged size seen
-RefusedFor size seen NoMemory = Unit {0}
-RefusedFor size seen DiskFault = Unit {0}
+RefusedFor size current NotASpool = IsNoSpool size current
+RefusedFor size current Version = HasOtherVersion size current
+RefusedFor size current Damaged = IsDamaged size current
+RefusedFor size current NoMemory = Unit {0}
+RefusedFor size current DiskFault = Unit {0}

@@ -28,7 +28,7 @@ fn fits_progress(progress: Progress, accepted: u64, declared: Option<u64>) -> bo
 }
 
 // Whether the state is that of a transcoder that may stand after so many bytes.
-fn is_state_sound(record: &Record) -> bool
+fn is_state_valid(record: &Record) -> bool
     ensures { IsTrue result ↔ HasState (said_of «record».now) }
 {
     match Transcoder::unpack(&record.state) {
@@ -40,23 +40,23 @@ fn is_state_sound(record: &Record) -> bool
 }
 
 // Whether a record's numbers and its state may be there.
-fn is_record_sound(record: &Record, next: u64) -> bool
+fn is_record_valid(record: &Record, next: u64) -> bool
     ensures { IsTrue result ↔ RecordPasses next (said_of «record».now) }
 {
     let longest = record.declared.unwrap_or(LENGTH_LIMIT);
     record.number < next
         && record.accepted <= longest
         && longest <= LENGTH_LIMIT
-        && is_state_sound(record)
+        && is_state_valid(record)
 }
 
 // Whether a slot is free, or its record is one that may be there.
-fn is_sound_at(slots: &[Option<KeptRecord>], slot: usize, next: u64) -> bool
+fn is_valid_at(slots: &[Option<KeptRecord>], slot: usize, next: u64) -> bool
     requires { slot < length slots.now }
     ensures { IsTrue result ↔ ((r : SlotRecord) → get_or slots.now slot None ≡ Some r → RecordPasses next r) }
 {
     match record_at(slots, slot) {
-        Some(kept) => is_record_sound(kept.record(), next),
+        Some(kept) => is_record_valid(kept.record(), next),
         None => true,
     }
 }
@@ -64,14 +64,14 @@ fn is_sound_at(slots: &[Option<KeptRecord>], slot: usize, next: u64) -> bool
 /// Whether the next number and all records may be there: numbers are below the next number, which is 1 to 10^18, the
 /// accepted bytes are no more than the declared length, which is at most 1,073,741,824, and no more than this where the
 /// length is unknown, and the state is that of a transcoder that has come so far.
-pub(crate) fn are_sound(slots: &[Option<KeptRecord>], next: u64) -> bool
+pub(crate) fn are_valid(slots: &[Option<KeptRecord>], next: u64) -> bool
     ensures { IsTrue result ↔ RecordsPass next slots.now }
 {
     if next < 1 || next > NUMBERS_END {
         return false;
     }
     for slot in 0..slots.len() {
-        if !is_sound_at(slots, slot, next) {
+        if !is_valid_at(slots, slot, next) {
             return false;
         }
     }
@@ -79,8 +79,8 @@ pub(crate) fn are_sound(slots: &[Option<KeptRecord>], next: u64) -> bool
 }
 
 // Whether a row's slot is in use, and its ordinal below the number of blocks of the text.
-fn is_row_sound(slots: &[Option<KeptRecord>], row: Row) -> bool
-    ensures sound { IsTrue result
+fn is_row_valid(slots: &[Option<KeptRecord>], row: Row) -> bool
+    ensures valid { IsTrue result
         ↔ ((slot ordinal : ℕ) → row ≡ Some (slot, ordinal) → RowPasses slots.now slot ordinal) }
     ensures slot { result ≡ true → (slot ordinal : ℕ) → row ≡ Some (slot, ordinal) → slot < length slots.now }
     ensures fits { result ≡ true → length slots.now ≡ 512 → FitsRow row }
@@ -95,14 +95,14 @@ fn is_row_sound(slots: &[Option<KeptRecord>], row: Row) -> bool
 }
 
 /// Whether each row's slot is in use, and its ordinal below the number of blocks of the text.
-pub(crate) fn are_rows_sound(slots: &[Option<KeptRecord>], rows: &[Row]) -> bool
+pub(crate) fn are_rows_valid(slots: &[Option<KeptRecord>], rows: &[Row]) -> bool
     requires { length slots.now ≡ 512 }
-    ensures sound { IsTrue result ↔ RowsPass slots.now rows.now }
+    ensures valid { IsTrue result ↔ RowsPass slots.now rows.now }
     ensures slots { result ≡ true → (b slot ordinal : ℕ) → Owns rows.now b slot ordinal → slot < 512 }
     ensures fits { result ≡ true → (b : ℕ) → FitsRow (get_or rows.now b None) }
 {
     for i in 0..rows.len() {
-        if !is_row_sound(slots, rows[i]) {
+        if !is_row_valid(slots, rows[i]) {
             return false;
         }
     }

@@ -6,7 +6,7 @@ ghost use Rattle.spool_disk.specs.Views.{Lasts};
 ghost use Rattle.spool_journal.specs.Image.{journal_pages, all_pages, byte_of, overlaid};
 ghost use Rattle.spool_journal.specs.Phases.{Settled, ReadsAs, Still};
 ghost use Rattle.spool_kept.specs.Loads.{LoadsAs};
-ghost use Rattle.spool_kept.specs.Shows.{IsSound};
+ghost use Rattle.spool_kept.specs.Shows.{IsValid};
 ghost use Rattle.spool_load.specs.Loaded.{FoundOn, IsFoundOf, SaysState, StandsFound};
 ghost use Rattle.spool_load.specs.Reads.{NeedsReplay, OnlyReads, SaysBlocks};
 ghost use Rattle.spool_load.specs.Refusals.{IsNoSpool, NotFoundFor, RefusedAt, SaysKnownVersion};
@@ -40,11 +40,11 @@ fn read_prefix<D: Disk>(disk: &mut D) -> Result<[u8; 12], DiskFault>
     ensures honest { D.honest disk.old ↔ D.honest disk.new }
     ensures counts { Counts (IsErr result) (D.failures disk.old) (D.failures disk.new) }
     ensures keeps { D.honest disk.old
-        → Keeps (D.seen disk.old) (D.seen disk.new) (D.unsynced disk.old) (D.unsynced disk.new) }
+        → Keeps (D.current disk.old) (D.current disk.new) (D.unsynced disk.old) (D.unsynced disk.new) }
     ensures lasts { D.honest disk.old → Lasts D.Disk disk.old disk.new
-        (IsImage (D.seen disk.old) (D.unsynced disk.old)) }
+        (IsImage (D.current disk.old) (D.unsynced disk.old)) }
     ensures bytes { D.honest disk.old → IfOk result (λ prefix. (i : ℕ) → i < 12
-        → get_or prefix i 0 ≡ D.seen disk.old i) }
+        → get_or prefix i 0 ≡ D.current disk.old i) }
 {
     let mut prefix = [0; 12];
     disk.read(0, &mut prefix)?;
@@ -57,12 +57,12 @@ fn find_layout<D: Disk>(disk: &mut D) -> Result<Option<Layout>, DiskFault>
     ensures honest { D.honest disk.old ↔ D.honest disk.new }
     ensures counts { Counts (IsErr result) (D.failures disk.old) (D.failures disk.new) }
     ensures keeps { D.honest disk.old
-        → Keeps (D.seen disk.old) (D.seen disk.new) (D.unsynced disk.old) (D.unsynced disk.new) }
+        → Keeps (D.current disk.old) (D.current disk.new) (D.unsynced disk.old) (D.unsynced disk.new) }
     ensures lasts { D.honest disk.old → Lasts D.Disk disk.old disk.new
-        (IsImage (D.seen disk.old) (D.unsynced disk.old)) }
+        (IsImage (D.current disk.old) (D.unsynced disk.old)) }
     ensures room { IfOk result (λ found. IfSome found (λ layout. 4096 * all_pages layout ≤ D.size disk.old)) }
     ensures found { D.honest disk.old → IfOk result (λ found. MatchOption found
-        (IsNoSpool (D.size disk.old) (D.seen disk.old)) (SaysBlocks (D.size disk.old) (D.seen disk.old))) }
+        (IsNoSpool (D.size disk.old) (D.current disk.old)) (SaysBlocks (D.size disk.old) (D.current disk.old))) }
 {
     if disk.len() < 12 {
         return Ok(None);
@@ -105,11 +105,11 @@ fn load_state<D: Disk>(disk: &mut D, layout: Layout) -> Result<Option<Found>, Di
     ensures reads { OnlyReads D.Disk disk.old disk.new }
     ensures counts { Counts (IsErr result) (D.failures disk.old) (D.failures disk.new) }
     ensures layout { IfOk result (λ said. IfSome said (λ found. found.layout ≡ layout)) }
-    ensures said { D.honest disk.old → (bytes : ℕ → ℕ) → Still bytes (D.seen disk.old) (D.unsynced disk.old)
+    ensures said { D.honest disk.old → (bytes : ℕ → ℕ) → Still bytes (D.current disk.old) (D.unsynced disk.old)
         → (version : Known) (next : ℕ) → next < 2 ^ 64
         → Stands bytes (state_place layout) 4096 (state_page version next)
         → IfOk result (λ said. IsSomeAnd said (SaysState version next)) }
-    ensures found { D.honest disk.old → (bytes : ℕ → ℕ) → Still bytes (D.seen disk.old) (D.unsynced disk.old)
+    ensures found { D.honest disk.old → (bytes : ℕ → ℕ) → Still bytes (D.current disk.old) (D.unsynced disk.old)
         → IfOk result (λ said. MatchOption said (SaysKnownVersion bytes (state_place layout) → ⊥) (StandsFound bytes)) }
 {
     let mut page = [0; PAGE];
@@ -124,20 +124,21 @@ fn restore<D: Disk>(disk: &mut D, layout: Layout) -> Result<Found, OpenFault>
     ensures honest { D.honest disk.old ↔ D.honest disk.new }
     ensures counts { Counts (result ≡ Err OpenFault.DiskFault) (D.failures disk.old) (D.failures disk.new) }
     ensures layout { IfOk result (λ found. found.layout ≡ layout) }
-    ensures said { D.honest disk.old → (v : View) → IsSound v → v.blocks ≡ layout → IsViewOf (D.seen disk.old) v
+    ensures said { D.honest disk.old → (v : View) → IsValid v → v.blocks ≡ layout → IsViewOf (D.current disk.old) v
         → LoadsAs result (IsFoundOf v) }
-    ensures found { D.honest disk.old → SaysBlocks (D.size disk.old) (D.seen disk.old) layout
-        → IfOk result (FoundOn (D.size disk.old) (D.seen disk.old)) }
-    ensures refused { D.honest disk.old → IfErr result (RefusedAt layout (D.seen disk.old)) }
+    ensures found { D.honest disk.old → SaysBlocks (D.size disk.old) (D.current disk.old) layout
+        → IfOk result (FoundOn (D.size disk.old) (D.current disk.old)) }
+    ensures refused { D.honest disk.old → IfErr result (RefusedAt layout (D.current disk.old)) }
     ensures settled { D.honest disk.old → IfOk result
-        (λ found. Settled (journal_pages layout) (overlaid (D.seen disk.old)) (D.seen disk.new) (D.unsynced disk.new)) }
+        (λ found. Settled (journal_pages layout) (overlaid (D.current disk.old)) (D.current disk.new)
+        (D.unsynced disk.new)) }
     ensures lasts { D.honest disk.old → Lasts D.Disk disk.old disk.new (λ image.
-        IsImage (D.seen disk.old) (D.unsynced disk.old) image
-        ⊎ ReadsAs (journal_pages layout) image (overlaid (D.seen disk.old))) }
-    ensures unwritten { D.honest disk.old → (D.seen disk.old 4096 ≡ 165 → ⊥)
-        → Lasts D.Disk disk.old disk.new (IsImage (D.seen disk.old) (D.unsynced disk.old)) }
-    ensures same { D.honest disk.old → (D.seen disk.old 4096 ≡ 165 → ⊥) → (result ≡ Err OpenFault.DiskFault → ⊥)
-        → Keeps (D.seen disk.old) (D.seen disk.new) (D.unsynced disk.old) (D.unsynced disk.new) }
+        IsImage (D.current disk.old) (D.unsynced disk.old) image
+        ⊎ ReadsAs (journal_pages layout) image (overlaid (D.current disk.old))) }
+    ensures unwritten { D.honest disk.old → (D.current disk.old 4096 ≡ 165 → ⊥)
+        → Lasts D.Disk disk.old disk.new (IsImage (D.current disk.old) (D.unsynced disk.old)) }
+    ensures same { D.honest disk.old → (D.current disk.old 4096 ≡ 165 → ⊥) → (result ≡ Err OpenFault.DiskFault → ⊥)
+        → Keeps (D.current disk.old) (D.current disk.new) (D.unsynced disk.old) (D.unsynced disk.new) }
 {
     recover(disk, &layout)?;
     load_state(disk, layout)?.ok_or(OpenFault::Version)
@@ -156,30 +157,31 @@ pub fn find<D: Disk>(disk: &mut D) -> Result<Found, OpenFault>
     ensures room { IfOk result (λ found. 4096 * all_pages found.layout ≤ D.size disk.old) }
 
     // What a read shows is found, or the disk refuses it.
-    ensures said { D.honest disk.old → (v : View) → IsSound v → IsViewOf (D.seen disk.old) v
+    ensures said { D.honest disk.old → (v : View) → IsValid v → IsViewOf (D.current disk.old) v
         → 4096 * all_pages v.blocks ≤ D.size disk.old → LoadsAs result (IsFoundOf v) }
 
     // What is found is what a read shows, and each refusal has its reason.
-    ensures found { D.honest disk.old → IfOk result (FoundOn (D.size disk.old) (D.seen disk.old)) }
-    ensures refused { D.honest disk.old → IfErr result (NotFoundFor (D.size disk.old) (D.seen disk.old)) }
+    ensures found { D.honest disk.old → IfOk result (FoundOn (D.size disk.old) (D.current disk.old)) }
+    ensures refused { D.honest disk.old → IfErr result (NotFoundFor (D.size disk.old) (D.current disk.old)) }
 
     // And it stands on the disk, all of it synced, behind a closed gate.
     ensures settled { D.honest disk.old → IfOk result (λ found.
-        Settled (journal_pages found.layout) (overlaid (D.seen disk.old)) (D.seen disk.new) (D.unsynced disk.new)) }
+        Settled (journal_pages found.layout) (overlaid (D.current disk.old)) (D.current disk.new)
+        (D.unsynced disk.new)) }
 
     // A crash during it leaves what it might have left before, or what reads the same.
-    ensures lasts { D.honest disk.old → (v : View) → IsSound v → IsViewOf (D.seen disk.old) v
+    ensures lasts { D.honest disk.old → (v : View) → IsValid v → IsViewOf (D.current disk.old) v
         → 4096 * all_pages v.blocks ≤ D.size disk.old → Lasts D.Disk disk.old disk.new (λ image.
-        IsImage (D.seen disk.old) (D.unsynced disk.old) image
-        ⊎ ReadsAs (journal_pages v.blocks) image (overlaid (D.seen disk.old))) }
+        IsImage (D.current disk.old) (D.unsynced disk.old) image
+        ⊎ ReadsAs (journal_pages v.blocks) image (overlaid (D.current disk.old))) }
 
     // Where no journal is to be replayed it writes nothing: every image is one from before, and so is what a read
     // gives.
-    ensures unwritten { D.honest disk.old → (NeedsReplay (D.size disk.old) (D.seen disk.old) → ⊥)
-        → Lasts D.Disk disk.old disk.new (IsImage (D.seen disk.old) (D.unsynced disk.old)) }
-    ensures same { D.honest disk.old → (NeedsReplay (D.size disk.old) (D.seen disk.old) → ⊥)
+    ensures unwritten { D.honest disk.old → (NeedsReplay (D.size disk.old) (D.current disk.old) → ⊥)
+        → Lasts D.Disk disk.old disk.new (IsImage (D.current disk.old) (D.unsynced disk.old)) }
+    ensures same { D.honest disk.old → (NeedsReplay (D.size disk.old) (D.current disk.old) → ⊥)
         → (result ≡ Err OpenFault.DiskFault → ⊥)
-        → Keeps (D.seen disk.old) (D.seen disk.new) (D.unsynced disk.old) (D.unsynced disk.new) }
+        → Keeps (D.current disk.old) (D.current disk.new) (D.unsynced disk.old) (D.unsynced disk.new) }
 {
     match find_layout(disk)? {
         Some(layout) => restore(disk, layout),

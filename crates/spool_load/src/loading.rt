@@ -9,11 +9,11 @@ ghost use Rattle.spool_load.specs.Faults.{Loads};
 ghost use Rattle.spool_load.specs.Loaded.{IsFoundOf, LoadedFrom, StandsFound};
 ghost use Rattle.spool_load.specs.Reads.{OnlyReads, SaysBlocks, StandFields, StandRows};
 ghost use Rattle.spool_kept.specs.Kept.{KeepsAlone};
-ghost use Rattle.spool_kept.specs.Shows.{IsSound};
+ghost use Rattle.spool_kept.specs.Shows.{IsValid};
 ghost use Rattle.spool_pages.specs.Fits.{FitsRow};
 ghost use Rattle.spool_pages.specs.View.{View, Says, first_page};
 
-use crate::checks::{are_rows_sound, are_sound};
+use crate::checks::{are_rows_valid, are_valid};
 use crate::owners::load_rows;
 use crate::reading::{check_prefix, load_indexes};
 use crate::slots::load_slots;
@@ -31,10 +31,10 @@ fn load_fields<D: Disk>(alloc: Global, disk: &mut D, layout: &Layout) -> Result<
     requires { 4096 * all_pages layout.now ≤ D.size disk.old }
     ensures reads { OnlyReads D.Disk disk.old disk.new }
     ensures counts { Counts (IsErrOf result LoadError.DiskFault) (D.failures disk.old) (D.failures disk.new) }
-    ensures said { D.honest disk.old → (bytes : ℕ → ℕ) → Still bytes (D.seen disk.old) (D.unsynced disk.old)
-        → (v : View) → IsSound v → v.blocks ≡ layout.now → Says bytes v
+    ensures said { D.honest disk.old → (bytes : ℕ → ℕ) → Still bytes (D.current disk.old) (D.unsynced disk.old)
+        → (v : View) → IsValid v → v.blocks ≡ layout.now → Says bytes v
         → Loads result (λ indexes. indexes ≡ v.indexes) }
-    ensures sound { D.honest disk.old → (bytes : ℕ → ℕ) → Still bytes (D.seen disk.old) (D.unsynced disk.old)
+    ensures valid { D.honest disk.old → (bytes : ℕ → ℕ) → Still bytes (D.current disk.old) (D.unsynced disk.old)
         → ((i : ℕ) → i < 12 → bytes i ≡ get_or (first_page layout.now) i 0)
         → IfOk result (StandFields bytes layout.now) }
 {
@@ -55,16 +55,16 @@ fn load_blocks<D: Disk>(
     ensures fits { IfOk result (λ blocks. (b : ℕ) → FitsRow (get_or blocks.rows b None)) }
     ensures reads { OnlyReads D.Disk disk.old disk.new }
     ensures counts { Counts (IsErrOf result LoadError.DiskFault) (D.failures disk.old) (D.failures disk.new) }
-    ensures said { D.honest disk.old → (bytes : ℕ → ℕ) → Still bytes (D.seen disk.old) (D.unsynced disk.old)
-        → (v : View) → IsSound v → v.blocks ≡ layout.now → Says bytes v → slots.now ≡ v.slots
+    ensures said { D.honest disk.old → (bytes : ℕ → ℕ) → Still bytes (D.current disk.old) (D.unsynced disk.old)
+        → (v : View) → IsValid v → v.blocks ≡ layout.now → Says bytes v → slots.now ≡ v.slots
         → Loads result (λ blocks. (blocks.rows ≡ v.rows) × (blocks.reserved ≡ replicate v.blocks false)) }
-    ensures sound { D.honest disk.old → (bytes : ℕ → ℕ) → Still bytes (D.seen disk.old) (D.unsynced disk.old)
+    ensures valid { D.honest disk.old → (bytes : ℕ → ℕ) → Still bytes (D.current disk.old) (D.unsynced disk.old)
         → IfOk result (λ blocks. StandRows bytes layout.now (512 * (journal_pages layout.now - 257)) blocks.rows) }
     ensures owners { IfOk result (λ blocks. RowsPass slots.now blocks.rows) }
     ensures reserved { IfOk result (λ blocks. blocks.reserved ≡ replicate layout.now false) }
 {
     let rows = load_rows(alloc, disk, layout)?;
-    if !are_rows_sound(slots, &rows) {
+    if !are_rows_valid(slots, &rows) {
         return Err(LoadError::from(Damaged));
     }
     let _few = layout.blocks();
@@ -85,12 +85,12 @@ pub fn read<D: Disk>(alloc: Global, disk: &mut D, found: Found) -> Result<Kept, 
     ensures layout { IfOk result (λ kept. kept.layout ≡ found.layout) }
     ensures version { IfOk result (λ kept. kept.version ≡ found.version) }
 
-    // A sound spool is read, or memory or the disk refuses it.
-    ensures said { D.honest disk.old → (bytes : ℕ → ℕ) → Still bytes (D.seen disk.old) (D.unsynced disk.old)
-        → (v : View) → IsSound v → IsFoundOf v found → Says bytes v → Loads result (λ kept. KeepsAlone kept v) }
+    // A valid spool is read, or memory or the disk refuses it.
+    ensures said { D.honest disk.old → (bytes : ℕ → ℕ) → Still bytes (D.current disk.old) (D.unsynced disk.old)
+        → (v : View) → IsValid v → IsFoundOf v found → Says bytes v → Loads result (λ kept. KeepsAlone kept v) }
 
-    // What is read is sound, and stands there.
-    ensures sound { D.honest disk.old → (bytes : ℕ → ℕ) → Still bytes (D.seen disk.old) (D.unsynced disk.old)
+    // What is read is valid, and stands there.
+    ensures valid { D.honest disk.old → (bytes : ℕ → ℕ) → Still bytes (D.current disk.old) (D.unsynced disk.old)
         → SaysBlocks (D.size disk.old) bytes found.layout
         → StandsFound bytes found
         → IfOk result (LoadedFrom bytes found.layout) }
@@ -100,7 +100,7 @@ pub fn read<D: Disk>(alloc: Global, disk: &mut D, found: Found) -> Result<Kept, 
     }
     let indexes = load_fields(alloc, disk, &found.layout)?;
     let slots = load_slots(alloc, disk, &found.layout, found.version)?;
-    if !are_sound(&slots, found.next) {
+    if !are_valid(&slots, found.next) {
         return Err(LoadError::from(Damaged));
     }
     let blocks = load_blocks(alloc, disk, &found.layout, &slots)?;

@@ -40,7 +40,7 @@ fn fill(rows: &mut [Row], page: &[u8; PAGE], first: usize) -> Result<(), Damaged
         → ((b : ℕ) → FitsRow (get_or all b None))
         → ((k : ℕ) → k < 512 → Stands (byte_of page.now) (8 * k) 8 (row_bytes (get_or all (first + k) None)))
         → IsSameTo first all rows.old → IsOkAnd result (λ done. IsSameTo (first + 512) all rows.new) }
-    ensures sound { OnOk result
+    ensures valid { OnOk result
         ((k : ℕ) → k < 512 → Stands (byte_of page.now) (8 * k) 8 (row_bytes (get_or rows.new (first + k) None))) }
     ensures before { (b : ℕ) → b < first → get_or rows.new b None ≡ get_or rows.old b None }
 {
@@ -62,12 +62,12 @@ fn load_page<D: Disk>(
     requires few { page < 128 }
     ensures reads { OnlyReads D.Disk disk.old disk.new }
     ensures counts { Counts (IsErrOf result LoadError.DiskFault) (D.failures disk.old) (D.failures disk.new) }
-    ensures said { D.honest disk.old → (bytes : ℕ → ℕ) → Still bytes (D.seen disk.old) (D.unsynced disk.old)
+    ensures said { D.honest disk.old → (bytes : ℕ → ℕ) → Still bytes (D.current disk.old) (D.unsynced disk.old)
         → (all : List (Option (ℕ × ℕ))) → length all ≡ length rows.old → ((b : ℕ) → FitsRow (get_or all b None))
         → ((b : ℕ) → b < 512 * (journal_pages layout.now - 257)
         → Stands bytes (row_place layout.now b) 8 (row_bytes (get_or all b None)))
         → IsSameTo (512 * page) all rows.old → Loads result (λ done. IsSameTo (512 * (page + 1)) all rows.new) }
-    ensures sound { D.honest disk.old → (bytes : ℕ → ℕ) → Still bytes (D.seen disk.old) (D.unsynced disk.old)
+    ensures valid { D.honest disk.old → (bytes : ℕ → ℕ) → Still bytes (D.current disk.old) (D.unsynced disk.old)
         → StandRows bytes layout.now (512 * page) rows.old
         → OnOk result (StandRows bytes layout.now (512 * (page + 1)) rows.new) }
 {
@@ -82,12 +82,12 @@ fn load_pages<D: Disk>(disk: &mut D, layout: &Layout, rows: &mut [Row]) -> Resul
     requires room { 4096 * all_pages layout.now ≤ D.size disk.old }
     ensures reads { OnlyReads D.Disk disk.old disk.new }
     ensures counts { Counts (IsErrOf result LoadError.DiskFault) (D.failures disk.old) (D.failures disk.new) }
-    ensures said { D.honest disk.old → (bytes : ℕ → ℕ) → Still bytes (D.seen disk.old) (D.unsynced disk.old)
+    ensures said { D.honest disk.old → (bytes : ℕ → ℕ) → Still bytes (D.current disk.old) (D.unsynced disk.old)
         → (all : List (Option (ℕ × ℕ))) → length all ≡ length rows.old → ((b : ℕ) → FitsRow (get_or all b None))
         → ((b : ℕ) → b < 512 * (journal_pages layout.now - 257)
         → Stands bytes (row_place layout.now b) 8 (row_bytes (get_or all b None)))
         → Loads result (λ done. IsSameTo (512 * (journal_pages layout.now - 257)) all rows.new) }
-    ensures sound { D.honest disk.old → (bytes : ℕ → ℕ) → Still bytes (D.seen disk.old) (D.unsynced disk.old)
+    ensures valid { D.honest disk.old → (bytes : ℕ → ℕ) → Still bytes (D.current disk.old) (D.unsynced disk.old)
         → OnOk result (StandRows bytes layout.now (512 * (journal_pages layout.now - 257)) rows.new) }
 {
     for page in 0..row_pages(layout) {
@@ -106,12 +106,12 @@ pub(crate) fn load_rows<D: Disk>(
     ensures reads { OnlyReads D.Disk disk.old disk.new }
     ensures counts { Counts (IsErrOf result LoadError.DiskFault) (D.failures disk.old) (D.failures disk.new) }
     ensures long { IfOk result (λ rows. length rows.items ≡ layout.now) }
-    ensures said { D.honest disk.old → (bytes : ℕ → ℕ) → Still bytes (D.seen disk.old) (D.unsynced disk.old)
+    ensures said { D.honest disk.old → (bytes : ℕ → ℕ) → Still bytes (D.current disk.old) (D.unsynced disk.old)
         → (all : List (Option (ℕ × ℕ))) → length all ≡ layout.now → ((b : ℕ) → FitsRow (get_or all b None))
         → ((b : ℕ) → b < 512 * (journal_pages layout.now - 257)
         → Stands bytes (row_place layout.now b) 8 (row_bytes (get_or all b None)))
         → Loads result (λ rows. rows.items ≡ all) }
-    ensures sound { D.honest disk.old → (bytes : ℕ → ℕ) → Still bytes (D.seen disk.old) (D.unsynced disk.old)
+    ensures valid { D.honest disk.old → (bytes : ℕ → ℕ) → Still bytes (D.current disk.old) (D.unsynced disk.old)
         → IfOk result (λ rows. StandRows bytes layout.now (512 * (journal_pages layout.now - 257)) rows.items) }
 {
     let mut rows = vec![in alloc; None; layout.blocks() as usize]?;

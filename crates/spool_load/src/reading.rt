@@ -24,7 +24,7 @@ pub(crate) fn read_at<D: Disk>(disk: &mut D, place: u64, buf: &mut [u8]) -> Resu
     requires { place + length buf.old ≤ D.size disk.old }
     ensures reads { OnlyReads D.Disk disk.old disk.new }
     ensures counts { Counts (IsErr result) (D.failures disk.old) (D.failures disk.new) }
-    ensures bytes { D.honest disk.old → (bytes : ℕ → ℕ) → Still bytes (D.seen disk.old) (D.unsynced disk.old)
+    ensures bytes { D.honest disk.old → (bytes : ℕ → ℕ) → Still bytes (D.current disk.old) (D.unsynced disk.old)
         → OnOk result (IsReadAt bytes place buf.new) }
 {
     disk.read(place, buf)
@@ -35,9 +35,9 @@ pub(crate) fn check_prefix<D: Disk>(disk: &mut D, layout: &Layout) -> Result<(),
     requires { 4096 * all_pages layout.now ≤ D.size disk.old }
     ensures reads { OnlyReads D.Disk disk.old disk.new }
     ensures counts { Counts (IsErrOf result LoadError.DiskFault) (D.failures disk.old) (D.failures disk.new) }
-    ensures said { D.honest disk.old → (bytes : ℕ → ℕ) → Still bytes (D.seen disk.old) (D.unsynced disk.old)
+    ensures said { D.honest disk.old → (bytes : ℕ → ℕ) → Still bytes (D.current disk.old) (D.unsynced disk.old)
         → (n : ℕ) → Stands bytes 0 4096 (first_page n) → Loads result (λ done. Unit {0}) }
-    ensures sound { D.honest disk.old → (bytes : ℕ → ℕ) → Still bytes (D.seen disk.old) (D.unsynced disk.old)
+    ensures valid { D.honest disk.old → (bytes : ℕ → ℕ) → Still bytes (D.current disk.old) (D.unsynced disk.old)
         → (n : ℕ) → ((i : ℕ) → i < 12 → bytes i ≡ get_or (first_page n) i 0)
         → OnOk result (Stands bytes 0 4096 (first_page n)) }
 {
@@ -62,7 +62,7 @@ fn push_area_page<D: Disk>(
     ensures reads { OnlyReads D.Disk disk.old disk.new }
     ensures counts { Counts (IsErrOf result LoadError.DiskFault) (D.failures disk.old) (D.failures disk.new) }
     ensures others { Loads result (λ done. length area.new.items ≡ length area.old.items + 4096) }
-    ensures pushed { D.honest disk.old → (bytes : ℕ → ℕ) → Still bytes (D.seen disk.old) (D.unsynced disk.old)
+    ensures pushed { D.honest disk.old → (bytes : ℕ → ℕ) → Still bytes (D.current disk.old) (D.unsynced disk.old)
         → IsReadAt bytes (index_place layout.now) area.old.items → length area.old.items ≡ 4096 * page
         → OnOk result (IsReadAt bytes (index_place layout.now) area.new.items) }
 {
@@ -78,7 +78,7 @@ fn load_area<D: Disk>(alloc: Global, disk: &mut D, layout: &Layout) -> Result<Ve
     ensures reads { OnlyReads D.Disk disk.old disk.new }
     ensures counts { Counts (IsErrOf result LoadError.DiskFault) (D.failures disk.old) (D.failures disk.new) }
     ensures long { Loads result (λ area. length area.items ≡ 90112) }
-    ensures read { D.honest disk.old → (bytes : ℕ → ℕ) → Still bytes (D.seen disk.old) (D.unsynced disk.old)
+    ensures read { D.honest disk.old → (bytes : ℕ → ℕ) → Still bytes (D.current disk.old) (D.unsynced disk.old)
         → IfOk result (λ area. IsReadAt bytes (index_place layout.now) area.items) }
 {
     let mut area = Vec::new(alloc);
@@ -97,11 +97,11 @@ pub(crate) fn load_indexes<D: Disk>(
     requires { 4096 * all_pages layout.now ≤ D.size disk.old }
     ensures reads { OnlyReads D.Disk disk.old disk.new }
     ensures counts { Counts (IsErrOf result LoadError.DiskFault) (D.failures disk.old) (D.failures disk.new) }
-    ensures said { D.honest disk.old → (bytes : ℕ → ℕ) → Still bytes (D.seen disk.old) (D.unsynced disk.old)
+    ensures said { D.honest disk.old → (bytes : ℕ → ℕ) → Still bytes (D.current disk.old) (D.unsynced disk.old)
         → (x : Indexes) → IsIndexSet x
         → ((i : ℕ) → i < 90112 → bytes (index_place layout.now + i) ≡ area_byte x i)
         → Loads result (λ set. set ≡ x) }
-    ensures sound { D.honest disk.old → (bytes : ℕ → ℕ) → Still bytes (D.seen disk.old) (D.unsynced disk.old)
+    ensures valid { D.honest disk.old → (bytes : ℕ → ℕ) → Still bytes (D.current disk.old) (D.unsynced disk.old)
         → IfOk result (StandsArea bytes layout.now) }
 {
     let area = load_area(alloc, disk, layout)?;

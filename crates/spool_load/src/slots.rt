@@ -52,11 +52,11 @@ fn load_slot<D: Disk>(
     requires slot { slot < 512 }
     ensures reads { OnlyReads D.Disk disk.old disk.new }
     ensures counts { Counts (IsErrOf result LoadError.DiskFault) (D.failures disk.old) (D.failures disk.new) }
-    ensures said { D.honest disk.old → (bytes : ℕ → ℕ) → Still bytes (D.seen disk.old) (D.unsynced disk.old)
+    ensures said { D.honest disk.old → (bytes : ℕ → ℕ) → Still bytes (D.current disk.old) (D.unsynced disk.old)
         → (said : Option Said) → FitsKept said
         → Stands bytes (slot_place layout.now slot) 2048 (slot_bytes version said)
         → Loads result (λ kept. kept ≡ said) }
-    ensures stands { D.honest disk.old → (bytes : ℕ → ℕ) → Still bytes (D.seen disk.old) (D.unsynced disk.old)
+    ensures stands { D.honest disk.old → (bytes : ℕ → ℕ) → Still bytes (D.current disk.old) (D.unsynced disk.old)
         → IfOk result (λ kept. Stands bytes (slot_place layout.now slot) 2048 (slot_bytes version kept)) }
     ensures fits { IfOk result FitsSlotOf }
 {
@@ -79,12 +79,12 @@ fn push_slot<D: Disk>(
     ensures reads { OnlyReads D.Disk disk.old disk.new }
     ensures counts { Counts (IsErrOf result LoadError.DiskFault) (D.failures disk.old) (D.failures disk.new) }
     ensures long { OnOk result (length slots.new.items ≡ length slots.old.items + 1) }
-    ensures said { D.honest disk.old → (bytes : ℕ → ℕ) → Still bytes (D.seen disk.old) (D.unsynced disk.old)
+    ensures said { D.honest disk.old → (bytes : ℕ → ℕ) → Still bytes (D.current disk.old) (D.unsynced disk.old)
         → (said : List (Option Said)) → length said ≡ 512 → FitsKept (get_or said slot None)
         → Stands bytes (slot_place layout.now slot) 2048 (slot_bytes version (get_or said slot None))
         → length slots.old.items ≡ slot → IsPrefixOf said slots.old.items
         → Loads result (λ done. IsPrefixOf said slots.new.items) }
-    ensures sound { D.honest disk.old → (bytes : ℕ → ℕ) → Still bytes (D.seen disk.old) (D.unsynced disk.old)
+    ensures valid { D.honest disk.old → (bytes : ℕ → ℕ) → Still bytes (D.current disk.old) (D.unsynced disk.old)
         → length slots.old.items ≡ slot → StandSlots bytes layout.now version slots.old.items
         → OnOk result (StandSlots bytes layout.now version slots.new.items) }
 {
@@ -106,11 +106,11 @@ pub(crate) fn load_slots<D: Disk>(
     ensures reads { OnlyReads D.Disk disk.old disk.new }
     ensures counts { Counts (IsErrOf result LoadError.DiskFault) (D.failures disk.old) (D.failures disk.new) }
     ensures long { IfOk result (λ slots. length slots.items ≡ 512) }
-    ensures said { D.honest disk.old → (bytes : ℕ → ℕ) → Still bytes (D.seen disk.old) (D.unsynced disk.old)
+    ensures said { D.honest disk.old → (bytes : ℕ → ℕ) → Still bytes (D.current disk.old) (D.unsynced disk.old)
         → (said : List (Option Said)) → length said ≡ 512 → ((s : ℕ) → FitsKept (get_or said s None))
         → ((s : ℕ) → s < 512 → Stands bytes (slot_place layout.now s) 2048 (slot_bytes version (get_or said s None)))
         → Loads result (λ slots. slots.items ≡ said) }
-    ensures sound { D.honest disk.old → (bytes : ℕ → ℕ) → Still bytes (D.seen disk.old) (D.unsynced disk.old)
+    ensures valid { D.honest disk.old → (bytes : ℕ → ℕ) → Still bytes (D.current disk.old) (D.unsynced disk.old)
         → IfOk result (λ slots. StandSlots bytes layout.now version slots.items) }
 {
     let mut slots = Vec::new(alloc);

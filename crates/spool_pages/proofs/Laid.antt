@@ -140,11 +140,11 @@ module _ (pages : List (ℕ × List ℕ)) (base : ℕ → ℕ) where
 
 -- WHAT THE CHANGED PAGES SAY
 
-module _ (pages : List (ℕ × List ℕ)) (seen : ℕ → ℕ) (v v' : View)
+module _ (pages : List (ℕ × List ℕ)) (current : ℕ → ℕ) (v v' : View)
     (inside : InArea (journal_pages v.blocks) pages) (ascends : Ascends pages) (changes : Changes pages v v')
-    (texts : HasTexts seen v') (says : Says seen v) where
-  out : (p : ℕ) → (InMeta (journal_pages v.blocks) (p / 4096) → ⊥) → laid pages seen p ≡ seen p
-  out p away = laid_out pages seen (journal_pages v.blocks) p inside away
+    (texts : HasTexts current v') (says : Says current v) where
+  out : (p : ℕ) → (InMeta (journal_pages v.blocks) (p / 4096) → ⊥) → laid pages current p ≡ current p
+  out p away = laid_out pages current (journal_pages v.blocks) p inside away
 
   same_size : v.blocks ≡ v'.blocks
   same_size = sym changes.others.blocks
@@ -152,51 +152,52 @@ module _ (pages : List (ℕ × List ℕ)) (seen : ℕ → ℕ) (v v' : View)
   same_journal : journal_pages v'.blocks ≡ journal_pages v.blocks
   same_journal = ap journal_pages changes.others.blocks
 
-  state_there : Stands (laid pages seen) (state_place v.blocks) 4096 (state_page v'.version v'.next)
-  state_there = stands_said pages seen (λ (s : Version × ℕ). state_page s.0 s.1) (v.version, v.next)
+  state_there : Stands (laid pages current) (state_place v.blocks) 4096 (state_page v'.version v'.next)
+  state_there = stands_said pages current (λ (s : Version × ℕ). state_page s.0 s.1) (v.version, v.next)
       (v'.version, v'.next) (state_number v.blocks) 0 4096 (state_place v.blocks) ascends (omega arith) (omega arith)
       changes.others.state says.state
 
-  slot_there : (s : ℕ) → s < 512 → Stands (laid pages seen) (slot_place v.blocks s) 2048
+  slot_there : (s : ℕ) → s < 512 → Stands (laid pages current) (slot_place v.blocks s) 2048
       (slot_bytes v'.version (slot_at v' s))
-  slot_there s lt = stands_said pages seen (λ (x : Version × Option SlotRecord). slot_bytes x.0 x.1)
+  slot_there s lt = stands_said pages current (λ (x : Version × Option SlotRecord). slot_bytes x.0 x.1)
       (v.version, slot_at v s) (v'.version, slot_at v' s) (record_number v.blocks s) (2048 * (s % 2)) 2048
       (slot_place v.blocks s) ascends (omega arith) (omega arith) (changes.others.slots s lt) (says.slots s lt)
 
-  row_there : (b : ℕ) → b < 512 * (journal_pages v.blocks - 257) → Stands (laid pages seen) (row_place v.blocks b) 8
+  row_there : (b : ℕ) → b < 512 * (journal_pages v.blocks - 257) → Stands (laid pages current) (row_place v.blocks b) 8
       (row_bytes (get_or v'.rows b None))
-  row_there b lt = stands_said pages seen row_bytes (get_or v.rows b None) (get_or v'.rows b None)
+  row_there b lt = stands_said pages current row_bytes (get_or v.rows b None) (get_or v'.rows b None)
       (row_number v.blocks b) (8 * (b % 512)) 8 (row_place v.blocks b) ascends (omega arith) (omega arith)
       (changes.rows b lt) (says.rows b lt)
 
-  laid_says : Says (laid pages seen) v'
+  laid_says : Says (laid pages current) v'
   laid_says = record {
-    first = subst (λ (n : ℕ). Stands (laid pages seen) 0 4096 (first_page n)) same_size record {
+    first = subst (λ (n : ℕ). Stands (laid pages current) 0 4096 (first_page n)) same_size record {
       each = λ i lt. out (0 + i) (λ within. omega (arith, within.from, lt)) ∙ says.first.each i lt;
     };
     area = λ i lt. area_there i lt;
-    state = subst (λ (n : ℕ). Stands (laid pages seen) (state_place n) 4096 (state_page v'.version v'.next)) same_size
+    state = subst (λ (n : ℕ). Stands (laid pages current) (state_place n) 4096
+        (state_page v'.version v'.next)) same_size
         state_there;
-    slots = λ s lt. subst (λ (n : ℕ). Stands (laid pages seen) (slot_place n s) 2048
+    slots = λ s lt. subst (λ (n : ℕ). Stands (laid pages current) (slot_place n s) 2048
         (slot_bytes v'.version (slot_at v' s))) same_size (slot_there s lt);
-    rows = λ b lt. subst (λ (n : ℕ). Stands (laid pages seen) (row_place n b) 8 (row_bytes (get_or v'.rows b None)))
+    rows = λ b lt. subst (λ (n : ℕ). Stands (laid pages current) (row_place n b) 8 (row_bytes (get_or v'.rows b None)))
         same_size (row_there b (omega (arith, lt, same_journal)));
     texts = λ s r e. texts s r e ∙ sym
-        (shown_same (laid pages seen) seen (text_page v'.blocks)
+        (shown_same (laid pages current) current (text_page v'.blocks)
         (λ p from. out p (λ within. omega (arith, within.below, from, same_journal))) v'.rows s r.text_len);
   }
     where
-      area_there : (i : ℕ) → i < 90112 → laid pages seen (index_place v'.blocks + i) ≡ area_byte v'.indexes i
+      area_there : (i : ℕ) → i < 90112 → laid pages current (index_place v'.blocks + i) ≡ area_byte v'.indexes i
       area_there i lt =
-          subst (λ (n : ℕ). laid pages seen (index_place n + i) ≡ area_byte v'.indexes i) same_size
+          subst (λ (n : ℕ). laid pages current (index_place n + i) ≡ area_byte v'.indexes i) same_size
           (out (index_place v.blocks + i) (λ within. omega (arith, within.from, lt)) ∙ says.area i lt
           ∙ ap (λ (x : IndexSet). area_byte x i) (sym changes.others.indexes))
 
 -- a commit of them makes the new view of the old one
-pub changed_says : {n : ℕ} {pages : List (ℕ × List ℕ)} {seen : ℕ → ℕ} {unsynced : ℕ → Type 0} {v v' : View}
+pub changed_says : {n : ℕ} {pages : List (ℕ × List ℕ)} {current : ℕ → ℕ} {unsynced : ℕ → Type 0} {v v' : View}
     → v.blocks ≡ n
-    → InArea (journal_pages n) pages → Rests v seen unsynced → Ascends pages → Changes pages v v'
-    → HasTexts seen v' → Says (laid pages seen) v'
-changed_says {pages = pages} {seen = seen} {v = v} {v' = v'} size inside rests ascends changes texts =
-    laid_says pages seen v v' (subst (λ (m : ℕ). InArea (journal_pages m) pages) (sym size) inside) ascends
+    → InArea (journal_pages n) pages → Rests v current unsynced → Ascends pages → Changes pages v v'
+    → HasTexts current v' → Says (laid pages current) v'
+changed_says {pages = pages} {current = current} {v = v} {v' = v'} size inside rests ascends changes texts =
+    laid_says pages current v v' (subst (λ (m : ℕ). InArea (journal_pages m) pages) (sym size) inside) ascends
     changes texts (rests_says rests)

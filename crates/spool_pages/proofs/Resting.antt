@@ -107,78 +107,80 @@ in_free {blocks = blocks} p size unowned within = record {
 
 -- A SPOOL AT REST
 
-module _ {v : View} {seen : ℕ → ℕ} {unsynced : ℕ → Type 0} where
-  pub rests_says : Rests v seen unsynced → Says seen v
-  rests_says rests = shut_says seen v rests.closed rests.is
+module _ {v : View} {current : ℕ → ℕ} {unsynced : ℕ → Type 0} where
+  pub rests_says : Rests v current unsynced → Says current v
+  rests_says rests = shut_says current v rests.closed rests.is
 
   -- an image that agrees with it but for gate, journal and the blocks that no row owns
-  pub rests_is : (image : ℕ → ℕ) → Rests v seen unsynced → (image 4096 ≡ 165 → ⊥)
-      → ((p : ℕ) → Outside (journal_pages v.blocks) p → (OnFree v p → ⊥) → image p ≡ seen p) → IsViewOf image v
-  rests_is image rests shut same = shut_is image v shut (says_frees image seen v same (rests_says rests))
+  pub rests_is : (image : ℕ → ℕ) → Rests v current unsynced → (image 4096 ≡ 165 → ⊥)
+      → ((p : ℕ) → Outside (journal_pages v.blocks) p → (OnFree v p → ⊥) → image p ≡ current p) → IsViewOf image v
+  rests_is image rests shut same = shut_is image v shut (says_frees image current v same (rests_says rests))
 
-  pub rests_agrees : (image : ℕ → ℕ) → Rests v seen unsynced → ((p : ℕ) → (OnFree v p → ⊥) → image p ≡ seen p)
+  pub rests_agrees : (image : ℕ → ℕ) → Rests v current unsynced → ((p : ℕ) → (OnFree v p → ⊥) → image p ≡ current p)
       → IsViewOf image v
   rests_agrees image rests same =
       rests_is image rests (λ ajar. rests.closed (sym (same 4096 (not_free v 4096 (omega arith))) ∙ ajar))
       (λ p outside. same p)
 
-  pub rests_image : (image : ℕ → ℕ) → Rests v seen unsynced → IsImage seen unsynced image → IsViewOf image v
+  pub rests_image : (image : ℕ → ℕ) → Rests v current unsynced → IsImage current unsynced image → IsViewOf image v
   rests_image image rests is = rests_agrees image rests (λ p taken. is.same p (λ l. taken (rests.is_synced p l)))
 
-  pub rests_keeps : {seen' : ℕ → ℕ} {unsynced' : ℕ → Type 0} → Rests v seen unsynced
-      → Keeps seen seen' unsynced unsynced'
-      → Rests v seen' unsynced'
-  rests_keeps {seen' = seen'} rests keeps = record {
+  pub rests_keeps : {current' : ℕ → ℕ} {unsynced' : ℕ → Type 0} → Rests v current unsynced
+      → Keeps current current' unsynced unsynced'
+      → Rests v current' unsynced'
+  rests_keeps {current' = current'} rests keeps = record {
     closed = λ ajar. rests.closed (sym (keeps.same 4096) ∙ ajar);
     is_synced = λ p l. rests.is_synced p (keeps.unsyncs p l);
-    is = rests_agrees seen' rests (λ p taken. keeps.same p);
+    is = rests_agrees current' rests (λ p taken. keeps.same p);
   }
 
-  pub rests_writes : {n : ℕ} {seen' : ℕ → ℕ} {unsynced' : ℕ → Type 0} (blocks : List ℕ) → v.blocks ≡ n
-      → Rests v seen unsynced
-      → Unowned v.rows blocks → WritesIn (text_page n) blocks seen seen' unsynced unsynced' → Rests v seen' unsynced'
-  rests_writes {seen' = seen'} blocks size rests unowned writes = record {
+  pub rests_writes : {n : ℕ} {current' : ℕ → ℕ} {unsynced' : ℕ → Type 0} (blocks : List ℕ) → v.blocks ≡ n
+      → Rests v current unsynced
+      → Unowned v.rows blocks → WritesIn (text_page n) blocks current current' unsynced unsynced'
+      → Rests v current' unsynced'
+  rests_writes {current' = current'} blocks size rests unowned writes = record {
     closed = λ ajar. rests.closed (sym (same 4096 (not_free v 4096 (omega arith))) ∙ ajar);
     is_synced = λ p l. ⊎_elim (rests.is_synced p) (in_free p size unowned) (writes.unsyncs p l);
-    is = rests_agrees seen' rests same;
+    is = rests_agrees current' rests same;
   }
     where
-      same : (p : ℕ) → (OnFree v p → ⊥) → seen' p ≡ seen p
+      same : (p : ℕ) → (OnFree v p → ⊥) → current' p ≡ current p
       same p taken = writes.outside p (λ within. taken (in_free p size unowned within))
 
-  pub rests_but : {n : ℕ} (blocks : List ℕ) (image : ℕ → ℕ) → v.blocks ≡ n → Rests v seen unsynced
+  pub rests_but : {n : ℕ} (blocks : List ℕ) (image : ℕ → ℕ) → v.blocks ≡ n → Rests v current unsynced
       → Unowned v.rows blocks
-      → IsImageBut (text_page n) blocks seen unsynced image → IsViewOf image v
+      → IsImageBut (text_page n) blocks current unsynced image → IsViewOf image v
   rests_but blocks image size rests unowned is =
       rests_agrees image rests (λ p taken. is.same p (λ within. taken (in_free p size unowned within))
       (λ l. taken (rests.is_synced p l)))
 
-  pub rests_aside : {n : ℕ} (blocks : List ℕ) (image : ℕ → ℕ) → v.blocks ≡ n → Rests v seen unsynced
-      → Unowned v.rows blocks → IsImage seen unsynced (aside_blocks (text_page n) blocks seen image) → IsViewOf image v
+  pub rests_aside : {n : ℕ} (blocks : List ℕ) (image : ℕ → ℕ) → v.blocks ≡ n → Rests v current unsynced
+      → Unowned v.rows blocks → IsImage current unsynced (aside_blocks (text_page n) blocks current image)
+      → IsViewOf image v
   rests_aside {n = n} blocks image size rests unowned is = rests_but blocks image size rests unowned record {
-    same = λ p away is_synced. sym (aside_blocks_else (text_page n) blocks seen image p away) ∙ is.same p is_synced;
+    same = λ p away is_synced. sym (aside_blocks_else (text_page n) blocks current image p away) ∙ is.same p is_synced;
   }
 
-  pub settled_rests : {n : ℕ} {bytes : ℕ → ℕ} → v.blocks ≡ n → Settled (journal_pages n) bytes seen unsynced
+  pub settled_rests : {n : ℕ} {bytes : ℕ → ℕ} → v.blocks ≡ n → Settled (journal_pages n) bytes current unsynced
       → Says bytes v
-      → Rests v seen unsynced
+      → Rests v current unsynced
   settled_rests {bytes = bytes} size settled says = record {
     closed = settled.closed;
     is_synced = λ p l. absurd (settled.is_synced p l);
-    is = shut_is seen v settled.closed
-        (says_same seen bytes v (λ p outside. settled.same p
+    is = shut_is current v settled.closed
+        (says_same current bytes v (λ p outside. settled.same p
         (subst (λ (m : ℕ). Outside (journal_pages m) p) size outside)) says);
   }
 
-  pub rests_idle : {n : ℕ} → v.blocks ≡ n → Rests v seen unsynced → Idle (journal_pages n) seen unsynced
+  pub rests_idle : {n : ℕ} → v.blocks ≡ n → Rests v current unsynced → Idle (journal_pages n) current unsynced
   rests_idle size rests = record {
     gate = λ l. not_free v 4096 (omega arith) (rests.is_synced 4096 l);
     closed = rests.closed;
     area = λ p within l. not_free v p (omega (arith, within.below, ap journal_pages size)) (rests.is_synced p l);
   }
 
-  pub rests_before : {n : ℕ} (image : ℕ → ℕ) → v.blocks ≡ n → Rests v seen unsynced
-      → IsBefore (journal_pages n) seen unsynced image → IsViewOf image v
+  pub rests_before : {n : ℕ} (image : ℕ → ℕ) → v.blocks ≡ n → Rests v current unsynced
+      → IsBefore (journal_pages n) current unsynced image → IsViewOf image v
   rests_before image size rests before =
       rests_is image rests before.closed
       (λ p outside taken. before.same p (subst (λ (m : ℕ). Outside (journal_pages m) p) size outside)

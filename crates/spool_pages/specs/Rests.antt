@@ -12,10 +12,10 @@ pub record OnFree (v : View) (p : ℕ) : Type 0 where
   pub free : get_or v.rows block None ≡ None
 
 -- the gate is closed, and a crash may leave other bytes only in blocks that no row owns
-pub record Rests (v : View) (seen : ℕ → ℕ) (unsynced : ℕ → Type 0) : Type 0 where
-  pub closed : seen 4096 ≡ 165 → ⊥
+pub record Rests (v : View) (current : ℕ → ℕ) (unsynced : ℕ → Type 0) : Type 0 where
+  pub closed : current 4096 ≡ 165 → ⊥
   pub is_synced : (p : ℕ) → unsynced p → OnFree v p
-  pub is : IsViewOf seen v
+  pub is : IsViewOf current v
 
 -- no row owns one of these blocks
 abbrev pub Unowned : List Row → List ℕ → Type 0
@@ -23,5 +23,6 @@ Unowned rows blocks = (i : ℕ) → i < length blocks → get_or rows (get_or bl
 
 -- the view's texts are those that its rows show there
 abbrev pub HasTexts : (ℕ → ℕ) → View → Type 0
-HasTexts seen v = (s : ℕ) (r : SlotRecord) → slot_at v s ≡ Some r → v.texts s ≡ text_shown seen (text_page v.blocks)
+HasTexts current v = (s : ℕ) (r : SlotRecord) → slot_at v s ≡ Some r
+    → v.texts s ≡ text_shown current (text_page v.blocks)
     v.rows s r.text_len

@@ -24,24 +24,24 @@ pub fn change<D: Disk>(disk: &mut D, layout: &Layout, pages: &Pages) -> Result<(
 
     // The spool rests with the new view.
     ensures done { D.honest disk.old → (v v' : View) → v.blocks ≡ layout.now
-        → Rests v (D.seen disk.old) (D.unsynced disk.old) → Changes pages.now v v' → HasTexts (D.seen disk.old) v'
-        → OnOk result (Rests v' (D.seen disk.new) (D.unsynced disk.new)) }
+        → Rests v (D.current disk.old) (D.unsynced disk.old) → Changes pages.now v v' → HasTexts (D.current disk.old) v'
+        → OnOk result (Rests v' (D.current disk.new) (D.unsynced disk.new)) }
 
     // Outside gate and journal a read gives what it gave with these pages laid over it: one commit of just these.
     ensures laid { D.honest disk.old → (v : View) → v.blocks ≡ layout.now
-        → Rests v (D.seen disk.old) (D.unsynced disk.old) → OnOk result (Settled (journal_pages layout.now)
-        (laid pages.now (D.seen disk.old)) (D.seen disk.new) (D.unsynced disk.new)) }
+        → Rests v (D.current disk.old) (D.unsynced disk.old) → OnOk result (Settled (journal_pages layout.now)
+        (laid pages.now (D.current disk.old)) (D.current disk.new) (D.unsynced disk.new)) }
 
     // All is synced, and no text block's byte is another.
     ensures synced { D.honest disk.old → (v : View) → v.blocks ≡ layout.now
-        → Rests v (D.seen disk.old) (D.unsynced disk.old) → OnOk result ((p : ℕ) → D.unsynced disk.new p → ⊥) }
+        → Rests v (D.current disk.old) (D.unsynced disk.old) → OnOk result ((p : ℕ) → D.unsynced disk.new p → ⊥) }
     ensures texts { D.honest disk.old → (v : View) → v.blocks ≡ layout.now
-        → Rests v (D.seen disk.old) (D.unsynced disk.old) → OnOk result
-        ((p : ℕ) → 4096 * text_page layout.now ≤ p → D.seen disk.new p ≡ D.seen disk.old p) }
+        → Rests v (D.current disk.old) (D.unsynced disk.old) → OnOk result
+        ((p : ℕ) → 4096 * text_page layout.now ≤ p → D.current disk.new p ≡ D.current disk.old p) }
 
     // A crash during it leaves the old view or the new one.
     ensures lasts { D.honest disk.old → (v v' : View) → v.blocks ≡ layout.now
-        → Rests v (D.seen disk.old) (D.unsynced disk.old) → Changes pages.now v v' → HasTexts (D.seen disk.old) v'
+        → Rests v (D.current disk.old) (D.unsynced disk.old) → Changes pages.now v v' → HasTexts (D.current disk.old) v'
         → Lasts D.Disk disk.old disk.new (λ image. IsViewOf image v ⊎ IsViewOf image v') }
 {
     commit(disk, layout, pages)

@@ -110,7 +110,7 @@ impl<'a> SlotRecord<'a> {
     ) -> Result<Option<SlotRecord<'a>>, Damaged>
         ensures free { IsPadded bytes.now [] → result ≡ Ok None }
         ensures used { (r : Said) → FitsSlot r → IsPadded bytes.now (record_bytes version r) → result ≡ Ok (Some r) }
-        ensures sound { IfOk result (λ found. IsPadded bytes.now (slot_bytes version found)) }
+        ensures valid { IfOk result (λ found. IsPadded bytes.now (slot_bytes version found)) }
         ensures fits { IfOk result (λ found. IfSome found FitsSlot) }
     {
         if is_blank(bytes) {

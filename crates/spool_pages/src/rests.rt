@@ -11,33 +11,36 @@ use spool_disk::Disk;
 
 /// Of a spool at rest every image says the same: what its bytes say as they stand.
 pub fn resting_images<D: Disk>()
-    ensures says { (v : View) (disk : D) → Rests v (D.seen disk) (D.unsynced disk) → Says (D.seen disk) v }
-    ensures images { (v : View) (disk : D) (image : ℕ → ℕ) → Rests v (D.seen disk) (D.unsynced disk)
-        → IsImage (D.seen disk) (D.unsynced disk) image → IsViewOf image v }
+    ensures says { (v : View) (disk : D) → Rests v (D.current disk) (D.unsynced disk) → Says (D.current disk) v }
+    ensures images { (v : View) (disk : D) (image : ℕ → ℕ) → Rests v (D.current disk) (D.unsynced disk)
+        → IsImage (D.current disk) (D.unsynced disk) image → IsViewOf image v }
 {}
 
 /// Reads, and writes into blocks that no row owns, leave a spool at rest. And an image that is one of its own but for
 /// such blocks says the same.
 pub fn resting_writes<D: Disk>()
-    ensures reads { (v : View) (old new : D) → Rests v (D.seen old) (D.unsynced old)
-        → Keeps (D.seen old) (D.seen new) (D.unsynced old) (D.unsynced new) → Rests v (D.seen new) (D.unsynced new) }
+    ensures reads { (v : View) (old new : D) → Rests v (D.current old) (D.unsynced old)
+        → Keeps (D.current old) (D.current new) (D.unsynced old) (D.unsynced new)
+        → Rests v (D.current new) (D.unsynced new) }
     ensures writes { (v : View) (n : ℕ) (blocks : List ℕ) (old new : D) → v.blocks ≡ n
-        → Rests v (D.seen old) (D.unsynced old) → Unowned v.rows blocks → WritesIn (text_page n) blocks (D.seen old)
-        (D.seen new) (D.unsynced old) (D.unsynced new) → Rests v (D.seen new) (D.unsynced new) }
+        → Rests v (D.current old) (D.unsynced old) → Unowned v.rows blocks
+        → WritesIn (text_page n) blocks (D.current old)
+        (D.current new) (D.unsynced old) (D.unsynced new) → Rests v (D.current new) (D.unsynced new) }
     ensures aside { (v : View) (n : ℕ) (blocks : List ℕ) (disk : D) (image : ℕ → ℕ) → v.blocks ≡ n
-        → Rests v (D.seen disk) (D.unsynced disk) → Unowned v.rows blocks → IsImage (D.seen disk) (D.unsynced disk)
-        (aside_blocks (text_page n) blocks (D.seen disk) image) → IsViewOf image v }
+        → Rests v (D.current disk) (D.unsynced disk) → Unowned v.rows blocks
+        → IsImage (D.current disk) (D.unsynced disk)
+        (aside_blocks (text_page n) blocks (D.current disk) image) → IsViewOf image v }
     ensures but { (v : View) (n : ℕ) (blocks : List ℕ) (disk : D) (image : ℕ → ℕ) → v.blocks ≡ n
-        → Rests v (D.seen disk) (D.unsynced disk) → Unowned v.rows blocks
-        → IsImageBut (text_page n) blocks (D.seen disk)
+        → Rests v (D.current disk) (D.unsynced disk) → Unowned v.rows blocks
+        → IsImageBut (text_page n) blocks (D.current disk)
         (D.unsynced disk) image → IsViewOf image v }
 {}
 
 /// What a recovery or a commit leaves is at rest, and of a spool at rest a commit may be made.
 pub fn settled_rests<D: Disk>()
     ensures rests { (v : View) (n : ℕ) (bytes : ℕ → ℕ) (disk : D) → v.blocks ≡ n
-        → Settled (journal_pages n) bytes (D.seen disk) (D.unsynced disk) → Says bytes v
-        → Rests v (D.seen disk) (D.unsynced disk) }
-    ensures idle { (v : View) (n : ℕ) (disk : D) → v.blocks ≡ n → Rests v (D.seen disk) (D.unsynced disk)
-        → Idle (journal_pages n) (D.seen disk) (D.unsynced disk) }
+        → Settled (journal_pages n) bytes (D.current disk) (D.unsynced disk) → Says bytes v
+        → Rests v (D.current disk) (D.unsynced disk) }
+    ensures idle { (v : View) (n : ℕ) (disk : D) → v.blocks ≡ n → Rests v (D.current disk) (D.unsynced disk)
+        → Idle (journal_pages n) (D.current disk) (D.unsynced disk) }
 {}

@@ -56,7 +56,7 @@ pub fn row_at(page: &[u8], at: usize) -> Result<Row, Damaged>
     requires { at + 8 ≤ length page.now }
     ensures said { (row : Option (ℕ × ℕ)) → FitsRow row → Stands (byte_of page.now) at 8 (row_bytes row)
         → result ≡ Ok row }
-    ensures sound { IfOk result (λ row. Stands (byte_of page.now) at 8 (row_bytes row)) }
+    ensures valid { IfOk result (λ row. Stands (byte_of page.now) at 8 (row_bytes row)) }
     ensures fits { IfOk result (λ row. FitsRow row) }
 {
     let slot = get_u32(page, at);

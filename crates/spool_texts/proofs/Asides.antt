@@ -46,12 +46,13 @@ aside_or_away first (b ∷ blocks) was image p =
     (cases_eq (first + b) (p / 4096))
 
 -- with the blocks as they were, it is an image from before
-pub image_aside : (first : ℕ) (blocks : List ℕ) {seen image : ℕ → ℕ} {unsynced : ℕ → Type 0}
-    → IsImageBut first blocks seen unsynced image → IsImage seen unsynced (aside_blocks first blocks seen image)
-image_aside first blocks {seen = seen} {image = image} is = record {
+pub image_aside : (first : ℕ) (blocks : List ℕ) {current image : ℕ → ℕ} {unsynced : ℕ → Type 0}
+    → IsImageBut first blocks current unsynced image
+    → IsImage current unsynced (aside_blocks first blocks current image)
+image_aside first blocks {current = current} {image = image} is = record {
   same = λ p is_synced. ⊎_elim (λ same. same)
-      (λ away. aside_blocks_else first blocks seen image p away ∙ is.same p away is_synced)
-      (aside_or_away first blocks seen image p);
+      (λ away. aside_blocks_else first blocks current image p away ∙ is.same p away is_synced)
+      (aside_or_away first blocks current image p);
 }
 
 pub frame_blocks : (j : ℕ) (blocks : List ℕ) (was image : ℕ → ℕ) → j ≤ 385

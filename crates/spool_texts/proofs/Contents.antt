@@ -8,33 +8,35 @@ use Rattle.spool_texts.specs.Drafts.{Draft, full_count, held_count, content_on}
 use Rattle.spool_texts.proofs.Shown.{text_prefix}
 
 -- nothing is unfinished
-pub all_written : (seen : ℕ → ℕ) (first : ℕ) (d : Draft) → length d.unfinished ≡ 0
-    → text_on seen first d.blocks (held_count d) ≡ content_on seen first d
-all_written seen first d none =
+pub all_written : (current : ℕ → ℕ) (first : ℕ) (d : Draft) → length d.unfinished ≡ 0
+    → text_on current first d.blocks (held_count d) ≡ content_on current first d
+all_written current first d none =
     let held : held_count d ≡ 4096 * length d.blocks = omega (arith, none) in
     let full : length d.blocks ≡ full_count d = omega (arith, none) in
-    ap (λ (n : ℕ). text_on seen first d.blocks n) held
-    ∙ text_prefix seen first (length d.blocks) d.blocks (omega arith)
-    ∙ ap (λ (n : ℕ). blocks_on seen first (take n d.blocks)) full
-    ∙ sym (append-nil (blocks_on seen first (take (full_count d) d.blocks)))
-    ∙ ap (λ (xs : List ℕ). blocks_on seen first (take (full_count d) d.blocks) ++ xs)
+    ap (λ (n : ℕ). text_on current first d.blocks n) held
+    ∙ text_prefix current first (length d.blocks) d.blocks (omega arith)
+    ∙ ap (λ (n : ℕ). blocks_on current first (take n d.blocks)) full
+    ∙ sym (append-nil (blocks_on current first (take (full_count d) d.blocks)))
+    ∙ ap (λ (xs : List ℕ). blocks_on current first (take (full_count d) d.blocks) ++ xs)
     (sym (nil_from_length d.unfinished none))
 
 -- the last block is full, and written
-pub full_written : (seen seen' : ℕ → ℕ) (first : ℕ) (old new : Draft) (more page bytes : List ℕ) → new.unfinished ≡ []
+pub full_written : (current current' : ℕ → ℕ) (first : ℕ) (old new : Draft) (more page bytes : List ℕ)
+    → new.unfinished ≡ []
     → new.blocks ≡ old.blocks ++ more → length new.blocks ≡ full_count old + 1 → length page ≡ 4096
     → page ≡ old.unfinished ++ bytes
-    → text_on seen' first new.blocks (4096 * (length new.blocks - 1) + length page) ≡ text_on seen first new.blocks
-    (4096 * (length new.blocks - 1)) ++ page → content_on seen' first new ≡ content_on seen first old ++ bytes
-full_written seen seen' first old new more page bytes none grown ready size is text =
-    sym (all_written seen' first new (ap length none))
-    ∙ ap (λ (n : ℕ). text_on seen' first new.blocks n) held
+    → text_on current' first new.blocks (4096 *
+    (length new.blocks - 1) + length page) ≡ text_on current first new.blocks
+    (4096 * (length new.blocks - 1)) ++ page → content_on current' first new ≡ content_on current first old ++ bytes
+full_written current current' first old new more page bytes none grown ready size is text =
+    sym (all_written current' first new (ap length none))
+    ∙ ap (λ (n : ℕ). text_on current' first new.blocks n) held
     ∙ text
-    ∙ ap (λ (n : ℕ). text_on seen first new.blocks (4096 * n) ++ page) full
-    ∙ ap (λ (xs : List ℕ). xs ++ page) (text_prefix seen first (full_count old) new.blocks (omega (arith, ready)))
-    ∙ ap (λ (xs : List ℕ). blocks_on seen first xs ++ page) prefix
-    ∙ ap (λ (xs : List ℕ). blocks_on seen first (take (full_count old) old.blocks) ++ xs) is
-    ∙ sym (append_assoc (blocks_on seen first (take (full_count old) old.blocks)) old.unfinished bytes)
+    ∙ ap (λ (n : ℕ). text_on current first new.blocks (4096 * n) ++ page) full
+    ∙ ap (λ (xs : List ℕ). xs ++ page) (text_prefix current first (full_count old) new.blocks (omega (arith, ready)))
+    ∙ ap (λ (xs : List ℕ). blocks_on current first xs ++ page) prefix
+    ∙ ap (λ (xs : List ℕ). blocks_on current first (take (full_count old) old.blocks) ++ xs) is
+    ∙ sym (append_assoc (blocks_on current first (take (full_count old) old.blocks)) old.unfinished bytes)
   where
     held : held_count new ≡ 4096 * (length new.blocks - 1) + length page
     held = omega (arith, ap length none, size, ready)
@@ -72,6 +74,6 @@ content_more new mid old bytes done n rest le is before =
 pub same_held : (d e : Draft) → e.blocks ≡ d.blocks → e.unfinished ≡ d.unfinished → held_count e ≡ held_count d
 same_held d e blocks unfinished = omega (arith, ap length blocks, ap length unfinished)
 
-pub same_content : (seen : ℕ → ℕ) (first : ℕ) (d e : Draft) → e.blocks ≡ d.blocks → e.unfinished ≡ d.unfinished
-    → content_on seen first e ≡ content_on seen first d
-same_content seen first d e blocks unfinished = rw (blocks, unfinished)
+pub same_content : (current : ℕ → ℕ) (first : ℕ) (d e : Draft) → e.blocks ≡ d.blocks → e.unfinished ≡ d.unfinished
+    → content_on current first e ≡ content_on current first d
+same_content current first d e blocks unfinished = rw (blocks, unfinished)

@@ -10,11 +10,11 @@ use Rattle.spool_texts.proofs.Prefixes.{writes_none, writes_on, but_more, but_on
 use Rattle.spool_texts.proofs.Shown.{text_prefix}
 
 -- a text is on the first blocks that have room for it
-text_take : (seen : ℕ → ℕ) (first n k : ℕ) (list : List ℕ) → n ≤ length list → k ≤ 4096 * n
-    → text_on seen first (take n list) k ≡ text_on seen first list k
-text_take seen first n k list le fits =
-    ap (λ (xs : List ℕ). take k xs) (sym (text_prefix seen first n list le))
-    ∙ take-take k (4096 * n) (blocks_on seen first list) fits
+text_take : (current : ℕ → ℕ) (first n k : ℕ) (list : List ℕ) → n ≤ length list → k ≤ 4096 * n
+    → text_on current first (take n list) k ≡ text_on current first list k
+text_take current first n k list le fits =
+    ap (λ (xs : List ℕ). take k xs) (sym (text_prefix current first n list le))
+    ∙ take-take k (4096 * n) (blocks_on current first list) fits
 
 take_few : (n : ℕ) (xs : List ℕ) → take (min (length xs) n) xs ≡ take n xs
 take_few n xs = ⊎_elim
@@ -24,38 +24,40 @@ take_few n xs = ⊎_elim
     (cases_lt (length xs) n)
 
 -- nothing is written yet
-pub none_yet : (seen : ℕ → ℕ) (first full : ℕ) (list last : List ℕ) → full ≤ length list
-    → text_on seen first list (4096 * full + min (length last) (4096 * (full - full))) ≡ blocks_on seen first
+pub none_yet : (current : ℕ → ℕ) (first full : ℕ) (list last : List ℕ) → full ≤ length list
+    → text_on current first list (4096 * full + min (length last) (4096 * (full - full))) ≡ blocks_on current first
     (take full list) ++ take (4096 * (full - full)) last
-none_yet seen first full list last le =
+none_yet current first full list last le =
     let none : full - full ≡ 0 = omega arith in
-    ap (λ (n : ℕ). text_on seen first list (4096 * full + min (length last) (4096 * n))) none
+    ap (λ (n : ℕ). text_on current first list (4096 * full + min (length last) (4096 * n))) none
     ∙ (let at : 4096 * full + min (length last) (4096 * 0) ≡ 4096 * full = omega arith in ap
-    (λ (n : ℕ). text_on seen first list n) at)
-    ∙ text_prefix seen first full list le
-    ∙ sym (append-nil (blocks_on seen first (take full list)))
-    ∙ ap (λ (n : ℕ). blocks_on seen first (take full list) ++ take (4096 * n) last) (sym none)
+    (λ (n : ℕ). text_on current first list n) at)
+    ∙ text_prefix current first full list le
+    ∙ sym (append-nil (blocks_on current first (take full list)))
+    ∙ ap (λ (n : ℕ). blocks_on current first (take full list) ++ take (4096 * n) last) (sym none)
 
 -- the bytes of one block more are written
-pub one_more : (was seen seen' : ℕ → ℕ) (first full at to : ℕ) (list last bytes : List ℕ) → full ≤ at → at < length list
+pub one_more : (was current current' : ℕ → ℕ) (first full at to : ℕ) (list last bytes : List ℕ) → full ≤ at
+    → at < length list
     → 4096 * (at - full) < length last
     → to ≡ min (length last) (4096 * (at - full) + 4096) → bytes ≡ take (to - 4096 * (at - full))
     (drop (4096 * (at - full)) last)
-    → text_on seen first list (4096 * full + min (length last) (4096 * (at - full))) ≡ blocks_on was first
+    → text_on current first list (4096 * full + min (length last) (4096 * (at - full))) ≡ blocks_on was first
     (take full list) ++ take (4096 * (at - full)) last
-    → text_on seen' first (take (at + 1) list) (4096 * (length (take (at + 1) list) - 1) + length bytes) ≡ text_on seen
+    → text_on current' first (take (at + 1) list) (4096 * (length (take
+    (at + 1) list) - 1) + length bytes) ≡ text_on current
     first (take (at + 1) list) (4096 * (length (take (at + 1) list) - 1)) ++ bytes
-    → text_on seen' first list (4096 * full + min (length last) (4096 * (at + 1 - full))) ≡ blocks_on was first
+    → text_on current' first list (4096 * full + min (length last) (4096 * (at + 1 - full))) ≡ blocks_on was first
     (take full list) ++ take (4096 * (at + 1 - full)) last
-one_more was seen seen' first full at to list last bytes le lt some to_is bytes_is before written =
-    ap (λ (n : ℕ). text_on seen' first list n) total
-    ∙ sym (text_take seen' first (at + 1) (4096 * at + length bytes) list (omega (arith, lt)) (omega (arith, size)))
-    ∙ ap (λ (n : ℕ). text_on seen' first (take (at + 1) list) (4096 * n + length bytes)) (sym after)
+one_more was current current' first full at to list last bytes le lt some to_is bytes_is before written =
+    ap (λ (n : ℕ). text_on current' first list n) total
+    ∙ sym (text_take current' first (at + 1) (4096 * at + length bytes) list (omega (arith, lt)) (omega (arith, size)))
+    ∙ ap (λ (n : ℕ). text_on current' first (take (at + 1) list) (4096 * n + length bytes)) (sym after)
     ∙ written
-    ∙ ap (λ (n : ℕ). text_on seen first (take (at + 1) list) (4096 * n) ++ bytes) after
+    ∙ ap (λ (n : ℕ). text_on current first (take (at + 1) list) (4096 * n) ++ bytes) after
     ∙ ap (λ (xs : List ℕ). xs ++ bytes)
-    (text_take seen first (at + 1) (4096 * at) list (omega (arith, lt)) (omega arith))
-    ∙ ap (λ (n : ℕ). text_on seen first list n ++ bytes) done
+    (text_take current first (at + 1) (4096 * at) list (omega (arith, lt)) (omega arith))
+    ∙ ap (λ (n : ℕ). text_on current first list n ++ bytes) done
     ∙ ap (λ (xs : List ℕ). xs ++ bytes) before
     ∙ append_assoc (blocks_on was first (take full list)) (take (4096 * (at - full)) last) bytes
     ∙ ap (λ (xs : List ℕ). blocks_on was first (take full list) ++ (take (4096 * (at - full)) last ++ xs)) all
@@ -91,15 +93,15 @@ one_more was seen seen' first full at to list last bytes le lt some to_is bytes_
     next = omega (arith, le)
 
 -- a write to the first blocks is one to all
-pub writes_prefix : {first : ℕ} (n : ℕ) {list : List ℕ} {seen mid seen' : ℕ → ℕ} {unsynced between unsynced' : ℕ
+pub writes_prefix : {first : ℕ} (n : ℕ) {list : List ℕ} {current mid current' : ℕ → ℕ} {unsynced between unsynced' : ℕ
     → Type 0}
-    → WritesIn first list seen mid unsynced between → WritesIn first (take n list) mid seen' between unsynced'
-    → WritesIn first list seen seen' unsynced unsynced'
+    → WritesIn first list current mid unsynced between → WritesIn first (take n list) mid current' between unsynced'
+    → WritesIn first list current current' unsynced unsynced'
 writes_prefix n {list = list} a b =
     writes_on [] (sym (append-nil list)) a (writes_on (drop n list) (sym (take-append-drop n list)) b (writes_none _ _))
 
-pub but_prefix : {first : ℕ} (n : ℕ) {list : List ℕ} {seen mid image : ℕ → ℕ} {unsynced between : ℕ → Type 0}
-    → WritesIn first list seen mid unsynced between → IsImageBut first (take n list) mid between image
-    → IsImageBut first list seen unsynced image
+pub but_prefix : {first : ℕ} (n : ℕ) {list : List ℕ} {current mid image : ℕ → ℕ} {unsynced between : ℕ → Type 0}
+    → WritesIn first list current mid unsynced between → IsImageBut first (take n list) mid between image
+    → IsImageBut first list current unsynced image
 but_prefix n {list = list} a is =
     but_on [] (sym (append-nil list)) a (but_more (drop n list) (sym (take-append-drop n list)) is)

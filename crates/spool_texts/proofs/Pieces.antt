@@ -38,22 +38,22 @@ place_on list at count k follow lt =
     omega (arith, rest, there)
 
 -- what was read from blocks that follow one another
-pub piece_is : (seen : ℕ → ℕ) (first : ℕ) (list : List ℕ) (at count n : ℕ) (buf new : List ℕ) → n ≤ length buf
+pub piece_is : (current : ℕ → ℕ) (first : ℕ) (list : List ℕ) (at count n : ℕ) (buf new : List ℕ) → n ≤ length buf
     → Follow list (at / 4096) count → at % 4096 + n ≤ 4096 * count
-    → new ≡ span seen (4096 * (first + get_or list (at / 4096) 0) + at % 4096) n
-    → IsPiece seen first list at n buf (new ++ drop n buf)
-piece_is seen first list at count n buf new fits follow within is = record {
+    → new ≡ span current (4096 * (first + get_or list (at / 4096) 0) + at % 4096) n
+    → IsPiece current first list at n buf (new ++ drop n buf)
+piece_is current first list at count n buf new fits follow within is = record {
   size = omega (arith, length-append new (drop n buf), length-drop n buf, size, fits);
   bytes = λ k lt. get_or_append_left new (drop n buf) 0 k (omega (arith, lt, size))
-      ∙ ap (λ (xs : List ℕ). get_or xs k 0) is ∙ get_or-span seen
-      (4096 * (first + get_or list (at / 4096) 0) + at % 4096) n k lt ∙ ap seen (same k lt);
+      ∙ ap (λ (xs : List ℕ). get_or xs k 0) is ∙ get_or-span current
+      (4096 * (first + get_or list (at / 4096) 0) + at % 4096) n k lt ∙ ap current (same k lt);
   rest = λ k le. let e : n + (k - n) ≡ k =
       omega (arith, le) in get_or-append_right new (drop n buf) n k 0 size le ∙ get_or-drop n buf (k - n) 0
       ∙ ap (λ (i : ℕ). get_or buf i 0) e;
 }
   where
     size : length new ≡ n
-    size = ap length is ∙ length-span seen (4096 * (first + get_or list (at / 4096) 0) + at % 4096) n
+    size = ap length is ∙ length-span current (4096 * (first + get_or list (at / 4096) 0) + at % 4096) n
 
     same : (k : ℕ) → k < n → 4096 * (first + get_or list (at / 4096) 0) + at % 4096 + k ≡ 4096 * (first + get_or list
         ((at + k) / 4096) 0) + (at + k) % 4096
@@ -88,15 +88,15 @@ mid_after buf sub from size k le same fits =
     ∙ ap (λ (i : ℕ). get_or buf i 0) e
 
 -- one piece more of a text
-module _ {seen mid : ℕ → ℕ} {unsynced unsynced' : ℕ → Type 0} (first : ℕ) (list : List ℕ) (at from to n : ℕ)
-    (old buf sub : List ℕ) (keeps : Keeps seen mid unsynced unsynced') (upto : from ≤ to) (fits : to ≤ length buf)
+module _ {current mid : ℕ → ℕ} {unsynced unsynced' : ℕ → Type 0} (first : ℕ) (list : List ℕ) (at from to n : ℕ)
+    (old buf sub : List ℕ) (keeps : Keeps current mid unsynced unsynced') (upto : from ≤ to) (fits : to ≤ length buf)
     (few : n ≤ length (take (to - from) (drop from buf)))
     (piece : IsPiece mid first list (at + from) n (take (to - from) (drop from buf)) sub) where
   sub_size : length sub ≡ to - from
   sub_size = omega (arith, piece.size, length-take (to - from) (drop from buf), length-drop from buf, upto, fits)
 
-  pub bytes_on : ((k : ℕ) → k < from → get_or buf k 0 ≡ byte_on seen first list (at + k)) → (k : ℕ) → k < from + n
-      → get_or (put_mid from (to - from) buf sub) k 0 ≡ byte_on seen first list (at + k)
+  pub bytes_on : ((k : ℕ) → k < from → get_or buf k 0 ≡ byte_on current first list (at + k)) → (k : ℕ) → k < from + n
+      → get_or (put_mid from (to - from) buf sub) k 0 ≡ byte_on current first list (at + k)
   bytes_on before k lt =
       ⊎_elim
       (λ (prefix : k < from). mid_before buf sub from (to - from) k prefix (omega (arith, upto, fits))
@@ -104,12 +104,12 @@ module _ {seen mid : ℕ → ℕ} {unsynced unsynced' : ℕ → Type 0} (first :
       (λ (after : from ≤ k).
       let e : from + (k - from) ≡ k = omega (arith, after) in
       let e' : at + from + (k - from) ≡ at + k = omega (arith, after) in
-      subst (λ (i : ℕ). get_or (put_mid from (to - from) buf sub) i 0 ≡ byte_on seen first list (at + k)) e
+      subst (λ (i : ℕ). get_or (put_mid from (to - from) buf sub) i 0 ≡ byte_on current first list (at + k)) e
       (mid_inside buf sub from (to - from) (k - from) (omega (arith, lt, after, piece.size, few))
       (omega (arith, upto, fits))
       ∙ piece.bytes (k - from) (omega (arith, lt, after))
       ∙ keeps.same (4096 * (first + get_or list ((at + from + (k - from)) / 4096) 0) + (at + from + (k - from)) % 4096)
-      ∙ ap (byte_on seen first list) e'))
+      ∙ ap (byte_on current first list) e'))
       (cases_lt k from)
 
   pub rest_on : ((k : ℕ) → from ≤ k → get_or buf k 0 ≡ get_or old k 0) → (k : ℕ) → from + n ≤ k
@@ -130,71 +130,72 @@ module _ {seen mid : ℕ → ℕ} {unsynced unsynced' : ℕ → Type 0} (first :
       (cases_lt k to)
 
 -- a byte of a text
-pub byte_of_text : (seen : ℕ → ℕ) (first : ℕ) (list : List ℕ) (at : ℕ) → at < 4096 * length list
-    → get_or (blocks_on seen first list) at 0 ≡ byte_on seen first list at
+pub byte_of_text : (current : ℕ → ℕ) (first : ℕ) (list : List ℕ) (at : ℕ) → at < 4096 * length list
+    → get_or (blocks_on current first list) at 0 ≡ byte_on current first list at
 unfolding blocks_on
-byte_of_text seen first [] at lt = absurd (omega (arith, lt))
-byte_of_text seen first (b ∷ list) at lt =
+byte_of_text current first [] at lt = absurd (omega (arith, lt))
+byte_of_text current first (b ∷ list) at lt =
     ⊎_elim
     (λ (here : at < 4096).
     let quotient : 0 ≡ at / 4096 = omega (arith, here) in
     let rest : at ≡ at % 4096 = omega (arith, here) in
-    get_or_append_left (span seen (4096 * (first + b)) 4096) (blocks_on seen first list) 0 at
-    (omega (arith, here, length-span seen (4096 * (first + b)) 4096))
-    ∙ get_or-span seen (4096 * (first + b)) 4096 at here
-    ∙ ap (λ (i : ℕ). seen (4096 * (first + b) + i)) rest
-    ∙ ap (λ (i : ℕ). seen (4096 * (first + get_or (b ∷ list) i 0) + at % 4096)) quotient)
+    get_or_append_left (span current (4096 * (first + b)) 4096) (blocks_on current first list) 0 at
+    (omega (arith, here, length-span current (4096 * (first + b)) 4096))
+    ∙ get_or-span current (4096 * (first + b)) 4096 at here
+    ∙ ap (λ (i : ℕ). current (4096 * (first + b) + i)) rest
+    ∙ ap (λ (i : ℕ). current (4096 * (first + get_or (b ∷ list) i 0) + at % 4096)) quotient)
     (λ (after : 4096 ≤ at).
     let quotient : suc ((at - 4096) / 4096) ≡ at / 4096 = omega (arith, after) in
     let rest : (at - 4096) % 4096 ≡ at % 4096 = omega (arith, after) in
-    get_or-append_right (span seen (4096 * (first + b)) 4096) (blocks_on seen first list) 4096 at 0
-    (length-span seen (4096 * (first + b)) 4096) after
-    ∙ byte_of_text seen first list (at - 4096) (omega (arith, lt, after))
-    ∙ ap (λ (i : ℕ). seen (4096 * (first + get_or list ((at - 4096) / 4096) 0) + i)) rest
-    ∙ ap (λ (i : ℕ). seen (4096 * (first + get_or (b ∷ list) i 0) + at % 4096)) quotient)
+    get_or-append_right (span current (4096 * (first + b)) 4096) (blocks_on current first list) 4096 at 0
+    (length-span current (4096 * (first + b)) 4096) after
+    ∙ byte_of_text current first list (at - 4096) (omega (arith, lt, after))
+    ∙ ap (λ (i : ℕ). current (4096 * (first + get_or list ((at - 4096) / 4096) 0) + i)) rest
+    ∙ ap (λ (i : ℕ). current (4096 * (first + get_or (b ∷ list) i 0) + at % 4096)) quotient)
     (cases_lt at 4096)
 
 -- all that there is and fits was read
-pub all_read : (seen : ℕ → ℕ) (first : ℕ) (list : List ℕ) (len at n : ℕ) (old buf : List ℕ) → len ≤ 4096 * length list
+pub all_read : (current : ℕ → ℕ) (first : ℕ) (list : List ℕ) (len at n : ℕ) (old buf : List ℕ)
+    → len ≤ 4096 * length list
     → n ≡ min (len - at) (length old) → length buf ≡ length old
-    → ((k : ℕ) → k < n → get_or buf k 0 ≡ byte_on seen first list (at + k))
-    → ((k : ℕ) → n ≤ k → get_or buf k 0 ≡ get_or old k 0) → IsRead (text_on seen first list len) at n old buf
-all_read seen first list len at n old buf long is same bytes rest = record {
+    → ((k : ℕ) → k < n → get_or buf k 0 ≡ byte_on current first list (at + k))
+    → ((k : ℕ) → n ≤ k → get_or buf k 0 ≡ get_or old k 0) → IsRead (text_on current first list len) at n old buf
+all_read current first list len at n old buf long is same bytes rest = record {
   count = omega (arith, is, size);
-  bytes = ext_get_or 0 buf (take n (drop at (text_on seen first list len)) ++ drop n old) sizes (λ k lt. ⊎_elim
+  bytes = ext_get_or 0 buf (take n (drop at (text_on current first list len)) ++ drop n old) sizes (λ k lt. ⊎_elim
       (λ (inside : k < n).
       bytes k inside
-      ∙ sym (byte_of_text seen first list (at + k) (omega (arith, inside, is, long)))
-      ∙ sym (get_or-take len (blocks_on seen first list) (at + k) 0 (omega (arith, inside, is)))
-      ∙ sym (get_or-drop at (text_on seen first list len) k 0)
-      ∙ sym (get_or-take n (drop at (text_on seen first list len)) k 0 inside)
-      ∙ sym (get_or_append_left (take n (drop at (text_on seen first list len))) (drop n old) 0 k
+      ∙ sym (byte_of_text current first list (at + k) (omega (arith, inside, is, long)))
+      ∙ sym (get_or-take len (blocks_on current first list) (at + k) 0 (omega (arith, inside, is)))
+      ∙ sym (get_or-drop at (text_on current first list len) k 0)
+      ∙ sym (get_or-take n (drop at (text_on current first list len)) k 0 inside)
+      ∙ sym (get_or_append_left (take n (drop at (text_on current first list len))) (drop n old) 0 k
       (omega (arith, inside, prefix))))
       (λ (after : n ≤ k).
       let e : n + (k - n) ≡ k = omega (arith, after) in
       rest k after
-      ∙ sym (get_or-append_right (take n (drop at (text_on seen first list len))) (drop n old) n k 0 prefix after
+      ∙ sym (get_or-append_right (take n (drop at (text_on current first list len))) (drop n old) n k 0 prefix after
       ∙ get_or-drop n old (k - n) 0 ∙ ap (λ (i : ℕ). get_or old i 0) e))
       (cases_lt k n));
 }
   where
-    size : length (text_on seen first list len) ≡ len
-    size = omega (arith, length-take len (blocks_on seen first list), length-blocks_on seen first list, long)
+    size : length (text_on current first list len) ≡ len
+    size = omega (arith, length-take len (blocks_on current first list), length-blocks_on current first list, long)
 
-    prefix : length (take n (drop at (text_on seen first list len))) ≡ n
+    prefix : length (take n (drop at (text_on current first list len))) ≡ n
     prefix = omega (
       arith,
-      length-take n (drop at (text_on seen first list len)),
+      length-take n (drop at (text_on current first list len)),
       length-drop at
-          (text_on seen first list len),
+          (text_on current first list len),
       size,
       is,
     )
 
-    sizes : length buf ≡ length (take n (drop at (text_on seen first list len)) ++ drop n old)
+    sizes : length buf ≡ length (take n (drop at (text_on current first list len)) ++ drop n old)
     sizes = omega (
       arith,
-      length-append (take n (drop at (text_on seen first list len))) (drop n old),
+      length-append (take n (drop at (text_on current first list len))) (drop n old),
       prefix,
       length-drop n old,
       same,
@@ -202,11 +203,12 @@ all_read seen first list len at n old buf long is same bytes rest = record {
     )
 
 -- a call that changes nothing, after another
-pub keeps_on : {seen mid seen' : ℕ → ℕ} {unsynced between unsynced' : ℕ → Type 0} → Keeps seen mid unsynced between
-    → Keeps mid seen' between unsynced' → Keeps seen seen' unsynced unsynced'
+pub keeps_on : {current mid current' : ℕ → ℕ} {unsynced between unsynced' : ℕ → Type 0}
+    → Keeps current mid unsynced between
+    → Keeps mid current' between unsynced' → Keeps current current' unsynced unsynced'
 keeps_on a b = record { same = λ p. b.same p ∙ a.same p; unsyncs = λ p l. a.unsyncs p (b.unsyncs p l) }
 
 -- its images are those from before
-pub image_keeps : {seen mid image : ℕ → ℕ} {unsynced between : ℕ → Type 0} → Keeps seen mid unsynced between
-    → IsImage mid between image → IsImage seen unsynced image
+pub image_keeps : {current mid image : ℕ → ℕ} {unsynced between : ℕ → Type 0} → Keeps current mid unsynced between
+    → IsImage mid between image → IsImage current unsynced image
 image_keeps a is = record { same = λ p is_synced. is.same p (λ l. is_synced (a.unsyncs p l)) ∙ a.same p }

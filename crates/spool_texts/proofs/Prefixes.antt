@@ -20,12 +20,12 @@ take-span f at zero (suc k) le = absurd (omega (arith, le))
 take-span f at (suc n) (suc k) le = ap (λ (xs : List ℕ). f at ∷ xs) (take-span f (at + 1) n k (omega (arith, le)))
 
 -- the text on one block
-pub text_one : (seen : ℕ → ℕ) (first b len : ℕ) → len ≤ 4096 → text_on seen first (b ∷ []) len ≡ span seen
+pub text_one : (current : ℕ → ℕ) (first b len : ℕ) → len ≤ 4096 → text_on current first (b ∷ []) len ≡ span current
     (4096 * (first + b)) len
 unfolding blocks_on
-text_one seen first b len le =
-    ap (λ (xs : List ℕ). take len xs) (append-nil (span seen (4096 * (first + b)) 4096))
-    ∙ take-span seen (4096 * (first + b)) 4096 len le
+text_one current first b len le =
+    ap (λ (xs : List ℕ). take len xs) (append-nil (span current (4096 * (first + b)) 4096))
+    ∙ take-span current (4096 * (first + b)) 4096 len le
 
 -- where two agree on the blocks
 pub blocks_same : (f g : ℕ → ℕ) (first : ℕ) (list : List ℕ)
@@ -42,10 +42,10 @@ blocks_same f g first (b ∷ list) same =
     both : {a b c d : List ℕ} → a ≡ b → c ≡ d → a ++ c ≡ b ++ d
     both e f = cc
 
-module _ {seen seen' : ℕ → ℕ} {unsynced unsynced' : ℕ → Type 0} {done : Type 0} (first : ℕ) (list bytes : List ℕ)
+module _ {current current' : ℕ → ℕ} {unsynced unsynced' : ℕ → Type 0} {done : Type 0} (first : ℕ) (list bytes : List ℕ)
     (some : 1 ≤ length list) (fits : length bytes ≤ 4096)
     (writes : Writes (4096 * (first + get_or list
-    (length list - 1) 0) + 0) bytes done seen seen' unsynced unsynced') where
+    (length list - 1) 0) + 0) bytes done current current' unsynced unsynced') where
   last_block : (p : ℕ) → In (4096 * (first + get_or list (length list - 1) 0) + 0) (length bytes) p
       → InBlocks first list p
   last_block p within = record {
@@ -54,51 +54,53 @@ module _ {seen seen' : ℕ → ℕ} {unsynced unsynced' : ℕ → Type 0} {done 
     here = omega (arith, within.from, within.below, fits);
   }
 
-  pub prefix_writes : WritesIn first list seen seen' unsynced unsynced'
+  pub prefix_writes : WritesIn first list current current' unsynced unsynced'
   prefix_writes = record {
     outside = λ p away. writes.outside p (λ within. away (last_block p within));
     unsyncs = λ p l. ⊎_elim inl (λ within. inr (last_block p within)) (writes.unsyncs p l);
   }
 
   pub prefix_text : ((i k : ℕ) → i < k → k < length list → get_or list i 0 ≢ get_or list k 0) → done
-      → text_on seen' first list (4096 * (length list - 1) + length bytes) ≡ text_on seen first list
+      → text_on current' first list (4096 * (length list - 1) + length bytes) ≡ text_on current first list
       (4096 * (length list - 1)) ++ bytes
   prefix_text distinct ok =
-      ap (λ (xs : List ℕ). text_on seen' first xs (4096 * (length list - 1) + length bytes)) whole
-      ∙ text_joined seen' first (length list - 1) (length bytes) list (get_or list (length list - 1) 0 ∷ [])
+      ap (λ (xs : List ℕ). text_on current' first xs (4096 * (length list - 1) + length bytes)) whole
+      ∙ text_joined current' first (length list - 1) (length bytes) list (get_or list (length list - 1) 0 ∷ [])
       (omega arith)
-      ∙ both (text_prefix seen' first (length list - 1) list (omega arith) ∙ others
-      ∙ sym (text_prefix seen first (length list - 1) list (omega arith))) here
+      ∙ both (text_prefix current' first (length list - 1) list (omega arith) ∙ others
+      ∙ sym (text_prefix current first (length list - 1) list (omega arith))) here
     where
       whole : list ≡ take (length list - 1) list ++ get_or list (length list - 1) 0 ∷ []
       whole = sym (take_all (length list - 1 + 1) list (omega arith)) ∙ take_more list (length list - 1) 0
           (omega (arith, some))
 
-      others : blocks_on seen' first (take (length list - 1) list) ≡ blocks_on seen first (take (length list - 1) list)
-      others = blocks_same seen' seen first (take (length list - 1) list) (λ i p lt e.
+      others : blocks_on current' first (take (length list - 1) list) ≡ blocks_on current first (take
+          (length list - 1) list)
+      others = blocks_same current' current first (take (length list - 1) list) (λ i p lt e.
           let below : i < length list - 1 = omega (arith, lt, length-take (length list - 1) list) in
           let e' : first + get_or list i 0 ≡ p / 4096 =
           ap (λ (b : ℕ). first + b) (sym (get_or-take (length list - 1) list i 0 below)) ∙ e in
           writes.outside p (λ within. let here = last_block p within in distinct i (length list - 1) below
           (omega (arith, some)) (omega (arith, e', here.here))))
 
-      here : text_on seen' first (get_or list (length list - 1) 0 ∷ []) (length bytes) ≡ bytes
+      here : text_on current' first (get_or list (length list - 1) 0 ∷ []) (length bytes) ≡ bytes
       here =
           let at : 4096 * (first + get_or list (length list - 1) 0) ≡ 4096 * (first + get_or list (length list - 1)
           0) + 0 = omega arith in
-          text_one seen' first (get_or list (length list - 1) 0) (length bytes) fits
-          ∙ ap (λ (p : ℕ). span seen' p (length bytes)) at ∙ writes.inside ok
+          text_one current' first (get_or list (length list - 1) 0) (length bytes) fits
+          ∙ ap (λ (p : ℕ). span current' p (length bytes)) at ∙ writes.inside ok
 
       both : {a b c d : List ℕ} → a ≡ b → c ≡ d → a ++ c ≡ b ++ d
       both e f = cc
 
 -- no write is one
-pub writes_none : {seen : ℕ → ℕ} {unsynced : ℕ → Type 0} (first : ℕ) (blocks : List ℕ)
-    → WritesIn first blocks seen seen unsynced unsynced
+pub writes_none : {current : ℕ → ℕ} {unsynced : ℕ → Type 0} (first : ℕ) (blocks : List ℕ)
+    → WritesIn first blocks current current unsynced unsynced
 writes_none first blocks = record { outside = λ p away. refl; unsyncs = λ p l. inl l }
 
-pub idle_in : {j : ℕ} {seen seen' : ℕ → ℕ} {unsynced unsynced' : ℕ → Type 0} {blocks : List ℕ} → Idle j seen unsynced
-    → WritesIn (area_end j) blocks seen seen' unsynced unsynced' → Idle j seen' unsynced'
+pub idle_in : {j : ℕ} {current current' : ℕ → ℕ} {unsynced unsynced' : ℕ → Type 0} {blocks : List ℕ}
+    → Idle j current unsynced
+    → WritesIn (area_end j) blocks current current' unsynced unsynced' → Idle j current' unsynced'
 idle_in {j = j} {blocks = blocks} idle writes = record {
   gate = λ l. ⊎_elim idle.gate (λ within. omega (arith, within.here)) (writes.unsyncs 4096 l);
   closed = λ e. idle.closed (sym (writes.outside 4096 (λ within. omega (arith, within.here))) ∙ e);
@@ -107,18 +109,19 @@ idle_in {j = j} {blocks = blocks} idle writes = record {
 }
 
 -- an image of a write to one of the blocks
-pub image_but : {seen image : ℕ → ℕ} {unsynced : ℕ → Type 0} (first : ℕ) (list : List ℕ) (i : ℕ) → i < length list
-    → IsImage seen unsynced (aside (first + get_or list i 0) seen image) → IsImageBut first list seen unsynced image
-image_but {seen = seen} {image = image} first list i lt is = record {
+pub image_but : {current image : ℕ → ℕ} {unsynced : ℕ → Type 0} (first : ℕ) (list : List ℕ) (i : ℕ) → i < length list
+    → IsImage current unsynced (aside (first + get_or list i 0) current image)
+    → IsImageBut first list current unsynced image
+image_but {current = current} {image = image} first list i lt is = record {
   same = λ p away is_synced. sym
-      (aside_else (first + get_or list i 0) seen image p (λ e. away record { at = i; below = lt; here = e }))
+      (aside_else (first + get_or list i 0) current image p (λ e. away record { at = i; below = lt; here = e }))
       ∙ is.same p is_synced;
 }
 
 -- an image after such writes
-pub image_in : {seen seen' image : ℕ → ℕ} {unsynced unsynced' : ℕ → Type 0} {first : ℕ} {blocks : List ℕ}
-    → WritesIn first blocks seen seen' unsynced unsynced' → IsImage seen' unsynced' image
-    → IsImageBut first blocks seen unsynced image
+pub image_in : {current current' image : ℕ → ℕ} {unsynced unsynced' : ℕ → Type 0} {first : ℕ} {blocks : List ℕ}
+    → WritesIn first blocks current current' unsynced unsynced' → IsImage current' unsynced' image
+    → IsImageBut first blocks current unsynced image
 image_in writes is = record {
   same = λ p away is_synced. is.same p (λ l. ⊎_elim is_synced away (writes.unsyncs p l)) ∙ writes.outside p away;
 }
@@ -133,25 +136,28 @@ in_append {first = first} {p = p} {list = list} {list' = list'} more grown withi
       (get_or_append_left list more 0 within.at within.below) ∙ within.here;
 }
 
-pub writes_on : {first : ℕ} {list list' : List ℕ} {seen mid seen' : ℕ → ℕ} {unsynced between unsynced' : ℕ → Type 0}
-    (more : List ℕ) → list' ≡ list ++ more → WritesIn first list seen mid unsynced between
-    → WritesIn first list' mid seen' between unsynced' → WritesIn first list' seen seen' unsynced unsynced'
+pub writes_on : {first : ℕ} {list list' : List ℕ} {current mid current' : ℕ → ℕ} {unsynced between unsynced' : ℕ
+    → Type 0}
+    (more : List ℕ) → list' ≡ list ++ more → WritesIn first list current mid unsynced between
+    → WritesIn first list' mid current' between unsynced' → WritesIn first list' current current' unsynced unsynced'
 writes_on more grown a b = record {
   outside = λ p away. b.outside p away ∙ a.outside p (λ within. away (in_append more grown within));
   unsyncs = λ p l. ⊎_elim (λ m. ⊎_elim inl (λ within. inr (in_append more grown within)) (a.unsyncs p m)) inr
       (b.unsyncs p l);
 }
 
-pub but_more : {first : ℕ} {list list' : List ℕ} {seen image : ℕ → ℕ} {unsynced : ℕ → Type 0} (more : List ℕ)
-    → list' ≡ list ++ more → IsImageBut first list seen unsynced image → IsImageBut first list' seen unsynced image
+pub but_more : {first : ℕ} {list list' : List ℕ} {current image : ℕ → ℕ} {unsynced : ℕ → Type 0} (more : List ℕ)
+    → list' ≡ list ++ more → IsImageBut first list current unsynced image
+    → IsImageBut first list' current unsynced image
 but_more more grown is = record {
   same = λ p away is_synced. is.same p (λ within. away
       (in_append more grown within)) is_synced;
 }
 
-pub but_on : {first : ℕ} {list list' : List ℕ} {seen mid image : ℕ → ℕ} {unsynced between : ℕ → Type 0} (more : List ℕ)
-    → list' ≡ list ++ more → WritesIn first list seen mid unsynced between → IsImageBut first list' mid between image
-    → IsImageBut first list' seen unsynced image
+pub but_on : {first : ℕ} {list list' : List ℕ} {current mid image : ℕ → ℕ} {unsynced between : ℕ
+    → Type 0} (more : List ℕ)
+    → list' ≡ list ++ more → WritesIn first list current mid unsynced between → IsImageBut first list' mid between image
+    → IsImageBut first list' current unsynced image
 but_on more grown a is = record {
   same = λ p away is_synced. is.same p away (λ m. ⊎_elim is_synced (λ within. away (in_append more grown within))
       (a.unsyncs p m))
@@ -159,8 +165,9 @@ but_on more grown a is = record {
 }
 
 -- where only other blocks were written
-pub blocks_kept : (seen seen' : ℕ → ℕ) (first : ℕ) (list blocks : List ℕ) → SameOutside first blocks seen seen'
-    → NoneOf list blocks → blocks_on seen' first list ≡ blocks_on seen first list
-blocks_kept seen seen' first list blocks same apart =
-    blocks_same seen' seen first list
+pub blocks_kept : (current current' : ℕ → ℕ) (first : ℕ) (list blocks : List ℕ)
+    → SameOutside first blocks current current'
+    → NoneOf list blocks → blocks_on current' first list ≡ blocks_on current first list
+blocks_kept current current' first list blocks same apart =
+    blocks_same current' current first list
     (λ i p lt e. same p (λ within. apart i within.at lt within.below (omega (arith, e, within.here))))

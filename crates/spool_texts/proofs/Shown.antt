@@ -44,27 +44,29 @@ found slot ordinal (suc k) (row ∷ rows) b here only =
     not_first true e rest = absurd (omega (arith, only 0 (owns_is slot ordinal row (sym e))))
     not_first false e rest = rest
 
-pub length-blocks_on : (seen : ℕ → ℕ) (first : ℕ) (list : List ℕ) → length (blocks_on seen first list) ≡ 4096 * length
+pub length-blocks_on : (current : ℕ → ℕ) (first : ℕ) (list : List ℕ)
+    → length (blocks_on current first list) ≡ 4096 * length
     list
 unfolding blocks_on
-length-blocks_on seen first [] = refl
-length-blocks_on seen first (b ∷ list) =
+length-blocks_on current first [] = refl
+length-blocks_on current first (b ∷ list) =
     omega (
       arith,
-      length-append (span seen (4096 * (first + b)) 4096) (blocks_on seen first list),
-      length-span seen
+      length-append (span current (4096 * (first + b)) 4096) (blocks_on current first list),
+      length-span current
           (4096 * (first + b)) 4096,
-      length-blocks_on seen first list,
+      length-blocks_on current first list,
     )
 
-pub blocks_on-append : (seen : ℕ → ℕ) (first : ℕ) (list more : List ℕ) → blocks_on seen first (list ++ more) ≡ blocks_on
-    seen first list ++ blocks_on seen first more
+pub blocks_on-append : (current : ℕ → ℕ) (first : ℕ) (list more : List ℕ)
+    → blocks_on current first (list ++ more) ≡ blocks_on
+    current first list ++ blocks_on current first more
 unfolding blocks_on
-blocks_on-append seen first [] more = refl
-blocks_on-append seen first (b ∷ list) more =
-    ap (λ (xs : List ℕ). span seen (4096 * (first + b)) 4096 ++ xs) (blocks_on-append seen first list more)
-    ∙ sym (append_assoc (span seen (4096 * (first + b)) 4096) (blocks_on seen first list)
-    (blocks_on seen first more))
+blocks_on-append current first [] more = refl
+blocks_on-append current first (b ∷ list) more =
+    ap (λ (xs : List ℕ). span current (4096 * (first + b)) 4096 ++ xs) (blocks_on-append current first list more)
+    ∙ sym (append_assoc (span current (4096 * (first + b)) 4096) (blocks_on current first list)
+    (blocks_on current first more))
 
 -- the blocks that are found for the ordinals from one on are the listed ones
 joined_on : (image : ℕ → ℕ) (first : ℕ) (rows : List (Option (ℕ × ℕ))) (slot ordinal : ℕ) (list : List ℕ)

@@ -20,11 +20,12 @@ held_count d = 4096 * full_count d + length d.unfinished
 
 -- those bytes; the text blocks begin at a page
 abbrev pub content_on : (ℕ → ℕ) → ℕ → Draft → List ℕ
-content_on seen first d = blocks_on seen first (take (full_count d) d.blocks) ++ d.unfinished
+content_on current first d = blocks_on current first (take (full_count d) d.blocks) ++ d.unfinished
 
 -- the bytes on the listed blocks, and the last ones, which are still to be written to the last of these
 abbrev pub bytes_with : (ℕ → ℕ) → ℕ → List ℕ → List ℕ → List ℕ
-bytes_with seen first list last = blocks_on seen first (take (length list - (length last + 4095) / 4096) list) ++ last
+bytes_with current first list last = blocks_on current first (take (length list -
+    (length last + 4095) / 4096) list) ++ last
 
 -- the listed blocks are reserved, each is listed once, and nobody owns one
 pub record IsReserved (h : Held) (list : List ℕ) : Type 0 where

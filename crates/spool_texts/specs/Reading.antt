@@ -8,12 +8,12 @@ pub record IsRead (text : List ℕ) (at n : ℕ) (old new : List ℕ) : Type 0 w
 
 -- a byte of the listed blocks
 abbrev pub byte_on : (ℕ → ℕ) → ℕ → List ℕ → ℕ → ℕ
-byte_on seen first list at = seen (4096 * (first + get_or list (at / 4096) 0) + at % 4096)
+byte_on current first list at = current (4096 * (first + get_or list (at / 4096) 0) + at % 4096)
 
 -- the first n bytes are those of the listed blocks from `at` on; what is after them in the buffer stays
-pub record IsPiece (seen : ℕ → ℕ) (first : ℕ) (list : List ℕ) (at n : ℕ) (old new : List ℕ) : Type 0 where
+pub record IsPiece (current : ℕ → ℕ) (first : ℕ) (list : List ℕ) (at n : ℕ) (old new : List ℕ) : Type 0 where
   pub size : length new ≡ length old
-  pub bytes : (k : ℕ) → k < n → get_or new k 0 ≡ byte_on seen first list (at + k)
+  pub bytes : (k : ℕ) → k < n → get_or new k 0 ≡ byte_on current first list (at + k)
   pub rest : (k : ℕ) → n ≤ k → get_or new k 0 ≡ get_or old k 0
 
 -- so many of the listed blocks from this index on follow one another

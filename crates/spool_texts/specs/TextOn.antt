@@ -4,12 +4,12 @@ use Rattle.spool_disk.specs.Disk.{span}
 
 -- the bytes of the listed blocks, joined; the text blocks begin at a page
 unfoldable pub blocks_on : (ℕ → ℕ) → ℕ → List ℕ → List ℕ
-blocks_on seen first [] = []
-blocks_on seen first (b ∷ list) = span seen (4096 * (first + b)) 4096 ++ blocks_on seen first list
+blocks_on current first [] = []
+blocks_on current first (b ∷ list) = span current (4096 * (first + b)) 4096 ++ blocks_on current first list
 
 -- the text of this length on the listed blocks
 abbrev pub text_on : (ℕ → ℕ) → ℕ → List ℕ → ℕ → List ℕ
-text_on seen first list len = take len (blocks_on seen first list)
+text_on current first list len = take len (blocks_on current first list)
 
 -- these are the slot's blocks by ordinal, each of which is there once
 pub record IsListed (rows : List (Option (ℕ × ℕ))) (slot : ℕ) (list : List ℕ) : Type 0 where

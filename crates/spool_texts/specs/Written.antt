@@ -18,14 +18,15 @@ abbrev pub NoneOf : List ℕ → List ℕ → Type 0
 NoneOf list blocks = (i k : ℕ) → i < length list → k < length blocks → get_or list i 0 ≢ get_or blocks k 0
 
 -- outside these blocks nothing changes, and only there places become unsynced
-pub record WritesIn (first : ℕ) (blocks : List ℕ) (seen seen' : ℕ → ℕ) (unsynced unsynced' : ℕ → Type 0) : Type 0 where
-  pub outside : SameOutside first blocks seen seen'
+pub record WritesIn (first : ℕ) (blocks : List ℕ) (current current' : ℕ → ℕ) (unsynced unsynced' : ℕ
+    → Type 0) : Type 0 where
+  pub outside : SameOutside first blocks current current'
   pub unsyncs : (p : ℕ) → unsynced' p → unsynced p ⊎ InBlocks first blocks p
 
 -- outside these blocks a crash might have left this before
-pub record IsImageBut (first : ℕ) (blocks : List ℕ) (seen : ℕ → ℕ) (unsynced : ℕ → Type 0) (image : ℕ
+pub record IsImageBut (first : ℕ) (blocks : List ℕ) (current : ℕ → ℕ) (unsynced : ℕ → Type 0) (image : ℕ
     → ℕ) : Type 0 where
-  pub same : (p : ℕ) → (InBlocks first blocks p → ⊥) → (unsynced p → ⊥) → image p ≡ seen p
+  pub same : (p : ℕ) → (InBlocks first blocks p → ⊥) → (unsynced p → ⊥) → image p ≡ current p
 
 -- the image, with these blocks as they were
 unfoldable pub aside_blocks : ℕ → List ℕ → (ℕ → ℕ) → (ℕ → ℕ) → ℕ → ℕ

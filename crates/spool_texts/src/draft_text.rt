@@ -58,12 +58,12 @@ impl DraftText {
         ensures none { IfOk result (λ draft. draft.blocks ≡ []) }
         ensures tail { D.honest disk.old → IfOk result
             (λ draft. draft.unfinished ≡ drop (len - len % 4096)
-            (text_on (D.seen disk.old) (text_page layout.now) list.now len)) }
+            (text_on (D.current disk.old) (text_page layout.now) list.now len)) }
         ensures tail_size { IfOk result (λ draft. length draft.unfinished ≡ len % 4096) }
-        ensures keeps { D.honest disk.old → Keeps (D.seen disk.old) (D.seen disk.new) (D.unsynced disk.old)
+        ensures keeps { D.honest disk.old → Keeps (D.current disk.old) (D.current disk.new) (D.unsynced disk.old)
             (D.unsynced disk.new) }
         ensures lasts { D.honest disk.old → Lasts D.Disk disk.old disk.new
-            (IsImage (D.seen disk.old) (D.unsynced disk.old)) }
+            (IsImage (D.current disk.old) (D.unsynced disk.old)) }
     {
         let mut page = vec![in alloc; 0; PAGE]?;
         let filled = read_tail(disk, layout, list, len, &mut page)?;
@@ -137,8 +137,8 @@ impl DraftText {
             → (self.new ≡ self.old) × (disk.new ≡ disk.old) × (blocks.new ≡ blocks.old) × IsOk result }
         ensures held { OnOk result (held_count self.new ≡ held_count self.old + length bytes.now) }
         ensures content { D.honest disk.old → OnOk result
-            (content_on (D.seen disk.new) (text_page layout.now) self.new
-            ≡ content_on (D.seen disk.old) (text_page layout.now) self.old ++ bytes.now) }
+            (content_on (D.current disk.new) (text_page layout.now) self.new
+            ≡ content_on (D.current disk.old) (text_page layout.now) self.old ++ bytes.now) }
 
         // Where memory is short, nothing is done.
         ensures memory { IsErrOf result DraftError.NoMemory
@@ -156,15 +156,15 @@ impl DraftText {
 
         // But for its own blocks, nothing is written, and every image is one from before.
         ensures writes { D.honest disk.old → WritesIn (text_page layout.now) self.new.blocks
-            (D.seen disk.old) (D.seen disk.new) (D.unsynced disk.old) (D.unsynced disk.new) }
-        ensures idle { D.honest disk.old → Idle (journal_pages layout.now) (D.seen disk.old) (D.unsynced disk.old)
-            → Idle (journal_pages layout.now) (D.seen disk.new) (D.unsynced disk.new) }
-        ensures image { D.honest disk.old → (image : ℕ → ℕ) → IsImage (D.seen disk.new) (D.unsynced disk.new) image
-            → IsImage (D.seen disk.old) (D.unsynced disk.old)
-            (aside_blocks (text_page layout.now) self.new.blocks (D.seen disk.old) image) }
+            (D.current disk.old) (D.current disk.new) (D.unsynced disk.old) (D.unsynced disk.new) }
+        ensures idle { D.honest disk.old → Idle (journal_pages layout.now) (D.current disk.old) (D.unsynced disk.old)
+            → Idle (journal_pages layout.now) (D.current disk.new) (D.unsynced disk.new) }
+        ensures image { D.honest disk.old → (image : ℕ → ℕ) → IsImage (D.current disk.new) (D.unsynced disk.new) image
+            → IsImage (D.current disk.old) (D.unsynced disk.old)
+            (aside_blocks (text_page layout.now) self.new.blocks (D.current disk.old) image) }
         ensures lasts { D.honest disk.old → Lasts D.Disk disk.old disk.new
-            (λ image. IsImage (D.seen disk.old) (D.unsynced disk.old)
-            (aside_blocks (text_page layout.now) self.new.blocks (D.seen disk.old) image)) }
+            (λ image. IsImage (D.current disk.old) (D.unsynced disk.old)
+            (aside_blocks (text_page layout.now) self.new.blocks (D.current disk.old) image)) }
     {
         if bytes.is_empty() {
             return Ok(());
@@ -213,18 +213,18 @@ impl DraftText {
         ensures few { length self.new.unfinished < 4096 }
         ensures held { IfOk result (λ n. held_count self.new ≡ held_count self.old + n) }
         ensures content { D.honest disk.old → IfOk result
-            (λ n. content_on (D.seen disk.new) (text_page layout.now) self.new
-            ≡ content_on (D.seen disk.old) (text_page layout.now) self.old ++ take n bytes.now) }
+            (λ n. content_on (D.current disk.new) (text_page layout.now) self.new
+            ≡ content_on (D.current disk.old) (text_page layout.now) self.old ++ take n bytes.now) }
         ensures takes { Takes blocks.old blocks.new self.old.blocks self.new.blocks }
         ensures reserved { IsReserved blocks.new self.new.blocks }
         ensures full { IsErrOf result DraftError.Full → (b : ℕ) → IsFree blocks.new b → ⊥ }
         ensures scarce { IsErrOf result DraftError.Full → 4096 * length self.new.blocks ≤ held_count self.old }
         ensures writes { D.honest disk.old → WritesIn (text_page layout.now) self.new.blocks
-            (D.seen disk.old) (D.seen disk.new) (D.unsynced disk.old) (D.unsynced disk.new) }
-        ensures idle { D.honest disk.old → Idle (journal_pages layout.now) (D.seen disk.old) (D.unsynced disk.old)
-            → Idle (journal_pages layout.now) (D.seen disk.new) (D.unsynced disk.new) }
+            (D.current disk.old) (D.current disk.new) (D.unsynced disk.old) (D.unsynced disk.new) }
+        ensures idle { D.honest disk.old → Idle (journal_pages layout.now) (D.current disk.old) (D.unsynced disk.old)
+            → Idle (journal_pages layout.now) (D.current disk.new) (D.unsynced disk.new) }
         ensures lasts { D.honest disk.old → Lasts D.Disk disk.old disk.new
-            (IsImageBut (text_page layout.now) self.new.blocks (D.seen disk.old) (D.unsynced disk.old)) }
+            (IsImageBut (text_page layout.now) self.new.blocks (D.current disk.old) (D.unsynced disk.old)) }
     {
         self.open_block(blocks)?;
         let n = fill(&mut self.page, self.filled, bytes);
@@ -252,8 +252,9 @@ impl DraftText {
         ensures some { IsErrOf result DraftError.Full → 1 ≤ length bytes.now }
 
         // The bytes on its blocks with those that it answers are all that it held, and the last ones.
-        ensures content { (seen : ℕ → ℕ) (first : ℕ) → IfOk result
-            (λ last. bytes_with seen first self.new.blocks last.items ≡ content_on seen first self.old ++ bytes.now) }
+        ensures content { (current : ℕ → ℕ) (first : ℕ) → IfOk result
+            (λ last. bytes_with current first self.new.blocks last.items ≡ content_on current first self.old ++
+            bytes.now) }
         ensures fits { IfOk result
             (λ last. 1 ≤ length self.new.blocks → (length last.items + 4095) / 4096 ≤ length self.new.blocks) }
 
@@ -338,11 +339,11 @@ fn read_tail<D: Disk>(
     ensures count { IfOk result (λ n. n ≡ len % 4096) }
     ensures tail { D.honest disk.old → OnOk result
         (take (len % 4096) page.new ≡ drop (len - len % 4096)
-        (text_on (D.seen disk.old) (text_page layout.now) list.now len)) }
+        (text_on (D.current disk.old) (text_page layout.now) list.now len)) }
     ensures keeps { D.honest disk.old
-        → Keeps (D.seen disk.old) (D.seen disk.new) (D.unsynced disk.old) (D.unsynced disk.new) }
+        → Keeps (D.current disk.old) (D.current disk.new) (D.unsynced disk.old) (D.unsynced disk.new) }
     ensures lasts { D.honest disk.old → Lasts D.Disk disk.old disk.new
-        (IsImage (D.seen disk.old) (D.unsynced disk.old)) }
+        (IsImage (D.current disk.old) (D.unsynced disk.old)) }
 {
     let tail = (len % PAGE as u64) as usize;
     read_text(
@@ -372,15 +373,15 @@ fn write_prefix<D: Disk>(
     ensures honest { D.honest disk.old ↔ D.honest disk.new }
     ensures counts { Counts (IsErr result) (D.failures disk.old) (D.failures disk.new) }
     ensures text { D.honest disk.old → OnOk result
-        (text_on (D.seen disk.new) (text_page layout.now) list.now
-        (4096 * (length list.now - 1) + length bytes.now) ≡ text_on (D.seen disk.old)
+        (text_on (D.current disk.new) (text_page layout.now) list.now
+        (4096 * (length list.now - 1) + length bytes.now) ≡ text_on (D.current disk.old)
         (text_page layout.now) list.now (4096 * (length list.now - 1)) ++ bytes.now) }
-    ensures writes { D.honest disk.old → WritesIn (text_page layout.now) list.now (D.seen disk.old)
-        (D.seen disk.new) (D.unsynced disk.old) (D.unsynced disk.new) }
-    ensures idle { D.honest disk.old → Idle (journal_pages layout.now) (D.seen disk.old) (D.unsynced disk.old)
-        → Idle (journal_pages layout.now) (D.seen disk.new) (D.unsynced disk.new) }
+    ensures writes { D.honest disk.old → WritesIn (text_page layout.now) list.now (D.current disk.old)
+        (D.current disk.new) (D.unsynced disk.old) (D.unsynced disk.new) }
+    ensures idle { D.honest disk.old → Idle (journal_pages layout.now) (D.current disk.old) (D.unsynced disk.old)
+        → Idle (journal_pages layout.now) (D.current disk.new) (D.unsynced disk.new) }
     ensures lasts { D.honest disk.old → Lasts D.Disk disk.old disk.new
-        (IsImageBut (text_page layout.now) list.now (D.seen disk.old) (D.unsynced disk.old)) }
+        (IsImageBut (text_page layout.now) list.now (D.current disk.old) (D.unsynced disk.old)) }
 {
     let last = list[list.len() - 1];
     write_block(disk, layout, last, 0, bytes)
@@ -400,13 +401,13 @@ pub fn write_last<D: Disk>(
     ensures honest { D.honest disk.old ↔ D.honest disk.new }
     ensures counts { Counts (IsErr result) (D.failures disk.old) (D.failures disk.new) }
     ensures written { D.honest disk.old → OnOk result ((length last.now + 4095) / 4096 ≤ length list.now
-        → text_on (D.seen disk.new) (text_page layout.now) list.now
-        (length (bytes_with (D.seen disk.old) (text_page layout.now) list.now last.now)) ≡ bytes_with
-        (D.seen disk.old) (text_page layout.now) list.now last.now) }
-    ensures writes { D.honest disk.old → WritesIn (text_page layout.now) list.now (D.seen disk.old)
-        (D.seen disk.new) (D.unsynced disk.old) (D.unsynced disk.new) }
+        → text_on (D.current disk.new) (text_page layout.now) list.now
+        (length (bytes_with (D.current disk.old) (text_page layout.now) list.now last.now)) ≡ bytes_with
+        (D.current disk.old) (text_page layout.now) list.now last.now) }
+    ensures writes { D.honest disk.old → WritesIn (text_page layout.now) list.now (D.current disk.old)
+        (D.current disk.new) (D.unsynced disk.old) (D.unsynced disk.new) }
     ensures lasts { D.honest disk.old → Lasts D.Disk disk.old disk.new
-        (IsImageBut (text_page layout.now) list.now (D.seen disk.old) (D.unsynced disk.old)) }
+        (IsImageBut (text_page layout.now) list.now (D.current disk.old) (D.unsynced disk.old)) }
 {
     let full = list.len().saturating_sub(last.len().div_ceil(PAGE));
     for at in full..list.len() {

@@ -21,11 +21,12 @@ pub fn shown_texts()
 
 /// Texts on other blocks stay where only some blocks are written: those on a list, and what a draft holds.
 pub fn kept_texts()
-    ensures text { (seen seen' : ℕ → ℕ) (first len : ℕ) (list blocks : List ℕ) → SameOutside first blocks seen seen'
-        → NoneOf list blocks → text_on seen' first list len ≡ text_on seen first list len }
-    ensures content { (seen seen' : ℕ → ℕ) (first : ℕ) (draft : Draft) (blocks : List ℕ)
-        → SameOutside first blocks seen seen' → NoneOf draft.blocks blocks
-        → content_on seen' first draft ≡ content_on seen first draft }
+    ensures text { (current current' : ℕ → ℕ) (first len : ℕ) (list blocks : List ℕ)
+        → SameOutside first blocks current current'
+        → NoneOf list blocks → text_on current' first list len ≡ text_on current first list len }
+    ensures content { (current current' : ℕ → ℕ) (first : ℕ) (draft : Draft) (blocks : List ℕ)
+        → SameOutside first blocks current current' → NoneOf draft.blocks blocks
+        → content_on current' first draft ≡ content_on current first draft }
 {}
 
 /// An image shows the same as with some blocks as they were: the same texts where no row owns the blocks, and outside

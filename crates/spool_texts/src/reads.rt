@@ -29,12 +29,12 @@ pub fn read_text<D: Disk>(
     ensures later { D.moment disk.old ≤ D.moment disk.new }
     ensures count { IfOk result (λ n. n ≡ min (len - at) (length buf.old)) }
     ensures read { D.honest disk.old → IfOk result
-        (λ n. IsRead (text_on (D.seen disk.old) (text_page layout.now) list.now len) at n buf.old
+        (λ n. IsRead (text_on (D.current disk.old) (text_page layout.now) list.now len) at n buf.old
         buf.new) }
     ensures keeps { D.honest disk.old
-        → Keeps (D.seen disk.old) (D.seen disk.new) (D.unsynced disk.old) (D.unsynced disk.new) }
+        → Keeps (D.current disk.old) (D.current disk.new) (D.unsynced disk.old) (D.unsynced disk.new) }
     ensures lasts { D.honest disk.old → Lasts D.Disk disk.old disk.new
-        (IsImage (D.seen disk.old) (D.unsynced disk.old)) }
+        (IsImage (D.current disk.old) (D.unsynced disk.old)) }
 {
     let count = len.saturating_sub(at).min(buf.len() as u64) as usize;
     let mut done = 0;
@@ -63,11 +63,11 @@ fn read_piece<D: Disk>(
     ensures some { IfOk result (λ n. 1 ≤ n) }
     ensures within { IfOk result (λ n. n ≤ length buf.old) }
     ensures piece { D.honest disk.old → IfOk result
-        (λ n. IsPiece (D.seen disk.old) (text_page layout.now) list.now at n buf.old buf.new) }
+        (λ n. IsPiece (D.current disk.old) (text_page layout.now) list.now at n buf.old buf.new) }
     ensures keeps { D.honest disk.old
-        → Keeps (D.seen disk.old) (D.seen disk.new) (D.unsynced disk.old) (D.unsynced disk.new) }
+        → Keeps (D.current disk.old) (D.current disk.new) (D.unsynced disk.old) (D.unsynced disk.new) }
     ensures lasts { D.honest disk.old → Lasts D.Disk disk.old disk.new
-        (IsImage (D.seen disk.old) (D.unsynced disk.old)) }
+        (IsImage (D.current disk.old) (D.unsynced disk.old)) }
 {
     let index = (at / PAGE as u64) as usize;
     let offset = (at % PAGE as u64) as usize;

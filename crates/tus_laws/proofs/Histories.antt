@@ -35,7 +35,7 @@ use Rattle.tus_laws.proofs.Bodies.{Holds, DraftHolds, Brings, BringsAll, brings_
 use Rattle.tus_laws.proofs.Turning.{Opens, head_opens, body_opens, commit_idle, spent_else, Rep, replay, replay_both}
 use Rattle.tus_laws.proofs.Turning.{act_cut, here_set, else_set, Did, did_head, part_did, whole_did, found_u, store_u}
 use Rattle.tus_laws.proofs.Turning.{blocks_u, patches_u}
-use Rattle.tus_laws.proofs.Replays.{Sound, Sim, Keeps, Replays, sound_put, sim_put, sim_same, more_given, came_after}
+use Rattle.tus_laws.proofs.Replays.{Valid, Sim, Keeps, Replays, valid_put, sim_put, sim_same, more_given, came_after}
 
 -- THE INDEXES stay
 appended_indexes : (m : Store) (n : ℕ) (bytes : List ℕ) (o : Option Upload)
@@ -69,20 +69,20 @@ same_indexes st e = changed_indexes st e (step st e Served).state.world.store (s
 
 -- after an event
 abbrev pub After : (ℕ → List ℕ) → ℕ → Rep → Step → Type 0
-After g c r x = Sound x.state × Sim x.state (more_given g c (bytes_of x.outcome)) r
+After g c r x = Valid x.state × Sim x.state (more_given g c (bytes_of x.outcome)) r
 
-module _ (st : State) (sound : Sound st) (g : ℕ → List ℕ) (r : Rep) (sim : Sim st g r) (c : ℕ) where
+module _ (st : State) (valid : Valid st) (g : ℕ → List ℕ) (r : Rep) (sim : Sim st g r) (c : ℕ) where
   refused_after : (why : SessionError) → After g c r (kept st why)
-  refused_after why = (sound, sim_same st g r c sim)
+  refused_after why = (valid, sim_same st g r c sim)
 
   -- the world and the patches stay
   still_after : (o : Option Conn) (bytes : List ℕ) → draft_at o ≡ draft_at (st.conns c)
       → ((k : Conn) → o ≡ Some k → DraftHolds st.world k)
       → ((k : Conn) → o ≡ Some k → (d : ℕ) → k.draft ≡ Some d → k.pending ≡ None)
       → still_to_give (st.conns c) ≡ bytes ++ still_to_give o
-      → Sound (put st st.world c o) × Sim (put st st.world c o) (more_given g c bytes) r
+      → Valid (put st st.world c o) × Sim (put st st.world c o) (more_given g c bytes) r
   still_after o bytes own holds idle text =
-      let keeps : Keeps st sound st.world c o = record {
+      let keeps : Keeps st valid st.world c o = record {
         indexes = refl;
         others = λ e p there ne. there;
         fresh = λ d is. inl (sym own ∙ is);
@@ -96,18 +96,18 @@ module _ (st : State) (sound : Sound st) (g : ℕ → List ℕ) (r : Rep) (sim :
         drafts = λ e ne. refl;
         given = λ e ne. refl;
       } in
-      (sound_put st sound st.world c o keeps, sim_put st g r r st.world c o bytes sim replays)
+      (valid_put st valid st.world c o keeps, sim_put st g r r st.world c o bytes sim replays)
 
   -- the connection is closed, and no patch was open on it
   closed_after : (bytes : List ℕ) → draft_at (st.conns c) ≡ None → still_to_give (st.conns c) ≡ bytes ++ []
-      → Sound (put st st.world c None) × Sim (put st st.world c None) (more_given g c bytes) r
+      → Valid (put st st.world c None) × Sim (put st st.world c None) (more_given g c bytes) r
   closed_after bytes own text =
       still_after None bytes (sym own) (λ j is. absurd (none-some j is)) (λ j is. absurd (none-some j is)) text
 
   -- the connection stays, and no patch is open on it before or after
   patchless_after : (j : Conn) (bytes : List ℕ) → j.draft ≡ None → draft_at (st.conns c) ≡ None
       → still_to_give (st.conns c) ≡ bytes ++ text_left j.pending
-      → Sound (put st st.world c (Some j)) × Sim (put st st.world c (Some j)) (more_given g c bytes) r
+      → Valid (put st st.world c (Some j)) × Sim (put st st.world c (Some j)) (more_given g c bytes) r
   patchless_after j bytes none own text =
       let no_patch : (i : Conn) (d : ℕ) → Some j ≡ Some i → i.draft ≡ Some d → ⊥ =
       λ i d is e. none-some d (sym none ∙ (ap (λ x. x.draft) (same_Some j i is) ∙ e)) in
@@ -125,14 +125,14 @@ module _ (st : State) (sound : Sound st) (g : ℕ → List ℕ) (r : Rep) (sim :
   opened_after (Some k) is = refused_after TooMany
 
   module _ (k : Conn) (here : st.conns c ≡ Some k) where
-    same_conn : Sound (put st st.world c (Some k)) × Sim (put st st.world c (Some k)) (more_given g c []) r
+    same_conn : Valid (put st st.world c (Some k)) × Sim (put st st.world c (Some k)) (more_given g c []) r
     same_conn =
-        still_after (Some k) [] (ap draft_at (sym here)) (λ j is. sound.holds c j (here ∙ is))
-        (λ j is. sound.idle c j (here ∙ is)) (ap still_to_give here)
+        still_after (Some k) [] (ap draft_at (sym here)) (λ j is. valid.holds c j (here ∙ is))
+        (λ j is. valid.idle c j (here ∙ is)) (ap still_to_give here)
 
     text_no_draft_at : (h : Giving) → k.pending ≡ Some h → (o : Option ℕ) → k.draft ≡ o → k.draft ≡ None
     text_no_draft_at h text None is = is
-    text_no_draft_at h text (Some d) is = absurd (none-some h (sym (sound.idle c k here d is) ∙ text))
+    text_no_draft_at h text (Some d) is = absurd (none-some h (sym (valid.idle c k here d is) ∙ text))
 
     text_no_draft : (h : Giving) → k.pending ≡ Some h → k.draft ≡ None
     text_no_draft h text = text_no_draft_at h text k.draft refl
@@ -141,7 +141,7 @@ module _ (st : State) (sound : Sound st) (g : ℕ → List ℕ) (r : Rep) (sim :
     given_conn : (number : ℕ) (closes : Bool) (left bytes : List ℕ) → k.draft ≡ None
         → still_to_give (st.conns c) ≡ bytes ++ left
         → let o = given_up k closes (pending_of number left closes) in
-        Sound (put st st.world c o) × Sim (put st st.world c o) (more_given g c bytes) r
+        Valid (put st st.world c o) × Sim (put st st.world c o) (more_given g c bytes) r
     given_conn number true [] bytes none text = closed_after bytes (ap draft_at here ∙ none) text
     given_conn number false [] bytes none text =
         patchless_after (record k { pending = None }) bytes none (ap draft_at here ∙ none) text
@@ -170,7 +170,7 @@ module _ (st : State) (sound : Sound st) (g : ℕ → List ℕ) (r : Rep) (sim :
     module _ (d : ℕ) (is : k.draft ≡ Some d) (roomy : (x : DonePatch st (Ended c)) → IsRefused x Full → ⊥)
         (text : still_to_give (st.conns c) ≡ []) where
       abbrev h : Holds st.world k d
-      h = sound.holds c k here d is
+      h = valid.holds c k here d is
 
       abbrev body : List ℕ
       body = rest_body (cut (reader st.world) k.stream).rest
@@ -190,7 +190,7 @@ module _ (st : State) (sound : Sound st) (g : ℕ → List ℕ) (r : Rep) (sim :
       ends : ended_world st.world k ≡ w'
       ends = ended_spent st.world k d h.patch is h.found
 
-      cut_keeps : Keeps st sound w' c None
+      cut_keeps : Keeps st valid w' c None
       cut_keeps = record {
         indexes =
             ap (λ w. w.store.indexes) (sym ends)
@@ -229,7 +229,7 @@ module _ (st : State) (sound : Sound st) (g : ℕ → List ℕ) (r : Rep) (sim :
       cut_after =
           let now : After g c (act_cut r c body (Some d))
           (record { state = put st w' c None; outcome = Done; text = [] }) = (
-            sound_put st sound w' c None cut_keeps,
+            valid_put st valid w' c None cut_keeps,
             sim_put st g r (act_cut r c body (Some d)) w' c None [] sim cut_replays,
           ) in
           let own : r.drafts c ≡ Some d = sim.drafts c ∙ (ap draft_at here ∙ is) in
@@ -265,7 +265,7 @@ module _ (st : State) (sound : Sound st) (g : ℕ → List ℕ) (r : Rep) (sim :
       n = taken (reader st.world) k.stream piece
 
       brings : BringsAll st.world k piece n m
-      brings = brings_all st.world k (sound.holds c k here) piece idle
+      brings = brings_all st.world k (valid.holds c k here) piece idle
 
       first_opens : Opens st.world k.draft a
       first_opens = head_opens st.world k.draft m.head brings.first
@@ -307,7 +307,7 @@ module _ (st : State) (sound : Sound st) (g : ℕ → List ℕ) (r : Rep) (sim :
       conclude i z o x turn own ends opens did holds =
           let r' = replay r1 (body_moment c o x) in
           let after : After g c r' (turned st c (turn_of k piece i z)) =
-          came_after st sound g r r' sim c k here idle (k.stream ++ take i piece) z opens did
+          came_after st valid g r r' sim c k here idle (k.stream ++ take i piece) z opens did
           (turn_indexes i z turn) holds in
           let same : replay r (head_moment c m.head ++ body_moment c a.draft m.body) ≡ r' =
           replay_both r (head_moment c m.head) (body_moment c a.draft m.body)
@@ -400,27 +400,27 @@ module _ (st : State) (sound : Sound st) (g : ℕ → List ℕ) (r : Rep) (sim :
 
 -- EACH EVENT
 
-module _ (st : State) (sound : Sound st) (g : ℕ → List ℕ) (r : Rep) (sim : Sim st g r) where
+module _ (st : State) (valid : Valid st) (g : ℕ → List ℕ) (r : Rep) (sim : Sim st g r) where
   came_at_after : (c : ℕ) (piece : List ℕ) → ((x : DonePatch st (Came c piece)) → IsRefused x Full → ⊥)
       → (o : Option Conn) → st.conns c ≡ o
       → After g c (replay r (came_on st.world c piece o)) (came_at st c piece o)
-  came_at_after c piece roomy None is = refused_after st sound g r sim c Closed
-  came_at_after c piece roomy (Some k) is = came_case st sound g r sim c k is piece roomy k.pending refl
+  came_at_after c piece roomy None is = refused_after st valid g r sim c Closed
+  came_at_after c piece roomy (Some k) is = came_case st valid g r sim c k is piece roomy k.pending refl
 
   more_at_after : (c : ℕ) → KeepsText st (More c) → (o : Option Conn) → st.conns c ≡ o → After g c r (more_at st c o)
-  more_at_after c keeps None is = refused_after st sound g r sim c Closed
-  more_at_after c keeps (Some k) is = more_after st sound g r sim c k is keeps
+  more_at_after c keeps None is = refused_after st valid g r sim c Closed
+  more_at_after c keeps (Some k) is = more_after st valid g r sim c k is keeps
 
   ended_at_after : (c : ℕ) → ((x : DonePatch st (Ended c)) → IsRefused x Full → ⊥) → still_to_give (st.conns c) ≡ []
       → (o : Option Conn) → st.conns c ≡ o
       → After g c (replay r (ended_on st.world c o)) (ended_at st c o)
-  ended_at_after c roomy text None is = refused_after st sound g r sim c Closed
-  ended_at_after c roomy text (Some k) is = end_case st sound g r sim c k is roomy text k.draft refl
+  ended_at_after c roomy text None is = refused_after st valid g r sim c Closed
+  ended_at_after c roomy text (Some k) is = end_case st valid g r sim c k is roomy text k.draft refl
 
   event_after : (e : Event) → ((x : DonePatch st e) → IsRefused x Full → ⊥) → KeepsText st e
       → After g (conn_in e) (replay r (event_moments st e)) (step st e Served)
   unfolding step
-  event_after (Opened c) roomy text = opened_after st sound g r sim c (st.conns c) refl
+  event_after (Opened c) roomy text = opened_after st valid g r sim c (st.conns c) refl
   event_after (Came c piece) roomy text = came_at_after c piece roomy (st.conns c) refl
   event_after (More c) roomy text = more_at_after c text (st.conns c) refl
   event_after (Ended c) roomy text = ended_at_after c roomy text (st.conns c) refl
@@ -431,12 +431,12 @@ abbrev pub first_rep : Store → Option ℕ → Rep
 first_rep m blocks = record { world = bared (at_rest m blocks); drafts = λ c. None; given = λ c. [] }
 
 record IsThere (start : State) (r : Rep) (past : List Marked) : Type 0 where
-  sound : Sound (history start past)
+  valid : Valid (history start past)
   sim : Sim (history start past) (λ c. given start c past) (replay r (all_moments start past))
 
 begins : (m : Store) (blocks : Option ℕ) → IsThere (beginning m blocks) (first_rep m blocks) []
 begins m blocks = record {
-  sound = record {
+  valid = record {
     holds = λ c k is. absurd (none-some k is);
     idle = λ c k is. absurd (none-some k is);
     apart = λ c e d is. absurd (none-some d is);
@@ -454,13 +454,13 @@ all_there m blocks (e ∷ past) (before, now) =
     let there = all_there m blocks past before in
     let g : ℕ → List ℕ = λ c. given start c past in
     let r = replay r0 (all_moments start past) in
-    let after = event_after st there.sound g r there.sim e.0 now.roomy now.text in
+    let after = event_after st there.valid g r there.sim e.0 now.roomy now.text in
     let marked : After g (conn_in e.0) (replay r (event_moments st e.0)) (step st e.0 e.1) =
     subst (λ k. After g (conn_in e.0) (replay r (event_moments st e.0)) (step st e.0 k)) (sym now.served) after in
     let joined : After g (conn_in e.0) (replay r0 (all_moments start past ++ event_moments st e.0)) (step st e.0 e.1) =
     subst (λ x. After g (conn_in e.0) x (step st e.0 e.1))
     (sym (replay_both r0 (all_moments start past) (event_moments st e.0))) marked in
-    record { sound = joined.0; sim = joined.1 }
+    record { valid = joined.0; sim = joined.1 }
 
 pub same_bytes : (m : Store) (blocks : Option ℕ) (past other : List Marked) (c : ℕ)
     → AllSmooth (beginning m blocks) past → AllSmooth (beginning m blocks) other

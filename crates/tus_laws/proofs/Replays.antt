@@ -18,7 +18,7 @@ use Rattle.tus_laws.proofs.Bodies.{Holds, DraftHolds}
 use Rattle.tus_laws.proofs.Turning.{Opens, Rep, Did}
 
 -- each connection's patch holds what came of its body, none has a patch and a text, and no two have one patch
-pub record Sound (st : State) : Type 0 where
+pub record Valid (st : State) : Type 0 where
   pub holds : (c : ℕ) (k : Conn) → st.conns c ≡ Some k → DraftHolds st.world k
   pub idle : (c : ℕ) (k : Conn) → st.conns c ≡ Some k → (d : ℕ) → k.draft ≡ Some d → k.pending ≡ None
   pub apart : (c e d : ℕ) → draft_at (st.conns c) ≡ Some d → draft_at (st.conns e) ≡ Some d → c ≡ e
@@ -33,7 +33,7 @@ some_conn : (o : Option Conn) (d : ℕ) → draft_at o ≡ Some d → (k : Conn)
 some_conn None d e = absurd (none-some d e)
 some_conn (Some k) d e = (k, refl, e)
 
-module _ (st : State) (sound : Sound st) (w' : World) (c : ℕ) (o' : Option Conn) where
+module _ (st : State) (valid : Valid st) (w' : World) (c : ℕ) (o' : Option Conn) where
   -- what a turn of one connection keeps
   pub record Keeps : Type 0 where
     pub indexes : w'.store.indexes ≡ st.world.store.indexes
@@ -49,33 +49,33 @@ module _ (st : State) (sound : Sound st) (w' : World) (c : ℕ) (o' : Option Con
 
     old_holds : (e : ℕ) → e ≢ c → (k : Conn) → st.conns e ≡ Some k → DraftHolds w' k
     old_holds e ne k is d f =
-        let x = sound.holds e k is d f in
+        let x = valid.holds e k is d f in
         record {
           asked = x.asked;
           patch = x.patch;
           rest = rest_same st.world w' k.stream keeps.indexes ∙ x.rest;
-          found = keeps.others d x.patch x.found (λ own. ne (sound.apart e c d (ap draft_at is ∙ f) own));
+          found = keeps.others d x.patch x.found (λ own. ne (valid.apart e c d (ap draft_at is ∙ f) own));
           body = x.body;
         }
 
     not_both : (e d : ℕ) → e ≢ c → draft_at o' ≡ Some d → draft_at (st.conns e) ≡ Some d → ⊥
     not_both e d ne f h = elim (keeps.fresh d f) [
-      | inl own ↦ ne (sound.apart e c d h own)
+      | inl own ↦ ne (valid.apart e c d h own)
       | inr none ↦
           let k = some_conn (st.conns e) d h in
-          let x = sound.holds e k.0 k.1 d k.2 in
+          let x = valid.holds e k.0 k.1 d k.2 in
           none-some x.patch (sym none ∙ x.found)
     ]
 
-    pub sound_put : Sound (put st w' c o')
-    sound_put = record {
+    pub valid_put : Valid (put st w' c o')
+    valid_put = record {
       holds = λ e k is. elim (cases_eq e c) [
         | inl same ↦ keeps.holds k (sym (conns_here st.conns c o') ∙ (ap conns (sym same) ∙ is))
         | inr ne ↦ old_holds e ne k (sym (conns_else st.conns c e o' ne) ∙ is)
       ];
       idle = λ e k is. elim (cases_eq e c) [
         | inl same ↦ keeps.idle k (sym (conns_here st.conns c o') ∙ (ap conns (sym same) ∙ is))
-        | inr ne ↦ sound.idle e k (sym (conns_else st.conns c e o' ne) ∙ is)
+        | inr ne ↦ valid.idle e k (sym (conns_else st.conns c e o' ne) ∙ is)
       ];
       apart = λ a b d f h. elim (cases_eq a c) [
         | inl is ↦ elim (cases_eq b c) [
@@ -90,7 +90,7 @@ module _ (st : State) (sound : Sound st) (w' : World) (c : ℕ) (o' : Option Con
               let x : draft_at o' ≡ Some d =
               ap draft_at (sym (conns_here st.conns c o')) ∙ (ap (λ i. draft_at (conns i)) (sym is') ∙ h) in
               absurd (not_both a d ne x (ap draft_at (sym (conns_else st.conns c a o' ne)) ∙ f))
-          | inr ne' ↦ sound.apart a b d (ap draft_at (sym (conns_else st.conns c a o' ne)) ∙ f)
+          | inr ne' ↦ valid.apart a b d (ap draft_at (sym (conns_else st.conns c a o' ne)) ∙ f)
               (ap draft_at (sym (conns_else st.conns c b o' ne')) ∙ h)
         ]
       ];
@@ -177,7 +177,7 @@ abbrev conn_as : List ℕ → Acted → Conn
 conn_as s z = record { stream = s; draft = z.draft; pending = z.pending }
 
 -- A CALL THAT BROUGHT BYTES, on an open connection without a text
-module _ (st : State) (sound : Sound st) (g : ℕ → List ℕ) (r r' : Rep) (sim : Sim st g r) (c : ℕ) (k : Conn)
+module _ (st : State) (valid : Valid st) (g : ℕ → List ℕ) (r r' : Rep) (sim : Sim st g r) (c : ℕ) (k : Conn)
     (here : st.conns c ≡ Some k) (no_text : k.pending ≡ None)
     (s : List ℕ) (z : Acted) (opens : Opens st.world k.draft z) (did : Did r r' c z)
     (indexes : z.world.store.indexes ≡ st.world.store.indexes)
@@ -185,7 +185,7 @@ module _ (st : State) (sound : Sound st) (g : ℕ → List ℕ) (r r' : Rep) (si
   own_is : draft_at (st.conns c) ≡ k.draft
   own_is = ap draft_at here
 
-  came_keeps : Keeps st sound z.world c (conn_of s z)
+  came_keeps : Keeps st valid z.world c (conn_of s z)
   came_keeps = record {
     indexes = indexes;
     others = λ e p there ne. opens.others e p there (λ own. ne (own_is ∙ own));
@@ -212,9 +212,9 @@ module _ (st : State) (sound : Sound st) (g : ℕ → List ℕ) (r r' : Rep) (si
         given = did.given;
       }
 
-  pub came_after : Sound (put st z.world c (conn_of s z))
+  pub came_after : Valid (put st z.world c (conn_of s z))
       × Sim (put st z.world c (conn_of s z)) (more_given g c z.bytes) r'
   came_after = (
-    sound_put st sound z.world c (conn_of s z) came_keeps,
+    valid_put st valid z.world c (conn_of s z) came_keeps,
     sim_put st g r r' z.world c (conn_of s z) z.bytes sim came_replays,
   )

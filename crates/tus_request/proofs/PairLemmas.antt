@@ -31,46 +31,48 @@ none_left (part ∷ rest) = refl
 abbrev pub trims : List (List ℕ) → List (List ℕ)
 trims texts = map (trimmed (32 ∷ [])) texts
 
-pairs_turn : (seen : List KeyValue) (texts : List (List ℕ)) (n : ℕ) (part : List ℕ)
+pairs_turn : (current : List KeyValue) (texts : List (List ℕ)) (n : ℕ) (part : List ℕ)
     → (n < length texts) × (part ≡ get_or texts n part)
-    → pairs_from (Some seen) (drop n (trims texts)) ≡ pairs_from (with_pair seen (pair_of (trimmed (32 ∷ []) part)))
+    → pairs_from (Some current) (drop n (trims texts)) ≡ pairs_from (with_pair current (pair_of (trimmed
+    (32 ∷ []) part)))
     (drop (n + 1) (trims texts))
-pairs_turn seen texts n part h =
+pairs_turn current texts n part h =
     let inside : n < length (trims texts) = omega (arith, h.0, length-map texts (trimmed (32 ∷ []))) in
     let same : get_or (trims texts) n (trimmed (32 ∷ []) part) ≡ trimmed (32 ∷ []) part =
     get_or-map (trimmed (32 ∷ [])) texts n part (trimmed (32 ∷ []) part) h.0 ∙ ap (trimmed (32 ∷ [])) (sym h.1) in
-    at_drop_more (λ t. pairs_from (Some seen) t) (trims texts) n (trimmed (32 ∷ []) part) inside
-    ∙ ap (λ t. pairs_from (with_pair seen (pair_of t)) (drop (n + 1) (trims texts))) same
+    at_drop_more (λ t. pairs_from (Some current) t) (trims texts) n (trimmed (32 ∷ []) part) inside
+    ∙ ap (λ t. pairs_from (with_pair current (pair_of t)) (drop (n + 1) (trims texts))) same
 
 -- a part that is no pair
-pub pairs_bad : (seen : List KeyValue) (texts : List (List ℕ)) (n : ℕ) (part : List ℕ)
+pub pairs_bad : (current : List KeyValue) (texts : List (List ℕ)) (n : ℕ) (part : List ℕ)
     → (n < length texts) × (part ≡ get_or texts n part)
-    → pair_of (trimmed (32 ∷ []) part) ≡ None → pairs_from (Some seen) (drop n (trims texts)) ≡ None
-pairs_bad seen texts n part h e =
-    pairs_turn seen texts n part h ∙ ap (λ p. pairs_from (with_pair seen p) (drop (n + 1) (trims texts))) e
+    → pair_of (trimmed (32 ∷ []) part) ≡ None → pairs_from (Some current) (drop n (trims texts)) ≡ None
+pairs_bad current texts n part h e =
+    pairs_turn current texts n part h ∙ ap (λ p. pairs_from (with_pair current p) (drop (n + 1) (trims texts))) e
     ∙ none_left (drop (n + 1) (trims texts))
 
 -- a pair whose key was there
-pub pairs_twice : (seen : List KeyValue) (texts : List (List ℕ)) (n : ℕ) (part : List ℕ) (p : KeyValue)
+pub pairs_twice : (current : List KeyValue) (texts : List (List ℕ)) (n : ℕ) (part : List ℕ) (p : KeyValue)
     → (n < length texts) × (part ≡ get_or texts n part)
-    → pair_of (trimmed (32 ∷ []) part) ≡ Some p → has_key p.0 seen ≡ true
-    → pairs_from (Some seen) (drop n (trims texts)) ≡ None
-pairs_twice seen texts n part p h e twice =
-    pairs_turn seen texts n part h ∙ ap (λ q. pairs_from (with_pair seen q) (drop (n + 1) (trims texts))) e
-    ∙ ap (λ (b : Bool). pairs_from (if b then None else Some (seen ++ p ∷ [])) (drop (n + 1) (trims texts))) twice
+    → pair_of (trimmed (32 ∷ []) part) ≡ Some p → has_key p.0 current ≡ true
+    → pairs_from (Some current) (drop n (trims texts)) ≡ None
+pairs_twice current texts n part p h e twice =
+    pairs_turn current texts n part h ∙ ap (λ q. pairs_from (with_pair current q) (drop (n + 1) (trims texts))) e
+    ∙ ap (λ (b : Bool). pairs_from (if b then None else Some (current ++ p ∷ [])) (drop (n + 1) (trims texts))) twice
     ∙ none_left (drop (n + 1) (trims texts))
 
 -- one pair more
-pub pairs_more : (seen : List KeyValue) (texts : List (List ℕ)) (n : ℕ) (part : List ℕ) (p : KeyValue)
+pub pairs_more : (current : List KeyValue) (texts : List (List ℕ)) (n : ℕ) (part : List ℕ) (p : KeyValue)
     → (n < length texts) × (part ≡ get_or texts n part)
-    → pair_of (trimmed (32 ∷ []) part) ≡ Some p → has_key p.0 seen ≡ false
-    → pairs_from (Some seen) (drop n (trims texts)) ≡ pairs_from (Some (seen ++ p ∷ [])) (drop (n + 1) (trims texts))
-pairs_more seen texts n part p h e new =
-    pairs_turn seen texts n part h ∙ ap (λ q. pairs_from (with_pair seen q) (drop (n + 1) (trims texts))) e
-    ∙ ap (λ (b : Bool). pairs_from (if b then None else Some (seen ++ p ∷ [])) (drop (n + 1) (trims texts))) new
+    → pair_of (trimmed (32 ∷ []) part) ≡ Some p → has_key p.0 current ≡ false
+    → pairs_from (Some current) (drop n (trims texts)) ≡ pairs_from (Some (current ++ p ∷ [])) (drop (n + 1)
+    (trims texts))
+pairs_more current texts n part p h e new =
+    pairs_turn current texts n part h ∙ ap (λ q. pairs_from (with_pair current q) (drop (n + 1) (trims texts))) e
+    ∙ ap (λ (b : Bool). pairs_from (if b then None else Some (current ++ p ∷ [])) (drop (n + 1) (trims texts))) new
 
 -- no part is left
-pub pairs_end : (seen : List KeyValue) (texts : List (List ℕ)) (n : ℕ) → n ≡ length texts
-    → pairs_from (Some seen) (drop n (trims texts)) ≡ Some seen
-pairs_end seen texts n e =
-    at_drop_all (λ t. pairs_from (Some seen) t) (trims texts) n (omega (arith, length-map texts (trimmed (32 ∷ []))))
+pub pairs_end : (current : List KeyValue) (texts : List (List ℕ)) (n : ℕ) → n ≡ length texts
+    → pairs_from (Some current) (drop n (trims texts)) ≡ Some current
+pairs_end current texts n e =
+    at_drop_all (λ t. pairs_from (Some current) t) (trims texts) n (omega (arith, length-map texts (trimmed (32 ∷ []))))

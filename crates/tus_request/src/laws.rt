@@ -5,7 +5,7 @@ ghost use Rattle.httparse.specs.Grammar.{RequestHead, ReadsRequest};
 ghost use Rattle.tus_request.specs.Reading.{request_of};
 ghost use Rattle.tus_request.specs.Answers.{Answer, Judged, answer_of};
 ghost use Rattle.tus_request.specs.Requests.{Request, Asks};
-ghost use Rattle.tus_request.specs.Sound.{IsSoundRequest};
+ghost use Rattle.tus_request.specs.Valid.{IsValidRequest};
 ghost use Rattle.tus_request.specs.Grammar.{IsAnswer};
 ghost use Rattle.tus_request.specs.Steady.{IsSteady};
 ghost use Rattle.tus_request.specs.Value.{IsValue, value_of};
@@ -33,8 +33,8 @@ pub fn one_value(text: &[u8])
     ensures { (bytes : List ℕ) → IsValue text.now bytes → value_of text.now ≡ Some bytes }
 {}
 
-/// A request that passed its checks is sound: its numbers are small, its encodings are offered, its metadata is plain.
-pub fn sound_requests(bytes: &[u8], set: &IndexSet)
+/// A request that passed its checks is valid: its numbers are small, its encodings are offered, its metadata is plain.
+pub fn valid_requests(bytes: &[u8], set: &IndexSet)
     ensures { (n : ℕ) (r : Request) → answer_of (offers set.now) bytes.now ≡ Judged n (Asks r)
-        → IsSoundRequest (offers set.now) r }
+        → IsValidRequest (offers set.now) r }
 {}

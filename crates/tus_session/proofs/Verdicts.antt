@@ -3,13 +3,13 @@ use Rattle.std.proofs.Common.{◌≡◌, ℕ, List}
 use Rattle.enc_model.specs.Indexes.{IndexSet, offers}
 use Rattle.tus_request.specs.Answers.{Judged, answer_of}
 use Rattle.tus_request.specs.Requests.{Request, Action, Options, Create, Head, Get, Patch, Delete, Asks}
-use Rattle.tus_request.specs.Sound.{IsSoundAction}
-use Rattle.tus_request.proofs.SoundRequests.{request_sound}
+use Rattle.tus_request.specs.Valid.{IsValidAction}
+use Rattle.tus_request.proofs.ValidRequests.{request_valid}
 use Rattle.upload_rules.specs.World.{World}
 use Rattle.tus_action.specs.Serves.{CanBeMade, CanBeRead}
 use Rattle.tus_session.specs.Heads.{OffsetFits, IsSmall}
 
-offset_fits : (x : IndexSet) (a : Action) → IsSoundAction (offers x) a → OffsetFits a
+offset_fits : (x : IndexSet) (a : Action) → IsValidAction (offers x) a → OffsetFits a
 offset_fits x Options s = tt {0}
 offset_fits x (Create c) s = tt {0}
 offset_fits x (Head n) s = tt {0}
@@ -20,10 +20,10 @@ offset_fits x (Delete n) s = tt {0}
 -- its numbers are small
 pub small : (x : IndexSet) (s : List ℕ) (n : ℕ) (r : Request) → answer_of (offers x) s ≡ Judged n (Asks r) → IsSmall r
 small x s n r e =
-    let p = request_sound (offers x) s n r e in
+    let p = request_valid (offers x) s n r e in
     record { count = p.length_is; offset = offset_fits x r.action p.action_is }
 
-action_made : (x : IndexSet) (a : Action) → IsSoundAction (offers x) a → CanBeMade a
+action_made : (x : IndexSet) (a : Action) → IsValidAction (offers x) a → CanBeMade a
 action_made x Options s = tt {0}
 action_made x (Create c) s = record { no_utf16 = s.no_utf16; short = s.short; printable = s.plain }
 action_made x (Head n) s = tt {0}
@@ -34,9 +34,9 @@ action_made x (Delete n) s = tt {0}
 -- what a POST asks for can be made
 pub makeable : (x : IndexSet) (s : List ℕ) (n : ℕ) (r : Request) → answer_of (offers x) s ≡ Judged n (Asks r)
     → CanBeMade r.action
-makeable x s n r e = let p = request_sound (offers x) s n r e in action_made x r.action p.action_is
+makeable x s n r e = let p = request_valid (offers x) s n r e in action_made x r.action p.action_is
 
-action_read : (w : World) (a : Action) → IsSoundAction (offers w.store.indexes) a → CanBeRead w a
+action_read : (w : World) (a : Action) → IsValidAction (offers w.store.indexes) a → CanBeRead w a
 action_read w Options s = tt {0}
 action_read w (Create c) s = record { from = s.from; to = s.to }
 action_read w (Head n) s = tt {0}
@@ -47,4 +47,4 @@ action_read w (Delete n) s = tt {0}
 -- a POST asks for what the index set offers
 pub usable : (w : World) (s : List ℕ) (n : ℕ) (r : Request) → answer_of (offers w.store.indexes) s ≡ Judged n (Asks r)
     → CanBeRead w r.action
-usable w s n r e = let p = request_sound (offers w.store.indexes) s n r e in action_read w r.action p.action_is
+usable w s n r e = let p = request_valid (offers w.store.indexes) s n r e in action_read w r.action p.action_is

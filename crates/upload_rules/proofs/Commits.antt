@@ -4,7 +4,7 @@ use Rattle.std.proofs.Common.{None, Result, Ok, Err, OnErr, refl, sym, ◌∙◌
 use Rattle.std.proofs.Common.{length-append}
 use Rattle.enc_model.specs.Indexes.{IndexSet, tables}
 use Rattle.enc_model.specs.Decode.{text}
-use Rattle.enc_stream.specs.StateBytes.{IsSound, state_bytes}
+use Rattle.enc_stream.specs.StateBytes.{IsValid, state_bytes}
 use Rattle.upload_rules.specs.declared.records.Record.{Record}
 use Rattle.upload_rules.specs.declared.errors.UploadError.{UploadError}
 use Rattle.upload_rules.specs.declared.errors.UploadError.TheVariants.{NoMemory, DiskFault, Refused}
@@ -174,8 +174,8 @@ module _ (x : IndexSet) (next : ℕ) (p : Patch) (o : OpenAppend) (stands : Appe
               text = all;
               encodable = ap (λ r. r.fault) (whole_patched x u p.declare p.body)
                   ∙ ap (λ b. (text_with x u p.body b).fault) (sym is) ∙ whole.encodable;
-              sound = subst IsSound (ap (transcoder_with x u p.body) is
-                  ∙ sym (transcoder_patched x u p.declare p.body)) whole.sound;
+              valid = subst IsValid (ap (transcoder_with x u p.body) is
+                  ∙ sym (transcoder_patched x u p.declare p.body)) whole.valid;
             },
           )
 

@@ -2,7 +2,7 @@
 use Rattle.std.proofs.Common.{◌≡◌, ℕ, ◌+◌, ◌<◌, ◌≤◌, ◌^◌, [], length, Option, Some, None, Ok, Err, refl, sym, ◌∙◌, ap}
 use Rattle.std.proofs.Common.{arith}
 use Rattle.enc_model.specs.Indexes.{IndexSet}
-use Rattle.enc_stream.specs.StateBytes.{IsSound}
+use Rattle.enc_stream.specs.StateBytes.{IsValid}
 use Rattle.upload_rules.specs.declared.new_text.NewText.{NewText}
 use Rattle.upload_rules.specs.declared.slot.Slot.{Slot}
 use Rattle.upload_rules.specs.declared.table.Table.{Table}
@@ -35,7 +35,7 @@ module _ (t : Table) (w : World) (stands : TableStands t w) where
       → ((x : IndexSet) (n : ℕ) (u : Upload) → Tells x n s.record u
       → begin_refusal_at offset count declare (Some u) ≡ None)
       → ((x : IndexSet) (n : ℕ) (u : Upload) → Tells x n s.record u → (text_with x u [] (is_complete u)).fault ≡ None
-      → IsSound (transcoder_with x u [] (is_complete u)) → HoldsText x u [] text)
+      → IsValid (transcoder_with x u [] (is_complete u)) → HoldsText x u [] text)
       → IsOpened w n offset count declare u (Ok (record {
         number = n;
         offset = offset;
@@ -61,6 +61,6 @@ module _ (t : Table) (w : World) (stands : TableStands t w) where
           below = found_below n w.store.next u w.store.uploads
               (all_below w.store.indexes w.store.next w.store.uploads t.slots.items stands.slots stands.below) there;
           roomy = refl;
-          text = holds w.store.indexes n u held.tells held.encodable held.sound;
+          text = holds w.store.indexes n u held.tells held.encodable held.valid;
         },
       )

@@ -10,7 +10,7 @@ use Rattle.enc_model.specs.Transcode.{fed_end, phase_of, Transcoder, IsAt, stepp
 use Rattle.enc_model.proofs.Steady.{encoder_steady}
 use Rattle.enc_model.proofs.Transcoding.{coded_both, text_added, fault_added, at_next}
 use Rattle.enc_stream.specs.Standing.{Standing, stepped_on, finished, Answers}
-use Rattle.enc_stream.specs.StateBytes.{IsSound, standing, state_bytes}
+use Rattle.enc_stream.specs.StateBytes.{IsValid, standing, state_bytes}
 use Rattle.enc_stream.specs.declared.error.TranscodeError.{TranscodeError}
 use Rattle.enc_stream.specs.declared.error.TranscodeError.TheVariants as errors
 use Rattle.upload_rules.specs.Store.{Upload, text_with}
@@ -133,12 +133,12 @@ module _ (x : IndexSet) (u : Upload) (bytes : List ℕ) (t : Standing) (here : I
       (here.at.phase ∙ ap (λ e. phase_of (decoded (tables x) e (u.accepted ++ bytes) false)) here.from)
       (here.at.shift ∙ ap (λ r. r.state) stands_at)
 
-  pub whole_open : (state old : List ℕ) → state ≡ state_bytes t.transcoder → IsSound t.transcoder
+  pub whole_open : (state old : List ℕ) → state ≡ state_bytes t.transcoder → IsValid t.transcoder
       → IsRest x u bytes false old → IsWhole x u bytes false state old
   unfolding state_with
-  whole_open state old is sound rest = record {
+  whole_open state old is valid rest = record {
     state_is = is ∙ ap state_bytes still_open;
-    sound = subst IsSound still_open sound;
+    valid = subst IsValid still_open valid;
     rest = rest;
     encodable = without_fault;
   }
@@ -148,14 +148,14 @@ module _ (x : IndexSet) (u : Upload) (bytes : List ℕ) (t : Standing) (here : I
   at_end next is = ap (λ s. s.transcoder) is ∙ rw (here.from, here.to, here.mode) refl
 
   pub whole_ended : (next : Standing) (state old new : List ℕ) → next ≡ finished t → state ≡ state_bytes next.transcoder
-      → IsSound next.transcoder
+      → IsValid next.transcoder
       → IsRest x u bytes false old → (added_end (tables x) t.transcoder).fault ≡ None
       → new ≡ old ++ (added_end (tables x) t.transcoder).bytes
       → IsWhole x u bytes true state new
   unfolding state_with
-  whole_ended next state old new is packed sound rest ok grown = record {
+  whole_ended next state old new is packed valid rest ok grown = record {
     state_is = packed ∙ ap state_bytes (at_end next is);
-    sound = subst IsSound (at_end next is) sound;
+    valid = subst IsValid (at_end next is) valid;
     rest = (
         let start = (text_with x u [] false).bytes in
         let more = (added_end (tables x) t.transcoder).bytes in

@@ -3,7 +3,7 @@ use Rattle.std.specs.Prelude.{◌≡◌, ◌≤◌, ℕ, true, List, [], ◌∷�
 use Rattle.enc_model.specs.Indexes.{IndexSet, offers}
 use Rattle.enc_model.specs.declared.Encoding.TheVariants.{Utf16Be, Utf16Le}
 use Rattle.upload_rules.specs.declared.records.Record.{Record}
-use Rattle.enc_stream.specs.StateBytes.{IsSound}
+use Rattle.enc_stream.specs.StateBytes.{IsValid}
 use Rattle.upload_rules.specs.Store.{New, Upload, text_of, text_with, is_complete}
 use Rattle.upload_rules.specs.States.{state_of, transcoder_with}
 
@@ -26,7 +26,7 @@ IsShort r = length r.metadata.bytes.items ≤ 1536
 pub record Keeps (x : IndexSet) (number : ℕ) (r : Record) (u : Upload) : Type 0 where
   pub tells : Tells x number r u
   pub encodable : (text_with x u [] (is_complete u)).fault ≡ None
-  pub sound : IsSound (transcoder_with x u [] (is_complete u))
+  pub valid : IsValid (transcoder_with x u [] (is_complete u))
 
 -- a record where there is an upload, and none where there is none
 abbrev pub TellsOf : IndexSet → Option (ℕ × Upload) → Option Record → Type 0

@@ -1,7 +1,7 @@
 -- The uploads of a table by their places.
 use Rattle.std.specs.Prelude.{◌≡◌, ◌≤◌, ◌<◌, ℕ, List, [], ◌∷◌, None, map, length, slice_index}
 use Rattle.enc_model.specs.Indexes.{IndexSet}
-use Rattle.enc_stream.specs.StateBytes.{IsSound}
+use Rattle.enc_stream.specs.StateBytes.{IsValid}
 use Rattle.upload_rules.specs.Store.{Upload, text_of, text_with, is_complete}
 use Rattle.upload_rules.specs.Records.{Tells}
 use Rattle.upload_rules.specs.States.{transcoder_with}
@@ -40,7 +40,7 @@ pub record SlotStands (x : IndexSet) (n : ℕ) (u : Upload) (s : Slot) : Type 0 
   pub tells : Tells x n s.record u
   pub text : s.text.items ≡ text_of x u
   pub encodable : (text_with x u [] (is_complete u)).fault ≡ None
-  pub sound : IsSound (transcoder_with x u [] (is_complete u))
+  pub valid : IsValid (transcoder_with x u [] (is_complete u))
 
 abbrev pub AllStand : IndexSet → List (ℕ × Upload) → List Slot → Type 0
 AllStand x [] [] = Unit {0}

@@ -6,7 +6,7 @@ use Rattle.enc_model.specs.Encode.{Tables, InAscii}
 use Rattle.enc_model.specs.Indexes.{IndexSet, tables}
 use Rattle.enc_model.specs.Decode.{decoded, text}
 use Rattle.enc_model.specs.Transcode.{Transcoder, Over, phase_of}
-use Rattle.enc_stream.specs.StateBytes.{IsSound, state_bytes}
+use Rattle.enc_stream.specs.StateBytes.{IsValid, state_bytes}
 use Rattle.upload_rules.specs.Store.{Upload, is_complete}
 
 -- where decoding and encoding end over the bytes, the end among them or not
@@ -35,21 +35,21 @@ state_of x u = state_with x u [] (is_complete u)
 -- these are the state bytes of a transcoder
 pub record IsState (state : List ℕ) : Type 0 where
   pub transcoder : Transcoder
-  pub sound : IsSound transcoder
+  pub valid : IsValid transcoder
   pub is : state ≡ state_bytes transcoder
 
 -- a transcoder with these state bytes has the encodings and the mode of this one
 pub record IsStateLike (state : List ℕ) (other : Transcoder) : Type 0 where
-  pub from : (s : Transcoder) → IsSound s → state ≡ state_bytes s → other.from ≡ s.from
-  pub to : (s : Transcoder) → IsSound s → state ≡ state_bytes s → other.to ≡ s.to
-  pub mode : (s : Transcoder) → IsSound s → state ≡ state_bytes s → other.mode ≡ s.mode
+  pub from : (s : Transcoder) → IsValid s → state ≡ state_bytes s → other.from ≡ s.from
+  pub to : (s : Transcoder) → IsValid s → state ≡ state_bytes s → other.to ≡ s.to
+  pub mode : (s : Transcoder) → IsValid s → state ≡ state_bytes s → other.mode ≡ s.mode
 
 -- the states of two transcoders with the same encodings and the same mode
 pub record SameEncodings (old new : List ℕ) : Type 0 where
   pub before : Transcoder
   pub after : Transcoder
-  pub before_sound : IsSound before
-  pub after_sound : IsSound after
+  pub before_valid : IsValid before
+  pub after_valid : IsValid after
   pub was : old ≡ state_bytes before
   pub is : new ≡ state_bytes after
   pub from : after.from ≡ before.from

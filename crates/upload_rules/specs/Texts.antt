@@ -4,7 +4,7 @@ use Rattle.std.specs.declared.alloc.Global.{Global}
 use Rattle.enc_model.specs.Indexes.{IndexSet, tables}
 use Rattle.enc_model.specs.Transcode.{IsAt}
 use Rattle.enc_stream.specs.Standing.{Standing}
-use Rattle.enc_stream.specs.StateBytes.{IsSound}
+use Rattle.enc_stream.specs.StateBytes.{IsValid}
 use Rattle.upload_rules.specs.Store.{Upload, text_with, is_complete}
 use Rattle.upload_rules.specs.States.{IsStateLike, transcoder_with, state_with}
 use Rattle.upload_rules.specs.World.{is_there}
@@ -48,7 +48,7 @@ IsGrowing Complete = ⊥
 -- state then
 pub record IsWhole (x : IndexSet) (u : Upload) (bytes : List ℕ) (done : Bool) (state text : List ℕ) : Type 0 where
   pub state_is : state ≡ state_with x u bytes done
-  pub sound : IsSound (transcoder_with x u bytes done)
+  pub valid : IsValid (transcoder_with x u bytes done)
   pub rest : IsRest x u bytes done text
   pub encodable : (text_with x u bytes done).fault ≡ None
 

@@ -33,14 +33,14 @@ impl NewText {
     ghost use Rattle.upload_rules.specs.Texts.{GoesOn, HoldsText, IsEnded, IsGrowing};
     ghost use Rattle.upload_rules.specs.Records.{Tells};
     ghost use Rattle.upload_rules.specs.States.{IsState, SameEncodings, transcoder_with};
-    ghost use Rattle.enc_stream.specs.StateBytes.{IsSound};
+    ghost use Rattle.enc_stream.specs.StateBytes.{IsValid};
 
     /// What an append to the upload of a record adds at first: nothing. None where the state bytes are those of no
     /// state.
     pub fn after(alloc: Global, upload: &Record) -> Option<Self>
         ensures holds { (x : Indexes) (n : ℕ) (u : Upload) → Tells x n upload.now u
             → (text_with x u [] (is_complete u)).fault ≡ None
-            → IsSound (transcoder_with x u [] (is_complete u)) → MatchOption result ⊥ (HoldsText x u []) }
+            → IsValid (transcoder_with x u [] (is_complete u)) → MatchOption result ⊥ (HoldsText x u []) }
 
         // Whatever the record says.
         ensures goes_on { IfSome result (GoesOn upload.now.state) }

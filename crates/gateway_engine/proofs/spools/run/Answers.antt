@@ -19,7 +19,7 @@ returns-in-Err-clause-runs g c n m is =
       script.1,
       unopened_on _ _ g.D.Disk c.args.disk c.in-Err.disk c.in-Err.fault (g.W.CountedWrite.contents c.args.writer.now)
           (g.W.CountedWrite.contents c.args.writer.now) n m script.0
-          (c.in-Err.ensures.opened is.honest is.shows.view is.shows.shows.sound is.shows.is
+          (c.in-Err.ensures.opened is.honest is.shows.view is.shows.shows.valid is.shows.is
           (view_room g.D.Disk c.args.disk n m is))
           (record {
             honest = c.in-Err.ensures.honest.0 is.honest;
@@ -101,15 +101,15 @@ returns-in-Err-clause-exact g c honest =
 pub returns-in-Ok-run_over-clause-exact : goal.returns-in-Ok-run_over-clause-exact
 returns-in-Ok-run_over-clause-exact g c honest =
     let said = c.in-Ok.ensures in
-    opened_exactly (said.sound honest) (said.not_a_spool honest) (said.version honest) (said.damaged honest)
+    opened_exactly (said.valid honest) (said.not_a_spool honest) (said.version honest) (said.damaged honest)
 
 pub returns-in-Err-run_over-clause-exact : goal.returns-in-Err-run_over-clause-exact
 returns-in-Err-run_over-clause-exact g c honest =
     let said = c.in-Ok.ensures in
-    opened_still (g.D.Disk.size c.args.disk) (g.D.Disk.seen c.args.disk) c.into_disk-in-Err-run_over.result
+    opened_still (g.D.Disk.size c.args.disk) (g.D.Disk.current c.args.disk) c.into_disk-in-Err-run_over.result
     c.in-Err-run_over.fault c.from.result c.from.ensures
-    (opened_exactly (said.sound honest) (said.not_a_spool honest) (said.version honest) (said.damaged honest))
+    (opened_exactly (said.valid honest) (said.not_a_spool honest) (said.version honest) (said.damaged honest))
 
 pub returns-in-Err-clause-same : goal.returns-in-Err-clause-same
-returns-in-Err-clause-same g c honest none sound =
-    c.in-Err.ensures.same honest none (fault_told c.in-Err.disk c.in-Err.fault sound)
+returns-in-Err-clause-same g c honest none valid =
+    c.in-Err.ensures.same honest none (fault_told c.in-Err.disk c.in-Err.fault valid)

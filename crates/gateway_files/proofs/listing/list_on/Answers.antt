@@ -32,5 +32,5 @@ returns-in-Err-clause-damaged g c honest damaged =
 
 pub returns-in-Ok-clause-unwritten : goal.returns-in-Ok-clause-unwritten
 returns-in-Ok-clause-unwritten g c honest clean =
-    subst (λ d. Lasts g.D.Disk c.args.disk d (IsImage (g.D.Disk.seen c.args.disk) (g.D.Disk.unsynced c.args.disk)))
+    subst (λ d. Lasts g.D.Disk c.args.disk d (IsImage (g.D.Disk.current c.args.disk) (g.D.Disk.unsynced c.args.disk)))
     (sym c.into_disk.ensures.same) (c.in-Ok.ensures.unwritten honest clean)

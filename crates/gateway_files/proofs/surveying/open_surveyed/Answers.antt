@@ -32,7 +32,7 @@ returns-in-Err-open-clause-stands g c n m is =
     let again = read_shows g.D.Disk n m c.find_whole.new.disk (c.in-Ok.ensures.shows n m is) in
     loads_err c.in-Err-open.refused.1 (λ s. Keeps s again.shows.view)
     (λ opened. SpoolStands opened.0 true (at_rest m (Some n)))
-    (c.in-Err-open.ensures.opened again.honest again.shows.view again.shows.shows.sound again.shows.is
+    (c.in-Err-open.ensures.opened again.honest again.shows.view again.shows.shows.valid again.shows.is
     (view_room g.D.Disk c.find_whole.new.disk n m again))
 
 pub returns-in-Err-open-clause-lasts : goal.returns-in-Err-open-clause-lasts
@@ -47,65 +47,65 @@ returns-in-Err-clause-stands g c n m is =
     loads_err c.in-Err.fault (λ found. found.layout ≡ n) (λ opened. SpoolStands opened.0 true (at_rest m (Some n)))
     (c.in-Err.ensures.found n m is)
 
-pub returns-in-Ok-open-clause-sound : goal.returns-in-Ok-open-clause-sound
-returns-in-Ok-open-clause-sound g c honest =
+pub returns-in-Ok-open-clause-valid : goal.returns-in-Ok-open-clause-valid
+returns-in-Ok-open-clause-valid g c honest =
     opened_back (g.D.Disk.size c.args.disk) (g.D.Disk.size c.find_whole.new.disk) c.in-Ok.found
-    (g.D.Disk.seen c.args.disk) (g.D.Disk.seen c.find_whole.new.disk) (g.D.Disk.unsynced c.find_whole.new.disk)
+    (g.D.Disk.current c.args.disk) (g.D.Disk.current c.find_whole.new.disk) (g.D.Disk.unsynced c.find_whole.new.disk)
     c.in-Ok.ensures.size (c.in-Ok.ensures.on honest) (c.in-Ok.ensures.settled honest) c.in-Ok-open.spool.kept
-    (c.in-Ok-open.ensures.sound (c.in-Ok.ensures.honest.0 honest))
+    (c.in-Ok-open.ensures.valid (c.in-Ok.ensures.honest.0 honest))
 
 pub returns-in-Ok-open-clause-version : goal.returns-in-Ok-open-clause-version
 returns-in-Ok-open-clause-version g c honest =
-    opened_is_known (g.D.Disk.size c.args.disk) (g.D.Disk.seen c.args.disk) c.in-Ok-open.spool.kept
-    (returns-in-Ok-open-clause-sound g c honest)
+    opened_is_known (g.D.Disk.size c.args.disk) (g.D.Disk.current c.args.disk) c.in-Ok-open.spool.kept
+    (returns-in-Ok-open-clause-valid g c honest)
 
 pub returns-in-Ok-open-clause-damaged : goal.returns-in-Ok-open-clause-damaged
 returns-in-Ok-open-clause-damaged g c honest =
-    opened_is_whole (g.D.Disk.size c.args.disk) (g.D.Disk.seen c.args.disk) c.in-Ok-open.spool.kept
-    (returns-in-Ok-open-clause-sound g c honest)
+    opened_is_whole (g.D.Disk.size c.args.disk) (g.D.Disk.current c.args.disk) c.in-Ok-open.spool.kept
+    (returns-in-Ok-open-clause-valid g c honest)
 
 pub returns-in-Ok-open-clause-unwritten : goal.returns-in-Ok-open-clause-unwritten
 returns-in-Ok-open-clause-unwritten g c honest none =
     unwritten_on g.D.Disk c.args.disk c.find_whole.new.disk (disk_of c.in-Ok-open.spool)
-    (journal_pages c.in-Ok.found.layout) (overlaid (g.D.Disk.seen c.args.disk)) (c.in-Ok.ensures.settled honest)
+    (journal_pages c.in-Ok.found.layout) (overlaid (g.D.Disk.current c.args.disk)) (c.in-Ok.ensures.settled honest)
     (c.in-Ok.ensures.same honest none (λ err. absurd (cc))) (c.in-Ok.ensures.unwritten honest none)
     (c.in-Ok-open.ensures.unwritten (c.in-Ok.ensures.honest.0 honest))
 
 pub returns-in-Ok-open-clause-same : goal.returns-in-Ok-open-clause-same
 returns-in-Ok-open-clause-same g c honest none fine =
     same_on g.D.Disk c.args.disk c.find_whole.new.disk (disk_of c.in-Ok-open.spool)
-    (journal_pages c.in-Ok.found.layout) (overlaid (g.D.Disk.seen c.args.disk)) (c.in-Ok.ensures.settled honest)
+    (journal_pages c.in-Ok.found.layout) (overlaid (g.D.Disk.current c.args.disk)) (c.in-Ok.ensures.settled honest)
     (c.in-Ok.ensures.same honest none (λ err. absurd (cc))) ⊥
     (c.in-Ok-open.ensures.same (c.in-Ok.ensures.honest.0 honest)) fine
 
 pub returns-in-Err-open-clause-refused : goal.returns-in-Err-open-clause-refused
 returns-in-Err-open-clause-refused g c honest =
     refused_back (g.D.Disk.size c.args.disk) (g.D.Disk.size c.find_whole.new.disk) c.in-Ok.found
-    (g.D.Disk.seen c.args.disk) (g.D.Disk.seen c.find_whole.new.disk) (g.D.Disk.unsynced c.find_whole.new.disk)
+    (g.D.Disk.current c.args.disk) (g.D.Disk.current c.find_whole.new.disk) (g.D.Disk.unsynced c.find_whole.new.disk)
     c.in-Ok.ensures.size (c.in-Ok.ensures.on honest) (c.in-Ok.ensures.settled honest) c.in-Err-open.refused.1
     (c.in-Err-open.ensures.refused (c.in-Ok.ensures.honest.0 honest))
 
 pub returns-in-Err-open-clause-version : goal.returns-in-Err-open-clause-version
 returns-in-Err-open-clause-version g c honest =
-    told_version (g.D.Disk.size c.args.disk) (g.D.Disk.seen c.args.disk) c.in-Err-open.refused.1
+    told_version (g.D.Disk.size c.args.disk) (g.D.Disk.current c.args.disk) c.in-Err-open.refused.1
     (returns-in-Err-open-clause-refused g c honest)
 
 pub returns-in-Err-open-clause-damaged : goal.returns-in-Err-open-clause-damaged
 returns-in-Err-open-clause-damaged g c honest =
-    told_damaged (g.D.Disk.size c.args.disk) (g.D.Disk.seen c.args.disk) c.in-Err-open.refused.1
+    told_damaged (g.D.Disk.size c.args.disk) (g.D.Disk.current c.args.disk) c.in-Err-open.refused.1
     (returns-in-Err-open-clause-refused g c honest)
 
 pub returns-in-Err-clause-refused : goal.returns-in-Err-clause-refused
 returns-in-Err-clause-refused g c honest =
-    unfound_reason (g.D.Disk.size c.args.disk) (g.D.Disk.seen c.args.disk) c.in-Err.fault
+    unfound_reason (g.D.Disk.size c.args.disk) (g.D.Disk.current c.args.disk) c.in-Err.fault
     (c.in-Err.ensures.refused honest)
 
 pub returns-in-Err-clause-version : goal.returns-in-Err-clause-version
 returns-in-Err-clause-version g c honest =
-    told_version (g.D.Disk.size c.args.disk) (g.D.Disk.seen c.args.disk) c.in-Err.fault
+    told_version (g.D.Disk.size c.args.disk) (g.D.Disk.current c.args.disk) c.in-Err.fault
     (returns-in-Err-clause-refused g c honest)
 
 pub returns-in-Err-clause-damaged : goal.returns-in-Err-clause-damaged
 returns-in-Err-clause-damaged g c honest =
-    told_damaged (g.D.Disk.size c.args.disk) (g.D.Disk.seen c.args.disk) c.in-Err.fault
+    told_damaged (g.D.Disk.size c.args.disk) (g.D.Disk.current c.args.disk) c.in-Err.fault
     (returns-in-Err-clause-refused g c honest)

@@ -20,7 +20,7 @@ returns-in-Ok g c n before all =
         store = m.0;
         opened = m.1;
         same = refl;
-        leaves = λ image here. done_leaves _ _ image (c.in-Ok.ensures.sound is.honest) here;
+        leaves = λ image here. done_leaves _ _ image (c.in-Ok.ensures.valid is.honest) here;
         counts = counts_done (Open DiskFault) _ _ c.in-Ok.ensures.counts;
       },
     )
@@ -33,9 +33,9 @@ returns-in-Err g c n before all =
     let m = read_opens g.D.Disk given n before all in
     let is = is_spool g.D.Disk given n before m.0 all m.1 in
     let v = is.shows.view in
-    let sound = is.shows.shows.sound in
+    let valid = is.shows.shows.valid in
     let room = view_room g.D.Disk given n m.0 is in
-    let ends = c.in-Err.ensures.upgraded is.honest v sound is.shows.is room in
+    let ends = c.in-Err.ensures.upgraded is.honest v valid is.shows.is room in
     let honest = c.upgrade.ensures.honest.0 all.honest in
     let still =
     still_shown g.D.Disk given back n before m.0 (g.met.D.Disk.counts_now back) (g.met.D.Disk.only_now given) all m.1
@@ -43,7 +43,7 @@ returns-in-Err g c n before all =
     (subst (λ (k : ℕ). 4096 * all_pages n ≤ k) (sym c.upgrade.ensures.size) all.room) in
     let left =
     left_told g.D.Disk back n m.0 before e
-    (λ sound. c.in-Err.ensures.shows n m.0 is (λ device. sound (err_same e (Open DiskFault) device))) still in (
+    (λ valid. c.in-Err.ensures.shows n m.0 is (λ device. valid (err_same e (Open DiskFault) device))) still in (
       left.0,
       left.1,
       record {
@@ -52,7 +52,7 @@ returns-in-Err g c n before all =
         opened = m.1;
         same = left.2;
         leaves = λ image here.
-            refused_leaves e v image sound ends (c.in-Err.ensures.stays is.honest v sound is.shows.is room) here;
+            refused_leaves e v image valid ends (c.in-Err.ensures.stays is.honest v valid is.shows.is room) here;
         counts = counts_told e (Open DiskFault) _ _ c.in-Err.ensures.counts;
       },
     )

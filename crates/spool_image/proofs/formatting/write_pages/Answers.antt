@@ -18,8 +18,8 @@ loop-page-init g c =
       back = λ honest. honest;
       counts = refl;
       fresh = λ honest. record { each = λ p from below. omega (arith, from, below) };
-      prefix = λ honest. prefix_kept (g.D.Disk.seen disk) (g.D.Disk.unsynced disk);
-      crash = λ honest. lasts_none g.D.Disk disk (PrefixStays (g.D.Disk.seen disk) (g.D.Disk.unsynced disk));
+      prefix = λ honest. prefix_kept (g.D.Disk.current disk) (g.D.Disk.unsynced disk);
+      crash = λ honest. lasts_none g.D.Disk disk (PrefixStays (g.D.Disk.current disk) (g.D.Disk.unsynced disk));
       valid = λ past. absurd (omega (arith, past));
     }
 

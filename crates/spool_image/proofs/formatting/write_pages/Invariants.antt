@@ -12,10 +12,10 @@ invariant-loop-page g l = record {
   honest : g.D.Disk.honest l.fn.disk → g.D.Disk.honest l.disk;
   back : g.D.Disk.honest l.disk → g.D.Disk.honest l.fn.disk;
   counts : g.D.Disk.failures l.disk ≡ g.D.Disk.failures l.fn.disk;
-  fresh : g.D.Disk.honest l.fn.disk → IsFreshTo l.layout l.indexes (4096 * l.page) (g.D.Disk.seen l.disk);
-  prefix : g.D.Disk.honest l.fn.disk → KeepsPrefix (g.D.Disk.seen l.fn.disk) (g.D.Disk.seen l.disk)
+  fresh : g.D.Disk.honest l.fn.disk → IsFreshTo l.layout l.indexes (4096 * l.page) (g.D.Disk.current l.disk);
+  prefix : g.D.Disk.honest l.fn.disk → KeepsPrefix (g.D.Disk.current l.fn.disk) (g.D.Disk.current l.disk)
       (g.D.Disk.unsynced l.fn.disk) (g.D.Disk.unsynced l.disk);
   crash : g.D.Disk.honest l.fn.disk → Lasts g.D.Disk l.fn.disk l.disk
-      (PrefixStays (g.D.Disk.seen l.fn.disk) (g.D.Disk.unsynced l.fn.disk));
+      (PrefixStays (g.D.Disk.current l.fn.disk) (g.D.Disk.unsynced l.fn.disk));
   valid : state_place l.layout ≤ 4096 * l.page → IsIndexSet l.indexes;
 }

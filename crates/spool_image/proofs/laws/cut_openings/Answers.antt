@@ -4,7 +4,7 @@ use Rattle.spool_image.proofs.laws.cut_openings.Goals as goal
 
 pub returns : goal.returns
 returns g c before d left n m all lasts honest size since =
-    let image = g.D.Disk.seen left in
+    let image = g.D.Disk.current left in
     record {
       honest = honest;
       room = subst (λ (k : ℕ). 4096 * all_pages n ≤ k) (sym size) all.room;

@@ -8,14 +8,14 @@ returns-clause-now g c d n m all =
     record {
       honest = all.honest;
       room = all.room;
-      shows = all.each (g.D.Disk.seen d) (record { same = λ p is_synced. refl });
+      shows = all.each (g.D.Disk.current d) (record { same = λ p is_synced. refl });
     }
 
 pub returns-clause-crashed : goal.returns-clause-crashed
 returns-clause-crashed g c d left n m all honest size is = record {
   honest = honest;
   room = subst (λ (k : ℕ). 4096 * all_pages n ≤ k) (sym size) all.room;
-  shows = all.each (g.D.Disk.seen left) is;
+  shows = all.each (g.D.Disk.current left) is;
 }
 
 pub returns-clause-synced : goal.returns-clause-synced

@@ -4,7 +4,7 @@ use Rattle.spool_image.proofs.laws.limits_open.Goals as goal
 
 pub returns : goal.returns
 returns g c d left n t ms only honest size since =
-    let one = only.each (g.D.Disk.seen left) since in
+    let one = only.each (g.D.Disk.current left) since in
     record {
       store = one.store;
       among = one.among;

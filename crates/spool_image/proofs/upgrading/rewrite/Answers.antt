@@ -39,7 +39,7 @@ returns-clause-commit g c honest v keeps rests =
       area = subst (λ n. InArea (journal_pages n) c.in_ok-pages.pages) kept c.in_ok-pages.ensures.area;
       changes = c.in_ok-pages.ensures.changes v keeps;
       settled = subst
-          (λ n. Settled (journal_pages n) (laid c.in_ok-pages.pages (g.D.Disk.seen c.args.disk.now))
-          (g.D.Disk.seen c.change.new.disk) (g.D.Disk.unsynced c.change.new.disk)) (sym same)
+          (λ n. Settled (journal_pages n) (laid c.in_ok-pages.pages (g.D.Disk.current c.args.disk.now))
+          (g.D.Disk.current c.change.new.disk) (g.D.Disk.unsynced c.change.new.disk)) (sym same)
           (c.in_ok-change.ensures.laid honest v same rests);
     }

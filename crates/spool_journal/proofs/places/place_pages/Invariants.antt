@@ -11,11 +11,12 @@ invariant-loop-i g l = record {
   back : g.D.Disk.honest l.disk → g.D.Disk.honest l.fn.disk;
   counts : g.D.Disk.failures l.disk ≡ g.D.Disk.failures l.fn.disk;
   placing : g.D.Disk.honest l.fn.disk → (j : ℕ) (opened : ℕ → ℕ) → Matches l.items opened
-      → Placing j opened (g.D.Disk.seen l.fn.disk) (g.D.Disk.unsynced l.fn.disk)
-      → Placing j opened (g.D.Disk.seen l.disk) (g.D.Disk.unsynced l.disk);
-  upto : g.D.Disk.honest l.fn.disk → (opened : ℕ → ℕ) → Matches l.items opened → Upto opened (g.D.Disk.seen l.fn.disk) 0
-      → Upto opened (g.D.Disk.seen l.disk) l.i;
+      → Placing j opened (g.D.Disk.current l.fn.disk) (g.D.Disk.unsynced l.fn.disk)
+      → Placing j opened (g.D.Disk.current l.disk) (g.D.Disk.unsynced l.disk);
+  upto : g.D.Disk.honest l.fn.disk → (opened : ℕ → ℕ) → Matches l.items opened
+      → Upto opened (g.D.Disk.current l.fn.disk) 0
+      → Upto opened (g.D.Disk.current l.disk) l.i;
   lasts : g.D.Disk.honest l.fn.disk → (j : ℕ) → j ≤ 385 → (opened : ℕ → ℕ) → Matches l.items opened
-      → Placing j opened (g.D.Disk.seen l.fn.disk) (g.D.Disk.unsynced l.fn.disk)
+      → Placing j opened (g.D.Disk.current l.fn.disk) (g.D.Disk.unsynced l.fn.disk)
       → Lasts g.D.Disk l.fn.disk l.disk (λ image. ReadsAs j image (replayed opened));
 }

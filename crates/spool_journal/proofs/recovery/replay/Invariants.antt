@@ -11,12 +11,12 @@ invariant-loop-k g l = record {
   back : g.D.Disk.honest l.disk → g.D.Disk.honest l.fn.disk;
   counts : g.D.Disk.failures l.disk ≡ g.D.Disk.failures l.fn.disk;
   placing : g.D.Disk.honest l.fn.disk → (opened : ℕ → ℕ) → HeadOf opened l.head
-      → Placing l.journal opened (g.D.Disk.seen l.fn.disk) (g.D.Disk.unsynced l.fn.disk)
-      → Placing l.journal opened (g.D.Disk.seen l.disk) (g.D.Disk.unsynced l.disk);
+      → Placing l.journal opened (g.D.Disk.current l.fn.disk) (g.D.Disk.unsynced l.fn.disk)
+      → Placing l.journal opened (g.D.Disk.current l.disk) (g.D.Disk.unsynced l.disk);
   upto : g.D.Disk.honest l.fn.disk → (opened : ℕ → ℕ) → HeadOf opened l.head
-      → Placing l.journal opened (g.D.Disk.seen l.fn.disk) (g.D.Disk.unsynced l.fn.disk)
-      → Upto opened (g.D.Disk.seen l.fn.disk) 0 → Upto opened (g.D.Disk.seen l.disk) l.k;
+      → Placing l.journal opened (g.D.Disk.current l.fn.disk) (g.D.Disk.unsynced l.fn.disk)
+      → Upto opened (g.D.Disk.current l.fn.disk) 0 → Upto opened (g.D.Disk.current l.disk) l.k;
   lasts : g.D.Disk.honest l.fn.disk → (opened : ℕ → ℕ) → HeadOf opened l.head
-      → Placing l.journal opened (g.D.Disk.seen l.fn.disk) (g.D.Disk.unsynced l.fn.disk)
+      → Placing l.journal opened (g.D.Disk.current l.fn.disk) (g.D.Disk.unsynced l.fn.disk)
       → Lasts g.D.Disk l.fn.disk l.disk (λ image. ReadsAs l.journal image (replayed opened));
 }

@@ -9,10 +9,10 @@ invariant-loop-i g l = record {
   honest : g.D.Disk.honest l.fn.disk → g.D.Disk.honest l.disk;
   back : g.D.Disk.honest l.disk → g.D.Disk.honest l.fn.disk;
   counts : g.D.Disk.failures l.disk ≡ g.D.Disk.failures l.fn.disk;
-  staging : g.D.Disk.honest l.fn.disk → (j : ℕ) → length l.items ≤ j → Staging j (g.D.Disk.seen l.fn.disk)
-      (g.D.Disk.unsynced l.fn.disk) (g.D.Disk.seen l.disk) (g.D.Disk.unsynced l.disk);
-  copied : g.D.Disk.honest l.fn.disk → Copied l.items (g.D.Disk.seen l.disk) l.i;
-  lasts : g.D.Disk.honest l.fn.disk → (j : ℕ) → length l.items ≤ j → Idle j (g.D.Disk.seen l.fn.disk)
+  staging : g.D.Disk.honest l.fn.disk → (j : ℕ) → length l.items ≤ j → Staging j (g.D.Disk.current l.fn.disk)
+      (g.D.Disk.unsynced l.fn.disk) (g.D.Disk.current l.disk) (g.D.Disk.unsynced l.disk);
+  copied : g.D.Disk.honest l.fn.disk → Copied l.items (g.D.Disk.current l.disk) l.i;
+  lasts : g.D.Disk.honest l.fn.disk → (j : ℕ) → length l.items ≤ j → Idle j (g.D.Disk.current l.fn.disk)
       (g.D.Disk.unsynced l.fn.disk) → Lasts g.D.Disk l.fn.disk l.disk
-      (IsBefore j (g.D.Disk.seen l.fn.disk) (g.D.Disk.unsynced l.fn.disk));
+      (IsBefore j (g.D.Disk.current l.fn.disk) (g.D.Disk.unsynced l.fn.disk));
 }

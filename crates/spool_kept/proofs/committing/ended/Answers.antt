@@ -103,9 +103,9 @@ returns-clause-answer g c sure drafts number w p is =
     let page = text_page c.kept.inside.layout in
     let text = open_text w.store.indexes p (completes w.store p) in
     let content : sure ≡ true → 1 ≤ length (list_of o')
-    → bytes_with (g.D.Disk.seen c.end.new.disk) page (list_of o') end.last.items ≡ text =
+    → bytes_with (g.D.Disk.current c.end.new.disk) page (list_of o') end.last.items ≡ text =
     λ known. subst (λ (r : Result DraftEnd UploadError). IfOk r
-    (λ e. 1 ≤ length (list_of o') → bytes_with (g.D.Disk.seen c.end.new.disk) page (list_of o')
+    (λ e. 1 ≤ length (list_of o') → bytes_with (g.D.Disk.current c.end.new.disk) page (list_of o')
     e.last.items ≡ text)) c.in_ok-state.was (ends_on known) in
     let fits = c.in_ok-state.ensures.fits in
     let came = lemmas.all_came g.D.Disk c.args.disk.now c.end.new.disk _ _ only drafts number o o' w p is' effect

@@ -63,7 +63,7 @@ returns-clause-quiet g c w p s there =
     let v = s.stored.view in
     let rows = effect.grasp.takes.rows ∙ ap (λ (h : Holding). h.blocks.rows) c.kept.view_is ∙ s.stored.keeps.rows in
     shows_still g.D.Disk c.args.disk.now c.append-answer.new.disk v effect.own _ (effect.writes (s.stored.honest refl))
-    s.stored.shows.sound (sym s.stored.keeps.blocks ∙ sym (ap (λ (h : Holding). h.layout) c.kept.view_is))
+    s.stored.shows.valid (sym s.stored.keeps.blocks ∙ sym (ap (λ (h : Holding). h.layout) c.kept.view_is))
     (s.stored.rests refl)
     (λ i lt. ap (λ (r : List Row). get_or r (get_or effect.own i 0) None) (sym rows)
     ∙ effect.grasp.reserved.no_owner i lt)
@@ -87,18 +87,18 @@ returns-clause-answer g c sure w p s there fits =
     let h' = c.append-answer.new.blocks in
     let first = text_page c.kept.inside.layout in
     let honest = s.stored.honest in
-    let seen = g.D.Disk.seen disk in
-    let seen' = g.D.Disk.seen disk' in
+    let current = g.D.Disk.current disk in
+    let current' = g.D.Disk.current disk' in
     let ix : c.kept.inside.indexes ≡ w.store.indexes = s'.stored.keeps.indexes ∙ shows.indexes in
     let fit = subst (λ (k : Holding). DraftsHold k.layout k.blocks before)
     (sym c.kept.view_is) c.requires.fits.blocks in
     let fit' = (returns-clause-fits g c).blocks in
     let changed = changed_back before c.taken.new.drafts.items after number o new here c.taken.ensures.after
     c.put_back.ensures in
-    let at = draft_of (DraftStands (sure ≡ true) w.store.indexes seen first records h.rows w.store) p
+    let at = draft_of (DraftStands (sure ≡ true) w.store.indexes current first records h.rows w.store) p
     (find number w.patches)
     (draft_at before number) there (s'.stands.each number) in
-    let is = subst (DraftStands (sure ≡ true) w.store.indexes seen first records h.rows w.store p)
+    let is = subst (DraftStands (sure ≡ true) w.store.indexes current first records h.rows w.store p)
     (some_draft at.0 o (sym at.1 ∙ here)) at.2 in
     let held = subst (λ (x : IndexSet). Holds x p o) (sym ix) is.holds in
     let same = reserves_only c.args.kept.now _ _ c.kept.view_is refl c.append-answer.ensures.rows in
@@ -110,7 +110,8 @@ returns-clause-answer g c sure w p s there fits =
     (ap (λ (k : Holding). k.layout) c.kept.view_is) (λ known. (effect.writes (honest known)).writes) in
     let rows = c.append-answer.ensures.rows in
     let piece = c.args.piece.now in
-    let longer_stands = stand_longer w.store.indexes seen seen' first c.kept.inside.layout records h h' w before after
+    let longer_stands = stand_longer w.store.indexes current current' first c.kept.inside.layout records h h' w
+    before after
     s'.stands fit number o new here effect.own effect.grasp changed rows
     (λ known. (effect.writes (honest known)).writes.outside) in
     let tail : IsStillOpen w.store p → IsOwnedBy records h'.rows p.number (tail_of new) =
@@ -120,35 +121,36 @@ returns-clause-answer g c sure w p s there fits =
     answered _ _ c.append-answer.result
     (ok_more c.append-answer.result (c.append-answer.ensures.answer p held fits)
     (λ (known : (sure ≡ true) × IsStillOpen w.store p). c.append-answer.ensures.content p (honest known.0) held fits
-    (subst (λ (x : IndexSet). Carries x seen first p o) (sym ix) (is.carries known.0 known.1)))
+    (subst (λ (x : IndexSet). Carries x current first p o) (sym ix) (is.carries known.0 known.1)))
     (λ l carries.
     let q = longer w number p piece in
     let is_longer = subst (λ (x : IndexSet). IsLonger x (with_piece p piece) o new h h') ix l in
     longer_world g.D.Disk disk' _ after w number piece p (find number w.patches) there stored
     (longer_stands p q there (grown_longer w s'.stands.grown number p (p.body ++ piece) q.short there) record {
-      holds = longer_holds w seen seen' first c.kept.inside.layout records h h' before after s'.stands fit number o new
+      holds = longer_holds w current current' first c.kept.inside.layout records h h' before after s'.stands fit
+          number o new
           here effect.own effect.grasp changed rows v shows s'.stored.keeps.rows c.rows-rows.ensures.reserved fit' p
           piece is_longer;
       below = is.below;
-      carries = λ known still. longer_carries w seen seen' first c.kept.inside.layout records h h' before after
+      carries = λ known still. longer_carries w current current' first c.kept.inside.layout records h h' before after
           s'.stands fit
           number o new here effect.own effect.grasp changed rows v shows s'.stored.keeps.rows
           c.rows-rows.ensures.reserved fit' p piece is_longer
-          (subst (λ (x : IndexSet). Carries x seen' first (with_piece p piece) new) ix (carries (known, still)));
+          (subst (λ (x : IndexSet). Carries x current' first (with_piece p piece) new) ix (carries (known, still)));
       tail = tail;
     })))
     (λ e. record {
       stored = stored;
-      stands = subst (λ ps. DraftsStand (sure ≡ true) w.store.indexes seen' first records h'
+      stands = subst (λ ps. DraftsStand (sure ≡ true) w.store.indexes current' first records h'
           (record w { patches = ps }) after) same_patches
           (longer_stands p p there (subst (λ ps. IsGrown (record w { patches = ps })) (sym same_patches)
           s'.stands.grown)
           record {
             holds = subst (λ (x : IndexSet). Holds x p new) ix (c.append-answer.ensures.holds_on p held e);
             below = is.below;
-            carries = λ known still. subst (λ (x : IndexSet). Carries x seen' first p new) ix
+            carries = λ known still. subst (λ (x : IndexSet). Carries x current' first p new) ix
                 (c.append-answer.ensures.content_on p (honest known) e
-                (subst (λ (x : IndexSet). Carries x seen first p o) (sym ix) (is.carries known still)));
+                (subst (λ (x : IndexSet). Carries x current first p o) (sym ix) (is.carries known still)));
             tail = tail;
           });
     })

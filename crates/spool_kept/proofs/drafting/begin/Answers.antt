@@ -48,7 +48,7 @@ returns-in-Ok-placed-clause-answer g c sure disk w s =
           c.in-Ok-placed.number
           c.in-Ok.draft c.in-Ok-placed.ensures.ok
           c.in-Ok.ensures.none c.in-Ok.ensures.owned
-          (λ known. c.in-Ok.ensures.carries s.stored.view w.store (g.D.Disk.seen disk) s.stored.keeps s.stored.shows
+          (λ known. c.in-Ok.ensures.carries s.stored.view w.store (g.D.Disk.current disk) s.stored.keeps s.stored.shows
           (rests_says (s.stored.rests known)))
           (upload_of w.store n) refl opens,
     )

@@ -82,9 +82,9 @@ returns-clause-written g c sure m n declare bytes pending =
     c.write_last.new.disk)
     layout (only (c.write_last.ensures.writes honest) (c.write_last.ensures.lasts honest)) in
     let written = subst (λ (n : ℕ). sure ≡ true → (length c.args.last.now + 4095) / 4096 ≤ length c.args.more.now
-    → text_on (g.D.Disk.seen c.write_last.new.disk) (text_page n) c.args.more.now
-    (length (bytes_with (g.D.Disk.seen c.args.disk.now) (text_page n) c.args.more.now c.args.last.now)) ≡
-    bytes_with (g.D.Disk.seen c.args.disk.now) (text_page n) c.args.more.now c.args.last.now) layout
+    → text_on (g.D.Disk.current c.write_last.new.disk) (text_page n) c.args.more.now
+    (length (bytes_with (g.D.Disk.current c.args.disk.now) (text_page n) c.args.more.now c.args.last.now)) ≡
+    bytes_with (g.D.Disk.current c.args.disk.now) (text_page n) c.args.more.now c.args.last.now) layout
     (λ known. c.in_ok-write_last.ensures.written (stored.honest known)) in
     let append = appended g.D.Disk c.args.disk.now c.write_last.new.disk c.args.kept.now m n declare bytes
     c.args.longer.now
@@ -95,7 +95,7 @@ returns-clause-written g c sure m n declare bytes pending =
       only = wrote;
       append = append;
       texts = λ known. subst (λ (n : ℕ). (p : ℕ) → 4096 * text_page n ≤ p
-          → g.D.Disk.seen c.change.new.disk p ≡ g.D.Disk.seen c.write_last.new.disk p) layout
+          → g.D.Disk.current c.change.new.disk p ≡ g.D.Disk.current c.write_last.new.disk p) layout
           (c.in_ok-change.ensures.texts (append.stored.honest known) append.stored.view
           (sym append.stored.keeps.blocks ∙ sym layout) (append.stored.rests known));
     }
@@ -118,9 +118,9 @@ returns-clause-answer g c sure m n declare bytes pending =
     c.write_last.new.disk)
     layout (only (c.write_last.ensures.writes honest) (c.write_last.ensures.lasts honest)) in
     let written = subst (λ (n : ℕ). sure ≡ true → (length c.args.last.now + 4095) / 4096 ≤ length c.args.more.now
-    → text_on (g.D.Disk.seen c.write_last.new.disk) (text_page n) c.args.more.now
-    (length (bytes_with (g.D.Disk.seen c.args.disk.now) (text_page n) c.args.more.now c.args.last.now)) ≡
-    bytes_with (g.D.Disk.seen c.args.disk.now) (text_page n) c.args.more.now c.args.last.now) layout
+    → text_on (g.D.Disk.current c.write_last.new.disk) (text_page n) c.args.more.now
+    (length (bytes_with (g.D.Disk.current c.args.disk.now) (text_page n) c.args.more.now c.args.last.now)) ≡
+    bytes_with (g.D.Disk.current c.args.disk.now) (text_page n) c.args.more.now c.args.last.now) layout
     (λ known. c.in_ok-write_last.ensures.written (stored.honest known)) in
     let append = appended g.D.Disk c.args.disk.now c.write_last.new.disk c.args.kept.now m n declare bytes
     c.args.longer.now
@@ -162,9 +162,9 @@ returns-clause-crash g c m n declare bytes pending =
     c.write_last.new.disk)
     layout (only (c.write_last.ensures.writes honest) (c.write_last.ensures.lasts honest)) in
     let written = subst (λ (n : ℕ). true ≡ true → (length c.args.last.now + 4095) / 4096 ≤ length c.args.more.now
-    → text_on (g.D.Disk.seen c.write_last.new.disk) (text_page n) c.args.more.now
-    (length (bytes_with (g.D.Disk.seen c.args.disk.now) (text_page n) c.args.more.now c.args.last.now)) ≡
-    bytes_with (g.D.Disk.seen c.args.disk.now) (text_page n) c.args.more.now c.args.last.now) layout
+    → text_on (g.D.Disk.current c.write_last.new.disk) (text_page n) c.args.more.now
+    (length (bytes_with (g.D.Disk.current c.args.disk.now) (text_page n) c.args.more.now c.args.last.now)) ≡
+    bytes_with (g.D.Disk.current c.args.disk.now) (text_page n) c.args.more.now c.args.last.now) layout
     (λ known. c.in_ok-write_last.ensures.written (stored.honest known)) in
     let append = appended g.D.Disk c.args.disk.now c.write_last.new.disk c.args.kept.now m n declare bytes
     c.args.longer.now
@@ -209,9 +209,9 @@ returns-in_err-change-clause-crash g c m n declare bytes pending =
     c.write_last.new.disk)
     layout (only (c.write_last.ensures.writes honest) (c.write_last.ensures.lasts honest)) in
     let written = subst (λ (n : ℕ). true ≡ true → (length c.args.last.now + 4095) / 4096 ≤ length c.args.more.now
-    → text_on (g.D.Disk.seen c.write_last.new.disk) (text_page n) c.args.more.now
-    (length (bytes_with (g.D.Disk.seen c.args.disk.now) (text_page n) c.args.more.now c.args.last.now)) ≡
-    bytes_with (g.D.Disk.seen c.args.disk.now) (text_page n) c.args.more.now c.args.last.now) layout
+    → text_on (g.D.Disk.current c.write_last.new.disk) (text_page n) c.args.more.now
+    (length (bytes_with (g.D.Disk.current c.args.disk.now) (text_page n) c.args.more.now c.args.last.now)) ≡
+    bytes_with (g.D.Disk.current c.args.disk.now) (text_page n) c.args.more.now c.args.last.now) layout
     (λ known. c.in_ok-write_last.ensures.written (stored.honest known)) in
     let append = appended g.D.Disk c.args.disk.now c.write_last.new.disk c.args.kept.now m n declare bytes
     c.args.longer.now

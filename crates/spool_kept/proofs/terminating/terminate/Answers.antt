@@ -117,8 +117,8 @@ returns-in-Ok-change-clause-answer g c sure w stands =
     (λ v v' blocks but same. c.fill_rows.ensures.changes v v' (blocks ∙ layout) but (same ∙ rows)) d'
     (subst FitsTogether c.kept.view_is c.kept.invariant) c.in-Ok-change.ensures.honest.0
     (λ known v v' blocks. c.in-Ok-change.ensures.done (stored.honest known) v v' (blocks ∙ layout)) in
-    let texts : sure ≡ true → (p : ℕ) → 4096 * text_page h.layout ≤ p → g.D.Disk.seen d' p ≡ g.D.Disk.seen d p =
-    λ known. subst (λ (n : ℕ). (p : ℕ) → 4096 * text_page n ≤ p → g.D.Disk.seen d' p ≡ g.D.Disk.seen d p) same
+    let texts : sure ≡ true → (p : ℕ) → 4096 * text_page h.layout ≤ p → g.D.Disk.current d' p ≡ g.D.Disk.current d p =
+    λ known. subst (λ (n : ℕ). (p : ℕ) → 4096 * text_page n ≤ p → g.D.Disk.current d' p ≡ g.D.Disk.current d p) same
     (c.in-Ok-change.ensures.texts (stored.honest known) stored.view (sym stored.keeps.blocks ∙ sym same)
     (stored.rests known)) in (
       may g (goal.at.returns-in-Ok-change-clause-answer g c).In-Some w stands,

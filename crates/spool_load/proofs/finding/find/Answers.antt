@@ -11,45 +11,48 @@ use Rattle.spool_load.specs.Refusals.{IsNoSpool, RefusedAt}
 use Rattle.spool_load.proofs.Opens.{gate_shut, same_function, view_says_blocks, keeps_image, keeps_on}
 use Rattle.spool_load.proofs.finding.find.Goals as goal
 
-says_there : (size : ℕ) (seen : ℕ → ℕ) (said : Option ℕ) (n : ℕ) → said ≡ Some n
-    → MatchOption said (IsNoSpool size seen) (SaysBlocks size seen) → SaysBlocks size seen n
-says_there size seen said n is told = subst (λ o. MatchOption o (IsNoSpool size seen) (SaysBlocks size seen)) is told
+says_there : (size : ℕ) (current : ℕ → ℕ) (said : Option ℕ) (n : ℕ) → said ≡ Some n
+    → MatchOption said (IsNoSpool size current) (SaysBlocks size current) → SaysBlocks size current n
+says_there size current said n is told = subst (λ o. MatchOption o (IsNoSpool size current)
+    (SaysBlocks size current)) is told
 
-none_there : (size : ℕ) (seen : ℕ → ℕ) (said : Option ℕ) → said ≡ None
-    → MatchOption said (IsNoSpool size seen) (SaysBlocks size seen) → IsNoSpool size seen
-none_there size seen said is told = subst (λ o. MatchOption o (IsNoSpool size seen) (SaysBlocks size seen)) is told
+none_there : (size : ℕ) (current : ℕ → ℕ) (said : Option ℕ) → said ≡ None
+    → MatchOption said (IsNoSpool size current) (SaysBlocks size current) → IsNoSpool size current
+none_there size current said is told = subst (λ o. MatchOption o (IsNoSpool size current)
+    (SaysBlocks size current)) is told
 
 pub returns-in-None-clause-said : goal.returns-in-None-clause-said
-returns-in-None-clause-said g c honest v sound is room =
-    none_there _ _ _ c.in-None.is (c.in_ok-layout.ensures.found honest) v.blocks (view_says_blocks _ _ v sound is room)
+returns-in-None-clause-said g c honest v valid is room =
+    none_there _ _ _ c.in-None.is (c.in_ok-layout.ensures.found honest) v.blocks (view_says_blocks _ _ v valid is room)
 
 pub returns-in-None-clause-refused : goal.returns-in-None-clause-refused
 returns-in-None-clause-refused g c honest =
     none_there _ _ _ c.in-None.is (c.in_ok-layout.ensures.found honest)
 
 pub returns-in-Some-clause-said : goal.returns-in-Some-clause-said
-returns-in-Some-clause-said g c honest v sound is room =
+returns-in-Some-clause-said g c honest v valid is room =
     let keeps = c.find_layout.ensures.keeps honest in
-    let seen : g.D.Disk.seen c.find_layout.new.disk ≡ g.D.Disk.seen c.args.disk.now = same_function _ _ keeps.same in
+    let current : g.D.Disk.current c.find_layout.new.disk ≡ g.D.Disk.current c.args.disk.now = same_function _ _
+    keeps.same in
     let layout : c.in-Some.layout ≡ v.blocks =
     says_one _ _ _ _ (says_there _ _ _ _ c.in-Some.is (c.in_ok-layout.ensures.found honest))
-    (view_says_blocks _ _ v sound is room) in
-    c.restore.ensures.said (c.find_layout.ensures.honest.0 honest) v sound (sym layout)
-    (subst (λ (image : ℕ → ℕ). IsViewOf image v) (sym seen) is)
+    (view_says_blocks _ _ v valid is room) in
+    c.restore.ensures.said (c.find_layout.ensures.honest.0 honest) v valid (sym layout)
+    (subst (λ (image : ℕ → ℕ). IsViewOf image v) (sym current) is)
 
 pub returns-in-Some-clause-lasts : goal.returns-in-Some-clause-lasts
-returns-in-Some-clause-lasts g c honest v sound is room =
+returns-in-Some-clause-lasts g c honest v valid is room =
     let keeps = c.find_layout.ensures.keeps honest in
-    let was = g.D.Disk.seen c.args.disk.now in
-    let seen : g.D.Disk.seen c.find_layout.new.disk ≡ was = same_function _ _ keeps.same in
+    let was = g.D.Disk.current c.args.disk.now in
+    let current : g.D.Disk.current c.find_layout.new.disk ≡ was = same_function _ _ keeps.same in
     let layout : c.in-Some.layout ≡ v.blocks =
     says_one _ _ _ _ (says_there _ _ _ _ c.in-Some.is (c.in_ok-layout.ensures.found honest))
-    (view_says_blocks _ _ v sound is room) in
+    (view_says_blocks _ _ v valid is room) in
     let first = lasts_more (c.find_layout.ensures.lasts honest) (λ image here. inl here) in
     let then = lasts_more (c.restore.ensures.lasts (c.find_layout.ensures.honest.0 honest)) (λ image one. ⊎_elim
     (λ here. inl (keeps_image keeps here))
     (λ reads. inr (subst (λ (n : ℕ). ReadsAs (journal_pages n) image (overlaid was)) layout
-    (subst (λ (f : ℕ → ℕ). ReadsAs (journal_pages c.in-Some.layout) image (overlaid f)) seen reads)))
+    (subst (λ (f : ℕ → ℕ). ReadsAs (journal_pages c.in-Some.layout) image (overlaid f)) current reads)))
     one) in
     lasts_on first then
 
@@ -72,40 +75,43 @@ returns-in-Some-clause-refused g c honest =
     let keeps = c.find_layout.ensures.keeps honest in
     let mid = c.find_layout.ensures.honest.0 honest in
     let layout = c.in-Some.layout in
-    let was = g.D.Disk.seen c.args.disk.now in
-    let seen : g.D.Disk.seen c.find_layout.new.disk ≡ was = same_function _ _ keeps.same in
+    let was = g.D.Disk.current c.args.disk.now in
+    let current : g.D.Disk.current c.find_layout.new.disk ≡ was = same_function _ _ keeps.same in
     found_reason (g.D.Disk.size c.args.disk.now) was layout c.restore.result
     (says_there _ _ _ _ c.in-Some.is (c.in_ok-layout.ensures.found honest))
-    (subst (λ (f : ℕ → ℕ). IfErr c.restore.result (RefusedAt layout f)) seen (c.restore.ensures.refused mid))
+    (subst (λ (f : ℕ → ℕ). IfErr c.restore.result (RefusedAt layout f)) current (c.restore.ensures.refused mid))
 
 pub returns-in-Some-clause-found : goal.returns-in-Some-clause-found
 returns-in-Some-clause-found g c honest =
     let keeps = c.find_layout.ensures.keeps honest in
     let mid = c.find_layout.ensures.honest.0 honest in
     let layout = c.in-Some.layout in
-    let seen : g.D.Disk.seen c.find_layout.new.disk ≡ g.D.Disk.seen c.args.disk.now = same_function _ _ keeps.same in
+    let current : g.D.Disk.current c.find_layout.new.disk ≡ g.D.Disk.current c.args.disk.now = same_function _ _
+    keeps.same in
     let size = c.find_layout.ensures.size in
     let found =
-    subst (λ (k : ℕ). SaysBlocks k (g.D.Disk.seen c.args.disk.now) layout) (sym size)
+    subst (λ (k : ℕ). SaysBlocks k (g.D.Disk.current c.args.disk.now) layout) (sym size)
     (says_there _ _ _ _ c.in-Some.is (c.in_ok-layout.ensures.found honest)) in
     let there =
     c.restore.ensures.found mid
-    (subst (λ (f : ℕ → ℕ). SaysBlocks (g.D.Disk.size c.find_layout.new.disk) f layout) (sym seen) found) in
+    (subst (λ (f : ℕ → ℕ). SaysBlocks (g.D.Disk.size c.find_layout.new.disk) f layout) (sym current) found) in
     let sized =
-    subst (λ (k : ℕ). IfOk c.restore.result (FoundOn k (g.D.Disk.seen c.find_layout.new.disk))) size there in
-    subst (λ (f : ℕ → ℕ). IfOk c.restore.result (FoundOn (g.D.Disk.size c.args.disk.now) f)) seen sized
+    subst (λ (k : ℕ). IfOk c.restore.result (FoundOn k (g.D.Disk.current c.find_layout.new.disk))) size there in
+    subst (λ (f : ℕ → ℕ). IfOk c.restore.result (FoundOn (g.D.Disk.size c.args.disk.now) f)) current sized
 
 pub returns-in-Some-clause-settled : goal.returns-in-Some-clause-settled
 returns-in-Some-clause-settled g c honest =
     let keeps = c.find_layout.ensures.keeps honest in
-    let seen : g.D.Disk.seen c.find_layout.new.disk ≡ g.D.Disk.seen c.args.disk.now = same_function _ _ keeps.same in
-    let now = g.D.Disk.seen c.restore.new.disk in
+    let current : g.D.Disk.current c.find_layout.new.disk ≡ g.D.Disk.current c.args.disk.now = same_function _ _
+    keeps.same in
+    let now = g.D.Disk.current c.restore.new.disk in
     let unsynced = g.D.Disk.unsynced c.restore.new.disk in
     let there =
     subst (λ (f : ℕ → ℕ). IfOk c.restore.result
-    (λ kept. Settled (journal_pages c.in-Some.layout) (overlaid f) now unsynced)) seen
+    (λ kept. Settled (journal_pages c.in-Some.layout) (overlaid f) now unsynced)) current
     (c.restore.ensures.settled (c.find_layout.ensures.honest.0 honest)) in
     if_ok_both c.restore.result
     (λ kept same settled. subst
-    (λ (n : ℕ). Settled (journal_pages n) (overlaid (g.D.Disk.seen c.args.disk.now)) now unsynced) (sym same) settled)
+    (λ (n : ℕ). Settled (journal_pages n) (overlaid (g.D.Disk.current c.args.disk.now)) now unsynced)
+    (sym same) settled)
     c.restore.ensures.layout there

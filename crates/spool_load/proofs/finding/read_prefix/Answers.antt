@@ -6,4 +6,4 @@ pub returns-clause-bytes : goal.returns-clause-bytes
 returns-clause-bytes g c honest i lt =
     let at : 0 + i ≡ i = omega arith in
     ap (λ (xs : List ℕ). get_or xs i 0) (c.in_ok-read.ensures.bytes honest (search rules)) ∙ get_span
-    (g.D.Disk.seen c.args.disk.now) 0 12 i lt ∙ ap (g.D.Disk.seen c.args.disk.now) at
+    (g.D.Disk.current c.args.disk.now) 0 12 i lt ∙ ap (g.D.Disk.current c.args.disk.now) at

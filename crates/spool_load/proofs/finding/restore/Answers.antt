@@ -21,30 +21,31 @@ recover_handed : {T : Type 0} (P : T → Type 0) (e : RecoverError) → (e ≡ r
 recover_handed P recover.DiskFault not = tt
 recover_handed P recover.Damaged not = absurd (not refl)
 
-recover_reason : (n : ℕ) (seen : ℕ → ℕ) (e : RecoverError)
-    → (e ≡ recover.Damaged → InForm (journal_pages n) (count seen) (number seen) → ⊥)
-    → (e ≡ recover.Damaged → seen 4096 ≡ 165) → RefusedAt n seen (fault_of e)
-recover_reason n seen recover.DiskFault bad ajar = tt
-recover_reason n seen recover.Damaged bad ajar = λ journal. absurd (bad refl (journal (ajar refl)))
+recover_reason : (n : ℕ) (current : ℕ → ℕ) (e : RecoverError)
+    → (e ≡ recover.Damaged → InForm (journal_pages n) (count current) (number current) → ⊥)
+    → (e ≡ recover.Damaged → current 4096 ≡ 165) → RefusedAt n current (fault_of e)
+recover_reason n current recover.DiskFault bad ajar = tt
+recover_reason n current recover.Damaged bad ajar = λ journal. absurd (bad refl (journal (ajar refl)))
 
 err_of : (e d : RecoverError) → e ≡ d → ◌≡◌ {A = Result (Unit {0}) RecoverError} (Err e) (Err d)
 err_of e d same = cc
 
 pub returns-in_err-recover-clause-said : goal.returns-in_err-recover-clause-said
-returns-in_err-recover-clause-said g c honest v sound blocks is =
+returns-in_err-recover-clause-said g c honest v valid blocks is =
     let J : ℕ → Type 0 =
-    λ n. g.D.Disk.seen c.args.disk.now 4096 ≡ 165 → InForm (journal_pages n) (count (g.D.Disk.seen c.args.disk.now))
-    (number (g.D.Disk.seen c.args.disk.now)) in
+    λ n. g.D.Disk.current c.args.disk.now 4096 ≡ 165
+    → InForm (journal_pages n) (count (g.D.Disk.current c.args.disk.now))
+    (number (g.D.Disk.current c.args.disk.now)) in
     let form = subst J blocks is.form in
-    let sound_head : c.in_err-recover.field-0.0 ≡ recover.Damaged → ⊥ =
+    let valid_head : c.in_err-recover.field-0.0 ≡ recover.Damaged → ⊥ =
     λ e. (let bad = c.recover.ensures.damaged honest (c.in_err-recover.was ∙ err_of _ _ e) in bad.1 (form bad.0)) in
-    let handed = recover_handed (IsFoundOf v) c.in_err-recover.field-0.0 sound_head in
+    let handed = recover_handed (IsFoundOf v) c.in_err-recover.field-0.0 valid_head in
     search rules
 
 pub returns-in_err-recover-clause-refused : goal.returns-in_err-recover-clause-refused
 returns-in_err-recover-clause-refused g c honest =
     let told =
-    recover_reason c.args.layout (g.D.Disk.seen c.args.disk.now) c.in_err-recover.field-0.0
+    recover_reason c.args.layout (g.D.Disk.current c.args.disk.now) c.in_err-recover.field-0.0
     (λ e. (c.recover.ensures.damaged honest (c.in_err-recover.was ∙ err_of _ _ e)).1)
     (λ e. (c.recover.ensures.damaged honest (c.in_err-recover.was ∙ err_of _ _ e)).0) in
     search rules
@@ -55,27 +56,27 @@ returns-clause-layout g c =
     (restored_layout c.args.layout c.in_ok-load_state.field-0 c.in_ok-load_state.ensures.layout)
 
 pub returns-clause-said : goal.returns-clause-said
-returns-clause-said g c honest v sound blocks is =
+returns-clause-said g c honest v valid blocks is =
     let settled = c.in_ok-recover.ensures.settled honest in
     let J : ℕ → Type 0 =
-    λ n. Settled (journal_pages n) (overlaid (g.D.Disk.seen c.args.disk.now)) (g.D.Disk.seen c.recover.new.disk)
+    λ n. Settled (journal_pages n) (overlaid (g.D.Disk.current c.args.disk.now)) (g.D.Disk.current c.recover.new.disk)
     (g.D.Disk.unsynced c.recover.new.disk) in
     let there = (settled_says v (subst J (sym blocks) settled) is.says).state in
-    let state : Stands (g.D.Disk.seen c.recover.new.disk) (state_place c.args.layout) 4096
+    let state : Stands (g.D.Disk.current c.recover.new.disk) (state_place c.args.layout) 4096
     (state_page v.version v.next) =
-    subst (λ (n : ℕ). Stands (g.D.Disk.seen c.recover.new.disk) (state_place n) 4096 (state_page v.version v.next))
+    subst (λ (n : ℕ). Stands (g.D.Disk.current c.recover.new.disk) (state_place n) 4096 (state_page v.version v.next))
     blocks there in
     subst (λ (r : Result Found OpenFault). LoadsAs r (IsFoundOf v)) (sym c.ok_or.ensures.value)
     (restored_view v c.args.layout c.in_ok-load_state.field-0 (sym blocks)
     (c.in_ok-load_state.ensures.said (c.recover.ensures.honest.0 honest) _ (settled_still settled) v.version v.next
-    (omega (arith, sound.next_most)) state)
+    (omega (arith, valid.next_most)) state)
     c.in_ok-load_state.ensures.layout)
 
 pub returns-clause-found : goal.returns-clause-found
 returns-clause-found g c honest says =
     let settled = c.in_ok-recover.ensures.settled honest in
-    let was = g.D.Disk.seen c.args.disk.now in
-    let now = g.D.Disk.seen c.recover.new.disk in
+    let was = g.D.Disk.current c.args.disk.now in
+    let now = g.D.Disk.current c.recover.new.disk in
     let size = g.D.Disk.size c.args.disk.now in
     subst (λ (r : Result Found OpenFault). IfOk r (FoundOn size was)) (sym c.ok_or.ensures.value)
     (restored c.args.layout was now (g.D.Disk.unsynced c.recover.new.disk) settled (c.in_ok-recover.ensures.form honest)
@@ -86,8 +87,8 @@ returns-clause-found g c honest says =
 pub returns-clause-refused : goal.returns-clause-refused
 returns-clause-refused g c honest =
     let settled = c.in_ok-recover.ensures.settled honest in
-    let was = g.D.Disk.seen c.args.disk.now in
-    let now = g.D.Disk.seen c.recover.new.disk in
+    let was = g.D.Disk.current c.args.disk.now in
+    let now = g.D.Disk.current c.recover.new.disk in
     subst (λ (r : Result Found OpenFault). IfErr r (RefusedAt c.args.layout was)) (sym c.ok_or.ensures.value)
     (unrestored c.args.layout was now (g.D.Disk.unsynced c.recover.new.disk) settled
     (c.in_ok-recover.ensures.form honest)

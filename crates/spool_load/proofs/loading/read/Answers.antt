@@ -3,7 +3,7 @@ use Rattle.std.proofs.lemmas.Bool.{false≢true}
 use Rattle.spool_disk.proofs.Firm.{counts_on}
 use Rattle.spool_pages.specs.View.{SlotRecord}
 use Rattle.spool_load.specs.Checks.{RecordsPass}
-use Rattle.spool_load.proofs.Sounds.{slots_said, sound_passes, read_loaded}
+use Rattle.spool_load.proofs.ValidViews.{slots_said, valid_passes, read_loaded}
 use Rattle.spool_load.proofs.Looks.{reads_on, ok_no_fault}
 use Rattle.spool_journal.proofs.Steps.{no_failure}
 use Rattle.spool_load.proofs.loading.read.Goals as goal
@@ -13,49 +13,49 @@ of-requires-clause-below g c s r there =
     let looked : c.deref.result.now ≡ c.in_ok-slots.slots.items = search rules in
     let are =
     subst (λ (xs : List (Option SlotRecord)). RecordsPass c.args.found.next xs) looked
-    (c.are_sound.ensures.0 (search rules)) in
+    (c.are_valid.ensures.0 (search rules)) in
     (are.records s r there).below
 
 pub returns-in_err-slots-clause-reads : goal.returns-in_err-slots-clause-reads
 returns-in_err-slots-clause-reads g c = reads_on c.load_fields.ensures.reads c.load_slots.ensures.reads
 
 pub returns-in_err-slots-clause-said : goal.returns-in_err-slots-clause-said
-returns-in_err-slots-clause-said g c honest bytes still v sound is says =
+returns-in_err-slots-clause-said g c honest bytes still v valid is says =
     let first = c.load_fields.ensures.reads in
     let loaded =
-    slots_said bytes c.args.found.layout v sound (sym is.blocks) says c.args.found.version is.state.version
+    slots_said bytes c.args.found.layout v valid (sym is.blocks) says c.args.found.version is.state.version
     (c.in_err-slots.ensures.said (first.honest honest) bytes (first.still honest bytes still)) in
     search rules
 
-pub returns-then-not-are_sound-clause-reads : goal.returns-then-not-are_sound-clause-reads
-returns-then-not-are_sound-clause-reads g c = reads_on c.load_fields.ensures.reads c.load_slots.ensures.reads
+pub returns-then-not-are_valid-clause-reads : goal.returns-then-not-are_valid-clause-reads
+returns-then-not-are_valid-clause-reads g c = reads_on c.load_fields.ensures.reads c.load_slots.ensures.reads
 
-pub returns-then-not-are_sound-clause-said : goal.returns-then-not-are_sound-clause-said
-returns-then-not-are_sound-clause-said g c honest bytes still v sound is says =
+pub returns-then-not-are_valid-clause-said : goal.returns-then-not-are_valid-clause-said
+returns-then-not-are_valid-clause-said g c honest bytes still v valid is says =
     let first = c.load_fields.ensures.reads in
     let slots : c.in_ok-slots.slots.items ≡ v.slots =
-    slots_said bytes c.args.found.layout v sound (sym is.blocks) says c.args.found.version is.state.version
+    slots_said bytes c.args.found.layout v valid (sym is.blocks) says c.args.found.version is.state.version
     (c.in_ok-slots.ensures.said (first.honest honest) bytes (first.still honest bytes still)) in
     let looked : c.deref.result.now ≡ v.slots = search rules in
-    let are = subst (λ (n : ℕ). RecordsPass n v.slots) (sym is.state.next) (sound_passes v sound) in
+    let are = subst (λ (n : ℕ). RecordsPass n v.slots) (sym is.state.next) (valid_passes v valid) in
     let passes =
-    c.are_sound.ensures.1
+    c.are_valid.ensures.1
     (subst (λ (xs : List (Option SlotRecord)). RecordsPass c.args.found.next xs) (sym looked) are) in
-    absurd (false≢true (sym c.if-not-are_sound.true ∙ passes))
+    absurd (false≢true (sym c.if-not-are_valid.true ∙ passes))
 
 pub returns-in_err-blocks-clause-reads : goal.returns-in_err-blocks-clause-reads
 returns-in_err-blocks-clause-reads g c =
     reads_on (reads_on c.load_fields.ensures.reads c.load_slots.ensures.reads) c.load_blocks.ensures.reads
 
 pub returns-in_err-blocks-clause-said : goal.returns-in_err-blocks-clause-said
-returns-in_err-blocks-clause-said g c honest bytes still v sound is says =
+returns-in_err-blocks-clause-said g c honest bytes still v valid is says =
     let first = c.load_fields.ensures.reads in
     let second = reads_on first c.load_slots.ensures.reads in
     let slots : c.in_ok-slots.slots.items ≡ v.slots =
-    slots_said bytes c.args.found.layout v sound (sym is.blocks) says c.args.found.version is.state.version
+    slots_said bytes c.args.found.layout v valid (sym is.blocks) says c.args.found.version is.state.version
     (c.in_ok-slots.ensures.said (first.honest honest) bytes (first.still honest bytes still)) in
     let loaded =
-    c.in_err-blocks.ensures.said (second.honest honest) bytes (second.still honest bytes still) v sound
+    c.in_err-blocks.ensures.said (second.honest honest) bytes (second.still honest bytes still) v valid
     (sym is.blocks) says
     (search rules) in
     search rules
@@ -69,33 +69,33 @@ returns-in_err-kept-clause-reads g c =
     reads_on (reads_on c.load_fields.ensures.reads c.load_slots.ensures.reads) c.load_blocks.ensures.reads
 
 pub returns-clause-said : goal.returns-clause-said
-returns-clause-said g c honest bytes still v sound is says =
+returns-clause-said g c honest bytes still v valid is says =
     let first = c.load_fields.ensures.reads in
     let second = reads_on first c.load_slots.ensures.reads in
-    let indexes = c.in_ok-indexes.ensures.said honest bytes still v sound (sym is.blocks) says in
+    let indexes = c.in_ok-indexes.ensures.said honest bytes still v valid (sym is.blocks) says in
     let slots : c.in_ok-slots.slots.items ≡ v.slots =
-    slots_said bytes c.args.found.layout v sound (sym is.blocks) says c.args.found.version is.state.version
+    slots_said bytes c.args.found.layout v valid (sym is.blocks) says c.args.found.version is.state.version
     (c.in_ok-slots.ensures.said (first.honest honest) bytes (first.still honest bytes still)) in
     let held =
-    c.in_ok-blocks.ensures.said (second.honest honest) bytes (second.still honest bytes still) v sound (sym is.blocks)
+    c.in_ok-blocks.ensures.said (second.honest honest) bytes (second.still honest bytes still) v valid (sym is.blocks)
     says
     (search rules) in
-    c.in_ok-kept.ensures.said v sound (sym is.blocks) is.state.version is.state.next indexes slots held.0 held.1
+    c.in_ok-kept.ensures.said v valid (sym is.blocks) is.state.version is.state.next indexes slots held.0 held.1
 
 pub returns-in_err-kept-clause-said : goal.returns-in_err-kept-clause-said
-returns-in_err-kept-clause-said g c honest bytes still v sound is says =
+returns-in_err-kept-clause-said g c honest bytes still v valid is says =
     let first = c.load_fields.ensures.reads in
     let second = reads_on first c.load_slots.ensures.reads in
-    let indexes = c.in_ok-indexes.ensures.said honest bytes still v sound (sym is.blocks) says in
+    let indexes = c.in_ok-indexes.ensures.said honest bytes still v valid (sym is.blocks) says in
     let slots : c.in_ok-slots.slots.items ≡ v.slots =
-    slots_said bytes c.args.found.layout v sound (sym is.blocks) says c.args.found.version is.state.version
+    slots_said bytes c.args.found.layout v valid (sym is.blocks) says c.args.found.version is.state.version
     (c.in_ok-slots.ensures.said (first.honest honest) bytes (first.still honest bytes still)) in
     let held =
-    c.in_ok-blocks.ensures.said (second.honest honest) bytes (second.still honest bytes still) v sound (sym is.blocks)
+    c.in_ok-blocks.ensures.said (second.honest honest) bytes (second.still honest bytes still) v valid (sym is.blocks)
     says
     (search rules) in
     let told =
-    c.in_err-kept.ensures.said v sound (sym is.blocks) is.state.version is.state.next indexes slots held.0 held.1 in
+    c.in_err-kept.ensures.said v valid (sym is.blocks) is.state.version is.state.next indexes slots held.0 held.1 in
     search rules
 
 pub returns-in_err-slots-clause-counts : goal.returns-in_err-slots-clause-counts
@@ -104,8 +104,8 @@ returns-in_err-slots-clause-counts g c =
     counts_on c.load_fields.ensures.counts (ok_no_fault _ _ c.in_ok-indexes.was) c.in_err-slots.ensures.counts in
     search rules
 
-pub returns-then-not-are_sound-clause-counts : goal.returns-then-not-are_sound-clause-counts
-returns-then-not-are_sound-clause-counts g c =
+pub returns-then-not-are_valid-clause-counts : goal.returns-then-not-are_valid-clause-counts
+returns-then-not-are_valid-clause-counts g c =
     let first = no_failure c.load_fields.ensures.counts (ok_no_fault _ _ c.in_ok-indexes.was) in
     let second = no_failure c.load_slots.ensures.counts (ok_no_fault _ _ c.in_ok-slots.was) in
     search rules
@@ -117,18 +117,18 @@ returns-in_err-blocks-clause-counts g c =
     let counted = counts_on second (ok_no_fault _ _ c.in_ok-slots.was) c.in_err-blocks.ensures.counts in
     search rules
 
-pub returns-clause-sound : goal.returns-clause-sound
-returns-clause-sound g c honest bytes still says found =
+pub returns-clause-valid : goal.returns-clause-valid
+returns-clause-valid g c honest bytes still says found =
     let first = c.load_fields.ensures.reads in
     let second = reads_on first c.load_slots.ensures.reads in
-    let fields = c.in_ok-indexes.ensures.sound honest bytes still says.prefix in
+    let fields = c.in_ok-indexes.ensures.valid honest bytes still says.prefix in
     let state = found.rest.0 (search rules) in
-    let slots = c.in_ok-slots.ensures.sound (first.honest honest) bytes (first.still honest bytes still) in
-    let rows = c.in_ok-blocks.ensures.sound (second.honest honest) bytes (second.still honest bytes still) in
+    let slots = c.in_ok-slots.ensures.valid (first.honest honest) bytes (first.still honest bytes still) in
+    let rows = c.in_ok-blocks.ensures.valid (second.honest honest) bytes (second.still honest bytes still) in
     let looked : c.deref.result.now ≡ c.in_ok-slots.slots.items = search rules in
     let are =
     subst (λ (xs : List (Option SlotRecord)). RecordsPass c.args.found.next xs) looked
-    (c.are_sound.ensures.0 (search rules)) in
+    (c.are_valid.ensures.0 (search rules)) in
     read_loaded bytes c.args.found.layout c.args.found.version c.args.found.next c.in_ok-indexes.indexes
     c.in_ok-slots.slots.items
     c.in_ok-blocks.blocks.rows c.in_ok-blocks.blocks.reserved c.in_ok-kept.kept

@@ -12,8 +12,8 @@ use Rattle.spool_load.proofs.Refused.{found_back, opened_on, read_reason, says_o
 use Rattle.spool_load.proofs.opening.load.Goals as goal
 
 pub returns-in_err-found-clause-said : goal.returns-in_err-found-clause-said
-returns-in_err-found-clause-said g c honest v sound is room =
-    let found = c.in_err-found.ensures.said honest v sound is room in
+returns-in_err-found-clause-said g c honest v valid is room =
+    let found = c.in_err-found.ensures.said honest v valid is room in
     let handed = loads_err _ (λ (kept : Kept). KeepsAlone kept v) _ found in
     search rules
 
@@ -28,26 +28,26 @@ returns-clause-room g c =
     c.in_ok-found.ensures.room
 
 pub returns-clause-said : goal.returns-clause-said
-returns-clause-said g c honest v sound is room =
+returns-clause-said g c honest v valid is room =
     let settled = c.in_ok-found.ensures.settled honest in
-    let found = c.in_ok-found.ensures.said honest v sound is room in
-    c.in_ok-kept.ensures.said (c.find.ensures.honest.0 honest) _ (settled_still settled) v sound found
+    let found = c.in_ok-found.ensures.said honest v valid is room in
+    c.in_ok-kept.ensures.said (c.find.ensures.honest.0 honest) _ (settled_still settled) v valid found
     (recovered_says c.in_ok-found.found.layout v found.blocks settled is)
 
-pub returns-clause-sound : goal.returns-clause-sound
-returns-clause-sound g c honest =
+pub returns-clause-valid : goal.returns-clause-valid
+returns-clause-valid g c honest =
     let settled = c.in_ok-found.ensures.settled honest in
     let found = c.in_ok-found.ensures.found honest in
     let n = c.in_ok-found.found.layout in
-    let was = g.D.Disk.seen c.args.disk.now in
-    let now = g.D.Disk.seen c.find.new.disk in
+    let was = g.D.Disk.current c.args.disk.now in
+    let now = g.D.Disk.current c.find.new.disk in
     let unsynced = g.D.Disk.unsynced c.find.new.disk in
     let size = g.D.Disk.size c.args.disk.now in
     let says =
     says_on n was now unsynced settled found.journal size
     (g.D.Disk.size c.find.new.disk) c.find.ensures.size found.says in
     opened_on n was now unsynced settled found.journal size c.in_ok-kept.kept found.says
-    (c.in_ok-kept.ensures.sound (c.find.ensures.honest.0 honest) now (settled_still settled) says
+    (c.in_ok-kept.ensures.valid (c.find.ensures.honest.0 honest) now (settled_still settled) says
     (found_back size c.in_ok-found.found was now unsynced settled found))
 
 pub returns-clause-settled : goal.returns-clause-settled
@@ -56,16 +56,16 @@ returns-clause-settled g c honest =
     read_settled g.D.Disk c.args.disk.now c.find.new.disk c.read.new.disk c.in_ok-found.found.layout
     (c.find.ensures.honest.0 honest) (c.in_ok-found.ensures.settled honest) c.read.ensures.reads in
     let J : ℕ → Type 0 =
-    λ n. Settled (journal_pages n) (overlaid (g.D.Disk.seen c.args.disk.now)) (g.D.Disk.seen c.read.new.disk)
+    λ n. Settled (journal_pages n) (overlaid (g.D.Disk.current c.args.disk.now)) (g.D.Disk.current c.read.new.disk)
     (g.D.Disk.unsynced c.read.new.disk) in
     subst J (sym c.in_ok-kept.ensures.layout) there
 
 pub returns-clause-lasts : goal.returns-clause-lasts
-returns-clause-lasts g c honest v sound is room =
-    let found = c.in_ok-found.ensures.said honest v sound is room in
+returns-clause-lasts g c honest v valid is room =
+    let found = c.in_ok-found.ensures.said honest v valid is room in
     read_lasts g.D.Disk c.args.disk.now c.find.new.disk c.read.new.disk c.in_ok-found.found.layout
     (c.find.ensures.honest.0 honest) (c.in_ok-found.ensures.settled honest) c.read.ensures.reads v.blocks found.blocks
-    (c.find.ensures.lasts honest v sound is room)
+    (c.find.ensures.lasts honest v valid is room)
 
 pub returns-clause-unwritten : goal.returns-clause-unwritten
 returns-clause-unwritten g c honest none =
@@ -87,12 +87,12 @@ returns-in_err-kept-clause-counts g c =
     (λ device. e.1 ∙ ap Err (e.2 ∙ device)) c.in_err-kept.ensures.counts)
 
 pub returns-in_err-kept-clause-said : goal.returns-in_err-kept-clause-said
-returns-in_err-kept-clause-said g c honest v sound is room =
+returns-in_err-kept-clause-said g c honest v valid is room =
     let settled = c.in_ok-found.ensures.settled honest in
-    let found = c.in_ok-found.ensures.said honest v sound is room in
+    let found = c.in_ok-found.ensures.said honest v valid is room in
     let read =
     tells_nothing c.in_err-kept.field-0.0 (λ (kept : Kept). KeepsAlone kept v)
-    (c.in_err-kept.ensures.said (c.find.ensures.honest.0 honest) _ (settled_still settled) v sound found
+    (c.in_err-kept.ensures.said (c.find.ensures.honest.0 honest) _ (settled_still settled) v valid found
     (recovered_says c.in_ok-found.found.layout v found.blocks settled is)) in
     search rules
 
@@ -101,19 +101,19 @@ returns-in_err-kept-clause-refused g c honest =
     let settled = c.in_ok-found.ensures.settled honest in
     let mid = c.find.ensures.honest.0 honest in
     let reason =
-    read_reason (g.D.Disk.size c.args.disk.now) (g.D.Disk.seen c.args.disk.now) c.in_ok-found.found
+    read_reason (g.D.Disk.size c.args.disk.now) (g.D.Disk.current c.args.disk.now) c.in_ok-found.found
     c.in_err-kept.field-0.0 (c.in_ok-found.ensures.found honest)
-    (λ v sound is room. let found = c.in_ok-found.ensures.said honest v sound is room in
-    c.in_err-kept.ensures.said mid _ (settled_still settled) v sound found
+    (λ v valid is room. let found = c.in_ok-found.ensures.said honest v valid is room in
+    c.in_err-kept.ensures.said mid _ (settled_still settled) v valid found
     (recovered_says c.in_ok-found.found.layout v found.blocks settled is)) in
     search rules
 
 pub returns-in_err-kept-clause-lasts : goal.returns-in_err-kept-clause-lasts
-returns-in_err-kept-clause-lasts g c honest v sound is room =
-    let found = c.in_ok-found.ensures.said honest v sound is room in
+returns-in_err-kept-clause-lasts g c honest v valid is room =
+    let found = c.in_ok-found.ensures.said honest v valid is room in
     read_lasts g.D.Disk c.args.disk.now c.find.new.disk c.read.new.disk c.in_ok-found.found.layout
     (c.find.ensures.honest.0 honest) (c.in_ok-found.ensures.settled honest) c.read.ensures.reads v.blocks found.blocks
-    (c.find.ensures.lasts honest v sound is room)
+    (c.find.ensures.lasts honest v valid is room)
 
 pub returns-in_err-kept-clause-unwritten : goal.returns-in_err-kept-clause-unwritten
 returns-in_err-kept-clause-unwritten g c honest none =

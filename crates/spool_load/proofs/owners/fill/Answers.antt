@@ -33,9 +33,9 @@ loop-k-preserved c =
           step_on first k all _
           (put_same c.loop-k.rows c.put_row.new.rows (first + k) row put others all (inv.said all long fits stands was)
           is);
-      sound =
+      valid =
           put_stands c.loop-k.rows c.put_row.new.rows (first + k) row put others (byte_of c.args.page.now) first k
-          (omega arith) inv.sound c.in_ok-row_at.ensures.sound;
+          (omega arith) inv.valid c.in_ok-row_at.ensures.valid;
       before = λ b lt. let ne : b ≢ first + k = omega (arith, lt) in others b ne ∙ inv.before b lt;
     }
 

@@ -10,6 +10,6 @@ invariant-loop-k l = record {
   said : (all : List (Option (ℕ × ℕ))) → length all ≡ length l.fn.rows → ((b : ℕ) → FitsRow (get_or all b None)) →
       ((k : ℕ) → k < 512 → Stands (byte_of l.page) (8 * k) 8 (row_bytes (get_or all (l.first + k) None))) →
       IsSameTo l.first all l.fn.rows → IsSameTo (l.first + l.k) all l.rows;
-  sound : (m : ℕ) → m < l.k → Stands (byte_of l.page) (8 * m) 8 (row_bytes (get_or l.rows (l.first + m) None));
+  valid : (m : ℕ) → m < l.k → Stands (byte_of l.page) (8 * m) 8 (row_bytes (get_or l.rows (l.first + m) None));
   before : (b : ℕ) → b < l.first → get_or l.rows b None ≡ get_or l.fn.rows b None;
 }

@@ -27,11 +27,11 @@ returns-clause-said g c honest bytes still all long fits stands was =
     let e : 512 * page + 512 ≡ 512 * (page + 1) = omega arith in
     subst (λ (m : ℕ). IsSameTo m all c.fill.new.rows) e filled
 
-pub returns-clause-sound : goal.returns-clause-sound
-returns-clause-sound g c honest bytes still was =
+pub returns-clause-valid : goal.returns-clause-valid
+returns-clause-valid g c honest bytes still was =
     let n = c.args.layout.now in
     let page = c.args.page in
     let wide : length c.read_at.new.buf ≡ 4096 = search rules in
     rows_read bytes n _ page c.read_at.new.buf c.args.rows.now c.fill.new.rows
     (c.in_ok-read_at.ensures.bytes honest bytes still) wide (omega (arith, c.rows_place.ensures)) was
-    c.fill.ensures.before c.in_ok-fill.ensures.sound
+    c.fill.ensures.before c.in_ok-fill.ensures.valid

@@ -19,9 +19,9 @@ returns-clause-said g c honest bytes still all long fits stands =
     subst (λ (m : ℕ). IsSameTo m all c.loop-page.rows) e
     (c.loop-page.invariant.said honest bytes still all long fits stands)
 
-pub returns-clause-sound : goal.returns-clause-sound
-returns-clause-sound g c honest bytes still =
+pub returns-clause-valid : goal.returns-clause-valid
+returns-clause-valid g c honest bytes still =
     let n = c.args.layout.now in
     let e : 512 * c.loop-page.page ≡ 512 * (journal_pages n - 257) =
     omega (arith, c.row_pages-page-end.ensures.pages) in
-    subst (λ (m : ℕ). StandRows bytes n m c.loop-page.rows) e (c.loop-page.invariant.sound honest bytes still)
+    subst (λ (m : ℕ). StandRows bytes n m c.loop-page.rows) e (c.loop-page.invariant.valid honest bytes still)

@@ -11,12 +11,12 @@ invariant-loop-page g l = record {
   reads : OnlyReads g.D.Disk l.fn.disk l.disk;
   counts : g.D.Disk.failures l.disk ≡ g.D.Disk.failures l.fn.disk;
   said : g.D.Disk.honest l.fn.disk → (bytes : ℕ → ℕ)
-      → Still bytes (g.D.Disk.seen l.fn.disk) (g.D.Disk.unsynced l.fn.disk) →
+      → Still bytes (g.D.Disk.current l.fn.disk) (g.D.Disk.unsynced l.fn.disk) →
       (all : List (Option (ℕ × ℕ))) → length all ≡ length l.fn.rows → ((b : ℕ) → FitsRow (get_or all b None)) →
       ((b : ℕ) → b < 512 * (journal_pages l.layout - 257) → Stands bytes (row_place l.layout b) 8
       (row_bytes (get_or all b None))) →
       IsSameTo (512 * l.page) all l.rows;
-  sound : g.D.Disk.honest l.fn.disk → (bytes : ℕ → ℕ)
-      → Still bytes (g.D.Disk.seen l.fn.disk) (g.D.Disk.unsynced l.fn.disk)
+  valid : g.D.Disk.honest l.fn.disk → (bytes : ℕ → ℕ)
+      → Still bytes (g.D.Disk.current l.fn.disk) (g.D.Disk.unsynced l.fn.disk)
       → StandRows bytes l.layout (512 * l.page) l.rows;
 }

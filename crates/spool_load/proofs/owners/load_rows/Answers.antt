@@ -11,12 +11,12 @@ returns-in_err-load_pages-clause-said g c honest bytes still all long fits stand
     let read = c.in_err-load_pages.ensures.said honest bytes still all (omega (arith, size, long)) fits stands in
     search rules
 
-pub returns-clause-sound : goal.returns-clause-sound
-returns-clause-sound g c honest bytes still =
+pub returns-clause-valid : goal.returns-clause-valid
+returns-clause-valid g c honest bytes still =
     let n = c.args.layout.now in
     let same : length c.load_pages.new.rows ≡ length c.in_ok-rows.rows.items = search rules in
     let P : List (Option (ℕ × ℕ)) → Type 0 = StandRows bytes n (512 * (journal_pages n - 257)) in
-    subst P (sym (take_new _ _ _ (search rules))) (c.in_ok-load_pages.ensures.sound honest bytes still)
+    subst P (sym (take_new _ _ _ (search rules))) (c.in_ok-load_pages.ensures.valid honest bytes still)
 
 pub returns-clause-said : goal.returns-clause-said
 returns-clause-said g c honest bytes still all long fits stands =

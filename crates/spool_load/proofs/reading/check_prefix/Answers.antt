@@ -28,8 +28,8 @@ returns-else-is_blank_after_fields-clause-said g c honest bytes still n stands =
     (stands_part (byte_of c.read_at.new.buf) 0 4096 12 (first_page n) (omega arith) whole)).1 whole in
     absurd (false≢true (sym c.if-is_blank_after_fields.false ∙ blank))
 
-pub returns-then-is_blank_after_fields-clause-sound : goal.returns-then-is_blank_after_fields-clause-sound
-returns-then-is_blank_after_fields-clause-sound g c honest bytes still n prefix =
+pub returns-then-is_blank_after_fields-clause-valid : goal.returns-then-is_blank_after_fields-clause-valid
+returns-then-is_blank_after_fields-clause-valid g c honest bytes still n prefix =
     let read = c.in_ok-read_at.ensures.bytes honest bytes still in
     let wide : length c.read_at.new.buf ≡ 4096 = search rules in
     let here =

@@ -10,6 +10,6 @@ invariant-loop-page g l = record {
   counts : g.D.Disk.failures l.disk ≡ g.D.Disk.failures l.fn.disk;
   long : length l.area.items ≡ 4096 * l.page;
   read : g.D.Disk.honest l.fn.disk → (bytes : ℕ → ℕ)
-      → Still bytes (g.D.Disk.seen l.fn.disk) (g.D.Disk.unsynced l.fn.disk)
+      → Still bytes (g.D.Disk.current l.fn.disk) (g.D.Disk.unsynced l.fn.disk)
       → IsReadAt bytes (index_place l.layout) l.area.items;
 }

@@ -1,8 +1,8 @@
 use Rattle.std.proofs.Common.{◌≡◌, ◌∙◌, ℕ, List, length, get_or, rules, sym, ap, arith}
 use Rattle.spool_load.proofs.reading.load_indexes.Goals as goal
 
-pub returns-in-Ok-clause-sound : goal.returns-in-Ok-clause-sound
-returns-in-Ok-clause-sound g c honest bytes still =
+pub returns-in-Ok-clause-valid : goal.returns-in-Ok-clause-valid
+returns-in-Ok-clause-valid g c honest bytes still =
     let area = c.in_ok-area.area.items in
     let read = c.in_ok-area.ensures.read honest bytes still in
     let written = c.in-Ok.ensures.written in

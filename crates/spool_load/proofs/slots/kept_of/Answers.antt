@@ -26,7 +26,7 @@ returns-in_ok-kept-in-Some-clause-stands c =
     let bytes = c.args.bytes.now in
     let padded =
     subst (λ (o : Option SlotRecord). IsPadded bytes (slot_bytes c.args.version o)) c.in-Some.is
-    c.in_ok-record.ensures.sound in
+    c.in_ok-record.ensures.valid in
     subst (λ (r : SlotRecord). IsPadded bytes (record_bytes c.args.version r)) (sym c.in_ok-kept-in-Some.ensures.same)
     padded
 
@@ -34,4 +34,4 @@ pub returns-in_ok-kept-in-Some-clause-fits : goal.returns-in_ok-kept-in-Some-cla
 returns-in_ok-kept-in-Some-clause-fits c =
     let fits = subst (λ (o : Option SlotRecord). IfSome o FitsSlot) c.in-Some.is c.in_ok-record.ensures.fits in
     subst (λ (r : SlotRecord). FitsSlotOf (Some r)) (sym c.in_ok-kept-in-Some.ensures.same)
-    (fits, c.in_ok-kept-in-Some.ensures.sound.printable)
+    (fits, c.in_ok-kept-in-Some.ensures.valid.printable)

@@ -24,9 +24,9 @@ loop-slot-preserved g c =
           λ honest bytes still said long fits stands. c.in_ok-push_slot.ensures.said (inv.reads.honest honest) bytes
           (inv.reads.still honest bytes still) said long (fits s) (stands s (omega arith)) inv.long
           (inv.said honest bytes still said long fits stands);
-      sound =
-          λ honest bytes still. c.in_ok-push_slot.ensures.sound (inv.reads.honest honest) bytes
-          (inv.reads.still honest bytes still) inv.long (inv.sound honest bytes still);
+      valid =
+          λ honest bytes still. c.in_ok-push_slot.ensures.valid (inv.reads.honest honest) bytes
+          (inv.reads.still honest bytes still) inv.long (inv.valid honest bytes still);
     }
 
 pub returns-clause-said : goal.returns-clause-said

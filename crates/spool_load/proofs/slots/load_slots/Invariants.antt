@@ -11,11 +11,11 @@ invariant-loop-slot g l = record {
   counts : g.D.Disk.failures l.disk ≡ g.D.Disk.failures l.fn.disk;
   long : length l.slots.items ≡ l.slot;
   said : g.D.Disk.honest l.fn.disk → (bytes : ℕ → ℕ)
-      → Still bytes (g.D.Disk.seen l.fn.disk) (g.D.Disk.unsynced l.fn.disk) →
+      → Still bytes (g.D.Disk.current l.fn.disk) (g.D.Disk.unsynced l.fn.disk) →
       (said : List (Option SlotRecord)) → length said ≡ 512 → ((s : ℕ) → FitsKept (get_or said s None)) →
       ((s : ℕ) → s < 512 → Stands bytes (slot_place l.layout s) 2048 (slot_bytes l.version (get_or said s None)))
       → IsPrefixOf said l.slots.items;
-  sound : g.D.Disk.honest l.fn.disk → (bytes : ℕ → ℕ)
-      → Still bytes (g.D.Disk.seen l.fn.disk) (g.D.Disk.unsynced l.fn.disk)
+  valid : g.D.Disk.honest l.fn.disk → (bytes : ℕ → ℕ)
+      → Still bytes (g.D.Disk.current l.fn.disk) (g.D.Disk.unsynced l.fn.disk)
       → StandSlots bytes l.layout l.version l.slots.items;
 }

@@ -6,8 +6,8 @@ use Rattle.spool_load.proofs.Looks.{stand_push}
 use Rattle.spool_load.proofs.slots.push_slot.Goals as goal
 use Rattle.spool_load.proofs.slots.push_slot.Goals.{in-Ok, in-Err}
 
-pub returns-clause-sound : goal.returns-clause-sound
-returns-clause-sound g c honest bytes still long was =
+pub returns-clause-valid : goal.returns-clause-valid
+returns-clause-valid g c honest bytes still long was =
     let n = c.args.layout.now in
     let kept = c.in_ok-kept.kept in
     let P : Result (Unit {0}) LoadError

@@ -41,8 +41,8 @@ returns-then-slot-gt0-clause-said c row fits stands =
     ap Ok (when_owned c.args.page.now c.args.at c.get_u32-slot.result c.get_u32-ordinal.result
     c.get_u32-slot.ensures.is c.get_u32-ordinal.ensures.is c.if-slot-gt0.true row fits stands)
 
-pub returns-then-slot-gt0-clause-sound : goal.returns-then-slot-gt0-clause-sound
-returns-then-slot-gt0-clause-sound c =
+pub returns-then-slot-gt0-clause-valid : goal.returns-then-slot-gt0-clause-valid
+returns-then-slot-gt0-clause-valid c =
     let n = c.get_u32-slot.result in
     let is : n ≡ n - 1 + 1 = omega (arith, c.if-slot-gt0.true) in
     owned_at (byte_of c.args.page.now) c.args.at (n - 1) c.get_u32-ordinal.result
@@ -62,8 +62,8 @@ returns-clause-said c row fits stands =
     ap Ok (when_free c.args.page.now c.args.at c.get_u32-slot.result c.get_u32-ordinal.result
     c.get_u32-slot.ensures.is c.get_u32-ordinal.ensures.is none row fits stands)
 
-pub returns-clause-sound : goal.returns-clause-sound
-returns-clause-sound c =
+pub returns-clause-valid : goal.returns-clause-valid
+returns-clause-valid c =
     let zero_slot : c.get_u32-slot.result ≡ 0 = omega (arith, c.if-slot-gt0.false) in
     let zero_ordinal : c.get_u32-ordinal.result ≡ 0 = omega (arith, c.if-ordinal-gt0.false) in
     free_of_zeros (byte_of c.args.page.now) c.args.at

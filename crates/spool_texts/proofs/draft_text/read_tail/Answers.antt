@@ -7,13 +7,13 @@ use Rattle.spool_texts.proofs.draft_text.read_tail.Goals as goal
 
 pub returns-clause-tail : goal.returns-clause-tail
 returns-clause-tail g c honest =
-    let on = blocks_on (g.D.Disk.seen c.args.disk.now) (text_page c.args.layout.now) c.args.list.now in
+    let on = blocks_on (g.D.Disk.current c.args.disk.now) (text_page c.args.layout.now) c.args.list.now in
     tail_is (take c.args.len on) (take (c.args.len % 4096) c.args.page.now) c.read_text.new.buf
     (drop (c.args.len % 4096) c.args.page.now) c.args.len c.in_ok-read_text.field-0
     (omega (
       arith,
       length-take c.args.len on,
-      length-blocks_on (g.D.Disk.seen c.args.disk.now)
+      length-blocks_on (g.D.Disk.current c.args.disk.now)
           (text_page c.args.layout.now) c.args.list.now,
       c.requires.long,
     ))

@@ -12,7 +12,7 @@ loop-at-init g c = record {
   honest = λ honest. honest;
   back = λ honest. honest;
   counts = refl;
-  text = λ honest. none_yet (g.D.Disk.seen c.args.disk.now) (text_page c.args.layout.now)
+  text = λ honest. none_yet (g.D.Disk.current c.args.disk.now) (text_page c.args.layout.now)
       c.saturating_sub-full.result c.args.list.now c.args.last.now (omega (arith, c.saturating_sub-full.ensures));
   writes = λ honest. writes_none _ _;
   lasts = λ honest. record { later = omega arith; nothing_else = λ t image le left. inl left };
@@ -41,8 +41,8 @@ loop-at-preserved g c =
       counts = no_failure c.write_prefix.ensures.counts (λ e. let wrong = rw c.in_ok-write_prefix.was at e in cc)
           ∙ inv.counts;
       text = λ honest.
-          one_more (g.D.Disk.seen c.args.disk.now) (g.D.Disk.seen c.loop-at.disk)
-          (g.D.Disk.seen c.write_prefix.new.disk)
+          one_more (g.D.Disk.current c.args.disk.now) (g.D.Disk.current c.loop-at.disk)
+          (g.D.Disk.current c.write_prefix.new.disk)
           (text_page c.args.layout.now) full at c.min-to.result c.args.list.now c.args.last.now
           (take (c.min-to.result - 4096 * (at - full)) (drop (4096 * (at - full)) c.args.last.now))
           (omega (arith, c.loop-at.auto)) (omega (arith, c.loop-at.auto, c.loop-at-test.true))

@@ -11,12 +11,12 @@ invariant-loop-at g l = record {
   honest : g.D.Disk.honest l.fn.disk → g.D.Disk.honest l.disk;
   back : g.D.Disk.honest l.disk → g.D.Disk.honest l.fn.disk;
   counts : g.D.Disk.failures l.disk ≡ g.D.Disk.failures l.fn.disk;
-  text : g.D.Disk.honest l.fn.disk → text_on (g.D.Disk.seen l.disk) (text_page l.layout) l.list
+  text : g.D.Disk.honest l.fn.disk → text_on (g.D.Disk.current l.disk) (text_page l.layout) l.list
       (4096 * l.full + min (length l.last) (4096 * (l.at - l.full)))
-      ≡ blocks_on (g.D.Disk.seen l.fn.disk) (text_page l.layout) (take l.full l.list) ++ take
+      ≡ blocks_on (g.D.Disk.current l.fn.disk) (text_page l.layout) (take l.full l.list) ++ take
       (4096 * (l.at - l.full)) l.last;
-  writes : g.D.Disk.honest l.fn.disk → WritesIn (text_page l.layout) l.list (g.D.Disk.seen l.fn.disk)
-      (g.D.Disk.seen l.disk) (g.D.Disk.unsynced l.fn.disk) (g.D.Disk.unsynced l.disk);
+  writes : g.D.Disk.honest l.fn.disk → WritesIn (text_page l.layout) l.list (g.D.Disk.current l.fn.disk)
+      (g.D.Disk.current l.disk) (g.D.Disk.unsynced l.fn.disk) (g.D.Disk.unsynced l.disk);
   lasts : g.D.Disk.honest l.fn.disk → Lasts g.D.Disk l.fn.disk l.disk
-      (IsImageBut (text_page l.layout) l.list (g.D.Disk.seen l.fn.disk) (g.D.Disk.unsynced l.fn.disk));
+      (IsImageBut (text_page l.layout) l.list (g.D.Disk.current l.fn.disk) (g.D.Disk.unsynced l.fn.disk));
 }

@@ -28,9 +28,9 @@ returns-clause-piece g c honest =
     let place : 4096 * c.block_page-page.result + c.args.at % 4096
     ≡ 4096 * (text_page c.args.layout.now + get_or c.args.list.now (c.args.at / 4096) 0) + c.args.at % 4096 =
     omega (arith, c.block_page-page.ensures.page) in
-    piece_is (g.D.Disk.seen c.args.disk.now) (text_page c.args.layout.now) c.args.list.now c.args.at
+    piece_is (g.D.Disk.current c.args.disk.now) (text_page c.args.layout.now) c.args.list.now c.args.at
     c.run-count.result c.min-n.result c.args.buf.now c.read.new.buf (omega (arith, c.min-n.ensures))
     c.run-count.ensures.follow (omega (arith, c.min-n.ensures, c.run-count.ensures.some))
     (c.in_ok-read.ensures.bytes honest (search rules) ∙ ap
-    (λ (n : ℕ). span (g.D.Disk.seen c.args.disk.now) (4096 * c.block_page-page.result + c.args.at % 4096) n) size
-    ∙ ap (λ (at : ℕ). span (g.D.Disk.seen c.args.disk.now) at c.min-n.result) place)
+    (λ (n : ℕ). span (g.D.Disk.current c.args.disk.now) (4096 * c.block_page-page.result + c.args.at % 4096) n) size
+    ∙ ap (λ (at : ℕ). span (g.D.Disk.current c.args.disk.now) at c.min-n.result) place)

@@ -39,7 +39,7 @@ loop-done-preserved g c =
 pub returns-clause-read : goal.returns-clause-read
 returns-clause-read g c honest =
     let inv = c.loop-done.invariant in
-    all_read (g.D.Disk.seen c.args.disk.now) (text_page c.args.layout.now) c.args.list.now c.args.len
+    all_read (g.D.Disk.current c.args.disk.now) (text_page c.args.layout.now) c.args.list.now c.args.len
     c.args.at c.min-count.result c.args.buf.now c.loop-done.buf c.requires.long
     (omega (arith, c.min-count.ensures, c.saturating_sub.ensures)) c.loop-done.auto.buf
     (λ k lt. inv.bytes honest k (omega (arith, lt, c.loop-done-test.false)))

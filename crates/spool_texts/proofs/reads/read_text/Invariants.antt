@@ -12,13 +12,13 @@ invariant-loop-done g l = record {
   back : g.D.Disk.honest l.disk → g.D.Disk.honest l.fn.disk;
   later : g.D.Disk.moment l.fn.disk ≤ g.D.Disk.moment l.disk;
   counts : g.D.Disk.failures l.disk ≡ g.D.Disk.failures l.fn.disk;
-  keeps : g.D.Disk.honest l.fn.disk → Keeps (g.D.Disk.seen l.fn.disk) (g.D.Disk.seen l.disk)
+  keeps : g.D.Disk.honest l.fn.disk → Keeps (g.D.Disk.current l.fn.disk) (g.D.Disk.current l.disk)
       (g.D.Disk.unsynced l.fn.disk)
       (g.D.Disk.unsynced l.disk);
   lasts : g.D.Disk.honest l.fn.disk → Lasts g.D.Disk l.fn.disk l.disk
-      (IsImage (g.D.Disk.seen l.fn.disk) (g.D.Disk.unsynced l.fn.disk));
+      (IsImage (g.D.Disk.current l.fn.disk) (g.D.Disk.unsynced l.fn.disk));
   within : l.done ≤ l.count;
-  bytes : g.D.Disk.honest l.fn.disk → (k : ℕ) → k < l.done → get_or l.buf k 0 ≡ byte_on (g.D.Disk.seen l.fn.disk)
+  bytes : g.D.Disk.honest l.fn.disk → (k : ℕ) → k < l.done → get_or l.buf k 0 ≡ byte_on (g.D.Disk.current l.fn.disk)
       (text_page l.layout) l.list (l.at + k);
   rest : g.D.Disk.honest l.fn.disk → (k : ℕ) → l.done ≤ k → get_or l.buf k 0 ≡ get_or l.fn.buf k 0;
 }

@@ -22,51 +22,51 @@ stands : (s : Transcoder) (from : Encoding) (e : EncoderState) (phase : Phase) (
 stands s from e phase spent e1 e2 e3 e4 = rw (e1, e2, e3, e4) refl
 
 pub returns-in_err-encoder-clause-same : goal.returns-in_err-encoder-clause-same
-returns-in_err-encoder-clause-same c s sound is =
+returns-in_err-encoder-clause-same c s valid is =
     let b = c.args.bytes.now in
     let e : EncoderState = record { to = s.to; mode = s.mode; shift = s.shift } in
-    let k = c.in_err-encoder.ensures.same e sound.fitting.output (to_there s b is) (mode_there s b is)
+    let k = c.in_err-encoder.ensures.same e valid.fitting.output (to_there s b is) (mode_there s b is)
     (shift_there s b is) in
     cc
 
 pub returns-in_err-stage-clause-same : goal.returns-in_err-stage-clause-same
-returns-in_err-stage-clause-same c s sound is =
+returns-in_err-stage-clause-same c s valid is =
     let b = c.args.bytes.now in
     let f = c.in_ok-from.ensures s.from (from_there s b is) in
     let from : c.in_ok-from.from ≡ s.from = cc in
     absurd (c.in_err-stage.ensures.same s.phase
-    (subst (λ (z : Encoding). IsPhaseOf z s.phase) (sym from) sound.fitting.phase) sound.reached
+    (subst (λ (z : Encoding). IsPhaseOf z s.phase) (sym from) valid.fitting.phase) valid.reached
     (phase_there s b is) (kept_there s b is))
 
 pub returns-then-not-is_encoder_in-clause-same : goal.returns-then-not-is_encoder_in-clause-same
-returns-then-not-is_encoder_in-clause-same c s sound is =
+returns-then-not-is_encoder_in-clause-same c s valid is =
     let b = c.args.bytes.now in
     let f = c.in_ok-from.ensures s.from (from_there s b is) in
     let from : c.in_ok-from.from ≡ s.from = cc in
     let e : EncoderState = record { to = s.to; mode = s.mode; shift = s.shift } in
-    let k = c.in_ok-encoder.ensures.same e sound.fitting.output (to_there s b is) (mode_there s b is)
+    let k = c.in_ok-encoder.ensures.same e valid.fitting.output (to_there s b is) (mode_there s b is)
     (shift_there s b is) in
     let encoder : c.in_ok-encoder.encoder ≡ e = cc in
     let phase : phase_at c.in_ok-stage.stage ≡ s.phase =
-    c.in_ok-stage.ensures.same s.phase (subst (λ (z : Encoding). IsPhaseOf z s.phase) (sym from) sound.fitting.phase)
-    sound.reached (phase_there s b is) (kept_there s b is) in
+    c.in_ok-stage.ensures.same s.phase (subst (λ (z : Encoding). IsPhaseOf z s.phase) (sym from) valid.fitting.phase)
+    valid.reached (phase_there s b is) (kept_there s b is) in
     let shift : IsShiftIn (phase_at c.in_ok-stage.stage) c.in_ok-encoder.encoder.to c.in_ok-encoder.encoder.shift =
     subst (λ (z : Phase). IsShiftIn z c.in_ok-encoder.encoder.to c.in_ok-encoder.encoder.shift) (sym phase)
-    (subst (λ (z : EncoderState). IsShiftIn s.phase z.to z.shift) (sym encoder) sound.fitting.shift) in
+    (subst (λ (z : EncoderState). IsShiftIn s.phase z.to z.shift) (sym encoder) valid.fitting.shift) in
     let told = c.is_encoder_in.ensures.1 shift in
     absurd (search rules)
 
 pub returns-clause-same : goal.returns-clause-same
-returns-clause-same c s sound is =
+returns-clause-same c s valid is =
     let b = c.args.bytes.now in
     let f = c.in_ok-from.ensures s.from (from_there s b is) in
     let from : c.in_ok-from.from ≡ s.from = cc in
     let e : EncoderState = record { to = s.to; mode = s.mode; shift = s.shift } in
-    let k = c.in_ok-encoder.ensures.same e sound.fitting.output (to_there s b is) (mode_there s b is)
+    let k = c.in_ok-encoder.ensures.same e valid.fitting.output (to_there s b is) (mode_there s b is)
     (shift_there s b is) in
     let encoder : c.in_ok-encoder.encoder ≡ e = cc in
     let phase : phase_at c.in_ok-stage.stage ≡ s.phase =
-    c.in_ok-stage.ensures.same s.phase (subst (λ (z : Encoding). IsPhaseOf z s.phase) (sym from) sound.fitting.phase)
-    sound.reached (phase_there s b is) (kept_there s b is) in
+    c.in_ok-stage.ensures.same s.phase (subst (λ (z : Encoding). IsPhaseOf z s.phase) (sym from) valid.fitting.phase)
+    valid.reached (phase_there s b is) (kept_there s b is) in
     ap Some (sym (stands s c.in_ok-from.from c.in_ok-encoder.encoder (phase_at c.in_ok-stage.stage)
     (is_spent_at c.in_ok-stage.stage) from encoder phase c.in_ok-stage.ensures.fits.1))

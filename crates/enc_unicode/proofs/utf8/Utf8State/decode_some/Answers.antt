@@ -9,7 +9,7 @@ pub returns-then-not-is_empty-clause-text : goal.returns-then-not-is_empty-claus
 returns-then-not-is_empty-clause-text c =
     let i = c.self.inside in
     let start : c.args.self.now ≡ utf8_start =
-    sym c.self.view_is ∙ at_start i.needed i.lower i.upper i.point i.seen i.kept c.self.invariant.0
+    sym c.self.view_is ∙ at_start i.needed i.lower i.upper i.point i.current i.kept c.self.invariant.0
     c.if-self-ne0.false in
     let same = c.push_few-few.ensures.unchanged (omega (arith, c.if-few-gt0.false)) in
     subst (λ b. BatchTook b
@@ -23,7 +23,7 @@ pub returns-then-not-is_empty-clause-state : goal.returns-then-not-is_empty-clau
 returns-then-not-is_empty-clause-state c =
     let i = c.self.inside in
     let start : c.args.self.now ≡ utf8_start =
-    sym c.self.view_is ∙ at_start i.needed i.lower i.upper i.point i.seen i.kept c.self.invariant.0
+    sym c.self.view_is ∙ at_start i.needed i.lower i.upper i.point i.current i.kept c.self.invariant.0
     c.if-self-ne0.false in
     text_state c.args.self.now c.args.rest.now c.text_before_fault-text.result.now start c.text_before_fault-text.utf8
     c.text_before_fault-text.ensures

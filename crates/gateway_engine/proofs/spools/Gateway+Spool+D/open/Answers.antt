@@ -36,7 +36,7 @@ returns-in-Err-clause-lasts g c n m is =
 pub returns-in_err-spool-clause-opened : goal.returns-in_err-spool-clause-opened
 returns-in_err-spool-clause-opened g c n m is =
     let p = err_from_is_err_and c.from_residual.result c.from_residual.ensures.1 in
-    let said = c.in_err-spool.ensures.opened is.honest is.shows.view is.shows.shows.sound is.shows.is
+    let said = c.in_err-spool.ensures.opened is.honest is.shows.view is.shows.shows.valid is.shows.is
     (view_room g.D.Disk c.args.disk n m is) in
     rw (p.1, p.2) (refused_as _ _ _ said)
 
@@ -48,7 +48,7 @@ returns-in_err-spool-clause-lasts g c n m is =
 pub returns-in-Ok-clause-exact : goal.returns-in-Ok-clause-exact
 returns-in-Ok-clause-exact g c honest =
     let said = c.in_ok-spool.ensures in
-    opened_exactly (said.sound honest) (said.not_a_spool honest) (said.version honest) (said.damaged honest)
+    opened_exactly (said.valid honest) (said.not_a_spool honest) (said.version honest) (said.damaged honest)
 
 pub returns-in-Err-clause-exact : goal.returns-in-Err-clause-exact
 returns-in-Err-clause-exact g c honest =

@@ -1,7 +1,7 @@
 use Rattle.std.proofs.Common.{◌≡◌, false, true, List}
 use Rattle.tus_session.specs.History.{Ended, Marked}
 use Rattle.gateway_serve.specs.Joined.{Alone, PlaceJoins, PlaceFell}
-use Rattle.gateway_serve.specs.Sockets.{seen_of}
+use Rattle.gateway_serve.specs.Sockets.{current_of}
 use Rattle.gateway_serve.specs.declared.places.Place.TheVariants.{Free}
 use Rattle.gateway_serve.proofs.After.{served}
 use Rattle.gateway_serve.proofs.Talks.{alone_step}
@@ -17,8 +17,8 @@ returns-clause-serves g c = λ before st past went joins.
     let used : c.args.self.now ≡ Free → ⊥ = λ e. let f : false ≡ true = c.if-is_free.ensures.1 e in absurd (cc) in
     served g.C.Connections before c.args.gateway.now c.ended.new.self st past (Ended n) went
     (λ ms among. g.met.C.Connections.durable c.args.gateway.now _ ms went.stands among)
-    (λ (now : List Marked). Alone st n past now × PlaceJoins c.free.new.self (seen_of n ended') st now n)
-    (λ (now : List Marked). Alone st n past now × PlaceFell c.free.new.self (seen_of n ended') st now n)
+    (λ (now : List Marked). Alone st n past now × PlaceJoins c.free.new.self (current_of n ended') st now n)
+    (λ (now : List Marked). Alone st n past now × PlaceFell c.free.new.self (current_of n ended') st now n)
     c.ended.result c.unless_failed.result c.unless_failed.ensures does.keeps
     (c.ended.ensures.crash _ went.stands) c.ended.ensures.falls
     (λ ok. (

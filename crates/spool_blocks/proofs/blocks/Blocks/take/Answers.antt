@@ -1,11 +1,11 @@
 use Rattle.std.proofs.Common.{List, Bool, refl, sym, subst, rules}
-use Rattle.spool_blocks.specs.Blocks.{Sound}
-use Rattle.spool_blocks.proofs.Founded.{none_free, is_free, sound_taken}
+use Rattle.spool_blocks.specs.Blocks.{Valid}
+use Rattle.spool_blocks.proofs.Founded.{none_free, is_free, valid_taken}
 use Rattle.spool_blocks.proofs.blocks.Blocks.take.Goals as goal
 
 pub invariant_of-self : goal.invariant_of-self
 invariant_of-self c =
-    subst (λ (l : List Bool). Sound c.self.inside.chains c.self.inside.reserved.items l)
+    subst (λ (l : List Bool). Valid c.self.inside.chains c.self.inside.reserved.items l)
     (sym (c.in_err-block.ensures.same refl)) c.self.invariant
 
 pub returns-in_err-block-clause-none : goal.returns-in_err-block-clause-none
@@ -15,7 +15,7 @@ returns-in_err-block-clause-none c =
 pub invariant_of-self-2 : goal.invariant_of-self-2
 invariant_of-self-2 c =
     let some = c.in_ok-block.ensures.some in
-    sound_taken c.self.invariant c.in_ok-block.block some.0 some.1 _ some.2
+    valid_taken c.self.invariant c.in_ok-block.block some.0 some.1 _ some.2
 
 pub returns-clause-none : goal.returns-clause-none
 returns-clause-none c =

@@ -122,8 +122,8 @@ returns-clause-content g c p honest held fits carries kept =
     let x = c.args.indexes.now in
     let d = c.args.self.now in
     let piece = c.args.piece.now in
-    let seen = g.D.Disk.seen c.args.disk.now in
-    let seen' = g.D.Disk.seen c.put.new.disk in
+    let current = g.D.Disk.current c.args.disk.now in
+    let current' = g.D.Disk.current c.put.new.disk in
     let first = text_page c.args.layout.now in
     let some = some_of piece c.is_empty.result c.is_empty.ensures c.if-is_empty.false in
     let still = incomplete x p d held piece fits some in
@@ -139,8 +139,8 @@ returns-clause-content g c p honest held fits carries kept =
     ] in
     let before = carries (kept_before x p d held piece fits c.in-Ok.fresh c.in-Ok.text.items some other stands adds
     was_roomy) in
-    ap (λ (e : SpoolDraft). bytes_on seen' first e.growth e.growth.on) c.go_on-2.ensures
+    ap (λ (e : SpoolDraft). bytes_on current' first e.growth e.growth.on) c.go_on-2.ensures
     ∙ c.in_ok-put.ensures.content honest roomy
-    ∙ ap (λ (text : List ℕ). bytes_on seen first d.growth d.growth.on ++ text) c.deref.ensures.value
+    ∙ ap (λ (text : List ℕ). bytes_on current first d.growth d.growth.on ++ text) c.deref.ensures.value
     ∙ ap (λ (bytes : List ℕ). bytes ++ c.in-Ok.text.items) before
     ∙ sym (open_longer x p d held piece fits c.in-Ok.fresh c.in-Ok.text.items some other stands adds)

@@ -18,15 +18,15 @@ returns-clause-begun c x n u keeps = (
   c.in_ok-admits.ensures.rules x n u keeps.tells,
   begins x u n c.args.count c.args.declare c.args.upload.now c.args.offset c.after-2.result c.in-Some.fresh keeps
       (c.in_ok-admits.ensures.room refl) (c.in_ok-admits.ensures.small refl)
-      (c.in-Some.ensures.holds x n u keeps.tells keeps.encodable keeps.sound) c.after-2.ensures.len
+      (c.in-Some.ensures.holds x n u keeps.tells keeps.encodable keeps.valid) c.after-2.ensures.len
       c.after-2.ensures.none c.after-2.ensures.roomy,
 )
 
 pub returns-clause-content : goal.returns-clause-content
-returns-clause-content c x n u seen first keeps same kept =
-    ap (bytes_on seen first c.after-2.result) c.after-2.ensures.none
-    ∙ begins_bytes x u n c.args.count c.args.declare seen first c.args.upload.now.text_len c.args.list.now _
-    c.requires.long (c.after-2.ensures.bytes seen first) same keeps.tells.text_len kept.incomplete
+returns-clause-content c x n u current first keeps same kept =
+    ap (bytes_on current first c.after-2.result) c.after-2.ensures.none
+    ∙ begins_bytes x u n c.args.count c.args.declare current first c.args.upload.now.text_len c.args.list.now _
+    c.requires.long (c.after-2.ensures.bytes current first) same keeps.tells.text_len kept.incomplete
 
 pub returns-clause-after : goal.returns-clause-after
 returns-clause-after c = record {

@@ -77,12 +77,12 @@ pub returns-clause-content : goal.returns-clause-content
 returns-clause-content g c p honest held open_still carries there =
     let x = c.args.indexes.now in
     let d = c.args.self.now in
-    let seen = g.D.Disk.seen c.args.disk.now in
+    let current = g.D.Disk.current c.args.disk.now in
     let first = text_page c.args.layout.now in
     let text = c.in_ok-state.text.items in
     let finished = c.in_ok-state.ensures.finished p.began p.body open_still held.stands in
     c.in_ok-last.ensures.content honest there
-    ∙ ap (λ (bytes : List ℕ). bytes_on seen first d.growth d.growth.on ++ bytes) c.deref.ensures.value
+    ∙ ap (λ (bytes : List ℕ). bytes_on current first d.growth d.growth.on ++ bytes) c.deref.ensures.value
     ∙ ap (λ (bytes : List ℕ). bytes ++ text)
     (carries (kept_end x p d held open_still c.args.completes c.in_ok-state.state text finished
     c.in_ok-last.ensures.answer.0))

@@ -6,16 +6,16 @@ use Rattle.spool_drafts.proofs.growth.Growth.after.Goals as goal
 use Rattle.spool_drafts.proofs.growth.Growth.after.Goals.{then-text_len-eq0, else-text_len-eq0}
 
 pub returns-clause-bytes : goal.returns-clause-bytes
-returns-clause-bytes c seen first =
+returns-clause-bytes c current first =
     let len = c.args.text_len in
     let list = c.args.list.now in
     elim c.if-text_len-eq0.branch [
       | then-text_len-eq0 w ↦
-          subst (λ (tail : Option ℕ). text_on seen first list (4096 * (len / 4096)) ++ prefix_on seen first tail
-          (len % 4096) ≡ text_on seen first list len) (sym w.tail-is)
-          (no_tail_on seen first len list w.if-text_len-eq0.true)
+          subst (λ (tail : Option ℕ). text_on current first list (4096 * (len / 4096)) ++ prefix_on current first tail
+          (len % 4096) ≡ text_on current first list len) (sym w.tail-is)
+          (no_tail_on current first len list w.if-text_len-eq0.true)
       | else-text_len-eq0 w ↦
-          subst (λ (tail : Option ℕ). text_on seen first list (4096 * (len / 4096)) ++ prefix_on seen first tail
-          (len % 4096) ≡ text_on seen first list len) (sym w.tail-is)
-          (tail_on seen first len list c.requires.long (omega (arith, w.if-text_len-eq0.false)))
+          subst (λ (tail : Option ℕ). text_on current first list (4096 * (len / 4096)) ++ prefix_on current first tail
+          (len % 4096) ≡ text_on current first list len) (sym w.tail-is)
+          (tail_on current first len list c.requires.long (omega (arith, w.if-text_len-eq0.false)))
     ]

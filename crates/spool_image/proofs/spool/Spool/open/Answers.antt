@@ -24,10 +24,10 @@ returns-in-Ok-clause-shows g c n m is = record {
   honest = c.in-Ok.ensures.honest.0 is.honest;
   room = subst (λ (size : ℕ). 4096 * all_pages n ≤ size) (sym c.in-Ok.ensures.size) is.room;
   each = λ image here.
-      let was = g.D.Disk.seen c.args.disk in
+      let was = g.D.Disk.current c.args.disk in
       let settled = c.in-Ok.ensures.settled is.honest in
       let room = view_room g.D.Disk c.args.disk n m is in
-      let kept = c.in-Ok.ensures.said is.honest is.shows.view is.shows.shows.sound is.shows.is room in
+      let kept = c.in-Ok.ensures.said is.honest is.shows.view is.shows.shows.valid is.shows.is room in
       let reads = settled_reads image settled (λ p. here.same p (settled.is_synced p)) in
       image_shows n m image was is.shows
       (subst (λ (k : ℕ). ReadsAs (journal_pages k) image (overlaid was)) kept.0.blocks reads);
@@ -40,45 +40,45 @@ pub returns-in-Ok-clause-stands : goal.returns-in-Ok-clause-stands
 returns-in-Ok-clause-stands g c n m is =
     let v = is.shows.view in
     let said =
-    c.in-Ok.ensures.said is.honest v is.shows.shows.sound is.shows.is (view_room g.D.Disk c.args.disk n m is) in
+    c.in-Ok.ensures.said is.honest v is.shows.shows.valid is.shows.is (view_room g.D.Disk c.args.disk n m is) in
     subst (λ (k : ℕ). StandsFor true g.D.Disk c.load.new.disk c.in-Ok.kept c.new.result.items (at_rest m (Some k)))
     is.shows.blocks
-    (stands_opened g.D.Disk c.load.new.disk (g.D.Disk.seen c.args.disk) c.in-Ok.kept c.new.result.items m v
+    (stands_opened g.D.Disk c.load.new.disk (g.D.Disk.current c.args.disk) c.in-Ok.kept c.new.result.items m v
     c.new.ensures.items
     (λ _. c.in-Ok.ensures.honest.0 is.honest) (λ _. is.shows.is) said is.shows.shows
     (λ _. c.in-Ok.ensures.settled is.honest))
 
 pub returns-in-Ok-clause-kept : goal.returns-in-Ok-clause-kept
 returns-in-Ok-clause-kept g c v m shows keeps =
-    stands_opened g.D.Disk c.load.new.disk (g.D.Disk.seen c.args.disk) c.in-Ok.kept c.new.result.items m v
+    stands_opened g.D.Disk c.load.new.disk (g.D.Disk.current c.args.disk) c.in-Ok.kept c.new.result.items m v
     c.new.ensures.items (λ (known : false ≡ true). absurd cc) (λ known. absurd cc) keeps shows (λ known. absurd cc)
 
 pub returns-in-Ok-clause-not_a_spool : goal.returns-in-Ok-clause-not_a_spool
 returns-in-Ok-clause-not_a_spool g c honest is =
-    absurd (opened_is_spool (g.D.Disk.size c.args.disk) (g.D.Disk.seen c.args.disk) c.in-Ok.kept
-    (c.in-Ok.ensures.sound honest) is)
+    absurd (opened_is_spool (g.D.Disk.size c.args.disk) (g.D.Disk.current c.args.disk) c.in-Ok.kept
+    (c.in-Ok.ensures.valid honest) is)
 
 pub returns-in-Ok-clause-version : goal.returns-in-Ok-clause-version
 returns-in-Ok-clause-version g c honest is =
-    absurd (opened_is_known (g.D.Disk.size c.args.disk) (g.D.Disk.seen c.args.disk) c.in-Ok.kept
-    (c.in-Ok.ensures.sound honest) is)
+    absurd (opened_is_known (g.D.Disk.size c.args.disk) (g.D.Disk.current c.args.disk) c.in-Ok.kept
+    (c.in-Ok.ensures.valid honest) is)
 
 pub returns-in-Ok-clause-damaged : goal.returns-in-Ok-clause-damaged
 returns-in-Ok-clause-damaged g c honest is =
-    absurd (opened_is_whole (g.D.Disk.size c.args.disk) (g.D.Disk.seen c.args.disk) c.in-Ok.kept
-    (c.in-Ok.ensures.sound honest) is)
+    absurd (opened_is_whole (g.D.Disk.size c.args.disk) (g.D.Disk.current c.args.disk) c.in-Ok.kept
+    (c.in-Ok.ensures.valid honest) is)
 
 pub returns-in-Err-clause-not_a_spool : goal.returns-in-Err-clause-not_a_spool
 returns-in-Err-clause-not_a_spool g c honest is =
-    told_no_spool (g.D.Disk.size c.args.disk) (g.D.Disk.seen c.args.disk) c.in-Err.fault
+    told_no_spool (g.D.Disk.size c.args.disk) (g.D.Disk.current c.args.disk) c.in-Err.fault
     (c.in-Err.ensures.refused honest) is
 
 pub returns-in-Err-clause-version : goal.returns-in-Err-clause-version
 returns-in-Err-clause-version g c honest is =
-    told_version (g.D.Disk.size c.args.disk) (g.D.Disk.seen c.args.disk) c.in-Err.fault
+    told_version (g.D.Disk.size c.args.disk) (g.D.Disk.current c.args.disk) c.in-Err.fault
     (c.in-Err.ensures.refused honest) is
 
 pub returns-in-Err-clause-damaged : goal.returns-in-Err-clause-damaged
 returns-in-Err-clause-damaged g c honest is =
-    told_damaged (g.D.Disk.size c.args.disk) (g.D.Disk.seen c.args.disk) c.in-Err.fault
+    told_damaged (g.D.Disk.size c.args.disk) (g.D.Disk.current c.args.disk) c.in-Err.fault
     (c.in-Err.ensures.refused honest) is

@@ -2,18 +2,18 @@ use Rattle.std.proofs.Common.{rules, ◌≡◌, ◌<◌, ◌∙◌, Option, None
 use Rattle.spool_pages.specs.View.{SlotRecord}
 use Rattle.spool_kept.specs.Holding.{Orders, AreListsTo, OwnsText}
 use Rattle.spool_kept.proofs.Keeps.{keeps_view}
-use Rattle.spool_kept.proofs.Sound.{slots_distinct, in_use}
+use Rattle.spool_kept.proofs.Valid.{slots_distinct, in_use}
 use Rattle.spool_kept.proofs.Ordered.{orders_distinct}
 use Rattle.spool_kept.proofs.kept.Kept.of.Goals as goal
 
 pub returns-in_err-order-clause-said : goal.returns-in_err-order-clause-said
-returns-in_err-order-clause-said c v sound blocks version next indexes slots rows reserved =
+returns-in_err-order-clause-said c v valid blocks version next indexes slots rows reserved =
     let first : c.deref.result.now ≡ v.slots = search rules in
-    let told = c.order_of.ensures.distinct (slots_distinct v sound c.deref.result.now first) in
+    let told = c.order_of.ensures.distinct (slots_distinct v valid c.deref.result.now first) in
     search rules
 
 pub returns-clause-said : goal.returns-clause-said
-returns-clause-said c v sound blocks version next indexes slots rows reserved =
+returns-clause-said c v valid blocks version next indexes slots rows reserved =
     let first : c.deref.result.now ≡ c.args.slots.items = search rules in
     let second : c.deref-2.result.now ≡ c.args.slots.items = search rules in
     let all = c.in_ok-lists.ensures.lists in
@@ -31,7 +31,7 @@ returns-clause-said c v sound blocks version next indexes slots rows reserved =
           subst (λ (xs : List (Option SlotRecord)). AreListsTo c.args.blocks.rows xs c.in_ok-lists.lists.items 512)
           second all;
     })
-    sound blocks version next indexes slots rows reserved
+    valid blocks version next indexes slots rows reserved
 
 pub returns-clause-distinct : goal.returns-clause-distinct
 returns-clause-distinct c =

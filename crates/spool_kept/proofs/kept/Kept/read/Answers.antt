@@ -29,21 +29,21 @@ returns-in-Err-clause-count g c m v kept shows =
 pub returns-in-Ok-clause-answer : goal.returns-in-Ok-clause-answer
 returns-in-Ok-clause-answer g c honest m v kept shows says =
     let told = c.in-Some.ensures.told v m kept shows in
-    let text = c.in-Some.ensures.text v m (g.D.Disk.seen c.args.disk.now) kept shows says told.upload told.there in
+    let text = c.in-Some.ensures.text v m (g.D.Disk.current c.args.disk.now) kept shows says told.upload told.there in
     let there = text_there m (upload_of m c.args.number) told.upload _ told.there text in
-    let seen = g.D.Disk.seen c.args.disk.now in
+    let current = g.D.Disk.current c.args.disk.now in
     let layout : c.self.inside.layout ≡ c.args.self.now.layout = ap (λ (k : Holding). k.layout) c.self.view_is in
     let read = same_read _ c.args.at c.in-Ok.count c.args.buf.now c.read_text.new.buf (c.in-Ok.ensures.read honest) in (
       there.0,
       subst (λ (text : List ℕ). IsRead text c.args.at c.in-Ok.count c.args.buf.now c.read_text.new.buf) (sym there.1)
           (subst (λ (n : ℕ). IsRead
-          (text_on seen (text_page n) c.in-Some.found.list.now c.in-Some.found.upload.now.text_len)
+          (text_on current (text_page n) c.in-Some.found.list.now c.in-Some.found.upload.now.text_len)
           c.args.at c.in-Ok.count c.args.buf.now c.read_text.new.buf) layout read),
     )
 
 pub returns-in-Err-clause-answer : goal.returns-in-Err-clause-answer
 returns-in-Err-clause-answer g c honest m v kept shows says =
     let told = c.in-Some.ensures.told v m kept shows in
-    let text = c.in-Some.ensures.text v m (g.D.Disk.seen c.args.disk.now) kept shows says told.upload told.there in
+    let text = c.in-Some.ensures.text v m (g.D.Disk.current c.args.disk.now) kept shows says told.upload told.there in
     let there = text_there m (upload_of m c.args.number) told.upload _ told.there text in
     subst (λ (o : Option UploadRefusal). IsLate o) (sym there.0) tt

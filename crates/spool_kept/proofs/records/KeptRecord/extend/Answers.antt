@@ -16,7 +16,7 @@ invariant_of-self c =
     record {
       unpacked = record {
         transcoder = c.requires.after;
-        sound = c.requires.after_sound;
+        valid = c.requires.after_valid;
         is = c.requires.is;
         from = unpacked.from ∙ same_encoding s.from t.from (from_there s (state_bytes t) states) ∙ sym c.requires.from;
         to = unpacked.to ∙ same_encoding s.to t.to (to_there s (state_bytes t) states) ∙ sym c.requires.to;

@@ -103,8 +103,8 @@ returns-clause-used c r fits padded =
     (c.get_u64-3.ensures.is r.text_len fits.text_len at.text_len)
     state_is metadata_is)
 
-pub returns-clause-sound : goal.returns-clause-sound
-returns-clause-sound c =
+pub returns-clause-valid : goal.returns-clause-valid
+returns-clause-valid c =
     let bytes = c.args.bytes.now in
     let len = c.get_u16.result in
     let long : length bytes ≡ 2048 = search rules in

@@ -16,14 +16,14 @@ invariant-loop-done g l = record {
   few : 1 ≤ l.done → length l.self.unfinished < 4096;
   some : 1 ≤ l.done → 1 ≤ length l.self.blocks;
   held : held_count l.self ≡ held_count l.fn.self + l.done;
-  content : g.D.Disk.honest l.fn.disk → content_on (g.D.Disk.seen l.disk) (text_page l.layout)
-      l.self ≡ content_on (g.D.Disk.seen l.fn.disk) (text_page l.layout) l.fn.self ++ take l.done l.bytes;
+  content : g.D.Disk.honest l.fn.disk → content_on (g.D.Disk.current l.disk) (text_page l.layout)
+      l.self ≡ content_on (g.D.Disk.current l.fn.disk) (text_page l.layout) l.fn.self ++ take l.done l.bytes;
   takes : Takes l.fn.blocks l.blocks l.fn.self.blocks l.self.blocks;
   reserved : IsReserved l.blocks l.self.blocks;
   writes : g.D.Disk.honest l.fn.disk → WritesIn (text_page l.layout) l.self.blocks
-      (g.D.Disk.seen l.fn.disk) (g.D.Disk.seen l.disk) (g.D.Disk.unsynced l.fn.disk) (g.D.Disk.unsynced l.disk);
+      (g.D.Disk.current l.fn.disk) (g.D.Disk.current l.disk) (g.D.Disk.unsynced l.fn.disk) (g.D.Disk.unsynced l.disk);
   lasts : g.D.Disk.honest l.fn.disk → Lasts g.D.Disk l.fn.disk l.disk
-      (IsImageBut (text_page l.layout) l.self.blocks (g.D.Disk.seen l.fn.disk) (g.D.Disk.unsynced l.fn.disk));
+      (IsImageBut (text_page l.layout) l.self.blocks (g.D.Disk.current l.fn.disk) (g.D.Disk.unsynced l.fn.disk));
 }
 
 abbrev pub decreases-loop-done : goal.decreases-loop-done

@@ -6,8 +6,8 @@ use Rattle.spool_texts.proofs.draft_text.DraftText.put_some.Goals as goal
 
 pub returns-clause-content : goal.returns-clause-content
 returns-clause-content g c honest =
-    let seen = g.D.Disk.seen c.args.disk.now in
-    let seen' = g.D.Disk.seen c.write_prefix.new.disk in
+    let current = g.D.Disk.current c.args.disk.now in
+    let current' = g.D.Disk.current c.write_prefix.new.disk in
     let first = text_page c.args.layout.now in
     let bytes = take c.fill-n.result c.args.bytes.now in
     let blocks_is : c.self.inside.blocks.items ≡ c.open_block.new.self.blocks =
@@ -26,7 +26,7 @@ returns-clause-content g c honest =
     c.fill-n.ensures.filled (ap (λ (xs : List ℕ). take c.self.inside.filled xs) c.deref_mut.ensures.value
     ∙ unfinished_is) in
     let text = rw c.deref.ensures.value at (c.in_ok-write_prefix.ensures.text honest) in
-    full_written seen seen' first c.args.self.now record {
+    full_written current current' first c.args.self.now record {
       blocks = c.self.inside.blocks.items;
       unfinished = [];
       room = c.args.self.now.room;

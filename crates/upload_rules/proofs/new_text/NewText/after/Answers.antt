@@ -3,7 +3,7 @@ use Rattle.std.proofs.Common.{length}
 use Rattle.std.proofs.lemmas.Option.{same_Some}
 use Rattle.enc_model.specs.Transcode.{Transcoder}
 use Rattle.enc_stream.specs.Standing.{Standing}
-use Rattle.enc_stream.specs.StateBytes.{IsSound, standing, state_bytes}
+use Rattle.enc_stream.specs.StateBytes.{IsValid, standing, state_bytes}
 use Rattle.upload_rules.specs.Lengths.{is_length}
 use Rattle.upload_rules.specs.Store.{text_with, is_complete}
 use Rattle.upload_rules.specs.States.{transcoder_with, state_with}
@@ -12,17 +12,17 @@ use Rattle.upload_rules.proofs.new_text.NewText.after.Goals as goal
 
 pub returns-in_err-unpack-clause-holds : goal.returns-in_err-unpack-clause-holds
 unfolding state_with
-returns-in_err-unpack-clause-holds c x n u tells ok sound =
-    let k = c.in_err-unpack.ensures.only (transcoder_with x u [] (is_complete u)) sound (sym tells.state) in
+returns-in_err-unpack-clause-holds c x n u tells ok valid =
+    let k = c.in_err-unpack.ensures.only (transcoder_with x u [] (is_complete u)) valid (sym tells.state) in
     absurd cc
 
 pub returns-clause-holds : goal.returns-clause-holds
 unfolding state_with
-returns-clause-holds c x n u tells ok sound =
+returns-clause-holds c x n u tells ok valid =
     let open_still : is_complete u ≡ false =
     ap (λ d. is_length d (length u.accepted)) (sym tells.declared) ∙ ap (is_length c.args.upload.now.declared)
     (sym tells.accepted) ∙ sym c.is_length.ensures ∙ c.if-is_length.false in
-    let k = c.in_ok-unpack.ensures.only (transcoder_with x u [] (is_complete u)) sound (sym tells.state) in
+    let k = c.in_ok-unpack.ensures.only (transcoder_with x u [] (is_complete u)) valid (sym tells.state) in
     let is : c.in_ok-unpack.field-0 ≡ standing (transcoder_with x u [] (is_complete u)) = cc in
     let encodable : (text_with x u [] false).fault ≡ None =
     ap (λ b. (text_with x u [] b).fault) (sym open_still) ∙ ok in (
@@ -32,12 +32,12 @@ returns-clause-holds c x n u tells ok sound =
 
 pub returns-clause-goes_on : goal.returns-clause-goes_on
 returns-clause-goes_on c =
-    let same : (s : Transcoder) → IsSound s → c.args.upload.now.state ≡ state_bytes s
+    let same : (s : Transcoder) → IsValid s → c.args.upload.now.state ≡ state_bytes s
     → c.in_ok-unpack.field-0 ≡ standing s =
-    λ s sound is. same_Some c.in_ok-unpack.field-0 (standing s)
-    (sym c.in_ok-unpack.was ∙ c.unpack.ensures.only s sound (sym is)) in
+    λ s valid is. same_Some c.in_ok-unpack.field-0 (standing s)
+    (sym c.in_ok-unpack.was ∙ c.unpack.ensures.only s valid (sym is)) in
     record {
-      from = λ s sound is. ap (λ (t : Standing). t.transcoder.from) (same s sound is);
-      to = λ s sound is. ap (λ (t : Standing). t.transcoder.to) (same s sound is);
-      mode = λ s sound is. ap (λ (t : Standing). t.transcoder.mode) (same s sound is);
+      from = λ s valid is. ap (λ (t : Standing). t.transcoder.from) (same s valid is);
+      to = λ s valid is. ap (λ (t : Standing). t.transcoder.to) (same s valid is);
+      mode = λ s valid is. ap (λ (t : Standing). t.transcoder.mode) (same s valid is);
     }

@@ -2,7 +2,7 @@ use Rattle.std.proofs.Common.{◌≡◌, ℕ, Bool, true, false, List, refl, sym
 use Rattle.enc_model.specs.Indexes.{IndexSet, tables}
 use Rattle.enc_model.specs.Transcode.{Transcoder, added_end}
 use Rattle.enc_stream.specs.Standing.{Standing}
-use Rattle.enc_stream.specs.StateBytes.{IsSound, state_bytes}
+use Rattle.enc_stream.specs.StateBytes.{IsValid, state_bytes}
 use Rattle.upload_rules.specs.declared.new_text.NewText.{NewText}
 use Rattle.upload_rules.specs.declared.new_text.NewText.TheVariants.{Growing, Unencodable, Complete}
 use Rattle.upload_rules.specs.Store.{Upload, text_with, is_complete}
@@ -43,19 +43,19 @@ returns-clause-ended c = λ u bytes holds still.
       | then-completes+in-Ok w ↦
           let packed : c.pack.result ≡ state_bytes w.finish.new.self.transcoder =
           c.pack.ensures.bytes ∙ ap (λ t. state_bytes t.transcoder) w.transcoder-is in
-          let sound = subst (λ t. IsSound t.transcoder) w.transcoder-is c.pack.ensures.sound in
+          let valid = subst (λ t. IsValid t.transcoder) w.transcoder-is c.pack.ensures.valid in
           let whole = whole_ended x u bytes c.in-Growing.transcoder held.0 w.finish.new.self c.pack.result
           c.in-Growing.text.items w.finish.new.out.items
-          w.in-Ok.ensures.over packed sound held.1 w.in-Ok.ensures.no_fault w.in-Ok.ensures.added in
+          w.in-Ok.ensures.over packed valid held.1 w.in-Ok.ensures.no_fault w.in-Ok.ensures.added in
           subst (λ b. IsWhole x u bytes b c.pack.result c.if-completes.text.items) (sym w.if-completes.true)
           (subst (λ (t : Vec ℕ Global). IsWhole x u bytes true c.pack.result t.items) (sym w.text-is) whole)
       | else-completes w ↦
           let packed : c.pack.result ≡ state_bytes c.in-Growing.transcoder.transcoder =
           c.pack.ensures.bytes ∙ ap (λ t. state_bytes t.transcoder) w.transcoder-is in
-          let sound = subst (λ t. IsSound t.transcoder) w.transcoder-is c.pack.ensures.sound in
+          let valid = subst (λ t. IsValid t.transcoder) w.transcoder-is c.pack.ensures.valid in
           subst (λ b. IsWhole x u bytes b c.pack.result c.if-completes.text.items) (sym w.if-completes.false)
           (subst (λ (t : Vec ℕ Global). IsWhole x u bytes false c.pack.result t.items) (sym w.text-is)
-          (whole_open x u bytes c.in-Growing.transcoder held.0 c.pack.result c.in-Growing.text.items packed sound
+          (whole_open x u bytes c.in-Growing.transcoder held.0 c.pack.result c.in-Growing.text.items packed valid
           held.1))
     ]
 
@@ -64,17 +64,17 @@ returns-clause-ended c = λ u bytes holds still.
 -- the encodings and the mode stay
 same_encodings : (state packed : List ℕ) (t : Standing) (text : Vec ℕ Global) (next : Transcoder) → IsState state
     → GoesOn state (Growing t text) → next.from ≡ t.transcoder.from → next.to ≡ t.transcoder.to
-    → next.mode ≡ t.transcoder.mode → packed ≡ state_bytes next → IsSound next → SameEncodings state packed
-same_encodings state packed t text next old goes from to mode is sound = record {
+    → next.mode ≡ t.transcoder.mode → packed ≡ state_bytes next → IsValid next → SameEncodings state packed
+same_encodings state packed t text next old goes from to mode is valid = record {
   before = old.transcoder;
   after = next;
-  before_sound = old.sound;
-  after_sound = sound;
+  before_valid = old.valid;
+  after_valid = valid;
   was = old.is;
   is = is;
-  from = from ∙ goes.from old.transcoder old.sound old.is;
-  to = to ∙ goes.to old.transcoder old.sound old.is;
-  mode = mode ∙ goes.mode old.transcoder old.sound old.is;
+  from = from ∙ goes.from old.transcoder old.valid old.is;
+  to = to ∙ goes.to old.transcoder old.valid old.is;
+  mode = mode ∙ goes.mode old.transcoder old.valid old.is;
 }
 
 pub returns-clause-same : goal.returns-clause-same
@@ -86,9 +86,9 @@ returns-clause-same c state old goes =
       | then-completes+in-Ok w ↦
           let is = w.transcoder-is ∙ w.in-Ok.ensures.over in
           same (ap (λ (t : Standing). t.transcoder.from) is) (ap (λ (t : Standing). t.transcoder.to) is)
-          (ap (λ (t : Standing). t.transcoder.mode) is) c.pack.ensures.bytes c.pack.ensures.sound
+          (ap (λ (t : Standing). t.transcoder.mode) is) c.pack.ensures.bytes c.pack.ensures.valid
       | else-completes w ↦
           let is = w.transcoder-is in
           same (ap (λ (t : Standing). t.transcoder.from) is) (ap (λ (t : Standing). t.transcoder.to) is)
-          (ap (λ (t : Standing). t.transcoder.mode) is) c.pack.ensures.bytes c.pack.ensures.sound
+          (ap (λ (t : Standing). t.transcoder.mode) is) c.pack.ensures.bytes c.pack.ensures.valid
     ]

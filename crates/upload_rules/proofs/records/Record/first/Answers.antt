@@ -1,6 +1,6 @@
 use Rattle.std.proofs.Common.{◌≡◌, [], length, refl, sym, ◌∙◌, ap, subst}
 use Rattle.enc_stream.specs.Standing.{Standing, start, finished}
-use Rattle.enc_stream.specs.StateBytes.{IsSound, state_bytes}
+use Rattle.enc_stream.specs.StateBytes.{IsValid, state_bytes}
 use Rattle.upload_rules.specs.Lengths.{is_length}
 use Rattle.upload_rules.specs.Store.{New, new_upload, is_complete}
 use Rattle.upload_rules.specs.States.{transcoder_with, state_with}
@@ -41,5 +41,5 @@ returns-clause-kept c = λ x.
         metadata = ap (λ (n : New). n.metadata) is;
       };
       encodable = new_encodable x new (is_complete u);
-      sound = subst IsSound stands c.pack.ensures.sound;
+      valid = subst IsValid stands c.pack.ensures.valid;
     }

@@ -9,5 +9,5 @@ returns c = λ x.
       tells = kept.tells;
       text = c.new.ensures.items ∙ sym (new_text x c.args.fields);
       encodable = kept.encodable;
-      sound = kept.sound;
+      valid = kept.valid;
     }

@@ -1,13 +1,13 @@
 use Rattle.std.proofs.Common.{◌≡◌, inl, inr, None, get_or, refl, ap, sym, ◌∙◌, arith}
 use Rattle.std.proofs.lemmas.Bool.{cases_lt, false≢true}
-use Rattle.spool_kept.proofs.Sound.{in_use}
-use Rattle.spool_load.proofs.checks.are_sound.Goals as goal
+use Rattle.spool_kept.proofs.Valid.{in_use}
+use Rattle.spool_load.proofs.checks.are_valid.Goals as goal
 
-pub returns-then-not-is_sound_at : goal.returns-then-not-is_sound_at
-returns-then-not-is_sound_at c = (
+pub returns-then-not-is_valid_at : goal.returns-then-not-is_valid_at
+returns-then-not-is_valid_at c = (
   λ yes. absurd (false≢true yes),
   λ are. absurd (false≢true
-      (sym c.if-not-is_sound_at.true ∙ c.is_sound_at.ensures.1 (λ r there. are.records c.loop-slot.slot r there))),
+      (sym c.if-not-is_valid_at.true ∙ c.is_valid_at.ensures.1 (λ r there. are.records c.loop-slot.slot r there))),
 )
 
 pub loop-slot-preserved : goal.loop-slot-preserved
@@ -15,7 +15,7 @@ loop-slot-preserved c s r lt there = elim (cases_lt s c.loop-slot.slot) [
   | inl below ↦ c.loop-slot.invariant s r below there
   | inr over ↦
       let here : s ≡ c.loop-slot.slot = omega (arith, lt, over) in
-      c.is_sound_at.ensures.0 c.if-not-is_sound_at.false r (ap (λ k. get_or c.args.slots.now k None) (sym here) ∙ there)
+      c.is_valid_at.ensures.0 c.if-not-is_valid_at.false r (ap (λ k. get_or c.args.slots.now k None) (sym here) ∙ there)
 ]
 
 pub returns : goal.returns

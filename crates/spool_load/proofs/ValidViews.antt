@@ -1,4 +1,4 @@
--- A sound view, of what was read and what was checked of it.
+-- A valid view, of what was read and what was checked of it.
 use Rattle.std.proofs.Common.{◌≡◌, ℕ, Bool, ◌+◌, ◌-◌, ◌*◌, ◌<◌, ◌≤◌, List, [], Option, None, Some}
 use Rattle.std.proofs.Common.{false, replicate, length, get_or, refl, sym, subst, ap, ◌∙◌, arith}
 use Rattle.enc_model.specs.Indexes.{IndexSet}
@@ -12,10 +12,10 @@ use Rattle.spool_pages.specs.Fits.{FitsSlotOf, FitsRow}
 use Rattle.spool_pages.specs.View.{SlotRecord, View, Says, Stands, state_page, slot_bytes, row_bytes}
 use Rattle.spool_pages.specs.View.{index_place, state_place, slot_place, row_place}
 use Rattle.spool_pages.specs.declared.version.Version.{Version}
-use Rattle.spool_kept.proofs.Sound.{said_area, said_slot, said_row, slots_fit, rows_fit}
+use Rattle.spool_kept.proofs.Valid.{said_area, said_slot, said_row, slots_fit, rows_fit}
 use Rattle.spool_kept.specs.Records.{FitsKept}
 use Rattle.spool_kept.specs.Holding.{AreDistinct}
-use Rattle.spool_kept.specs.Shows.{IsSound, IsSoundRecord, IsOwned}
+use Rattle.spool_kept.specs.Shows.{IsValid, IsValidRecord, IsOwned}
 use Rattle.spool_load.specs.Checks.{RecordsPass, RowPasses, RowsPass}
 use Rattle.spool_kept.specs.Holding.{Holding}
 use Rattle.spool_kept.specs.Kept.{KeepsAlone}
@@ -24,31 +24,31 @@ use Rattle.spool_load.specs.Reads.{StandFields, StandSlots, StandRows}
 
 -- A SOUND VIEW PASSES
 
-pub sound_passes : (v : View) → IsSound v → RecordsPass v.next v.slots
-sound_passes v sound = record {
-  least = sound.next_least;
-  most = sound.next_most;
+pub valid_passes : (v : View) → IsValid v → RecordsPass v.next v.slots
+valid_passes v valid = record {
+  least = valid.next_least;
+  most = valid.next_most;
   records = λ s r e.
-      let is = sound.records s r e in
+      let is = valid.records s r e in
       record { below = is.below; accepted = is.accepted; declared = is.declared; state = is.state };
 }
 
-pub sound_rows : (v : View) → IsSound v → RowsPass v.slots v.rows
-sound_rows v sound b slot ordinal owns =
-    let owned : IsOwned v slot ordinal = sound.owners b slot ordinal owns in
+pub valid_rows : (v : View) → IsValid v → RowsPass v.slots v.rows
+valid_rows v valid b slot ordinal owns =
+    let owned : IsOwned v slot ordinal = valid.owners b slot ordinal owns in
     record {
       used = owned.used;
       there = owned.there;
-      below = (sound.lists slot owned.used owned.there).only b ordinal owns;
+      below = (valid.lists slot owned.used owned.there).only b ordinal owns;
     }
 
 -- A SOUND VIEW IS READ
 
 -- of bytes that say it: what holds of each next number, index set, slots and rows that may be there holds of its own
-module _ (bytes : ℕ → ℕ) (n : ℕ) (v : View) (sound : IsSound v) (blocks : v.blocks ≡ n) (says : Says bytes v) where
+module _ (bytes : ℕ → ℕ) (n : ℕ) (v : View) (valid : IsValid v) (blocks : v.blocks ≡ n) (says : Says bytes v) where
   pub area_said : {Q : IndexSet → Type 0} → ((x : IndexSet) → IsIndexSet x
       → ((i : ℕ) → i < 90112 → bytes (index_place n + i) ≡ area_byte x i) → Q x) → Q v.indexes
-  area_said said = said v.indexes sound.indexes (said_area bytes v n blocks says)
+  area_said said = said v.indexes valid.indexes (said_area bytes v n blocks says)
 
   pub slots_said : (version : Version) → version ≡ v.version → {Q : List (Option SlotRecord) → Type 0}
       → ((said : List (Option SlotRecord)) → length said ≡ 512 → ((s : ℕ) → FitsKept (get_or said s None))
@@ -57,13 +57,13 @@ module _ (bytes : ℕ → ℕ) (n : ℕ) (v : View) (sound : IsSound v) (blocks 
   slots_said version is said =
       let S : Version → Type 0 =
       λ w. (s : ℕ) → s < 512 → Stands bytes (slot_place n s) 2048 (slot_bytes w (get_or v.slots s None)) in
-      said v.slots sound.slot_count (slots_fit v sound) (subst S (sym is) (said_slot bytes v n blocks says))
+      said v.slots valid.slot_count (slots_fit v valid) (subst S (sym is) (said_slot bytes v n blocks says))
 
   pub rows_said : {Q : List (Option (ℕ × ℕ)) → Type 0} → ((all : List (Option (ℕ × ℕ))) → length all ≡ n
       → ((b : ℕ) → FitsRow (get_or all b None))
       → ((b : ℕ) → b < 512 * (journal_pages n - 257) → Stands bytes (row_place n b) 8 (row_bytes (get_or all b None)))
       → Q all) → Q v.rows
-  rows_said said = said v.rows (sound.row_count ∙ blocks) (rows_fit v sound) (said_row bytes v n blocks says)
+  rows_said said = said v.rows (valid.row_count ∙ blocks) (rows_fit v valid) (said_row bytes v n blocks says)
 
 -- WHAT PASSES IS A SOUND VIEW
 
@@ -100,9 +100,9 @@ module _ (bytes : ℕ → ℕ) (n : ℕ) (version : Version) (next : ℕ) (x : I
       → FitsSlotOf (Some r)
   slot_fits stand s r e = subst FitsSlotOf e (stand.fit s)
 
-  record_sound : StandSlots bytes n version slots → RecordsPass next slots → (s : ℕ) (r : SlotRecord)
-      → get_or slots s None ≡ Some r → IsSoundRecord next r
-  record_sound stand are s r e =
+  record_valid : StandSlots bytes n version slots → RecordsPass next slots → (s : ℕ) (r : SlotRecord)
+      → get_or slots s None ≡ Some r → IsValidRecord next r
+  record_valid stand are s r e =
       let fits = slot_fits stand s r e in
       let is = are.records s r e in
       record {
@@ -117,12 +117,12 @@ module _ (bytes : ℕ → ℕ) (n : ℕ) (version : Version) (next : ℕ) (x : I
         printable = fits.1;
       }
 
-  pub read_sound : 16 ≤ n → n ≤ 65536 → StandFields bytes n x → StandSlots bytes n version slots → length slots ≡ 512
+  pub read_valid : 16 ≤ n → n ≤ 65536 → StandFields bytes n x → StandSlots bytes n version slots → length slots ≡ 512
       → length rows ≡ n
       → RecordsPass next slots → RowsPass slots rows → ((b : ℕ) → FitsRow (get_or rows b None)) → AreDistinct slots
       → ((s : ℕ) (r : SlotRecord) → get_or slots s None ≡ Some r → OwnsOneEach rows s (blocks_of r.text_len))
-      → IsSound view_read
-  read_sound least most fields stand long wide are owned fit distinct lists = record {
+      → IsValid view_read
+  read_valid least most fields stand long wide are owned fit distinct lists = record {
     least = least;
     most = most;
     next_least = are.least;
@@ -130,7 +130,7 @@ module _ (bytes : ℕ → ℕ) (n : ℕ) (version : Version) (next : ℕ) (x : I
     indexes = fields.area.valid;
     slot_count = long;
     row_count = wide;
-    records = record_sound stand are;
+    records = record_valid stand are;
     distinct = distinct;
     owners = λ b slot ordinal owns.
         let is : RowPasses slots slot ordinal = owned b slot ordinal owns in
@@ -147,16 +147,16 @@ module _ (bytes : ℕ → ℕ) (n : ℕ) (version : Version) (next : ℕ) (x : I
       → RowsPass slots rows → ((b : ℕ) → FitsRow (get_or rows b None))
       → reserved ≡ replicate n false → AreDistinct slots
       → ((s : ℕ) (q : SlotRecord) → get_or slots s None ≡ Some q → OwnsOneEach rows s (blocks_of q.text_len))
-      → ((v : View) → IsSound v → v.blocks ≡ n → version ≡ v.version → next ≡ v.next → x ≡ v.indexes → slots ≡ v.slots
+      → ((v : View) → IsValid v → v.blocks ≡ n → version ≡ v.version → next ≡ v.next → x ≡ v.indexes → slots ≡ v.slots
       → rows ≡ v.rows
       → reserved ≡ replicate v.blocks false → KeepsAlone h v)
       → LoadedFrom bytes n h
   read_loaded reserved h least most fields state stand long wide there are owned fit none distinct lists kept =
-      let sound = read_sound least most fields stand long wide are owned fit distinct lists in
+      let valid = read_valid least most fields stand long wide are owned fit distinct lists in
       record {
         view = view_read;
-        sound = sound;
+        valid = valid;
         blocks = refl;
         says = read_says fields state stand long there;
-        keeps = kept view_read sound refl refl refl refl refl refl none;
+        keeps = kept view_read valid refl refl refl refl refl refl none;
       }

@@ -7,30 +7,30 @@ use Rattle.tus_request.specs.Requests.{Creation, Request, Verdict, Asks, Refuses
 use Rattle.tus_request.specs.Answers.{Answer, More, Judged}
 
 -- an upload to be made: its encodings are offered, its text isn't UTF-16, and its metadata is short and plain
-pub record IsSoundCreation (offers : Encoding → Bool) (c : Creation) : Type 0 where
+pub record IsValidCreation (offers : Encoding → Bool) (c : Creation) : Type 0 where
   pub from : offers c.from ≡ true
   pub to : offers c.to ≡ true
   pub no_utf16 : (c.to ≡ Utf16Be → ⊥) × (c.to ≡ Utf16Le → ⊥)
   pub short : length c.metadata ≤ 1536
   pub plain : All (λ b. (0x20 ≤ b) × (b ≤ 0x7E)) c.metadata
 
-abbrev pub IsSoundAction : (Encoding → Bool) → Action → Type 0
-IsSoundAction offers Options = Unit {0}
-IsSoundAction offers (Create c) = IsSoundCreation offers c
-IsSoundAction offers (Head number) = Unit {0}
-IsSoundAction offers (Get number) = Unit {0}
-IsSoundAction offers (Patch number offset declare) = offset < 10 ^ 18
-IsSoundAction offers (Delete number) = Unit {0}
+abbrev pub IsValidAction : (Encoding → Bool) → Action → Type 0
+IsValidAction offers Options = Unit {0}
+IsValidAction offers (Create c) = IsValidCreation offers c
+IsValidAction offers (Head number) = Unit {0}
+IsValidAction offers (Get number) = Unit {0}
+IsValidAction offers (Patch number offset declare) = offset < 10 ^ 18
+IsValidAction offers (Delete number) = Unit {0}
 
 -- a number has at most 18 digits
-pub record IsSoundRequest (offers : Encoding → Bool) (r : Request) : Type 0 where
+pub record IsValidRequest (offers : Encoding → Bool) (r : Request) : Type 0 where
   pub length_is : r.length < 10 ^ 18
-  pub action_is : IsSoundAction offers r.action
+  pub action_is : IsValidAction offers r.action
 
-abbrev pub IsSound : (Encoding → Bool) → Verdict → Type 0
-IsSound offers (Asks r) = IsSoundRequest offers r
-IsSound offers (Refuses x) = Unit {0}
+abbrev pub IsValid : (Encoding → Bool) → Verdict → Type 0
+IsValid offers (Asks r) = IsValidRequest offers r
+IsValid offers (Refuses x) = Unit {0}
 
-abbrev pub IsSoundAnswer : (Encoding → Bool) → Answer → Type 0
-IsSoundAnswer offers More = Unit {0}
-IsSoundAnswer offers (Judged n v) = IsSound offers v
+abbrev pub IsValidAnswer : (Encoding → Bool) → Answer → Type 0
+IsValidAnswer offers More = Unit {0}
+IsValidAnswer offers (Judged n v) = IsValid offers v

@@ -1,4 +1,4 @@
--- Every request that passed its checks is sound.
+-- Every request that passed its checks is valid.
 use Rattle.std.specs.Prelude.{All, take, map, codes}
 use Rattle.std.specs.List.{list_all}
 use Rattle.std.specs.Char.{is_ascii_digit, digit_value}
@@ -30,7 +30,7 @@ use Rattle.tus_request.specs.Lines.{Extent, head_extent}
 use Rattle.tus_request.specs.Reading.{request_of}
 use Rattle.tus_request.specs.Requests.{Action, Options, Create, Head, Get, Delete, Request, Asks}
 use Rattle.tus_request.specs.Answers.{More, Judged, answer_with, answer_of}
-use Rattle.tus_request.specs.Sound.{IsSoundAction, IsSoundRequest, IsSound, IsSoundAnswer}
+use Rattle.tus_request.specs.Valid.{IsValidAction, IsValidRequest, IsValid, IsValidAnswer}
 
 both : (a b : Bool) → (a && b) ≡ true → (a ≡ true) × (b ≡ true)
 both true true p = (refl, refl)
@@ -147,13 +147,13 @@ choice_output (Some from) (Some to) (Some mode) c q =
 
 -- THE CHECKS
 module _ (offers : Encoding → Bool) where
-  passed_sound : (x : checks.Asking) (a : Action) → x.length < 10 ^ 18 → IsSoundAction offers a
-      → IsSound offers (checks.passed x a)
-  passed_sound x a small sound = record { length_is = small; action_is = sound }
+  passed_valid : (x : checks.Asking) (a : Action) → x.length < 10 ^ 18 → IsValidAction offers a
+      → IsValid offers (checks.passed x a)
+  passed_valid x a small valid = record { length_is = small; action_is = valid }
 
   choice_if : (x : checks.Asking) (declared : Option ℕ) (metadata : List ℕ) (c : Choice) (b : Bool)
       → x.length < 10 ^ 18 → (offers c.from && offers c.to) ≡ b → NoUtf16 c.to → IsPlainText metadata
-      → IsSound offers (if b
+      → IsValid offers (if b
       then checks.passed x (Create (record {
         declared = declared;
         from = c.from;
@@ -170,133 +170,133 @@ module _ (offers : Encoding → Bool) where
       }
   choice_if x declared metadata c false small q to plain = tt {0}
 
-  choice_sound : (x : checks.Asking) (declared : Option ℕ) (metadata : List ℕ) (o : Option Choice)
+  choice_valid : (x : checks.Asking) (declared : Option ℕ) (metadata : List ℕ) (o : Option Choice)
       → x.length < 10 ^ 18 → ((c : Choice) → o ≡ Some c → NoUtf16 c.to) → IsPlainText metadata
-      → IsSound offers (checks.with_choice offers x declared metadata o)
-  choice_sound x declared metadata None small to plain = tt {0}
-  choice_sound x declared metadata (Some c) small to plain =
+      → IsValid offers (checks.with_choice offers x declared metadata o)
+  choice_valid x declared metadata None small to plain = tt {0}
+  choice_valid x declared metadata (Some c) small to plain =
       choice_if x declared metadata c (offers c.from && offers c.to) small refl (to c refl) plain
 
-  pairs_sound : (x : checks.Asking) (declared : Option ℕ) (metadata : List ℕ) (o : Option (List KeyValue))
+  pairs_valid : (x : checks.Asking) (declared : Option ℕ) (metadata : List ℕ) (o : Option (List KeyValue))
       → x.length < 10 ^ 18 → ((pairs : List KeyValue) → o ≡ Some pairs → IsPlainText metadata)
-      → IsSound offers (checks.with_pairs offers x declared metadata o)
-  pairs_sound x declared metadata None small plain = tt {0}
-  pairs_sound x declared metadata (Some pairs) small plain =
-      choice_sound x declared metadata (choice_of pairs) small (λ c q. choice_output _ _ _ c q) (plain pairs refl)
+      → IsValid offers (checks.with_pairs offers x declared metadata o)
+  pairs_valid x declared metadata None small plain = tt {0}
+  pairs_valid x declared metadata (Some pairs) small plain =
+      choice_valid x declared metadata (choice_of pairs) small (λ c q. choice_output _ _ _ c q) (plain pairs refl)
 
-  metadata_sound : (x : checks.Asking) (declared : Option ℕ) (values : List (List ℕ)) → x.length < 10 ^ 18
-      → IsSound offers (checks.with_metadata offers x declared values)
-  metadata_sound x declared [] small = pairs_sound x declared [] (metadata_of []) small (metadata_plain [])
-  metadata_sound x declared (value ∷ []) small =
-      pairs_sound x declared value (metadata_of value) small (metadata_plain value)
-  metadata_sound x declared (value ∷ other ∷ values) small = tt {0}
+  metadata_valid : (x : checks.Asking) (declared : Option ℕ) (values : List (List ℕ)) → x.length < 10 ^ 18
+      → IsValid offers (checks.with_metadata offers x declared values)
+  metadata_valid x declared [] small = pairs_valid x declared [] (metadata_of []) small (metadata_plain [])
+  metadata_valid x declared (value ∷ []) small =
+      pairs_valid x declared value (metadata_of value) small (metadata_plain value)
+  metadata_valid x declared (value ∷ other ∷ values) small = tt {0}
 
-  declared_sound : (x : checks.Asking) (o : Option (Option ℕ)) → x.length < 10 ^ 18
-      → IsSound offers (checks.with_declared offers x o)
-  declared_sound x None small = tt {0}
-  declared_sound x (Some declared) small = metadata_sound x declared (x.given (codes "upload-metadata")) small
+  declared_valid : (x : checks.Asking) (o : Option (Option ℕ)) → x.length < 10 ^ 18
+      → IsValid offers (checks.with_declared offers x o)
+  declared_valid x None small = tt {0}
+  declared_valid x (Some declared) small = metadata_valid x declared (x.given (codes "upload-metadata")) small
 
   post_if : (x : checks.Asking) (b : Bool) → x.length < 10 ^ 18
-      → IsSound offers (if b
+      → IsValid offers (if b
       then checks.refused x BadHeader
       else checks.with_declared offers x
       (checks.declared_in (x.given (codes "upload-length")) (x.given (codes "upload-defer-length"))))
   post_if x true small = tt {0}
   post_if x false small =
-      declared_sound x (checks.declared_in (x.given (codes "upload-length")) (x.given (codes "upload-defer-length")))
+      declared_valid x (checks.declared_in (x.given (codes "upload-length")) (x.given (codes "upload-defer-length")))
       small
 
-  declaring_sound : (x : checks.Asking) (n offset : ℕ) (o : Option (Option ℕ)) → x.length < 10 ^ 18
-      → offset < 10 ^ 18 → IsSound offers (checks.declaring x n offset o)
-  declaring_sound x n offset None small less = tt {0}
-  declaring_sound x n offset (Some declare) small less = record { length_is = small; action_is = less }
+  declaring_valid : (x : checks.Asking) (n offset : ℕ) (o : Option (Option ℕ)) → x.length < 10 ^ 18
+      → offset < 10 ^ 18 → IsValid offers (checks.declaring x n offset o)
+  declaring_valid x n offset None small less = tt {0}
+  declaring_valid x n offset (Some declare) small less = record { length_is = small; action_is = less }
 
-  offset_sound : (x : checks.Asking) (n : ℕ) (o : Option ℕ) → x.length < 10 ^ 18
-      → ((m : ℕ) → o ≡ Some m → m < 10 ^ 18) → IsSound offers (checks.at_offset x n o)
-  offset_sound x n None small less = tt {0}
-  offset_sound x n (Some offset) small less =
-      declaring_sound x n offset (checks.optional_number_in (x.given (codes "upload-length"))) small (less offset refl)
+  offset_valid : (x : checks.Asking) (n : ℕ) (o : Option ℕ) → x.length < 10 ^ 18
+      → ((m : ℕ) → o ≡ Some m → m < 10 ^ 18) → IsValid offers (checks.at_offset x n o)
+  offset_valid x n None small less = tt {0}
+  offset_valid x n (Some offset) small less =
+      declaring_valid x n offset (checks.optional_number_in (x.given (codes "upload-length"))) small (less offset refl)
 
   patch_if : (x : checks.Asking) (n : ℕ) (b : Bool) → x.length < 10 ^ 18
-      → IsSound offers (if b
+      → IsValid offers (if b
       then checks.at_offset x n (checks.number_in (x.given (codes "upload-offset")))
       else checks.refused x MediaType)
   patch_if x n true small =
-      offset_sound x n (checks.number_in (x.given (codes "upload-offset"))) small
+      offset_valid x n (checks.number_in (x.given (codes "upload-offset"))) small
       (λ m q. when_small (checks.only (x.given (codes "upload-offset"))) m q)
   patch_if x n false small = tt {0}
 
-  all_sound : (x : checks.Asking) (v : Verb) → x.length < 10 ^ 18 → IsSound offers (checks.on_all offers x v)
-  all_sound x verb.Options small = passed_sound x Options small (tt {0})
-  all_sound x verb.Post small = post_if x (nat_lt 0 x.length) small
-  all_sound x verb.Head small = tt {0}
-  all_sound x verb.Patch small = tt {0}
-  all_sound x verb.Get small = tt {0}
-  all_sound x verb.Delete small = tt {0}
-  all_sound x verb.Other small = tt {0}
+  all_valid : (x : checks.Asking) (v : Verb) → x.length < 10 ^ 18 → IsValid offers (checks.on_all offers x v)
+  all_valid x verb.Options small = passed_valid x Options small (tt {0})
+  all_valid x verb.Post small = post_if x (nat_lt 0 x.length) small
+  all_valid x verb.Head small = tt {0}
+  all_valid x verb.Patch small = tt {0}
+  all_valid x verb.Get small = tt {0}
+  all_valid x verb.Delete small = tt {0}
+  all_valid x verb.Other small = tt {0}
 
-  upload_sound : (x : checks.Asking) (n : ℕ) (v : Verb) → x.length < 10 ^ 18 → IsSound offers (checks.on_upload x n v)
-  upload_sound x n verb.Options small = passed_sound x Options small (tt {0})
-  upload_sound x n verb.Post small = tt {0}
-  upload_sound x n verb.Head small = passed_sound x (Head n) small (tt {0})
-  upload_sound x n verb.Patch small =
+  upload_valid : (x : checks.Asking) (n : ℕ) (v : Verb) → x.length < 10 ^ 18 → IsValid offers (checks.on_upload x n v)
+  upload_valid x n verb.Options small = passed_valid x Options small (tt {0})
+  upload_valid x n verb.Post small = tt {0}
+  upload_valid x n verb.Head small = passed_valid x (Head n) small (tt {0})
+  upload_valid x n verb.Patch small =
       patch_if x n (checks.is_patch_media (checks.only (x.given (codes "content-type")))) small
-  upload_sound x n verb.Get small = passed_sound x (Get n) small (tt {0})
-  upload_sound x n verb.Delete small = passed_sound x (Delete n) small (tt {0})
-  upload_sound x n verb.Other small = tt {0}
+  upload_valid x n verb.Get small = passed_valid x (Get n) small (tt {0})
+  upload_valid x n verb.Delete small = passed_valid x (Delete n) small (tt {0})
+  upload_valid x n verb.Other small = tt {0}
 
-  place_sound : (x : checks.Asking) (p : Option Place) → x.length < 10 ^ 18
-      → IsSound offers (checks.on_place offers x p)
-  place_sound x None small = tt {0}
-  place_sound x (Some place.Files) small = all_sound x x.verb small
-  place_sound x (Some (place.Upload n)) small = upload_sound x n x.verb small
+  place_valid : (x : checks.Asking) (p : Option Place) → x.length < 10 ^ 18
+      → IsValid offers (checks.on_place offers x p)
+  place_valid x None small = tt {0}
+  place_valid x (Some place.Files) small = all_valid x x.verb small
+  place_valid x (Some (place.Upload n)) small = upload_valid x n x.verb small
 
   decided_if : (x : checks.Asking) (b : Bool) → x.length < 10 ^ 18
-      → IsSound offers (if b then checks.refused x TusVersion else checks.on_place offers x x.place)
+      → IsValid offers (if b then checks.refused x TusVersion else checks.on_place offers x x.place)
   decided_if x true small = tt {0}
-  decided_if x false small = place_sound x x.place small
+  decided_if x false small = place_valid x x.place small
 
-  measured_sound : (line : checks.Line) (given : List ℕ → List (List ℕ)) (o : Option ℕ)
-      → ((n : ℕ) → o ≡ Some n → n < 10 ^ 18) → IsSound offers (checks.measured offers line given o)
-  measured_sound line given None less = tt {0}
-  measured_sound line given (Some n) less =
+  measured_valid : (line : checks.Line) (given : List ℕ → List (List ℕ)) (o : Option ℕ)
+      → ((n : ℕ) → o ≡ Some n → n < 10 ^ 18) → IsValid offers (checks.measured offers line given o)
+  measured_valid line given None less = tt {0}
+  measured_valid line given (Some n) less =
       decided_if (checks.asking line given n) (checks.lacks_version (checks.asking line given n)) (less n refl)
 
   checked_if : (line : checks.Line) (given : List ℕ → List (List ℕ)) (b : Bool)
-      → IsSound offers (if b
+      → IsValid offers (if b
       then checks.cut_off line Coding
       else checks.measured offers line given (checks.length_in (given (codes "content-length"))))
   checked_if line given true = tt {0}
   checked_if line given false =
-      measured_sound line given (checks.length_in (given (codes "content-length")))
+      measured_valid line given (checks.length_in (given (codes "content-length")))
       (λ n q. length_small (given (codes "content-length")) n q)
 
-  judged_sound : (h : Option RequestHead) → IsSound offers (checks.judged offers h)
-  judged_sound None = tt {0}
-  judged_sound (Some h) =
+  judged_valid : (h : Option RequestHead) → IsValid offers (checks.judged offers h)
+  judged_valid None = tt {0}
+  judged_valid (Some h) =
       checked_if (checks.line_of h) (values_in (map name_and_value h.fields))
       (checks.is_given (values_in (map name_and_value h.fields) (codes "transfer-encoding")))
 
   few_if : (b : Bool) (n : ℕ) (bytes : List ℕ)
-      → IsSoundAnswer offers (if b
+      → IsValidAnswer offers (if b
       then Judged n (checks.no_head HeadTooLong)
       else Judged (length bytes) (checks.judged offers (request_of bytes)))
   few_if true n bytes = tt {0}
-  few_if false n bytes = judged_sound (request_of bytes)
+  few_if false n bytes = judged_valid (request_of bytes)
 
-  short_if : (b : Bool) → IsSoundAnswer offers (if b then More else Judged 8192 (checks.no_head HeadTooLong))
+  short_if : (b : Bool) → IsValidAnswer offers (if b then More else Judged 8192 (checks.no_head HeadTooLong))
   short_if true = tt {0}
   short_if false = tt {0}
 
-  extent_sound : (bytes : List ℕ) (o : Option Extent) → IsSoundAnswer offers (answer_with offers bytes o)
-  extent_sound bytes None = short_if (nat_lt (length bytes) 8192)
-  extent_sound bytes (Some x) = few_if (nat_lt 65 x.texts) x.len (take x.len bytes)
+  extent_valid : (bytes : List ℕ) (o : Option Extent) → IsValidAnswer offers (answer_with offers bytes o)
+  extent_valid bytes None = short_if (nat_lt (length bytes) 8192)
+  extent_valid bytes (Some x) = few_if (nat_lt 65 x.texts) x.len (take x.len bytes)
 
-  pub answer_sound : (bytes : List ℕ) → IsSoundAnswer offers (answer_of offers bytes)
+  pub answer_valid : (bytes : List ℕ) → IsValidAnswer offers (answer_of offers bytes)
   unfolding answer_of
-  answer_sound bytes = extent_sound bytes (head_extent (take 8192 bytes))
+  answer_valid bytes = extent_valid bytes (head_extent (take 8192 bytes))
 
--- a request that passed its checks is sound
-pub request_sound : (offers : Encoding → Bool) (bytes : List ℕ) (n : ℕ) (r : Request)
-    → answer_of offers bytes ≡ Judged n (Asks r) → IsSoundRequest offers r
-request_sound offers bytes n r q = subst (IsSoundAnswer offers) q (answer_sound offers bytes)
+-- a request that passed its checks is valid
+pub request_valid : (offers : Encoding → Bool) (bytes : List ℕ) (n : ℕ) (r : Request)
+    → answer_of offers bytes ≡ Judged n (Asks r) → IsValidRequest offers r
+request_valid offers bytes n r q = subst (IsValidAnswer offers) q (answer_valid offers bytes)

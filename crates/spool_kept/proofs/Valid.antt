@@ -1,4 +1,4 @@
--- What a sound view says of a slot and of a row.
+-- What a valid view says of a slot and of a row.
 use Rattle.std.proofs.Common.{◌≡◌, inl, inr, ℕ, ◌+◌, ◌-◌, ◌*◌, ◌^◌, ◌<◌, ◌≤◌, refl, subst, List, Option, None, Some}
 use Rattle.std.proofs.Common.{length, get_or, ltb, true, sym, ◌∙◌, ap, arith}
 use Rattle.std.proofs.lemmas.Bool.Decides.{nat_tests}
@@ -14,28 +14,28 @@ use Rattle.std.proofs.lemmas.Bool.{cases_lt}
 use Rattle.spool_kept.specs.Records.{FitsKept}
 use Rattle.spool_kept.specs.Holding.{AreDistinct}
 use Rattle.spool_blocks.specs.Chains.{OwnsOneEach}
-use Rattle.spool_kept.specs.Shows.{IsSound, IsSoundRecord, IsOwned}
+use Rattle.spool_kept.specs.Shows.{IsValid, IsValidRecord, IsOwned}
 
-module _ (v : View) (sound : IsSound v) (slots : List (Option SlotRecord)) (same : slots ≡ v.slots) where
+module _ (v : View) (valid : IsValid v) (slots : List (Option SlotRecord)) (same : slots ≡ v.slots) where
   there : (s : ℕ) (o : Option SlotRecord) → get_or slots s None ≡ o → slot_at v s ≡ o
   there s o e = ap (λ (xs : List (Option SlotRecord)). get_or xs s None) (sym same) ∙ e
 
-  pub slot_sound : (s : ℕ) (r : SlotRecord) → get_or slots s None ≡ Some r → IsSoundRecord v.next r
-  slot_sound s r e = sound.records s r (there s (Some r) e)
+  pub slot_valid : (s : ℕ) (r : SlotRecord) → get_or slots s None ≡ Some r → IsValidRecord v.next r
+  slot_valid s r e = valid.records s r (there s (Some r) e)
 
   pub slots_distinct : AreDistinct slots
-  slots_distinct s t r q e f same_number = sound.distinct s t r q (there s (Some r) e) (there t (Some q) f) same_number
+  slots_distinct s t r q e f same_number = valid.distinct s t r q (there s (Some r) e) (there t (Some q) f) same_number
 
   pub slot_owns : (s : ℕ) (r : SlotRecord) → get_or slots s None ≡ Some r → OwnsOneEach v.rows s (blocks_of r.text_len)
-  slot_owns s r e = sound.lists s r (there s (Some r) e)
+  slot_owns s r e = valid.lists s r (there s (Some r) e)
 
   pub row_below : (b s k : ℕ) (r : SlotRecord) → get_or v.rows b None ≡ Some (s, k) → get_or slots s None ≡ Some r
       → k < blocks_of r.text_len
-  row_below b s k r owns e = (sound.lists s r (there s (Some r) e)).only b k owns
+  row_below b s k r owns e = (valid.lists s r (there s (Some r) e)).only b k owns
 
   pub row_used : (b s k : ℕ) → get_or v.rows b None ≡ Some (s, k) → get_or slots s None ≡ None → ⊥
   row_used b s k owns free =
-      let owned : IsOwned v s k = sound.owners b s k owns in
+      let owned : IsOwned v s k = valid.owners b s k owns in
       let e : slot_at v s ≡ None = there s None free in
       clash (sym owned.there ∙ e)
     where
@@ -84,7 +84,7 @@ length_fits : (declared : Option ℕ) → longest declared ≤ 1073741824 → Fi
 length_fits None small = tt
 length_fits (Some n) small = omega (arith, small)
 
-record_fits : (next : ℕ) → next ≤ 10 ^ 18 → (r : SlotRecord) → IsSoundRecord next r → FitsKept (Some r)
+record_fits : (next : ℕ) → next ≤ 10 ^ 18 → (r : SlotRecord) → IsValidRecord next r → FitsKept (Some r)
 record_fits next most r is = (
   (
     record {
@@ -101,8 +101,8 @@ record_fits next most r is = (
   is.state,
 )
 
-pub slots_fit : (v : View) → IsSound v → (s : ℕ) → FitsKept (slot_at v s)
-slots_fit v sound s = slot_from (slot_at v s) (λ r e. record_fits v.next sound.next_most r (sound.records s r e))
+pub slots_fit : (v : View) → IsValid v → (s : ℕ) → FitsKept (slot_at v s)
+slots_fit v valid s = slot_from (slot_at v s) (λ r e. record_fits v.next valid.next_most r (valid.records s r e))
 
 pub in_use : (slots : List (Option SlotRecord)) (s : ℕ) (r : SlotRecord) → get_or slots s None ≡ Some r
     → s < length slots
@@ -114,8 +114,8 @@ in_use slots s r e = elim (cases_lt s (length slots)) [
     clash : {q : SlotRecord} → Some q ≡ None → ⊥
     clash e = cc
 
-pub rows_fit : (v : View) → IsSound v → (b : ℕ) → FitsRow (get_or v.rows b None)
-rows_fit v sound b = row_from (get_or v.rows b None) (λ p e.
-    let owned : IsOwned v p.0 p.1 = sound.owners b p.0 p.1 e in
+pub rows_fit : (v : View) → IsValid v → (b : ℕ) → FitsRow (get_or v.rows b None)
+rows_fit v valid b = row_from (get_or v.rows b None) (λ p e.
+    let owned : IsOwned v p.0 p.1 = valid.owners b p.0 p.1 e in
     let lt : p.0 < length v.slots = in_use v.slots p.0 owned.used owned.there in
-    (omega (arith, lt, sound.slot_count), owned.fits))
+    (omega (arith, lt, valid.slot_count), owned.fits))
