@@ -24,7 +24,7 @@ need_of t x = if x == 0 then 0 else blocks_of (t + x) - t / 4096
 abbrev pub text_need : ℕ → Coded → ℕ
 text_need t coded = if is_there coded.fault then 0 else need_of t (length coded.bytes - t)
 
--- what the patch wants, whether or not it is short
+-- The blocks that the patch wants, even if it is short of room.
 unfoldable pub wants : IndexSet → Patch → Bool → ℕ
 wants x p done = text_need (length (text_of x p.began)) (patch_text x p done)
 

@@ -31,7 +31,7 @@ abbrev pub is_there : {A : Type 0} → Option A → Bool
 is_there None = false
 is_there (Some a) = true
 
--- The least number from n on that no patch has, if one of the next numbers is free.
+-- The least number from n on that no patch has, searched among `left` numbers.
 abbrev pub least_from : ℕ → ℕ → List (ℕ × Patch) → ℕ
 least_from zero n patches = n
 least_from (suc left) n patches = if is_there (find n patches) then least_from left (n + 1) patches else n
@@ -40,7 +40,7 @@ least_from (suc left) n patches = if is_there (find n patches) then least_from l
 abbrev pub free_number : World → ℕ
 free_number w = least_from (length w.patches) 0 w.patches
 
--- the count of accepted bytes with the patch's body
+-- The offset after the patch's body.
 abbrev pub reached : Patch → ℕ
 reached p = length p.began.accepted + length p.body
 
