@@ -16,8 +16,7 @@ use enc_legacy::{EucJpState, Iso2022State, ShiftJisState, SingleState};
 use enc_model::{Encoding, Sink};
 use enc_unicode::{Order, Utf8State, Utf16State};
 
-/// A decoder's state, with its encoding. An enum and not a trait object, so that it takes no memory and its state can
-/// be stored.
+/// A decoder's state, with its encoding.
 #[derive(Drop)]
 pub enum AnyDecoder {
     Utf8(Utf8State),

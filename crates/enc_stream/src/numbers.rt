@@ -1,4 +1,4 @@
-//! The numbers of encodings, modes and states in the state bytes. They are part of the spool's format and never change.
+//! The numbers of encodings, modes and states in the state bytes. They are part of the spool's format.
 
 ghost use Rattle.std.specs.Prelude.{◌≡◌, Some, MatchOption};
 ghost use Rattle.enc_model.specs.declared.Encoding.{Encoding as Encodings};
