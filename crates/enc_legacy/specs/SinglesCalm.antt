@@ -1,4 +1,4 @@
--- The handler of the single-byte decoders is calm, and its steps are those of each encoding's own.
+-- The handler of the single-byte decoders is calm.
 use Rattle.std.proofs.Common.{ℕ, ◌≤◌, Some, length, lit≤}
 use Rattle.enc_model.specs.declared.Encoding.{Encoding}
 use Rattle.enc_model.specs.Encode.{Tables}
@@ -18,5 +18,6 @@ ends : (t : Tables) (s : Encoding) → Ends 4 (single_in t) s
 unfolding single_in
 ends t s = tt
 
+-- The handler is calm.
 pub single_in_calm : (t : Tables) → IsCalm (single_in t)
 single_in_calm t = record { few = few t; quiet = quiet t; ends = ends t }
