@@ -16,7 +16,7 @@ pub(crate) struct Asked {
     pub(crate) since: Option<Duration>,
 }
 
-/// A reply, as far as it went.
+/// A reply, as far as it was sent.
 #[derive(Clone, Copy, Drop)]
 pub(crate) struct Told {
     /// `None` if its head wasn't sent.
@@ -44,7 +44,7 @@ pub(crate) struct Talk {
     /// Of the current head: how many bytes came, and since when.
     bytes: u64,
     since: Option<Duration>,
-    /// requests whose heads came, without a reply so far
+    /// Requests whose heads came and that have no reply yet.
     waiting: VecDeque<Asked>,
     /// Whether a request was lost when out of memory. No later one is stored then.
     lost: bool,
