@@ -42,8 +42,8 @@ pub trait Connections {
         ensures unasked { down self.old ≡ true → Unasked (moment self.old) (moment self.new) (left_only self.old)
             (left_only self.new) (failures self.old) (failures self.new) };
 
-    /// Takes received bytes, at most to the end of one request, and appends at most 69,632 bytes to `out`: its replies,
-    /// or a piece of a text. A refusal leaves `out` unchanged.
+    /// Takes received bytes, at most to the end of one request, and appends the reply to `out`, with the first piece of a
+    /// text if one is read: at most 69,632 bytes. A refusal leaves `out` unchanged.
     ///
     /// Errors: `Closed` exactly if the connection isn't open; otherwise `NoMemory` or `DiskFault`.
     fn came(&mut self, conn: usize, bytes: &[u8], out: &mut Vec<u8>) -> Result<Answer, SessionError>
@@ -84,7 +84,7 @@ pub trait Connections {
         ensures unasked { down self.old ≡ true → Unasked (moment self.old) (moment self.new) (left_only self.old)
             (left_only self.new) (failures self.old) (failures self.new) };
 
-    /// If the connections surely stand for a state, each crash image from now on shows its uploads.
+    /// If the connections are known to stand for a state, each crash image from now on shows its uploads.
     ghost durable: { (core : Self) (st : State) (ms : List Store) → stands core true st → Among st.world.store ms
         → left_only core st.world.blocks (moment core) ms };
 

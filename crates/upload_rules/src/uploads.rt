@@ -168,7 +168,7 @@ pub trait Uploads {
     ghost below: { (store : Self) (sure : Bool) (w : World) (number : ℕ) (u : Upload) → stands store sure w
         → upload_of w.store number ≡ Some u → number < w.store.next };
 
-    /// If the store surely stands for a world, each crash image from now on shows it.
+    /// If the store is known to stand for a world, each crash image from now on shows it.
     ghost durable: { (store : Self) (w : World) (ms : List Store) → stands store true w → Among w.store ms
         → left_only store w.blocks (moment store) ms };
 }
