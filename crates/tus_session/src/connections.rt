@@ -42,8 +42,8 @@ pub trait Connections {
         ensures unasked { down self.old ≡ true → Unasked (moment self.old) (moment self.new) (left_only self.old)
             (left_only self.new) (failures self.old) (failures self.new) };
 
-    /// Takes received bytes, at most to the end of one request, and appends the reply to `out`, with the first piece of a
-    /// text if one is read: at most 69,632 bytes. A refusal leaves `out` unchanged.
+    /// Takes received bytes, at most to the end of one request, and appends the reply to `out`, with the first piece of
+    /// a text if one is read: at most 69,632 bytes. A refusal leaves `out` unchanged.
     ///
     /// Errors: `Closed` exactly if the connection isn't open; otherwise `NoMemory` or `DiskFault`.
     fn came(&mut self, conn: usize, bytes: &[u8], out: &mut Vec<u8>) -> Result<Answer, SessionError>
