@@ -117,6 +117,10 @@ fn step<D: Decoder, S: Sink>(
 }
 
 /// Decodes a piece, one character at a time.
+///
+/// # Errors
+///
+/// The sink's refusal, at once; nothing is known of the state afterwards.
 pub fn feed_each<D: Decoder, S: Sink>(
     state: &mut D,
     tables: &D::Tables,
@@ -233,6 +237,10 @@ fn give_prefixes<D: BlockDecoder, S: Sink>(
 }
 
 /// Decodes a piece. A batch is only made if the piece isn't all ASCII.
+///
+/// # Errors
+///
+/// The sink's refusal, at once; nothing is known of the state afterwards.
 pub fn feed<D: BlockDecoder, S: Sink>(
     state: &mut D,
     tables: &D::Tables,
@@ -274,6 +282,10 @@ fn finish_within<D: Decoder, S: Sink>(
 }
 
 /// Decodes the end.
+///
+/// # Errors
+///
+/// The sink's refusal, at once; nothing is known of the state afterwards.
 pub fn finish<D: Decoder, S: Sink>(
     state: &mut D,
     tables: &D::Tables,
