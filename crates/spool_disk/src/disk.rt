@@ -48,7 +48,8 @@ pub trait Disk {
     fn len(&self) -> u64
         ensures { result ≡ size self.now };
 
-    /// Fills the buffer with the bytes from `at` on. The range has to lie within the disk.
+    /// Fills the buffer with the bytes from `at` on. The range has to lie within the disk. If the call fails, the
+    /// buffer may hold anything.
     fn read(&mut self, at: u64, buf: &mut [u8]) -> Result<(), DiskFault>
         requires { at + length buf.old ≤ size self.old }
         ensures size { size self.new ≡ size self.old }
@@ -76,7 +77,8 @@ pub trait Disk {
         ensures counts { Counts (IsErr result) (failures self.old) (failures self.new) }
         ensures tells { tells (IsErr result) self.old self.new };
 
-    /// Makes all writes so far durable: after a sync that succeeds, the only crash image is what a read gives.
+    /// Makes all writes so far durable: after a sync that succeeds, the only crash image is what a read gives. After
+    /// one that fails, a read may give any of the crash images.
     fn sync(&mut self) -> Result<(), DiskFault>
         ensures size { size self.new ≡ size self.old }
         ensures honest { honest self.old ↔ honest self.new }

@@ -33,7 +33,9 @@ impl PositionedDisk<SystemFile> {
     /// Opens the file at the path, or creates it. Its contents stay; if it is shorter than `len`, it is filled with
     /// zeros up to that.
     ///
-    /// Errors: `DiskFault` for any error of the file system, and if another disk has the file's lock.
+    /// # Errors
+    ///
+    /// `DiskFault` for any error of the file system, and if another disk has the file's lock.
     pub fn create<R: Files<File = File>>(rt: &R, path: &str, len: u64) -> Result<Self, DiskFault>
         ensures len { IfOk result (λ disk. length_of disk ≡ len) }
         ensures none { IfOk result (λ disk. failed_in disk ≡ 0) }
@@ -44,7 +46,9 @@ impl PositionedDisk<SystemFile> {
 
     /// Opens the file at the path with its current length.
     ///
-    /// Errors: `DiskFault` for any error of the file system, and if another disk has the file's lock.
+    /// # Errors
+    ///
+    /// `DiskFault` for any error of the file system, and if another disk has the file's lock.
     pub fn open<R: Files<File = File>>(rt: &R, path: &str) -> Result<Self, DiskFault>
         ensures none { IfOk result (λ disk. failed_in disk ≡ 0) }
         ensures made { IfOk result (λ disk. calls_in disk ≡ made (FileCall.Len (length_of disk)) [] true ∷ []) }

@@ -23,6 +23,10 @@ impl MemoryDisk {
     ghost use Rattle.spool_disk.specs.Memory.{size_of, bytes_of, synced_of, unsynced_of};
 
     /// A disk of zeros, all synced. Later calls need no memory.
+    ///
+    /// # Errors
+    ///
+    /// `AllocError`.
     pub fn new(alloc: Global, len: usize) -> Result<Self, AllocError>
         ensures size { IfOk result (λ disk. size_of disk ≡ len) }
         ensures zeros { IfOk result (λ disk. (p : ℕ) → bytes_of disk p ≡ 0) }

@@ -22,7 +22,9 @@ impl SystemFile {
 
     /// Opens the file at the path, or creates it.
     ///
-    /// Errors: `ResourceBusy` if it is locked.
+    /// # Errors
+    ///
+    /// `ResourceBusy` if it is locked.
     pub fn create<R: Files<File = File>>(rt: &R, path: &str) -> io::Result<Self>
         ensures { IfOk result (λ file. calls_of file ≡ []) }
     {
@@ -36,7 +38,9 @@ impl SystemFile {
 
     /// Opens the file at the path.
     ///
-    /// Errors: `ResourceBusy` if it is locked.
+    /// # Errors
+    ///
+    /// `ResourceBusy` if it is locked.
     pub fn open<R: Files<File = File>>(rt: &R, path: &str) -> io::Result<Self>
         ensures { IfOk result (λ file. calls_of file ≡ []) }
     {
