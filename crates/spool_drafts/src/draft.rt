@@ -59,7 +59,9 @@ impl SpoolDraft {
     /// A draft of `count` bytes at `offset`, which may declare the upload's length. The upload's text is on the listed
     /// blocks, by ordinal. It takes neither memory nor a block.
     ///
-    /// Errors: `Offset`, `TooLarge`, `LengthSet`, `TooLong`.
+    /// # Errors
+    ///
+    /// `Offset`, `TooLarge`, `LengthSet`, `TooLong`.
     pub fn begin(
         alloc: Global,
         upload: &Record,
@@ -147,7 +149,9 @@ impl SpoolDraft {
     /// Appends bytes to the body, without a sync. If a character is unmappable or no block is free, the draft gives its
     /// blocks back and reserves no more; `end` then reports the reason.
     ///
-    /// Errors: `NoMemory`, with the draft unchanged; `DiskFault`, after which it can only be dropped.
+    /// # Errors
+    ///
+    /// `NoMemory`, with the draft unchanged; `DiskFault`, after which it can only be dropped.
     pub fn append<D: Disk>(
         &mut self,
         alloc: Global,
@@ -217,7 +221,9 @@ impl SpoolDraft {
     /// emit at their end. Nothing is written here; `write_last` writes the last bytes. If the text didn't grow, the
     /// draft has no blocks, and the committed ones stay.
     ///
-    /// Errors: `Unencodable`, `Full`, `NoMemory`, `DiskFault`; the draft can then only be dropped.
+    /// # Errors
+    ///
+    /// `Unencodable`, `Full`, `NoMemory`, `DiskFault`; the draft can then only be dropped.
     pub fn end<D: Disk>(
         &mut self,
         alloc: Global,

@@ -147,7 +147,9 @@ impl Growth {
 
     /// Ends the text with these bytes, in memory. Returns the bytes that have yet to be written to its last blocks.
     ///
-    /// Errors: `Full` if the draft is short of blocks; `NoMemory`; `DiskFault`.
+    /// # Errors
+    ///
+    /// `Full` if the draft is short of blocks; `NoMemory`; `DiskFault`.
     pub(crate) fn end<D: Disk>(
         &mut self,
         alloc: Global,
