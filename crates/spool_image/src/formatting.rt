@@ -103,8 +103,10 @@ fn is_spool<D: Disk>(disk: &mut D) -> Result<bool, DiskFault>
 /// Makes a spool of version 2 with this many text blocks and no uploads. All pages but page 0 are written and synced,
 /// then page 0 is. It allocates nothing.
 ///
-/// Errors, of which the first two write nothing: `AlreadySpool` if the disk begins as a spool; then `Size` if the
-/// number of text blocks isn't 16 to 65,536 or the disk is too short; `DiskFault`.
+/// # Errors
+///
+/// `AlreadySpool` if the disk begins as a spool; then `Size` if the number of text blocks isn't 16 to 65,536 or the
+/// disk is too short: these two write nothing. `DiskFault` at a disk fault.
 pub fn format<D: Disk>(disk: &mut D, blocks: u32, indexes: &IndexSet) -> Result<(), FormatError>
     ensures size { D.size disk.new ≡ D.size disk.old }
     ensures honest { D.honest disk.old ↔ D.honest disk.new }
