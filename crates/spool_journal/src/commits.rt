@@ -63,7 +63,9 @@ fn commit_items<D: Disk>(
 /// and the metadata synced, as after an `Ok` of `recover` or `commit`. Without pages it makes no call of the disk, so
 /// nothing becomes durable. It allocates nothing.
 ///
-/// Errors: `DiskFault`.
+/// # Errors
+///
+/// `DiskFault`.
 pub fn commit<D: Disk>(disk: &mut D, layout: &Layout, pages: &Pages) -> Result<(), DiskFault>
     requires room { 4096 * all_pages layout.now ≤ D.size disk.old }
     requires area { InArea (journal_pages layout.now) pages.now }

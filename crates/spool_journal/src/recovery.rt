@@ -195,8 +195,10 @@ fn mend<D: Disk>(disk: &mut D, journal: u32) -> Result<(), RecoverError>
 /// Recovers a disk after a crash: if the gate is open, the journal's pages are written to their places and synced, and
 /// the gate is closed. It allocates nothing and may be tried again after a fault.
 ///
-/// Errors: `DiskFault`. `Damaged` if the gate is open and the journal's head has a count other than 1 to J, or page
-/// numbers that don't ascend or lie outside the metadata; no byte was written then.
+/// # Errors
+///
+/// `DiskFault`. `Damaged` if the gate is open and the journal's head has a count other than 1 to J, or page numbers
+/// that don't ascend or lie outside the metadata; no byte was written then.
 pub fn recover<D: Disk>(disk: &mut D, layout: &Layout) -> Result<(), RecoverError>
     requires { 4096 * all_pages layout.now ≤ D.size disk.old }
     ensures size { D.size disk.new ≡ D.size disk.old }

@@ -11,7 +11,9 @@ use spool_disk::{Disk, DiskFault};
 
 /// Writes bytes into a text block, from `offset` on, without a sync.
 ///
-/// Errors: `DiskFault`.
+/// # Errors
+///
+/// `DiskFault`.
 pub fn write_block<D: Disk>(
     disk: &mut D,
     layout: &Layout,
