@@ -18,7 +18,9 @@ use std::alloc::{AllocError, Global};
 /// The pages of a new record and a new next number. `beside` is the record in the other slot of the same page; None if
 /// that is free.
 ///
-/// Errors: `AllocError`.
+/// # Errors
+///
+/// `AllocError`.
 pub fn pages_of_new(
     alloc: Global,
     layout: &Layout,
@@ -74,7 +76,9 @@ fn make_room(pages: &mut Pages, page: u32) -> Result<(), AllocError>
 /// each page that has one of the rows. The pages of rows are blank until `fill_rows` fills them. `beside` is the record
 /// in the other slot of the same page; None if that is free. Each block costs a look at all of these few pages.
 ///
-/// Errors: `AllocError`.
+/// # Errors
+///
+/// `AllocError`.
 pub fn pages_of_change(
     alloc: Global,
     layout: &Layout,

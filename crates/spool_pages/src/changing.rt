@@ -14,7 +14,9 @@ use spool_journal::{Layout, Pages, commit};
 /// Changes at least one page of a spool at rest, all of them or none, and syncs all earlier writes first. So the new
 /// rows may own blocks that were written since the last sync. It allocates nothing.
 ///
-/// Errors: `DiskFault`.
+/// # Errors
+///
+/// `DiskFault`.
 pub fn change<D: Disk>(disk: &mut D, layout: &Layout, pages: &Pages) -> Result<(), DiskFault>
     requires room { 4096 * all_pages layout.now ≤ D.size disk.old }
     requires area { InArea (journal_pages layout.now) pages.now }

@@ -25,7 +25,9 @@ fn pair_page(slots: &[Option<SlotRecord<'_>>], slot: usize) -> [u8; PAGE]
 /// The 257 pages that upgrade a spool with this next number and these records to version 2: the state page and all
 /// pages of records.
 ///
-/// Errors: `AllocError`.
+/// # Errors
+///
+/// `AllocError`.
 pub fn pages_of_upgrade(
     alloc: Global,
     layout: &Layout,
