@@ -42,7 +42,9 @@ impl DraftText {
     /// An empty draft of a text of `len` bytes on the listed blocks. The bytes after its last full block are read into
     /// memory; with the first new byte they move to a block that the draft reserves.
     ///
-    /// Errors: `NoMemory`, `DiskFault`.
+    /// # Errors
+    ///
+    /// `NoMemory`, `DiskFault`.
     pub fn begin<D: Disk>(
         alloc: Global,
         disk: &mut D,
@@ -79,7 +81,9 @@ impl DraftText {
     /// An empty draft of a deleted upload: the bytes after its last full block are gone, and zeros take their place.
     /// Nothing is read.
     ///
-    /// Errors: `AllocError`.
+    /// # Errors
+    ///
+    /// `AllocError`.
     pub fn blank(alloc: Global, len: usize) -> Result<Self, AllocError>
         requires { len < 4096 }
         ensures none { IfOk result (λ draft. draft.blocks ≡ []) }
@@ -124,7 +128,9 @@ impl DraftText {
 
     /// Appends bytes. A block is reserved with its first byte, and written, without a sync, with its last one.
     ///
-    /// Errors: `NoMemory`, with nothing done; `DiskFault`; `Full` if the bytes need another block and none is free.
+    /// # Errors
+    ///
+    /// `NoMemory`, with nothing done; `DiskFault`; `Full` if the bytes need another block and none is free.
     pub fn put<D: Disk>(
         &mut self,
         disk: &mut D,
@@ -244,7 +250,9 @@ impl DraftText {
     /// Appends the last bytes, in memory: reserves the blocks for them and returns what `write_last` has to write, the
     /// bytes of the unfinished block and these. Afterwards the draft can only be given back or owned.
     ///
-    /// Errors: `NoMemory`, with nothing done; `Full`.
+    /// # Errors
+    ///
+    /// `NoMemory`, with nothing done; `Full`.
     pub fn end(
         &mut self,
         alloc: Global,
@@ -393,6 +401,10 @@ fn write_prefix<D: Disk>(
 }
 
 /// Writes the last bytes of a text to the last of the listed blocks, without a sync.
+///
+/// # Errors
+///
+/// `DiskFault`.
 pub fn write_last<D: Disk>(
     disk: &mut D,
     layout: &Layout,

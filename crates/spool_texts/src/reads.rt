@@ -13,7 +13,9 @@ use spool_journal::{Layout, PAGE};
 /// Reads bytes of a text of `len` bytes on the listed blocks, from `at` on, as many as there are and as fit. Returns
 /// their count. Adjacent blocks are read by one call. It allocates nothing.
 ///
-/// Errors: `DiskFault`.
+/// # Errors
+///
+/// `DiskFault`.
 pub fn read_text<D: Disk>(
     disk: &mut D,
     layout: &Layout,
