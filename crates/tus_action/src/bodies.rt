@@ -29,7 +29,9 @@ pub struct OpenPatch<B> {
 
 /// Appends a piece of the body to the draft. On an error the draft is dropped.
 ///
-/// Errors: `NoMemory`, `DiskFault`.
+/// # Errors
+///
+/// `NoMemory`, `DiskFault`.
 pub fn feed<U: Uploads>(
     store: &mut U,
     patch: OpenPatch<U::Draft>,
@@ -92,7 +94,9 @@ fn feed_draft<U: Uploads>(store: &mut U, draft: U::Draft, piece: &[u8]) -> Resul
 /// Ends the body: commits the draft and appends the reply to `out`, or appends the refusal. The reply is built before
 /// the commit, so that no memory is needed after it.
 ///
-/// Errors: `NoMemory`, with nothing committed; `DiskFault`. Both leave `out` unchanged.
+/// # Errors
+///
+/// `NoMemory`, with nothing committed; `DiskFault`. Both leave `out` unchanged.
 pub fn finish<U: Uploads>(
     alloc: Global,
     store: &mut U,
@@ -140,7 +144,9 @@ pub fn finish<U: Uploads>(
 /// Commits what came of a body that the end of its connection cut, without a reply. If the rules refuse the commit, the
 /// draft is dropped.
 ///
-/// Errors: `NoMemory`, with nothing committed; `DiskFault`.
+/// # Errors
+///
+/// `NoMemory`, with nothing committed; `DiskFault`.
 pub fn cut<U: Uploads>(store: &mut U, patch: OpenPatch<U::Draft>) -> Result<(), Stop>
     ensures answer { (sure : Bool) (w : World) (p : Patch) → U.stands store.old sure w
         → find (U.number_of patch.draft) w.patches ≡ Some p

@@ -92,7 +92,9 @@ fn next_piece<U: Uploads>(
 /// Appends the next piece of a text to `out`: 65,536 bytes, or the rest if that is shorter. If the upload was deleted,
 /// nothing is appended.
 ///
-/// Errors: `NoMemory`, `DiskFault`. Both leave `out` unchanged.
+/// # Errors
+///
+/// `NoMemory`, `DiskFault`. Both leave `out` unchanged.
 pub fn give_more<U: Uploads>(
     store: &mut U,
     giving: Giving,

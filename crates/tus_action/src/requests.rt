@@ -20,7 +20,9 @@ use upload_rules::{New, Uploads};
 /// Does what a request asks for at its head, and appends the reply to `out`. The reply to a GET ends in the first piece
 /// of the text, which is read into `buffer`.
 ///
-/// Errors: `NoMemory`, with no upload changed; `DiskFault`. Both leave `out` unchanged.
+/// # Errors
+///
+/// `NoMemory`, with no upload changed; `DiskFault`. Both leave `out` unchanged.
 pub fn act<U: Uploads>(
     alloc: Global,
     store: &mut U,
