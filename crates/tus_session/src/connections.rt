@@ -32,7 +32,9 @@ pub trait Connections {
 
     /// Opens a connection. Uses neither memory nor the disk.
     ///
-    /// Errors: `TooMany` exactly if the number isn't below `MOST_OPEN` or that connection is open.
+    /// # Errors
+    ///
+    /// `TooMany` exactly if the number isn't below `MOST_OPEN` or that connection is open.
     fn opened(&mut self, conn: usize) -> Result<(), SessionError>
         ensures does { (sure : Bool) (st : State) → stands self.old sure st
             → Does (stands self.new sure) result st (Opened conn) }
@@ -45,7 +47,9 @@ pub trait Connections {
     /// Takes received bytes, at most to the end of one request, and appends the reply to `out`, with the first piece of
     /// a text if one is read: at most 69,632 bytes. A refusal leaves `out` unchanged.
     ///
-    /// Errors: `Closed` exactly if the connection isn't open; otherwise `NoMemory` or `DiskFault`.
+    /// # Errors
+    ///
+    /// `Closed` exactly if the connection isn't open; otherwise `NoMemory` or `DiskFault`.
     fn came(&mut self, conn: usize, bytes: &[u8], out: &mut Vec<u8>) -> Result<Answer, SessionError>
         ensures gives { (sure : Bool) (st : State) → stands self.old sure st
             → Gives sure (stands self.new sure) result out.old.items out.new.items st (Came conn bytes.now) }
@@ -60,7 +64,10 @@ pub trait Connections {
         ensures few { GivesFew out.old.items out.new.items };
 
     /// Appends the next piece of the pending text to `out`, at most 69,632 bytes. A refusal leaves `out` unchanged.
-    /// Errors are those of `came`.
+    ///
+    /// # Errors
+    ///
+    /// Those of `came`.
     fn more(&mut self, conn: usize, out: &mut Vec<u8>) -> Result<Answer, SessionError>
         ensures gives { (sure : Bool) (st : State) → stands self.old sure st
             → Gives sure (stands self.new sure) result out.old.items out.new.items st (More conn) }
@@ -72,7 +79,11 @@ pub trait Connections {
         ensures unwritten { down self.old ≡ true → out.new.items ≡ out.old.items }
         ensures few { GivesFew out.old.items out.new.items };
 
-    /// The client closed the connection, or was lost. Errors are those of `came`.
+    /// The client closed the connection, or was lost.
+    ///
+    /// # Errors
+    ///
+    /// Those of `came`.
     fn ended(&mut self, conn: usize) -> Result<(), SessionError>
         ensures does { (sure : Bool) (st : State) → stands self.old sure st
             → Does (stands self.new sure) result st (Ended conn) }

@@ -32,6 +32,10 @@ pub struct Session<U: Uploads> {
 
 impl<U: Uploads> Session<U> {
     /// A session without connections. The places and the piece buffer are allocated here, once.
+    ///
+    /// # Errors
+    ///
+    /// `AllocError`.
     pub fn new(alloc: Global) -> Result<Self, AllocError>
         ensures { (sure : Bool) (store : U) (m : Store) (blocks : Option ℕ) → U.stands store sure (at_rest m blocks)
             → IfOk result (λ s. SessionStands U.Uploads sure (places_of s) store (beginning m blocks)) }
@@ -53,7 +57,9 @@ impl<U: Uploads> Session<U> {
 
     /// Opens a connection. It needs no memory.
     ///
-    /// Errors: `TooMany`.
+    /// # Errors
+    ///
+    /// `TooMany`.
     pub fn opened(&mut self, conn: usize) -> Result<(), SessionError>
         ensures answer { (sure : Bool) (store : U) (st : State)
             → SessionStands U.Uploads sure (places_of self.old) store st
@@ -79,7 +85,9 @@ impl<U: Uploads> Session<U> {
     /// none while a text is pending. A request that makes a text pending is taken up to the end of its head. At most
     /// 8,192 bytes of an unfinished head are stored, and each call searches them for the head's end once.
     ///
-    /// Errors: `Closed` if the connection isn't open; `NoMemory`, which closes the connection; `DiskFault`.
+    /// # Errors
+    ///
+    /// `Closed` if the connection isn't open; `NoMemory`, which closes the connection; `DiskFault`.
     pub fn came(
         &mut self,
         store: &mut U,
@@ -111,7 +119,9 @@ impl<U: Uploads> Session<U> {
     /// Appends the next piece of the pending text to `out`: 65,536 bytes, or the rest if that is shorter. It appends
     /// nothing if no text is pending.
     ///
-    /// Errors: `Closed` if the connection isn't open; `NoMemory`, which closes the connection; `DiskFault`.
+    /// # Errors
+    ///
+    /// `Closed` if the connection isn't open; `NoMemory`, which closes the connection; `DiskFault`.
     pub fn more(
         &mut self,
         store: &mut U,
@@ -135,7 +145,9 @@ impl<U: Uploads> Session<U> {
     /// Ends a connection. The bytes received of a PATCH's body are committed, without a reply. The connection is closed
     /// even if the call fails.
     ///
-    /// Errors: `Closed` if the connection isn't open; `NoMemory`; `DiskFault`.
+    /// # Errors
+    ///
+    /// `Closed` if the connection isn't open; `NoMemory`; `DiskFault`.
     pub fn ended(&mut self, store: &mut U, conn: usize) -> Result<(), SessionError>
         ensures answer { (sure : Bool) (st : State) → SessionStands U.Uploads sure (places_of self.old) store.old st
             → Ends U.Uploads sure (places_of self.new) store.new result st (Ended conn) }
