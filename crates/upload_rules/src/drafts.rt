@@ -21,7 +21,9 @@ fn free_number<T: Drop>(drafts: &[Option<T>]) -> usize
 
 /// Puts a draft at the least free number, which it returns.
 ///
-/// Errors: `AllocError`, with the list unchanged.
+/// # Errors
+///
+/// `AllocError`, with the list unchanged.
 pub fn placed<T: Drop>(drafts: &mut Vec<Option<T>>, draft: T) -> Result<usize, AllocError>
     ensures ok { IfOk result (λ number. IsPlaced drafts.old.items draft number drafts.new.items) }
     ensures err { OnErr result (drafts.new.items ≡ drafts.old.items) }

@@ -38,7 +38,9 @@ pub fn is_new(known: Option<u64>, declare: Option<u64>) -> bool
 
 /// The length of an upload once a patch declares one and puts `count` bytes at `offset`.
 ///
-/// Errors: `LengthSet`, `TooLong`.
+/// # Errors
+///
+/// `LengthSet`, `TooLong`.
 pub fn length_then(
     known: Option<u64>,
     declare: Option<u64>,

@@ -93,6 +93,10 @@ impl NewText {
 
     /// The state bytes and the new text at the append's end. If the upload is complete then, the text includes what the
     /// decoder and the encoder emit at their end.
+    ///
+    /// # Errors
+    ///
+    /// `Unencodable`, `NoMemory`.
     pub fn ended(
         self,
         indexes: &IndexSet,

@@ -95,7 +95,9 @@ impl Record {
 
     /// Checks a patch that puts `count` bytes at `offset` and may declare a length.
     ///
-    /// Errors: `Offset`, `TooLarge`, `LengthSet`, `TooLong`, the first that applies.
+    /// # Errors
+    ///
+    /// `Offset`, `TooLarge`, `LengthSet`, `TooLong`, the first that applies.
     pub fn admits(&self, offset: u64, count: u64, declare: Option<u64>) -> Result<(), UploadRefusal>
         ensures room { IsOk result → (self.now.accepted ≡ offset)
             × (offset + count ≤ longest (known_or self.now.declared declare))

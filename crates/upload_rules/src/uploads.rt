@@ -58,7 +58,9 @@ pub trait Uploads {
 
     /// Creates an upload without bytes and returns its number.
     ///
-    /// Errors: `TooLarge`, `Slots`, `NoMemory`, `DiskFault`.
+    /// # Errors
+    ///
+    /// `TooLarge`, `Slots`, `NoMemory`, `DiskFault`.
     fn create(&mut self, new: New) -> Result<u64, UploadError>
         requires well_formed { IsWellFormed new }
         requires offered { (sure : Bool) (w : World) → stands self.old sure w → IsOffered w.store.indexes new }
@@ -74,7 +76,9 @@ pub trait Uploads {
 
     /// Deletes an upload and its text. Its number is never used again, and the commit of a draft for it is refused.
     ///
-    /// Errors: `NoSuch`, `NoMemory`, `DiskFault`.
+    /// # Errors
+    ///
+    /// `NoSuch`, `NoMemory`, `DiskFault`.
     fn terminate(&mut self, number: u64) -> Result<(), UploadError>
         ensures answer { (sure : Bool) (w : World) → stands self.old sure w
             → Answers (terminate_refusal w number) result (λ done. stands self.new sure (terminated w number))
@@ -89,7 +93,9 @@ pub trait Uploads {
     /// Opens a draft of `count` bytes at `offset`, which may declare the upload's length. Its number is the least free
     /// one.
     ///
-    /// Errors: `NoSuch`, `Offset`, `TooLarge`, `LengthSet`, `TooLong`, `NoMemory`.
+    /// # Errors
+    ///
+    /// `NoSuch`, `Offset`, `TooLarge`, `LengthSet`, `TooLong`, `NoMemory`.
     fn begin(
         &mut self,
         number: u64,
@@ -109,7 +115,9 @@ pub trait Uploads {
     /// Appends bytes to a draft, at most its count in all. If they can't be encoded, or there is no room for their
     /// text, the draft records that and its commit is refused.
     ///
-    /// Errors: `NoMemory`, `DiskFault`; the draft can then only be dropped.
+    /// # Errors
+    ///
+    /// `NoMemory`, `DiskFault`; the draft can then only be dropped.
     fn append(&mut self, draft: &mut Self::Draft, piece: &[u8]) -> Result<(), UploadError>
         ensures same { Self.number_of draft.new ≡ Self.number_of draft.old }
         ensures answer { (sure : Bool) (w : World) (p : Patch) → stands self.old sure w
@@ -127,7 +135,9 @@ pub trait Uploads {
     /// Appends the draft's text to the upload's, gives the upload the length that the draft declares if it had none,
     /// and returns the new offset. The draft is spent in every case.
     ///
-    /// Errors: `NoSuch`, `Offset`, `LengthSet`, `TooLong`, `Unencodable`, `Full`, `NoMemory`, `DiskFault`.
+    /// # Errors
+    ///
+    /// `NoSuch`, `Offset`, `LengthSet`, `TooLong`, `Unencodable`, `Full`, `NoMemory`, `DiskFault`.
     fn commit(&mut self, draft: Self::Draft) -> Result<u64, UploadError>
         ensures answer { (sure : Bool) (w : World) (p : Patch) → stands self.old sure w
             → find (Self.number_of draft) w.patches ≡ Some p → holds draft p
@@ -153,7 +163,9 @@ pub trait Uploads {
     /// Reads the text's bytes from `at` on, as many as there are and as fit, and returns their count. A disk that isn't
     /// honest may give other bytes, but as many.
     ///
-    /// Errors: `NoSuch`, `DiskFault`.
+    /// # Errors
+    ///
+    /// `NoSuch`, `DiskFault`.
     fn read_text(&mut self, number: u64, at: u64, buf: &mut [u8]) -> Result<usize, UploadError>
         ensures answer { (sure : Bool) (w : World) → stands self.old sure w
             → Answers (no_such (upload_of w.store number)) result
