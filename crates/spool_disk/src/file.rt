@@ -10,8 +10,8 @@ use std::io;
 /// A file as a disk. Its length is the one that it had when it was opened.
 ///
 /// No contract states what a file gives or stores, so no file is proved to be honest: that it behaves as a disk is a
-/// premise of its users. Proved are the calls of the file that each call of the disk makes (`made`), that the length
-/// stays, and that each failed call is counted.
+/// premise of its users. The contracts state which calls of the file each call of the disk makes (`made`), that the
+/// length stays, and that each failed call is counted.
 #[derive(Drop)]
 pub struct PositionedDisk<F> {
     file: F,
@@ -143,12 +143,12 @@ impl<F: Positioned> Disk for PositionedDisk<F> {
 
     ghost size = { length_of };
 
-    // No file is known to be honest,
+    // No file is known to be honest.
     ghost honest = { λ d. ⊥ };
 
     ghost current = { λ d p. 0 };
 
-    // so a crash may leave any bytes.
+    // A crash may leave any bytes.
     ghost unsynced = { λ d p. Unit {0} };
 
     ghost moment = { λ d. 0 };
