@@ -57,7 +57,7 @@ fn write_pages<D: Disk>(disk: &mut D, layout: &Layout, indexes: &IndexSet) -> Re
     Ok(())
 }
 
-// Syncs the other pages, then writes page 0 and syncs: only then the disk is a spool.
+// Syncs the other pages, then writes page 0 and syncs: only then is the disk a spool.
 fn write_first<D: Disk>(disk: &mut D, layout: &Layout) -> Result<(), DiskFault>
     requires { 4096 * all_pages layout.now ≤ D.size disk.old }
     ensures size { D.size disk.new ≡ D.size disk.old }
