@@ -313,7 +313,7 @@ impl Batch {
         unsafe { from_utf8_unchecked(self.room.as_slice()) }
     }
 
-    /// For how many more bytes of UTF-8 it has room.
+    /// How many more bytes of UTF-8 fit into the batch.
     #[inline(always)]
     pub fn left(&self) -> usize
         ensures { result + length self.now ≡ ROOM }
