@@ -29,8 +29,8 @@ pub fn limits_open<D: Disk>()
         → D.left_since d t (D.current left) → OpensOne D.Disk left n ms }
 {}
 
-/// A disk that a crash left during an opening can be opened again, and has the same uploads. This holds after any number
-/// of such crashes.
+/// A disk that a crash left during an opening can be opened again, and has the same uploads. This holds after any
+/// number of such crashes.
 pub fn cut_openings<D: Disk>()
     ensures { (before d left : D) (n : ℕ) (m : Store) → AllShow D.Disk before n m
         → Lasts D.Disk before d (LeftOrShows D.Disk before n m) → D.honest left → D.size left ≡ D.size before
