@@ -42,6 +42,7 @@ pub record GoesOn {U B : Type 0} (u : Ghosts U B) (sure : Bool) (store : U) (lin
   pub bare : b'.bare ≡ b.bare
   pub closes : b'.closes ≡ b.closes
 
+-- The patch goes on with some draft.
 abbrev pub GoesOnSome : {U B : Type 0} → Ghosts U B → Bool → U → Option (Link B) → Answer → HeadBuffer → OpenPatch B → ℕ
     → ℕ → World → Patch → Type 0
 GoesOnSome {U} {B} u sure store link a head b left taken w p =

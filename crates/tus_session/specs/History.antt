@@ -61,6 +61,7 @@ abbrev pub has_text : Option Conn → Bool
 has_text None = false
 has_text (Some k) = is_pending k.pending
 
+-- Whether the connection is closed.
 abbrev pub is_closed : Option Conn → Bool
 is_closed None = true
 is_closed (Some k) = false
@@ -78,9 +79,9 @@ abbrev pub opened_if : State → ℕ → Bool → Step
 opened_if st c true = record { state = put st st.world c (Some fresh); outcome = Done; text = [] }
 opened_if st c false = kept st TooMany
 
+-- Opens connection c unless it is open.
 abbrev pub opened_at : State → ℕ → Option Conn → Step
 opened_at st c (Some k) = kept st TooMany
--- Opens connection c unless it is open.
 opened_at st c None = opened_if st c (nat_lt c most_open)
 
 -- Bytes came on connection c.

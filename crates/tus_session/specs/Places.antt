@@ -8,6 +8,7 @@ use Rattle.tus_session.specs.Turns.{Conn}
 use Rattle.tus_session.specs.declared.conns.Link.{Link}
 use Rattle.tus_session.specs.declared.session.Session.{Session}
 
+-- The places of the connections, by their numbers.
 abbrev pub places_of : {U B : Type 0} → Session U B → List (Option (Link B))
 places_of s = s.links.items
 
