@@ -10,6 +10,7 @@ use Rattle.upload_rules.specs.World.{World}
 use Rattle.upload_rules.specs.Slots.{numbers, IsBelow, AllStand}
 use Rattle.upload_rules.specs.Table.{TableStands}
 
+-- An upload that is found has a number below the bound.
 found_below : (x : IndexSet) (top n : ℕ) (u : Upload) (us : List (ℕ × Upload)) (ss : List Slot) → AllStand x us ss
     → IsBelow (numbers ss) top → find n us ≡ Some u → n < top
 found_below x top n u [] ss all below there = absurd cc
