@@ -6,16 +6,16 @@ use enc_labels::encoding_of;
 use enc_model::Encoding;
 use std::alloc::{AllocError, Global};
 
-/// What is to be measured.
+/// What to measure.
 #[derive(Drop)]
 pub(crate) struct Task<'a> {
-    /// The file's encoding.
+    /// The encoding of the file.
     pub(crate) from: Encoding,
-    /// The encoding that is written; UTF-8 for UTF-16, which is never written.
+    /// The output encoding. For UTF-16, which is never written, the output is UTF-8.
     pub(crate) to: Encoding,
     /// The path of the file.
     pub(crate) file: &'a str,
-    /// How many times it is transcoded.
+    /// How many times the file is transcoded.
     pub(crate) rounds: u32,
     jis0208: Option<&'a str>,
     jis0212: Option<&'a str>,
@@ -24,7 +24,7 @@ pub(crate) struct Task<'a> {
 }
 
 impl<'a> Task<'a> {
-    /// The index files by their kinds. That of a single-byte encoding is the file's, or the written one's where the
+    /// The index files by kind. The single-byte index is that of the file's encoding, or of the output encoding if the
     /// file is in UTF-8.
     pub(crate) fn indexes(&self) -> [(Kind, Option<&'a str>); 4] {
         let single = match self.from {
@@ -40,7 +40,7 @@ impl<'a> Task<'a> {
     }
 }
 
-/// Reads the command line: None where a label is none.
+/// Parses the command line. The result is `None` if a label is unknown.
 pub(crate) fn read_task<'a>(alloc: Global, words: &'a [String]) -> Result<Option<Task<'a>>, Error> {
     let given = bench(alloc)?.try_get_matches_from(words)?;
     let label = |name: &str| given

@@ -1,20 +1,20 @@
-//! Why a measurement ends before it is done.
+//! Why a measurement fails.
 
 use enc_index::ReadError;
 use enc_stream::TranscodeError;
 use std::alloc::{AllocError, AllocFailed};
 use std::{fmt, io};
 
-/// Why a measurement ends before it is done.
+/// Why a measurement fails.
 #[derive(Drop)]
 pub(crate) enum Fault {
     /// Out of memory.
     NoMemory,
-    /// A word is no label of an encoding, or one that has no encoder.
+    /// A word isn't the label of a supported encoding.
     Label,
-    /// An index file isn't of the form.
+    /// An index file isn't well formed.
     Index,
-    /// The transcoder refused.
+    /// The transcoder refused a character.
     Refused,
     /// A file, the clock or an output failed.
     Io,

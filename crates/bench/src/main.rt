@@ -1,4 +1,5 @@
-//! Throughput of the transcoder: a file is transcoded so many times, in pieces of 4,096 bytes, as a server reads them.
+//! Measures the throughput of the transcoder. A file is transcoded several times, in pieces of 4,096 bytes, as a server
+//! reads it.
 #![tactic(auto)]
 
 mod command_line;
@@ -19,7 +20,7 @@ fn main(rt: HostRuntime) -> ExitCode {
     match run(&rt) {
         Ok(code) => code,
         Err(fault) => {
-            // Where standard error takes nothing, the status alone says it.
+            // If standard error fails too, only the exit status reports the fault.
             let told = eprintln!(rt; "bench: {fault}");
             drop(told);
             ExitCode::FAILURE
@@ -27,7 +28,7 @@ fn main(rt: HostRuntime) -> ExitCode {
     }
 }
 
-// Does what the command line asks for.
+// Runs the command line.
 fn run(rt: &HostRuntime) -> Result<ExitCode, Fault> {
     let alloc = rt.alloc();
     let mut words = Vec::new(alloc);
@@ -41,7 +42,7 @@ fn run(rt: &HostRuntime) -> Result<ExitCode, Fault> {
     }
 }
 
-// Transcodes the task's file. What came out goes to standard output, and how long it took to standard error.
+// Transcodes the task's file. The size and the sum of the text go to standard output, and the time to standard error.
 fn measure(rt: &HostRuntime, alloc: Global, task: &Task) -> Result<ExitCode, Fault> {
     let indexes = read_indexes(rt, alloc, task)?;
     let bytes = fs::read(rt, task.file)?;
@@ -72,7 +73,7 @@ fn read_indexes(rt: &HostRuntime, alloc: Global, task: &Task) -> Result<IndexSet
     Ok(set)
 }
 
-// Prints help, or what is wrong with the command line.
+// Prints help, or the error in the command line.
 fn told(rt: &HostRuntime, error: Error) -> Result<ExitCode, Fault> {
     if error.kind() == ErrorKind::OutOfMemory {
         return Err(Fault::NoMemory);

@@ -11,7 +11,7 @@ use std::time::Instant;
 // How many bytes a server reads at a time.
 const PIECE: usize = 4096;
 
-/// What a round does: a whole text, from one encoding to another.
+/// A round transcodes a whole text from one encoding to another.
 #[derive(Drop)]
 pub(crate) struct Round<'a> {
     from: Encoding,
@@ -19,14 +19,14 @@ pub(crate) struct Round<'a> {
     indexes: &'a IndexSet,
 }
 
-/// How a round went.
+/// The result of the best round.
 #[derive(Drop)]
 pub(crate) struct Outcome {
-    /// How many bytes were written.
+    /// The length of the text in bytes.
     pub(crate) written: usize,
-    /// Their sum, so that two programs can be seen to write the same.
+    /// A checksum of the text, by which two programs can be compared.
     pub(crate) sum: u64,
-    /// How long it took, in nanoseconds.
+    /// The time of the quickest round in nanoseconds.
     pub(crate) nanos: u128,
 }
 
@@ -35,7 +35,7 @@ impl<'a> Round<'a> {
         Round { from, to, indexes }
     }
 
-    // Transcodes the bytes after what `out` holds.
+    // Transcodes the bytes, and appends the text to `out`.
     fn transcode(&self, bytes: &[u8], out: &mut Vec<u8>) -> Result<(), Fault> {
         let mut transcoder = Transcoder::new(self.from, output_of(self.to), Mode::Html);
         for piece in bytes.chunks(PIECE) {
@@ -46,7 +46,7 @@ impl<'a> Round<'a> {
     }
 }
 
-/// The quickest of so many rounds, and of one in any case.
+/// The quickest of `rounds` rounds, and at least one.
 pub(crate) fn best_round(
     rt: &HostRuntime,
     alloc: Global,
@@ -69,7 +69,7 @@ pub(crate) fn best_round(
     })
 }
 
-// The sum of some bytes, wrapped.
+// The checksum of some bytes, modulo 2^64.
 fn sum_of(bytes: &[u8]) -> u64 {
     bytes.iter().fold(
         0,

@@ -1,4 +1,4 @@
--- What an area says, against the set that wrote it.
+-- An area compared with the set that was written to it.
 use Rattle.std.proofs.Common.{◌≡◌, ℕ, zero, suc, ◌+◌, ◌-◌, ◌*◌, ◌/◌, ◌%◌, ◌^◌, ◌<◌, ◌≤◌, Bool, true, false, cond, ◌&&◌}
 use Rattle.std.proofs.Common.{List, [], ◌∷◌, ◌++◌, length, Option, Some, None, refl, sym, ◌∙◌, ap, arith, slice_index}
 use Rattle.std.proofs.Common.{slice_index_or, IfSome, unwrap_or, SomeIff, MatchOption, nat_lt, nat_le, ◌==◌, inl, inr}

@@ -9,7 +9,7 @@ use Rattle.enc_index.specs.declared.kind.AreaError.TheVariants.{NoMemory}
 use Rattle.enc_index.specs.Scalars.{is_scalar}
 use Rattle.enc_index.specs.Sets.{IsIndex}
 
--- the eighteen files in their order: jis0208, jis0212, katakana, and the single-byte encodings
+-- The eighteen files in their order: jis0208, jis0212, katakana, and the single-byte encodings.
 abbrev pub nth_file : IndexSet → ℕ → Option Index
 nth_file x n =
     if n == 0 then x.jis0208
@@ -17,11 +17,12 @@ nth_file x n =
     else if n == 2 then x.katakana
     else slice_index_or x.single (n - 3) None
 
+-- 1 if the file was given.
 abbrev pub flag : Option Index → ℕ
 flag None = 0
 flag (Some index) = 1
 
--- the file and the pointer of an entry: the files' tables stand one after the other
+-- The file and the pointer of an entry: the tables follow one another.
 abbrev pub spot_of : ℕ → ℕ × ℕ
 spot_of entry =
     if nat_lt entry 11280 then (0, entry)
@@ -29,14 +30,15 @@ spot_of entry =
     else if nat_lt entry 20179 then (2, entry - 20116)
     else (3 + (entry - 20179) / 128, (entry - 20179) % 128)
 
--- a code point, or FFFFFFFF
+-- A code point, or FFFFFFFF for none.
 abbrev pub entry_of : Option Index → ℕ → ℕ
 entry_of index pointer = unwrap_or (code (pairs_of index) pointer) 0xFFFFFFFF
 
+-- An entry of the tables.
 unfoldable pub entry_at : IndexSet → ℕ → ℕ
 entry_at x entry = entry_of (nth_file x (spot_of entry).0) (spot_of entry).1
 
--- A byte of the area: 18 flags, 1 where the file was set; zeros to byte 31; 22,099 entries of 4 bytes, big-endian;
+-- A byte of the area: 18 flags, 1 if the file was given; zeros up to byte 31; 22,099 entries of 4 bytes, big-endian;
 -- zeros.
 unfoldable pub area_byte : IndexSet → ℕ → ℕ
 area_byte x place =
@@ -45,29 +47,30 @@ area_byte x place =
     else if nat_lt place 88428 then slice_index (to_be_bytes w32 (entry_at x ((place - 32) / 4))) ((place - 32) % 4)
     else 0
 
--- these bytes are the area of the set
+-- These bytes are the area of the set.
 pub record IsAreaOf (x : IndexSet) (area : List ℕ) : Type 0 where
   pub long : length area ≡ 90112
   pub bytes : (place : ℕ) → place < 90112 → slice_index area place ≡ area_byte x place
 
--- the set is given back, unless it is out of memory
+-- The set is given back, unless it is out of memory.
 abbrev pub Gives : Result IndexSet AreaError → IndexSet → Type 0
 Gives (Ok set) x = set ≡ x
 Gives (Err e) x = e ≡ NoMemory
 
--- WHAT AN AREA SAYS
+-- Decoding an area.
 
--- an entry of an area
+-- An entry of an area.
 abbrev pub word_of : List ℕ → ℕ → ℕ
 word_of area entry =
     let place = 32 + 4 * entry in
     from_be_bytes w32 (slice_index area place ∷ slice_index area (place + 1) ∷ slice_index area
     (place + 2) ∷ slice_index area (place + 3) ∷ [])
 
+-- The code point of an entry.
 abbrev pub scalar_of : ℕ → Option ℕ
 scalar_of word = if is_scalar word then Some word else None
 
--- a file's flag and entries stand in an area
+-- The area has the file's flag and entries.
 pub record IsFileIn (area : List ℕ) (file start pointers : ℕ) (index : Option Index) : Type 0 where
   pub flagged : slice_index area file ≡ flag index
   pub valid : IfSome index (IsIndex pointers)

@@ -1,29 +1,29 @@
--- An index as a table: at each pointer a code point or none.
+-- An index as a table: each pointer has a code point or none.
 use Rattle.std.specs.Prelude.{◌≡◌, ℕ, suc, Bool, true, ◌&&◌, ◌==◌, List, [], ◌∷◌, Option, Some, None, IfSome, length}
 use Rattle.std.specs.Prelude.{slice_index, slice_index_or, ◌<◌, nat_le, nat_lt, if◌then◌else◌}
 use Rattle.enc_model.specs.Index.{Index, pointer, pointer_where, pointer_sjis}
 use Rattle.enc_index.specs.Bytes.{byte_char}
 use Rattle.enc_index.specs.Scalars.{is_scalar}
 
--- the pairs of entries that begin at a pointer
+-- The pairs of these entries, whose first pointer is p.
 unfoldable pub pairs_from : ℕ → List (Option ℕ) → Index
 pairs_from p [] = []
 pairs_from p (None ∷ entries) = pairs_from (suc p) entries
 pairs_from p (Some c ∷ entries) = (p, c) ∷ pairs_from (suc p) entries
 
--- the pointer at a code point; FFFF for none
+-- The pointer of a code point; FFFF for none.
 abbrev pub entry : ℕ → Option ℕ
 entry p = if p == 0xFFFF then None else Some p
 
--- what a table by code point gives: at each code point its pointer, and none after the table's end
+-- The pointer of a code point in such a table; none after the table's end.
 abbrev pub found : List ℕ → ℕ → Option ℕ
 found pointers c = entry (slice_index_or pointers c 0xFFFF)
 
--- a table by code point gives the least pointers, of those that a test lets through
+-- The table gives each code point's least pointer among those that pass the test.
 abbrev pub GivesLeast : (ℕ → Bool) → List (Option ℕ) → List ℕ → Type 0
 GivesLeast keeps entries pointers = (c : ℕ) → found pointers c ≡ pointer_where keeps (pairs_from 0 entries) c
 
--- the other tables agree with the entries
+-- The other tables agree with the entries.
 pub record AreAgreed (entries in_utf8 : List (Option ℕ)) (bytes_in_utf8 pointers sjis_pointers : List ℕ) : Type 0 where
   pub ready : in_utf8 ≡ entries
   pub bytes : length bytes_in_utf8 ≡ 256
@@ -31,11 +31,11 @@ pub record AreAgreed (entries in_utf8 : List (Option ℕ)) (bytes_in_utf8 pointe
   pub least : (c : ℕ) → found pointers c ≡ pointer (pairs_from 0 entries) c
   pub least_sjis : (c : ℕ) → found sjis_pointers c ≡ pointer_sjis (pairs_from 0 entries) c
 
--- each entry is none or a scalar value
+-- Each entry is none or a scalar value.
 abbrev pub AreScalars : List (Option ℕ) → Type 0
 AreScalars entries = (k : ℕ) → IfSome (slice_index_or entries k None) (λ c. is_scalar c ≡ true)
 
--- the pointers ascend from one number to below another, and the code points are scalar values
+-- The pointers ascend from `low` and stay below `bound`, and the code points are scalar values.
 unfoldable pub ascends : ℕ → ℕ → Index → Bool
 ascends low bound [] = true
 ascends low bound (pair ∷ index) =

@@ -1,4 +1,4 @@
--- Index files: which pairs the lines give, or the first bad line.
+-- Index files (Encoding Standard, section 5): the pairs of the lines, or the first bad line.
 use Rattle.std.specs.Prelude.{ℕ, ◌+◌, ◌-◌, ◌*◌, Bool, true, ◌&&◌, List, [], ◌∷◌, Option, Some, None, Result, Ok, Err}
 use Rattle.std.specs.Prelude.{length, drop, take, slice_index, ◌==◌, nat_lt, nat_le, if◌then◌else◌}
 use Rattle.std.specs.Char.{digit_value}
@@ -10,126 +10,134 @@ use Rattle.enc_index.specs.declared.kind.Kind.TheVariants.{Jis0208, Jis0212, Kat
 use Rattle.enc_index.specs.declared.kind.ReadError.{ReadError}
 use Rattle.enc_index.specs.declared.kind.ReadError.TheVariants.{Line, Range, Twice}
 
--- how many pointers a kind has
+-- How many pointers an index of this kind has.
 abbrev pub pointers_of : Kind → ℕ
 pointers_of Jis0208 = 11280
 pointers_of Jis0212 = 8836
 pointers_of Katakana = 63
 pointers_of (Single e) = 128
 
--- the bytes before the first mark, and those after it
+-- The bytes before the first mark.
 unfoldable pub before : ℕ → List ℕ → List ℕ
 before mark [] = []
 before mark (b ∷ bytes) = if b == mark then [] else b ∷ before mark bytes
 
+-- The bytes after the first mark.
 unfoldable pub after : ℕ → List ℕ → Option (List ℕ)
 after mark [] = None
 after mark (b ∷ bytes) = if b == mark then Some bytes else after mark bytes
 
--- LINES
+-- Lines.
 
+-- A byte before the first line.
 abbrev pub onto : ℕ → List (List ℕ) → List (List ℕ)
 onto b [] = (b ∷ []) ∷ []
 onto b (line ∷ lines) = (b ∷ line) ∷ lines
 
--- the pieces between LFs
+-- The pieces between LFs.
 unfoldable pub pieces : List ℕ → List (List ℕ)
 pieces [] = [] ∷ []
 pieces (b ∷ bytes) = if b == 0x0A then [] ∷ pieces bytes else onto b (pieces bytes)
 
--- without a CR at its end
+-- The line without a CR at its end.
 abbrev pub without_cr : List ℕ → List ℕ
 without_cr line = if slice_index line (length line - 1) == 0x0D then take (length line - 1) line else line
 
--- a CR before an LF belongs to neither line
+-- A CR before an LF belongs to neither line.
 unfoldable pub without_crs : List (List ℕ) → List (List ℕ)
 without_crs [] = []
 without_crs (last ∷ []) = last ∷ []
 without_crs (line ∷ next ∷ lines) = without_cr line ∷ without_crs (next ∷ lines)
 
+-- The lines of a file.
 abbrev pub lines_of : List ℕ → List (List ℕ)
 lines_of bytes = without_crs (pieces bytes)
 
--- the lines after an LF
+-- The lines after an LF.
 abbrev pub lines_after : Option (List ℕ) → List (List ℕ)
 lines_after None = []
 lines_after (Some rest) = lines_of rest
 
--- empty lines and those that start with `#` say nothing
+-- Empty lines and those that begin with `#` are ignored.
 abbrev pub is_dropped : List ℕ → Bool
 is_dropped [] = true
 is_dropped (b ∷ line) = b == 0x23
 
--- FIELDS
+-- Fields.
 
--- on from a number by digits in a base
+-- The number goes on with these digits.
 unfoldable pub onward : ℕ → ℕ → List ℕ → Option ℕ
 onward base n [] = Some n
 onward base n (b ∷ digits) = if nat_lt (digit_value b) base then onward base (n * base + digit_value b) digits else None
 
--- a number in a base of at least one and at most so many digits
+-- A number in this base of one or more digits, at most `most`.
 abbrev pub number : ℕ → ℕ → List ℕ → Option ℕ
 number base most digits = if nat_le 1 (length digits) && nat_le (length digits) most then onward base 0 digits else None
 
+-- The field without spaces at its start.
 unfoldable pub without_spaces : List ℕ → List ℕ
 without_spaces [] = []
 without_spaces (b ∷ bytes) = if b == 0x20 then without_spaces bytes else b ∷ bytes
 
--- without `0x` at the start
+-- The field without a leading `0x`.
 abbrev pub without_0x : List ℕ → List ℕ
 without_0x bytes = if begins (0x30 ∷ 0x78 ∷ []) bytes then drop 2 bytes else bytes
 
--- a pointer: spaces, and then 1 to 6 decimal digits
+-- A pointer: spaces, and then 1 to 6 decimal digits.
 abbrev pub pointer_of : List ℕ → Option ℕ
 pointer_of field = number 10 6 (without_spaces field)
 
--- a code point: 1 to 8 hexadecimal digits
+-- A code point: 1 to 8 hexadecimal digits.
 abbrev pub point_of : List ℕ → Option ℕ
 point_of field = number 16 8 (without_0x field)
 
+-- Both numbers, if both are valid.
 abbrev pub both : Option ℕ → Option ℕ → Option (ℕ × ℕ)
 both (Some p) (Some c) = Some (p, c)
 both p c = None
 
--- the field that ends at the next TAB, or at the line's end
+-- The code point up to the next TAB, or to the line's end.
 abbrev pub next_point : Option (List ℕ) → Option ℕ
 next_point None = None
 next_point (Some rest) = point_of (before 0x09 rest)
 
--- a line's first two fields; others don't matter
+-- The first two fields of a line. Others are ignored.
 unfoldable pub pair_of : List ℕ → Option (ℕ × ℕ)
 pair_of line = both (pointer_of (before 0x09 line)) (next_point (after 0x09 line))
 
--- PAIRS
+-- Pairs.
 
--- a pair more, in the order of the pointers
+-- The index with another pair, in the order of the pointers.
 unfoldable pub inserted : ℕ → ℕ → Index → Index
 inserted p c [] = (p, c) ∷ []
 inserted p c (pair ∷ index) = if nat_lt p pair.0 then (p, c) ∷ pair ∷ index else pair ∷ inserted p c index
 
--- a pair of the n-th line, of fewer pointers than the bound
+-- The index with the pair of line n, unless its pointer occurred before.
 abbrev pub unless_given : ℕ → ℕ × ℕ → Index → Option ℕ → Result Index ReadError
 unless_given n pair index None = Ok (inserted pair.0 pair.1 index)
 unless_given n pair index (Some c) = Err (Twice n)
 
+-- The index with the pair of line n, if that is in range.
 abbrev pub with_pair : ℕ → ℕ → Index → Option (ℕ × ℕ) → Result Index ReadError
 with_pair bound n index None = Err (Line n)
 with_pair bound n index (Some pair) =
     if nat_lt pair.0 bound && is_scalar pair.1 then unless_given n pair index (code index pair.0) else Err (Range n)
 
+-- The index with the pair of line n, if the line has one.
 unfoldable pub with_line : ℕ → ℕ → Index → List ℕ → Result Index ReadError
 with_line bound n index line = if is_dropped line then Ok index else with_pair bound n index (pair_of line)
 
+-- The next step, unless there is an error.
 abbrev pub and_then : Result Index ReadError → (Index → Result Index ReadError) → Result Index ReadError
 and_then (Ok index) more = more index
 and_then (Err e) more = Err e
 
--- the lines from the n-th on
+-- The index with the pairs of all lines from line n on.
 unfoldable pub with_lines : ℕ → ℕ → Index → List (List ℕ) → Result Index ReadError
 with_lines bound n index [] = Ok index
 with_lines bound n index (line ∷ lines) =
     and_then (with_line bound n index line) (λ next. with_lines bound (n + 1) next lines)
 
--- what a file gives: its pairs, or its first bad line, counted from 1
+-- The pairs of a file, or its first bad line, counted from 1.
 unfoldable pub file_of : Kind → List ℕ → Result Index ReadError
 file_of kind bytes = with_lines (pointers_of kind) 1 [] (lines_of bytes)

@@ -9,40 +9,43 @@ use Rattle.enc_index.specs.declared.kind.ReadError.{ReadError}
 use Rattle.enc_index.specs.declared.kind.ReadError.TheVariants.{NoMemory}
 use Rattle.enc_index.specs.Files.{file_of}
 
+-- The index of a kind.
 abbrev pub table_of : Tables → Kind → Index
 table_of t Jis0208 = t.jis0208
 table_of t Jis0212 = t.jis0212
 table_of t Katakana = t.katakana
 table_of t (Single e) = t.single e
 
--- the index of a kind, where its file was set
+-- The index of a kind, if its file was given.
 abbrev pub index_of : IndexSet → Kind → Option Index
 index_of x Jis0208 = x.jis0208
 index_of x Jis0212 = x.jis0212
 index_of x Katakana = x.katakana
 index_of x (Single e) = single_of x e
 
--- an index with its kind
+-- An index and its kind.
 pub record KindedIndex : Type 0 where
   pub kind : Kind
   pub pairs : Index
 
--- reading a file gives its pairs or its first bad line; out of memory may come in place of either
+-- Reading a file gives its pairs or its first bad line, unless it is out of memory.
 abbrev pub IsReading : Kind → List ℕ → Result KindedIndex ReadError → Type 0
 IsReading kind bytes (Ok index) = (index.kind ≡ kind) × (file_of kind bytes ≡ Ok index.pairs)
 IsReading kind bytes (Err NoMemory) = Unit {0}
 IsReading kind bytes (Err e) = file_of kind bytes ≡ Err e
 
+-- The indexes with another one at this place.
 abbrev pub set_place : List (Option Index) → Option ℕ → Index → List (Option Index)
 set_place single None index = single
 set_place single (Some place) index = slice_set single place (Some index)
 
+-- The set with another index of this kind.
 abbrev pub set_kind : IndexSet → Kind → Index → IndexSet
 set_kind x Jis0208 index = record x { jis0208 = Some index }
 set_kind x Jis0212 index = record x { jis0212 = Some index }
 set_kind x Katakana index = record x { katakana = Some index }
 set_kind x (Single e) index = record x { single = set_place x.single (place_of e) index }
 
--- the set with this index in its kind's place (nowhere where that is `Single` of no single-byte encoding)
+-- The set with this index in place of the one of its kind.
 abbrev pub with_index : IndexSet → KindedIndex → IndexSet
 with_index x index = set_kind x index.kind index.pairs

@@ -1,14 +1,14 @@
--- Which index sets there are.
+-- Valid index sets.
 use Rattle.std.specs.Prelude.{◌≡◌, ℕ, true, None, IfSome, length, slice_index_or}
 use Rattle.enc_model.specs.Index.{Index}
 use Rattle.enc_model.specs.Indexes.{IndexSet}
 use Rattle.enc_index.specs.Entries.{ascends}
 
--- an index of so many pointers: they ascend from 0, and each has a scalar value
+-- An index with this many pointers: they ascend, and each has a scalar value.
 abbrev pub IsIndex : ℕ → Index → Type 0
 IsIndex pointers index = ascends 0 pointers index ≡ true
 
--- each index that was set is one of its kind
+-- Each index of the set is one of its kind.
 pub record IsIndexSet (x : IndexSet) : Type 0 where
   pub jis0208 : IfSome x.jis0208 (IsIndex 11280)
   pub jis0212 : IfSome x.jis0212 (IsIndex 8836)

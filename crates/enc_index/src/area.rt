@@ -1,4 +1,4 @@
-//! The index area: an index set as bytes.
+//! The index area of a spool: an index set as bytes.
 
 ghost use Rattle.std.specs.Prelude.{◌≡◌, ℕ, ◌+◌, ◌*◌, ◌<◌, ◌≤◌, ◌↔◌, List, Option, None, IfOk, IfSome, IsTrue, length};
 ghost use Rattle.std.specs.Prelude.{slice_index, slice_index_or};
@@ -12,7 +12,7 @@ use crate::set::IndexSet;
 use crate::table::Table;
 use std::alloc::{AllocError, Global};
 
-/// How many bytes the index area has.
+/// The length of the index area in bytes: 22 pages.
 pub const AREA_SIZE: usize = 90112;
 
 /// The file and the pointer of an entry.
@@ -30,7 +30,7 @@ fn spot_of(entry: usize) -> (usize, usize)
     }
 }
 
-/// An entry of the tables: a code point, or FFFFFFFF.
+/// An entry of the tables: a code point, or FFFFFFFF for none.
 #[tactic(auto, using(crate::proofs::Lookups::code_of_none), unfolding(crate::specs::Area::entry_at))]
 fn entry_at(set: &IndexSet, entry: usize) -> u32
     requires { entry < 22099 }
@@ -100,7 +100,7 @@ fn codes_of(
     Ok(codes)
 }
 
-/// A file's table in an area, where the file was set.
+/// A file's table in an area, if the file was given.
 fn table_of(
     alloc: Global,
     area: &[u8],
@@ -139,7 +139,7 @@ fn single_of(alloc: Global, area: &[u8]) -> Result<Vec<Option<Table>>, AllocErro
     Ok(single)
 }
 
-/// The set that an area gives, if it is one.
+/// The set of an area, if the area is valid.
 fn set_of(alloc: Global, area: &[u8]) -> Result<IndexSet, AllocError>
     requires { length area.now ≡ 90112 }
     ensures { (x : IndexSet) → IsIndexSet x → IsAreaOf x area.now → IfOk result (λ set. set ≡ x) }
@@ -151,7 +151,7 @@ fn set_of(alloc: Global, area: &[u8]) -> Result<IndexSet, AllocError>
     IndexSet::of_tables(alloc, jis0208, jis0212, katakana, single)
 }
 
-/// Whether an area is the set's.
+/// Whether the area is that of the set.
 fn is_area_of(set: &IndexSet, area: &[u8]) -> bool
     requires { length area.now ≡ 90112 }
     ensures { IsTrue result ↔ IsAreaOf set.now area.now }
@@ -165,9 +165,9 @@ fn is_area_of(set: &IndexSet, area: &[u8]) -> bool
 }
 
 impl IndexSet {
-    /// A page of the index area: 4,096 of its 90,112 bytes. They are a byte for each of the eighteen files, jis0208,
-    /// jis0212, katakana and the single-byte encodings, 1 where it was set; zeros to byte 31; the files' tables, of 4
-    /// bytes for each pointer, the code point or FFFFFFFF, big-endian; and zeros.
+    /// A page of the index area: 4,096 of its 90,112 bytes. The area has a byte for each of the eighteen files,
+    /// jis0208, jis0212, katakana and the single-byte encodings, which is 1 if the file was given; zeros up to byte 31;
+    /// the tables of the files, with four bytes for each pointer, the code point or FFFFFFFF, big-endian; and zeros.
     pub fn to_area(&self, page: usize) -> [u8; 4096]
         requires { page < 22 }
         ensures bytes { (i : ℕ) → i < 4096 → slice_index result i ≡ area_byte self.now (4096 * page + i) }
@@ -181,11 +181,11 @@ impl IndexSet {
         bytes
     }
 
-    /// The set whose index area this is: the bytes of all its pages in their order.
+    /// The set of this index area, whose pages are given in order.
     ///
     /// # Errors
     ///
-    /// `Damaged` if it is no set's, `NoMemory` when out of memory.
+    /// `Damaged` if it isn't the area of a set, `NoMemory` when out of memory.
     pub fn from_area(alloc: Global, area: &[u8]) -> Result<IndexSet, AreaError>
         ensures written { IfOk result (λ set. IsAreaOf set area.now) }
         ensures valid { IfOk result IsIndexSet }

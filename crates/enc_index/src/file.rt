@@ -22,7 +22,7 @@ fn cut(bytes: &[u8], mark: u8) -> (&[u8], Option<&[u8]>)
     (bytes, None)
 }
 
-/// A line without a CR at its end.
+/// The line without a CR at its end.
 fn without_cr(line: &[u8]) -> &[u8]
     ensures { result.now ≡ without_cr line.now }
 {
@@ -37,7 +37,7 @@ fn without_cr(line: &[u8]) -> &[u8]
     }
 }
 
-/// A field without the spaces at the start.
+/// The field without spaces at its start.
 #[tactic(auto, using(crate::proofs::Cuts::spaces_here, crate::proofs::Cuts::spaces_next, crate::proofs::Cuts::spaces_end))]
 fn without_spaces(field: &[u8]) -> &[u8]
     ensures { result.now ≡ without_spaces field.now }
@@ -50,7 +50,7 @@ fn without_spaces(field: &[u8]) -> &[u8]
     &field[field.len()..]
 }
 
-/// A field without `0x` at the start.
+/// The field without a leading `0x`.
 fn without_0x(field: &[u8]) -> &[u8]
     ensures { result.now ≡ without_0x field.now }
 {
@@ -61,7 +61,7 @@ fn without_0x(field: &[u8]) -> &[u8]
     }
 }
 
-/// A number of at least one and at most so many digits.
+/// The number of one or more digits, at most `most`.
 #[tactic(auto, using(crate::proofs::Numbers::room_for_digit, crate::proofs::Numbers::room_for_radix, crate::proofs::Numbers::grown, crate::proofs::Numbers::onward_next, crate::proofs::Numbers::onward_bad, crate::proofs::Numbers::onward_end))]
 fn number(digits: &[u8], radix: u32, most: usize) -> Option<u32>
     requires least { 2 ≤ radix }
@@ -79,7 +79,7 @@ fn number(digits: &[u8], radix: u32, most: usize) -> Option<u32>
     Some(value)
 }
 
-/// A line's first two fields: the pointer and the code point.
+/// The pointer and the code point in a line's first two fields.
 #[tactic(auto, unfolding(crate::specs::Files::pair_of))]
 fn pair_of(line: &[u8]) -> Option<(u32, u32)>
     ensures { result ≡ pair_of line.now }
@@ -91,7 +91,7 @@ fn pair_of(line: &[u8]) -> Option<(u32, u32)>
     Some((pointer, point))
 }
 
-/// Puts a line's pair into the table.
+/// Stores the pair of a line in the table.
 #[tactic(auto, using(crate::proofs::Pairs::pair_put, crate::proofs::Pairs::pair_twice, crate::proofs::Pairs::scalar_test))]
 fn put_pair(
     codes: &mut [Option<char>],
@@ -118,14 +118,14 @@ fn put_pair(
     Ok(())
 }
 
-/// Whether a line says nothing.
+/// Whether the line is empty or a comment.
 fn is_dropped(line: &[u8]) -> bool
     ensures { result ≡ is_dropped line.now }
 {
     line.is_empty() || line[0] == b'#'
 }
 
-/// Puts what a line says into the table.
+/// Stores the pair of a line in the table, if the line has one.
 #[tactic(auto, unfolding(crate::specs::Files::with_line))]
 fn read_line(codes: &mut [Option<char>], line_number: usize, line: &[u8]) -> Result<(), ReadError>
     ensures pairs { MatchResult result
@@ -142,7 +142,7 @@ fn read_line(codes: &mut [Option<char>], line_number: usize, line: &[u8]) -> Res
     }
 }
 
-/// A text's first line, and what is after its LF.
+/// The first line of a text, and what follows its LF.
 #[tactic(auto, using(crate::proofs::Lines::lines_next, crate::proofs::Lines::lines_last, crate::proofs::Lines::after_shorter))]
 fn next_line(text: &[u8]) -> (&[u8], Option<&[u8]>)
     ensures lines { lines_of text.now ≡ result.0.now ∷ lines_after (option_copied result.1) }
@@ -155,7 +155,7 @@ fn next_line(text: &[u8]) -> (&[u8], Option<&[u8]>)
     }
 }
 
-/// Puts what the lines of a text say into the table, up to the first bad one.
+/// Stores the pairs of a text's lines in the table, up to the first bad line.
 #[tactic(auto, using(crate::proofs::Lines::lines_on, crate::proofs::Lines::lines_bad, crate::proofs::Lines::lines_done))]
 fn read_lines(codes: &mut [Option<char>], bytes: &[u8]) -> Result<(), ReadError>
     ensures pairs { MatchResult result
@@ -177,7 +177,7 @@ fn read_lines(codes: &mut [Option<char>], bytes: &[u8]) -> Result<(), ReadError>
     }
 }
 
-/// Puts what the lines of a file say into the table, up to the first bad one.
+/// Stores the pairs of a file's lines in the table, up to the first bad line.
 pub fn read_file(codes: &mut Vec<Option<char>>, bytes: &[u8]) -> Result<(), ReadError>
     ensures pairs { MatchResult result
         (λ _. with_lines (length codes.old.items) 1 (pairs_from 0 codes.old.items) (lines_of bytes.now) ≡ Ok

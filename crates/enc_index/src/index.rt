@@ -12,7 +12,7 @@ use crate::table::Table;
 use std::alloc::{AllocError, Global};
 use std::marker::Model;
 
-/// An index of its kind.
+/// An index and its kind.
 #[derive(Drop)]
 pub struct Index {
     kind: Kind,
@@ -31,7 +31,7 @@ impl Model for Index {
     ghost invariant = { λ i. IsIndex (pointers_of i.kind) i.table };
 }
 
-/// How many pointers a kind has.
+/// How many pointers an index of this kind has.
 fn pointers_of(kind: Kind) -> usize
     ensures count { result ≡ pointers_of kind }
     ensures bound { result ≤ 11280 }
@@ -44,7 +44,7 @@ fn pointers_of(kind: Kind) -> usize
     }
 }
 
-/// A table with no code point.
+/// A table without code points.
 fn no_codes(alloc: Global, pointers: usize) -> Result<Vec<Option<char>>, AllocError>
     ensures { IfOk result (λ codes. codes.items ≡ replicate pointers None) }
 {
@@ -56,14 +56,14 @@ fn no_codes(alloc: Global, pointers: usize) -> Result<Vec<Option<char>>, AllocEr
 }
 
 impl Index {
-    /// Reads an index file: lines of a pointer, a TAB and a code point (Encoding Standard, "Indexes"). Lines end in LF,
-    /// with or without a CR before it. Empty lines, lines that start with `#` and fields after the code point don't
-    /// matter. A pointer has 1 to 6 decimal digits, with any spaces at the start, a code point 1 to 8 hexadecimal ones,
-    /// with or without `0x`.
+    /// Reads an index file (Encoding Standard, section 5): lines of a pointer, a TAB and a code point. Lines end in LF
+    /// or CRLF. Empty lines, lines that begin with `#`, and fields after the code point are ignored. A pointer has 1 to
+    /// 6 decimal digits and may have leading spaces; a code point has 1 to 8 hexadecimal digits and may begin with
+    /// `0x`.
     ///
     /// # Errors
     ///
-    /// What is wrong with the first bad line, or `NoMemory` when out of memory.
+    /// The fault of the first bad line, or `NoMemory` when out of memory.
     pub fn read(alloc: Global, bytes: &[u8], kind: Kind) -> Result<Index, ReadError>
         ensures { IsReading kind bytes.now result }
     {
@@ -73,7 +73,7 @@ impl Index {
         Ok(Index { kind, table })
     }
 
-    /// Which index it is.
+    /// The kind of the index.
     pub fn kind(&self) -> Kind
         ensures { result ≡ self.now.kind }
     {
@@ -87,21 +87,21 @@ impl Index {
         self.table.code(pointer)
     }
 
-    /// The least pointer of a code point.
+    /// The least pointer of a code point: the index pointer.
     pub fn pointer(&self, c: char) -> Option<u32>
         ensures { result ≡ pointer self.now.pairs c }
     {
         self.table.pointer(c)
     }
 
-    /// The least pointer of a code point outside 8272..8835, which the encoder of Shift_JIS leaves out.
+    /// The least pointer of a code point outside 8272 to 8835: the index Shift_JIS pointer.
     pub fn pointer_sjis(&self, c: char) -> Option<u32>
         ensures { result ≡ pointer_sjis self.now.pairs c }
     {
         self.table.pointer_sjis(c)
     }
 
-    /// The kind, and the table.
+    /// The kind and the table.
     pub(crate) fn into_parts(self) -> (Kind, Table)
         ensures kind { result.0 ≡ self.kind }
         ensures pairs { result.1 ≡ self.pairs }

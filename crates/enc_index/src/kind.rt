@@ -1,4 +1,4 @@
-//! Which index a file has.
+//! The kinds of index files, and the errors of reading them.
 
 ghost use Rattle.std.specs.Prelude.{◌≡◌};
 
@@ -14,16 +14,16 @@ pub enum Kind {
     Single(Encoding),
 }
 
-/// Why a file is no index file, by its first bad line; lines are counted from 1, the dropped ones with them.
+/// Why a file isn't an index file, by its first bad line. Lines are counted from 1, ignored ones included.
 #[derive(Clone, Copy, Debug, PartialEq, Eq, Drop)]
 pub enum ReadError {
-    /// the line is not a pointer, a TAB and a code point
+    /// The line isn't a pointer, a TAB and a code point.
     Line(usize),
-    /// the pointer is not one of the kind, or the code point is no scalar value
+    /// The pointer is too great for this kind, or the code point isn't a scalar value.
     Range(usize),
-    /// the pointer was given before
+    /// The pointer occurred before.
     Twice(usize),
-    /// out of memory
+    /// Out of memory.
     NoMemory,
 }
 
@@ -37,12 +37,12 @@ impl From<AllocError> for ReadError {
     }
 }
 
-/// Why bytes are no index area.
+/// Why bytes aren't an index area.
 #[derive(Clone, Copy, Debug, PartialEq, Eq, Drop)]
 pub enum AreaError {
-    /// no index set has this area
+    /// No index set has this area.
     Damaged,
-    /// out of memory
+    /// Out of memory.
     NoMemory,
 }
 

@@ -1,4 +1,4 @@
-//! Index files: the code points at the pointers of an encoding's index, and the least pointers of code points.
+//! Index files: reading them, looking up pointers and code points, and storing a set of them in a spool.
 #![tactic(auto)]
 
 mod area;

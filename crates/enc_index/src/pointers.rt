@@ -1,4 +1,4 @@
-//! Least pointers by code point.
+//! The least pointers by code point, for encoders.
 
 ghost use Rattle.std.specs.Prelude.{◌≡◌, ℕ, Option, IfOk, IfSome, None, ◌<◌, length, slice_index_or};
 ghost use Rattle.enc_index.specs.Entries.{found, GivesLeast};
@@ -8,11 +8,11 @@ use crate::usable::Usable;
 use std::alloc::{AllocError, Global};
 use std::marker::Model;
 
-/// What stands at a code point that has no pointer.
+/// The entry of a code point without a pointer.
 const NO_POINTER: u16 = u16::MAX;
 
-/// The pointers of an index by code point. A look-up takes one step; the table is as long as the greatest code point,
-/// at 2 bytes each.
+/// The pointers of an index by code point. A lookup takes one step. The table has two bytes for each code point up to
+/// the greatest.
 #[derive(Drop)]
 pub struct Pointers {
     at: Vec<u16>,
@@ -26,7 +26,7 @@ impl Model for Pointers {
     ghost view = { λ p. p.at.items };
 }
 
-/// Whether an encoder may use a pointer.
+/// Whether the encoder may use this pointer.
 fn may_use(usable: Usable, pointer: u32) -> bool
     ensures { result ≡ keeps usable pointer }
 {
@@ -36,7 +36,7 @@ fn may_use(usable: Usable, pointer: u32) -> bool
     }
 }
 
-/// How many code points there are up to the greatest of these.
+/// One more than the greatest of these code points.
 fn code_points(codes: &[Option<char>]) -> usize
     ensures { (k : ℕ) → IfSome (slice_index_or codes.now k None) (λ c. c < result) }
 {
@@ -50,11 +50,11 @@ fn code_points(codes: &[Option<char>]) -> usize
 }
 
 impl Pointers {
-    /// Of the code points that stand at the pointers, the least pointers that may be used.
+    /// The least usable pointers of these code points.
     ///
     /// # Errors
     ///
-    /// `AllocError` if the memory for them is refused.
+    /// `AllocError` when out of memory.
     pub(crate) fn least(
         alloc: Global,
         codes: &[Option<char>],
@@ -78,7 +78,7 @@ impl Pointers {
         Ok(Pointers { at })
     }
 
-    /// A code point's pointer.
+    /// The pointer of a code point.
     #[inline(always)]
     pub fn find(&self, c: char) -> Option<u32>
         ensures { result ≡ found self.now c }

@@ -1,4 +1,4 @@
-//! The code points of an index as they are stored in UTF-8.
+//! The code points of an index as UTF-8, so that decoding copies and doesn't compute.
 
 ghost use Rattle.std.specs.Prelude.{◌≡◌, ℕ, ◌<◌, IfOk, length, slice_index};
 ghost use Rattle.enc_index.specs.Entries.{pairs_from};
@@ -10,7 +10,7 @@ use std::alloc::{AllocError, Global};
 /// How many bytes there are.
 const BYTES: usize = 256;
 
-// A code point, in UTF-8.
+// A code point as UTF-8.
 fn ready_code(code: Option<char>) -> Option<Utf8Char>
     ensures { result ≡ code }
 {
@@ -20,7 +20,7 @@ fn ready_code(code: Option<char>) -> Option<Utf8Char>
     }
 }
 
-/// The code points at the pointers, in UTF-8.
+/// The code points at the pointers, as UTF-8.
 pub fn ready(alloc: Global, codes: &[Option<char>]) -> Result<Vec<Option<Utf8Char>>, AllocError>
     ensures { IfOk result (λ ready. ready.items ≡ codes.now) }
 {
@@ -31,7 +31,7 @@ pub fn ready(alloc: Global, codes: &[Option<char>]) -> Result<Vec<Option<Utf8Cha
     Ok(ready)
 }
 
-/// The character that a byte stands for where this is the index of a single-byte encoding.
+/// The character of a byte, if this is the index of a single-byte encoding.
 #[tactic(auto, using(crate::proofs::Lookups::code_entry))]
 fn byte_char(codes: &[Option<char>], byte: u8) -> char
     ensures { result ≡ byte_char (pairs_from 0 codes.now) byte }
@@ -45,7 +45,7 @@ fn byte_char(codes: &[Option<char>], byte: u8) -> char
     }
 }
 
-/// The characters that the bytes stand for where this is the index of a single-byte encoding, in UTF-8.
+/// The characters of all bytes as UTF-8, if this is the index of a single-byte encoding.
 pub fn ready_bytes(alloc: Global, codes: &[Option<char>]) -> Result<Vec<Utf8Char>, AllocError>
     ensures long { IfOk result (λ ready. length ready.items ≡ 256) }
     ensures chars { IfOk result

@@ -1,4 +1,4 @@
-//! The index files that were set.
+//! The set of index files that an operator gave.
 
 ghost use Rattle.std.specs.Prelude.{◌≡◌, ◌<◌, ℕ, Option, None, IfOk, IfSome, MatchOption, option_copied, length};
 ghost use Rattle.std.specs.Prelude.{slice_index, slice_index_or};
@@ -19,20 +19,20 @@ use enc_model::{Encoding, Utf8Char};
 use std::alloc::{AllocError, Global};
 use std::marker::Model;
 
-/// How many encodings have a single-byte index.
+/// How many single-byte encodings there are.
 const SINGLE_BYTE_ENCODINGS: usize = 15;
 
-/// The tables of the files that were set.
+/// The tables of the files that were given.
 #[derive(Drop)]
 struct Tables {
     jis0208: Option<Table>,
     jis0212: Option<Table>,
     katakana: Option<Table>,
-    /// of the fifteen single-byte encodings, in their order
+    /// Of the fifteen single-byte encodings, in their order.
     single: Vec<Option<Table>>,
 }
 
-/// The index files that were set. It is one pointer, so that it is cheap to hand on.
+/// The index files that were given. The set is one pointer, so that it is cheap to move.
 #[derive(Drop)]
 pub struct IndexSet {
     tables: Box<Tables>,
@@ -61,7 +61,7 @@ impl Model for IndexSet {
         }) };
 }
 
-/// The place of a single-byte encoding among the fifteen.
+/// The place of a single-byte encoding.
 fn place_of(encoding: Encoding) -> Option<usize>
     ensures { result ≡ place_of encoding }
 {
@@ -86,11 +86,11 @@ fn place_of(encoding: Encoding) -> Option<usize>
 }
 
 impl IndexSet {
-    /// A set of which no file was set.
+    /// A set without files.
     ///
     /// # Errors
     ///
-    /// `AllocError` if the memory for it is refused.
+    /// `AllocError` when out of memory.
     pub fn new(alloc: Global) -> Result<IndexSet, AllocError>
         ensures { IfOk result (λ set. set ≡ no_indexes) }
     {
@@ -101,7 +101,7 @@ impl IndexSet {
         IndexSet::of_tables(alloc, None, None, None, single)
     }
 
-    /// Each index that was set is one of its kind.
+    /// A law: each index of the set is one of its kind.
     pub(crate) fn valid(&self)
         ensures { IsIndexSet self.now }
     {
@@ -112,7 +112,7 @@ impl IndexSet {
     ///
     /// # Errors
     ///
-    /// `AllocError` if the memory for it is refused.
+    /// `AllocError` when out of memory.
     pub(crate) fn of_tables(
         alloc: Global,
         jis0208: Option<Table>,
@@ -135,7 +135,7 @@ impl IndexSet {
         Ok(IndexSet { tables })
     }
 
-    /// The table of the n-th of the eighteen files, where it was set.
+    /// The table of file n of the eighteen, if it was given.
     pub(crate) fn nth_table(&self, n: usize) -> Option<&Table>
         ensures { option_copied result ≡ nth_file self.now n }
     {
@@ -150,8 +150,8 @@ impl IndexSet {
         }
     }
 
-    /// Puts an index in its kind's place, in place of the one that was there. An index of `Single` of no single-byte
-    /// encoding is put nowhere. Takes no memory.
+    /// Replaces the index of this one's kind. An index of `Single` for another encoding than the fifteen is dropped. It
+    /// allocates nothing.
     pub fn set(&mut self, index: Index)
         ensures { self.new ≡ with_index self.old index }
     {
@@ -168,7 +168,7 @@ impl IndexSet {
         }
     }
 
-    /// The index of a single-byte encoding, where its file was set.
+    /// The index of a single-byte encoding, if its file was given.
     #[inline(always)]
     fn single_table(&self, encoding: Encoding) -> Option<&Table>
         ensures { option_copied result ≡ single_of self.now encoding }
@@ -177,7 +177,7 @@ impl IndexSet {
         self.tables.single[place].as_ref()
     }
 
-    /// The index of a kind, where its file was set.
+    /// The index of a kind, if its file was given.
     #[inline(always)]
     fn table(&self, kind: Kind) -> Option<&Table>
         ensures { option_copied result ≡ index_of self.now kind }
@@ -190,8 +190,8 @@ impl IndexSet {
         }
     }
 
-    /// Whether texts in an encoding can be read and written: UTF-8 and UTF-16 always, a single-byte encoding where its
-    /// file was set, Shift_JIS with jis0208, EUC-JP with jis0208 and jis0212, ISO-2022-JP with jis0208 and katakana.
+    /// Whether texts in this encoding can be decoded and encoded: UTF-8 and UTF-16 always, a single-byte encoding with
+    /// its file, Shift_JIS with jis0208, EUC-JP with jis0208 and jis0212, ISO-2022-JP with jis0208 and katakana.
     pub fn offers(&self, encoding: Encoding) -> bool
         ensures { result ≡ offers self.now encoding }
     {
@@ -204,7 +204,7 @@ impl IndexSet {
         }
     }
 
-    /// The code point at a pointer of an index. A file that is not set maps nothing.
+    /// The code point at a pointer of an index. A file that wasn't given maps nothing.
     #[tactic(auto, using(crate::proofs::Lookups::code_of_none, crate::proofs::Lookups::table_is))]
     #[inline(always)]
     pub fn code(&self, kind: Kind, pointer: u32) -> Option<char>
@@ -213,7 +213,7 @@ impl IndexSet {
         self.table(kind)?.code(pointer)
     }
 
-    /// The code points of an index at their pointers, in UTF-8, where its file was set.
+    /// The code points of an index as UTF-8, by pointer, if its file was given.
     #[tactic(auto, using(crate::proofs::Lookups::table_is))]
     #[inline(always)]
     pub fn ready(&self, kind: Kind) -> Option<&[Option<Utf8Char>]>
@@ -223,7 +223,7 @@ impl IndexSet {
         Some(self.table(kind)?.ready())
     }
 
-    /// What the bytes of a single-byte encoding stand for, in UTF-8, where its file was set.
+    /// The characters of a single-byte encoding as UTF-8, by byte, if its file was given.
     #[inline(always)]
     pub fn ready_bytes(&self, encoding: Encoding) -> Option<&[Utf8Char]>
         ensures long { IfSome result (λ s. length s.now ≡ 256) }
@@ -233,7 +233,8 @@ impl IndexSet {
         Some(self.single_table(encoding)?.ready_bytes())
     }
 
-    /// The least pointers of an index by code point, where its file was set. Who looks up many finds them once.
+    /// The least pointers of an index by code point, if its file was given. A caller with many lookups asks for them
+    /// once.
     #[tactic(auto, using(crate::proofs::Lookups::pointer_of_none, crate::proofs::Lookups::table_is))]
     #[inline(always)]
     pub fn pointers(&self, kind: Kind) -> Option<&Pointers>
@@ -245,7 +246,7 @@ impl IndexSet {
         Some(self.table(kind)?.pointers())
     }
 
-    /// The least pointers of jis0208 by code point outside 8272..8835, which the encoder of Shift_JIS leaves out.
+    /// The index Shift_JIS pointers by code point: the least ones of jis0208 outside 8272 to 8835.
     #[tactic(auto, using(crate::proofs::Lookups::pointer_of_none))]
     #[inline(always)]
     fn pointers_sjis(&self) -> Option<&Pointers>
@@ -265,7 +266,7 @@ impl IndexSet {
         self.pointers(kind)?.find(c)
     }
 
-    /// The least pointer of a code point in jis0208 outside 8272..8835, which the encoder of Shift_JIS leaves out.
+    /// The index Shift_JIS pointer of a code point: the least one of jis0208 outside 8272 to 8835.
     #[inline(always)]
     pub fn pointer_sjis(&self, c: char) -> Option<u32>
         ensures value { result ≡ pointer_sjis (tables self.now).jis0208 c }

@@ -1,4 +1,4 @@
-//! One index, and its look-ups.
+//! An index with its lookup tables.
 
 ghost use Rattle.std.specs.Prelude.{◌≡◌, ℕ, ◌<◌, IfOk, None, length, slice_index, slice_index_or};
 ghost use Rattle.enc_model.specs.Index.{Index, code, pointer, pointer_sjis};
@@ -12,18 +12,18 @@ use enc_model::Utf8Char;
 use std::alloc::{AllocError, Global};
 use std::marker::Model;
 
-/// One index, in tables for both directions. A look-up takes one step, by pointer and by code point.
+/// An index, with tables for both directions. A lookup takes one step, by pointer or by code point.
 #[derive(Drop)]
 pub struct Table {
-    /// at each pointer its code point
+    /// The code point at each pointer.
     codes: Vec<Option<char>>,
-    /// the same in UTF-8
+    /// The same as UTF-8.
     ready: Vec<Option<Utf8Char>>,
-    /// at each byte what it stands for in UTF-8, where this is the index of a single-byte encoding
+    /// The character of each byte as UTF-8, if this is the index of a single-byte encoding.
     ready_bytes: Vec<Utf8Char>,
-    /// at each code point its least pointer
+    /// The least pointer of each code point.
     pointers: Pointers,
-    /// at each code point its least pointer of those that the encoder of Shift_JIS may use
+    /// The least pointer of each code point that the Shift_JIS encoder may use.
     sjis_pointers: Pointers,
 }
 
@@ -40,7 +40,7 @@ impl Table {
     ///
     /// # Errors
     ///
-    /// `AllocError` if the memory for it is refused.
+    /// `AllocError` when out of memory.
     pub fn new(alloc: Global, codes: Vec<Option<char>>) -> Result<Table, AllocError>
         requires { length codes.items < 0xFFFF }
         ensures { IfOk result (λ table. table ≡ pairs_from 0 codes.items) }
@@ -70,7 +70,7 @@ impl Table {
         }
     }
 
-    /// The code points at the pointers, in UTF-8.
+    /// The code points as UTF-8, by pointer.
     #[tactic(auto, using(crate::proofs::Lookups::code_entry))]
     #[inline(always)]
     pub fn ready(&self) -> &[Option<Utf8Char>]
@@ -79,7 +79,7 @@ impl Table {
         &self.ready
     }
 
-    /// What the bytes stand for in UTF-8, where this is the index of a single-byte encoding.
+    /// The characters as UTF-8, by byte, if this is the index of a single-byte encoding.
     #[inline(always)]
     pub fn ready_bytes(&self) -> &[Utf8Char]
         ensures long { length result.now ≡ 256 }
@@ -96,7 +96,7 @@ impl Table {
         &self.pointers
     }
 
-    /// The least pointers by code point outside 8272..8835, which the encoder of Shift_JIS leaves out.
+    /// The least pointers by code point outside 8272 to 8835, which the Shift_JIS encoder leaves out.
     #[inline(always)]
     pub fn pointers_sjis(&self) -> &Pointers
         ensures { (c : ℕ) → found result.now c ≡ pointer_sjis self.now c }
@@ -112,7 +112,7 @@ impl Table {
         self.pointers.find(c)
     }
 
-    /// The least pointer of a code point outside 8272..8835, which the encoder of Shift_JIS leaves out.
+    /// The least pointer of a code point outside 8272 to 8835, which the Shift_JIS encoder leaves out.
     #[inline(always)]
     pub fn pointer_sjis(&self, c: char) -> Option<u32>
         ensures { result ≡ pointer_sjis self.now c }

@@ -1,6 +1,6 @@
-//! Which pointers an encoder may use.
+//! The pointers that an encoder may use.
 
-/// Which pointers an encoder may use: the encoder of Shift_JIS leaves 8272 to 8835 out.
+/// The pointers that an encoder may use. The Shift_JIS encoder leaves out 8272 to 8835 (Encoding Standard, section 5).
 #[derive(Clone, Copy)]
 pub enum Usable {
     All,

@@ -1,5 +1,4 @@
--- Names and labels of the encodings (Encoding Standard, "Names and labels"; of each encoding only if the gateway has
--- it).
+-- Names and labels of the encodings that the gateway has (Encoding Standard, 4.2).
 use Rattle.std.specs.Prelude.{ℕ, ◌-◌, List, [], ◌∷◌, ◌++◌, map, take, drop, length, Option, Some, None, bytes_eq}
 use Rattle.std.specs.Prelude.{if◌then◌else◌, codes}
 use Rattle.std.specs.Borrow.{Bor}
@@ -8,17 +7,17 @@ use Rattle.std.specs.Char.{is_ascii_whitespace, to_ascii_lowercase}
 use Rattle.enc_model.specs.declared.Encoding.{Encoding}
 use Rattle.enc_model.specs.declared.Encoding.TheVariants as e
 
--- without the ASCII whitespace at both ends: TAB, LF, FF, CR and SPACE
+-- The label without ASCII whitespace at both ends: TAB, LF, FF, CR and SPACE.
 unfoldable pub stripped : List ℕ → List ℕ
 stripped bytes =
     let after = drop (prefix_len is_ascii_whitespace bytes) bytes in
     take (length after - suffix_len is_ascii_whitespace after) after
 
--- rows of one encoding
+-- The rows of one encoding.
 abbrev pub rows : Encoding → List (List ℕ) → List (List ℕ × Encoding)
 rows encoding names = map (λ name. (name, encoding)) names
 
--- every label, in lower case, with its encoding
+-- Every label in lower case, with its encoding.
 unfoldable pub labels : List (List ℕ × Encoding)
 labels =
     rows e.Utf8 (codes "unicode-1-1-utf-8" ∷ codes "unicode11utf8" ∷ codes "unicode20utf8" ∷ codes "utf-8" ∷ codes
@@ -58,26 +57,26 @@ labels =
     ++ rows e.Windows1257 (codes "cp1257" ∷ codes "windows-1257" ∷ codes "x-cp1257" ∷ [])
     ++ rows e.Windows1258 (codes "cp1258" ∷ codes "windows-1258" ∷ codes "x-cp1258" ∷ [])
 
--- the encoding of the first row with this label
+-- The encoding of the first row with this label.
 unfoldable pub found : List (List ℕ × Encoding) → List ℕ → Option Encoding
 found [] label = None
 found (row ∷ table) label = if bytes_eq row.0 label then Some row.1 else found table label
 
--- a row of the code's table, in lower case
+-- A row of the code's table, in lower case.
 abbrev pub lowered : Bor (List ℕ) × Encoding → List ℕ × Encoding
 lowered row = (map to_ascii_lowercase row.0.now, row.1)
 
--- the encoding of a label, without regard to whitespace around it or to the case of its letters ("get an encoding")
+-- Get an encoding: whitespace around the label and the case of its letters are ignored.
 unfoldable pub encoding_of : List ℕ → Option Encoding
 encoding_of label = found labels (map to_ascii_lowercase (stripped label))
 
--- what is written where a text in this encoding is asked for ("get an output encoding"): UTF-8 for UTF-16
+-- Get an output encoding (Encoding Standard, 4.3): UTF-8 for UTF-16.
 abbrev pub output_of : Encoding → Encoding
 output_of e.Utf16Be = e.Utf8
 output_of e.Utf16Le = e.Utf8
 output_of encoding = encoding
 
--- an encoding's name
+-- The name of an encoding.
 abbrev pub name_of : Encoding → List ℕ
 name_of e.Utf8 = codes "UTF-8"
 name_of e.Utf16Be = codes "UTF-16BE"

@@ -1,4 +1,4 @@
-//! Names and labels of encodings.
+//! Names and labels of encodings (Encoding Standard, section 4.2).
 #![tactic(auto)]
 
 ghost use Rattle.std.specs.Prelude.{◌≡◌, map};
@@ -10,7 +10,7 @@ mod table;
 use enc_model::Encoding;
 use table::LABELS;
 
-/// The encoding of the first row whose label is this one in any case of the letters.
+/// The encoding of the first row with this label, compared without case.
 fn find(table: &[(&str, Encoding)], name: &[u8]) -> Option<Encoding>
     ensures { result ≡ found (map lowered table.now) (map to_ascii_lowercase name.now) }
 {
@@ -22,15 +22,15 @@ fn find(table: &[(&str, Encoding)], name: &[u8]) -> Option<Encoding>
     None
 }
 
-/// The encoding of a label, without regard to ASCII whitespace around it or to the case of its letters; `None` for what
-/// is no label of an encoding that the gateway has. (Encoding Standard, "get an encoding".)
+/// Get an encoding: the encoding of a label, ignoring ASCII whitespace around it and the case of its letters. `None` if
+/// it isn't a label of an encoding that the gateway has.
 pub fn encoding_of(label: &[u8]) -> Option<Encoding>
     ensures { result ≡ encoding_of label.now }
 {
     find(&LABELS, label.trim_ascii())
 }
 
-/// What is written where a text in this encoding is asked for: UTF-8 in place of UTF-16.
+/// Get an output encoding (Encoding Standard, section 4.3): UTF-8 for UTF-16, otherwise the same.
 pub fn output_of(encoding: Encoding) -> Encoding
     ensures { result ≡ output_of encoding }
 {

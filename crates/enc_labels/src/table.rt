@@ -1,8 +1,8 @@
-//! The labels.
+//! The table of labels (Encoding Standard, section 4.2).
 
 use enc_model::Encoding;
 
-/// Every label, in lower case, with its encoding.
+/// Every label in lower case, with its encoding.
 pub const LABELS: [(&str, Encoding); 114] = [
     ("unicode-1-1-utf-8", Encoding::Utf8),
     ("unicode11utf8", Encoding::Utf8),

@@ -16,7 +16,7 @@ module _ {S : Type 0} (h : Handler S) where
     | _ ↦ let r = all_bytes (quick h) t.state t.restored in after (said t.answer ++ r.text) (go r.state)
   ]
 
-  -- what `Ends` says of it
+  -- the case of `Ends` for this answer
   abbrev EndsFrom : ℕ → Step S → Answer → Type 0
   EndsFrom d t a = elim a as (λ _. Type 0) [
     | Finished ↦ Unit {0}

@@ -102,7 +102,7 @@ holds_none = record {
   contained = λ p c h. absurd (contains_none (p, c) h);
 }
 
--- a line that says nothing
+-- a line that is ignored
 holds_dropped : (prefix : List (List ℕ)) (line : List ℕ) (index : Index) → is_dropped line ≡ true → Holds prefix index →
     Holds (prefix ++ line ∷ []) index
 holds_dropped prefix line index d h = record {

@@ -1,41 +1,41 @@
--- What the lines of an index file say: a map, or the least line that breaks it.
+-- The meaning of an index file's lines: a map, or the first line that breaks it.
 use Rattle.std.specs.Prelude.{ℕ, suc, ◌<◌, ◌≡◌, ◌⊎◌, true, false, List, [], ◌∷◌, ◌++◌, Some, None, length}
 use Rattle.enc_index.specs.declared.kind.ReadError.{ReadError}
 use Rattle.enc_index.specs.declared.kind.ReadError.TheVariants.{Line, Range, Twice, NoMemory}
 use Rattle.enc_index.specs.Scalars.{is_scalar}
 use Rattle.enc_index.specs.Files.{is_dropped, pair_of}
 
--- a line that says something gives this pointer and code point
+-- A line that isn't ignored gives this pointer and code point.
 abbrev pub LineGives : List ℕ → ℕ → ℕ → Type 0
 LineGives line p c = (is_dropped line ≡ false) × (pair_of line ≡ Some (p, c))
 
--- one of the lines does
+-- One of the lines does.
 abbrev pub Give : List (List ℕ) → ℕ → ℕ → Type 0
 Give [] p c = ⊥
 Give (line ∷ lines) p c = LineGives line p c ⊎ Give lines p c
 
--- a pointer below the bound, at a scalar value
+-- A pointer below the bound, with a scalar value.
 abbrev pub IsInRange : ℕ → ℕ × ℕ → Type 0
 IsInRange bound pair = (pair.0 < bound) × (is_scalar pair.1 ≡ true)
 
--- a line gives a pair in range, of a pointer that no line at the start gives
+-- The line gives a pair in range whose pointer no line before it gives.
 pub record GivesNew (bound : ℕ) (prefix : List (List ℕ)) (line : List ℕ) : Type 0 where
   pub pair : ℕ × ℕ
   pub gives : pair_of line ≡ Some pair
   pub range : IsInRange bound pair
   pub fresh : (c : ℕ) → Give prefix pair.0 c → ⊥
 
--- each line says nothing, or gives such a pair
+-- Each line is ignored or gives such a pair.
 abbrev pub AreGoodAfter : ℕ → List (List ℕ) → List (List ℕ) → Type 0
 AreGoodAfter bound prefix [] = Unit {0}
 AreGoodAfter bound prefix (line ∷ lines) =
     (is_dropped line ≡ false → GivesNew bound prefix line) × AreGoodAfter bound (prefix ++ line ∷ []) lines
 
--- each line of a file that says something gives a pair in range, and no pointer comes twice
+-- Each line that isn't ignored gives a pair in range, and no pointer occurs twice.
 abbrev pub AreGood : ℕ → List (List ℕ) → Type 0
 AreGood bound lines = AreGoodAfter bound [] lines
 
--- what is wrong with the n-th line, after these: no pair, one out of range, or one whose pointer was given before
+-- The fault of line n: no pair, one out of range, or one whose pointer occurred before.
 abbrev pub Breaks : ℕ → List (List ℕ) → List ℕ → ℕ → ReadError → Type 0
 Breaks bound prefix line n (Line m) = (m ≡ n) × (pair_of line ≡ None)
 Breaks bound prefix line n (Range m) = (m ≡ n) × (pair : ℕ × ℕ) × (pair_of line ≡ Some pair) ×
@@ -44,7 +44,7 @@ Breaks bound prefix line n (Twice m) =
     (m ≡ n) × (pair : ℕ × ℕ) × (pair_of line ≡ Some pair) × IsInRange bound pair × (c : ℕ) × Give prefix pair.0 c
 Breaks bound prefix line n NoMemory = ⊥
 
--- the lines at the start are good, and this one breaks it; lines count from 1
+-- The lines before this one are good, and this one breaks it. Lines are counted from 1.
 pub record IsFirstBad (bound : ℕ) (lines : List (List ℕ)) (e : ReadError) : Type 0 where
   pub prefix : List (List ℕ)
   pub line : List ℕ

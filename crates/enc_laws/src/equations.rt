@@ -1,4 +1,4 @@
-//! The equations of decoding and encoding, each as the contract of a function that does nothing.
+//! The equations of decoding and encoding. The functions do nothing; their contracts are the laws.
 
 ghost use Rattle.std.specs.Prelude.{◌≡◌, ℕ, List, [], ◌∷◌, Bool, None};
 ghost use Rattle.enc_model.specs.declared.Encoding.{Encoding};
@@ -10,8 +10,8 @@ ghost use Rattle.enc_model.specs.Japanese.{single, shift_jis, euc_jp, iso2022};
 ghost use Rattle.enc_model.specs.Encode.{Tables, Shift, coded, encoder, went};
 ghost use Rattle.enc_laws.specs.Equations.{IsByAnswers};
 
-/// Each decoder goes on by its handler's answers, to a byte and to the end, as long as there are any: the number of
-/// calls in the definition of `steps` never cuts them short.
+/// A decoder's run consists of its handler's answers to the bytes and to the end. The bound on calls in the definition
+/// of `steps` never cuts it short.
 pub fn decodes_by_answers()
     ensures utf8 { IsByAnswers utf8 }
     ensures utf16 { (big : Bool) → IsByAnswers (utf16 big) }
@@ -21,8 +21,8 @@ pub fn decodes_by_answers()
     ensures iso2022 { (jis0208 : Index) → IsByAnswers (iso2022 jis0208) }
 {}
 
-/// Each encoder goes on by what it gives for a code point, with references and code points that it asks for again put
-/// at the start, as long as there are any: the number of calls in the definition of `coded` never cuts them short.
+/// An encoder's run consists of its answers to the code points, with references and code points to be read again put
+/// first. The bound on calls in the definition of `coded` never cuts it short.
 pub fn encodes_by_answers()
     ensures none { (t : Tables) (e : Encoding) (mode : Mode) (s : Shift) →
         coded (encoder t e) mode s [] ≡ record { bytes = []; state = s; fault = None } }

@@ -1,4 +1,4 @@
-//! What reading an index file means, as the contract of a function that does nothing.
+//! The meaning of an index file. The function does nothing; its contract is the law.
 
 ghost use Rattle.std.specs.Prelude.{◌≡◌, ◌↔◌, ℕ, List, Some, Ok, Err, Contains};
 ghost use Rattle.enc_model.specs.Index.{Index, code};
@@ -7,8 +7,8 @@ ghost use Rattle.enc_index.specs.declared.kind.ReadError.{ReadError};
 ghost use Rattle.enc_index.specs.Files.{pointers_of, lines_of, file_of};
 ghost use Rattle.enc_laws.specs.IndexFiles.{Give, AreGood, IsFirstBad};
 
-/// An index file is read exactly where each line that says something gives a pair in range, and no pointer comes twice.
-/// Then a pair is in the index exactly where a line gives it. Else the error names the least line that breaks this.
+/// An index file is valid exactly if each line that isn't ignored gives a pair in range and no pointer occurs twice. A
+/// pair is then in the index exactly if a line gives it. Otherwise the error names the first line that breaks this.
 pub fn files_are_maps()
     ensures good { (kind : Kind) (bytes : List ℕ) (index : Index) → file_of kind bytes ≡ Ok index
         → AreGood (pointers_of kind) (lines_of bytes) }

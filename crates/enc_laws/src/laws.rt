@@ -1,4 +1,4 @@
-//! The laws, each as the contract of a function that does nothing.
+//! Laws of UTF-8. The functions do nothing; their contracts are the laws.
 
 ghost use Rattle.std.specs.Prelude.{◌≡◌, ◌≤◌, ◌++◌, ℕ, List, [], ◌∷◌, Bool, true, false, None, length};
 ghost use Rattle.std.specs.List.{concat};
@@ -14,8 +14,8 @@ ghost use Rattle.enc_index.specs.Sets.{IsIndexSet};
 ghost use Rattle.enc_laws.specs.Subparts.{is_sequence, is_prefix, segment, segments, segments_text};
 ghost use Rattle.enc_laws.specs.WellFormed.{AreBytes, AreScalars, IsWellFormed};
 
-/// Where a well-formed sequence begins, it is the segment. No longer prefix of one begins there than the segment, which
-/// is such a prefix itself; where there is none, a single byte.
+/// Maximal subparts: a well-formed sequence is a segment. Otherwise the segment is the longest prefix of one that
+/// begins there, or a single byte if there is none.
 pub fn longest_subparts()
     ensures sequence { (prefix rest : List ℕ) → is_sequence prefix ≡ true → segment (prefix ++ rest) ≡ prefix }
     ensures longest { (prefix rest : List ℕ) → is_prefix prefix ≡ true
@@ -24,20 +24,20 @@ pub fn longest_subparts()
     ensures single { (b : ℕ) (bytes : List ℕ) → is_prefix (b ∷ []) ≡ false → segment (b ∷ bytes) ≡ b ∷ [] }
 {}
 
-/// The decoder of UTF-8 gives what the cut into maximal subparts gives, ended and not ended.
+/// The text of the UTF-8 decoder is the one of the maximal subparts, ended or not.
 pub fn cut_by_subparts()
     ensures whole { (bytes : List ℕ) → concat (segments bytes) ≡ bytes }
     ensures text { (ended : Bool) (bytes : List ℕ) → (steps utf8 ended utf8_start bytes).text ≡ segments_text ended
         (segments bytes) }
 {}
 
-/// A decoder gives scalar values alone, whatever bytes it reads.
+/// A decoder gives scalar values only, whatever bytes it reads.
 pub fn gives_scalars()
     ensures { (x : IndexSet) (e : Encoding) (bytes : List ℕ) (ended : Bool) → IsIndexSet x → AreBytes bytes
         → AreScalars (decode (tables x) e bytes ended) }
 {}
 
-/// What the encoder of UTF-8 writes for scalar values is well-formed, and each of them has a code.
+/// The UTF-8 encoder's output for scalar values is well-formed, and no scalar value is unmappable.
 pub fn writes_well_formed()
     ensures bytes { (t : Tables) (mode : Mode) (scalars : List ℕ) (ended : Bool) → AreScalars scalars
         → IsWellFormed (encode t Utf8 mode scalars ended).bytes }
@@ -45,13 +45,13 @@ pub fn writes_well_formed()
         → (encode t Utf8 mode scalars ended).fault ≡ None }
 {}
 
-/// The decoder of UTF-8 reads the scalar values back that the encoder wrote.
+/// The UTF-8 decoder gives back the scalar values that the encoder encoded.
 pub fn reads_back()
     ensures { (t : Tables) (mode : Mode) (scalars : List ℕ) (done ended : Bool) → AreScalars scalars
         → (steps utf8 ended utf8_start (encode t Utf8 mode scalars done).bytes).text ≡ scalars }
 {}
 
-/// A text that is stored as UTF-8 is well-formed at every moment, whatever bytes came, ended or not.
+/// A text that is stored as UTF-8 is well-formed at any time, whatever bytes came, ended or not.
 pub fn well_formed_at_every_moment()
     ensures { (x : IndexSet) (from : Encoding) (mode : Mode) (bytes : List ℕ) (ended : Bool) → IsIndexSet x
         → AreBytes bytes

@@ -1,5 +1,5 @@
-//! Laws of the encodings: UTF-8 by maximal subparts, well-formed texts, transcoding piece by piece, and the
-//! equations of decoding and encoding.
+//! Laws of the encodings: UTF-8 by maximal subparts, well-formed texts, transcoding piece by piece, and the equations
+//! of decoding and encoding.
 #![tactic(auto)]
 
 mod equations;

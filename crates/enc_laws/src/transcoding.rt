@@ -1,4 +1,4 @@
-//! Laws of a transcoder that is fed piece by piece, each as the contract of a function that does nothing.
+//! Laws of transcoding piece by piece. The functions do nothing; their contracts are the laws.
 
 ghost use Rattle.std.specs.Prelude.{◌≡◌, ◌++◌, ℕ, List, true, Some, None};
 ghost use Rattle.enc_model.specs.Encode.{Tables};
@@ -6,8 +6,7 @@ ghost use Rattle.enc_model.specs.Decode.{text};
 ghost use Rattle.enc_model.specs.Transcode.{Transcoder, IsAt, so_far, added, added_end, stepped};
 ghost use Rattle.enc_laws.specs.Resumed.{IsUnpackedFrom};
 
-/// From where a transcoder stands, the text with its end is the text so far and what the end adds. It has the end's
-/// fault, or none where the end has none.
+/// The text with its end is the text so far, followed by what the end adds. Its fault is the one of the end, if any.
 pub fn text_ends()
     ensures text { (t : Tables) (s : Transcoder) (b : List ℕ) → IsAt t s b
         → (text t s.from s.to s.mode b true).bytes ≡ (so_far t s b).bytes ++ (added_end t s).bytes }
@@ -15,9 +14,9 @@ pub fn text_ends()
         → (text t s.from s.to s.mode b true).fault ≡ (added_end t s).fault }
 {}
 
-/// A transcoder unpacked from another's state bytes is that transcoder. Fed on with b and ended it writes, after what
-/// was written for a, the rest of the encoding of the decoding of a ++ b, wherever the cut lies: in a character, an
-/// escape or a BOM. Where b has a fault it is the text's, and the text stops there.
+/// A transcoder unpacked from another's state bytes equals that one. If it is fed b and ended after a, the whole text
+/// is the encoding of the decoding of a ++ b, wherever the cut lies: in a character, an escape sequence or a BOM. A
+/// fault in b is the text's fault, and the text stops there.
 pub fn fed_on_from_state_bytes()
     ensures same { (s later : Transcoder) → IsUnpackedFrom s later → later ≡ s }
     ensures text { (t : Tables) (s later : Transcoder) (a b : List ℕ) → IsAt t s a → IsUnpackedFrom s later

@@ -1,4 +1,4 @@
--- What holds of where a decoder of ISO-2022-JP stands, and the pairs that it reads at once.
+-- The state of the ISO-2022-JP decoder, and the pairs that it reads at once.
 use Rattle.std.specs.Prelude.{ℕ, ◌+◌, ◌-◌, ◌*◌, ◌≤◌, ◌≡◌, Bool, false, List, Option, Some, None, length}
 use Rattle.std.specs.Prelude.{slice_index_or}
 use Rattle.enc_model.specs.declared.Charset.{Charset}
@@ -7,17 +7,17 @@ use Rattle.enc_model.specs.declared.Place.{Place}
 use Rattle.enc_model.specs.declared.Place.TheVariants.{In, Trail}
 use Rattle.enc_legacy.specs.declared.pairs.TheConstants.{NO_PAIR}
 
--- in a set the output state is that set; a lead that is kept is one of two bytes of jis0208
+-- In a character set the output state is that set. A lead byte is one of jis0208.
 abbrev pub IsStand : Place → Charset → Bool → Type 0
 IsStand (In set) output flag = output ≡ set
 IsStand (Trail lead) output flag = (0x21 ≤ lead) × (lead ≤ 0x7E) × (output ≡ Lead) × (flag ≡ false)
 IsStand _ output flag = Unit {0}
 
--- one of two bytes of jis0208
+-- A byte of jis0208.
 abbrev pub IsIso2022Row : ℕ → Type 0
 IsIso2022Row b = (0x21 ≤ b) × (b ≤ 0x7E)
 
--- what two bytes of jis0208 stand for by these code points at their pointers, where those are few
+-- Two bytes of jis0208 represent this character, by the code points at their pointers, if these are few.
 abbrev pub IsIso2022Pair : List (Option ℕ) → ℕ → ℕ → ℕ → Type 0
 IsIso2022Pair codes lead b c =
     length codes ≤ NO_PAIR → IsIso2022Row lead × IsIso2022Row b

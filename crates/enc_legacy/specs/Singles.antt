@@ -1,4 +1,4 @@
--- The single-byte decoders as one handler, whose state is the encoding.
+-- The single-byte decoders as one handler whose state is the encoding.
 use Rattle.std.specs.Prelude.{◌-◌, [], Some, None, nat_lt, if◌then◌else◌}
 use Rattle.enc_model.specs.declared.Answer.TheVariants.{Point, Finished}
 use Rattle.enc_model.specs.declared.Encoding.{Encoding}
@@ -7,9 +7,11 @@ use Rattle.enc_model.specs.Index.{code}
 use Rattle.enc_model.specs.Stream.{Handler}
 use Rattle.enc_model.specs.Japanese.{Single, SingleState, answer_of}
 
+-- The first state.
 abbrev pub single_start : Single
 single_start = SingleState
 
+-- The handler.
 unfoldable pub single_in : Tables → Handler Encoding
 single_in t e None = record { state = e; answer = Finished; restored = [] }
 single_in t e (Some b) =

@@ -1,11 +1,11 @@
-//! What the two bytes of a pair of EUC-JP add to its pointer in jis0208 (Encoding Standard, section 12.1.1).
+//! The pointer of two bytes in EUC-JP, by a table (Encoding Standard, section 12.1.1).
 
 ghost use Rattle.std.specs.Prelude.{◌≡◌, ◌<◌, ◌+◌, ◌-◌, ◌*◌};
 ghost use Rattle.enc_legacy.specs.EucJpState.{IsRow};
 
 use crate::pairs::{NO_PAIR, TRAILS};
 
-/// The pointer that two bytes stand for in jis0208, or a number from `NO_PAIR` on where they are not both of its rows.
+/// The pointer of two bytes in jis0208, or a number of at least `NO_PAIR` if they aren't both of its rows.
 #[inline(always)]
 pub(crate) fn row_pointer(lead: u8, b: u8) -> u32
     ensures rows { result < NO_PAIR → IsRow lead × IsRow b }
@@ -14,7 +14,7 @@ pub(crate) fn row_pointer(lead: u8, b: u8) -> u32
     PAIRS[lead as usize] + PAIRS[TRAILS + b as usize]
 }
 
-/// What each byte adds as a lead, and from `TRAILS` on as a trail: a lead 94 for each lead before it, and a trail 1 for
+/// What each byte adds to the pointer as a lead, and from `TRAILS` on as a trail: 94 for each lead before it, 1 for
 /// each trail before it. Both are A1 to FE; other bytes add `NO_PAIR`.
 #[rattlefmt::skip]
 pub(crate) static PAIRS: [u32; 512] = [

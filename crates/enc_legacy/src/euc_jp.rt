@@ -1,4 +1,4 @@
-//! The decoder of EUC-JP.
+//! The EUC-JP decoder.
 
 ghost use Rattle.std.specs.Prelude.{◌≡◌, OnOk, false, true, []};
 ghost use Rattle.enc_legacy.specs.EucJpState.{IsEucJpPair, IsEucJpState};
@@ -19,8 +19,8 @@ use enc_model::{
 use lane_kernels::{ascii_front, ascii_lanes};
 use std::marker::Model;
 
-/// A decoder of EUC-JP (Encoding Standard, section 12.1.1): the lead that is kept, or 0, and whether it is one of
-/// jis0212.
+/// The EUC-JP decoder (Encoding Standard, section 12.1.1). Its state is the lead byte, or 0, and whether the pair is
+/// one of jis0212.
 #[derive(Drop)]
 pub struct EucJpState {
     lead: u8,
@@ -35,7 +35,7 @@ impl Model for EucJpState {
     ghost invariant = { λ s. IsEucJpState s.lead s.flag };
 }
 
-/// What a lead and the byte after it stand for.
+/// The code point of a lead byte and the byte after it.
 fn euc_jp_char(indexes: &IndexSet, flag: bool, lead: u8, b: u8) -> Option<char>
     ensures { result ≡ euc_jp_pair (tables indexes.now).jis0208 (tables indexes.now).jis0212 flag lead b }
 {
@@ -160,7 +160,7 @@ impl BlockDecoder for EucJpState {
 }
 
 impl EucJpState {
-    /// A decoder that keeps this lead, or none where it is 0; the flag says that it is one of jis0212.
+    /// A decoder with this lead byte, or with none if it is 0. The flag means that the pair is one of jis0212.
     pub fn keeping(lead: u8, flag: bool) -> Self
         requires { IsEucJpState lead flag }
         ensures { result ≡ record { lead = lead; flag = flag } }
@@ -168,7 +168,7 @@ impl EucJpState {
         EucJpState { lead, flag }
     }
 
-    /// The lead that is kept, or 0, and whether it is one of jis0212.
+    /// The lead byte, or 0, and whether the pair is one of jis0212.
     pub fn kept(&self) -> (u8, bool)
         ensures lead { result.0 ≡ self.now.lead }
         ensures flag { result.1 ≡ self.now.flag }
@@ -177,7 +177,7 @@ impl EucJpState {
         (self.lead, self.flag)
     }
 
-    /// The same state once more.
+    /// A copy of the state.
     pub fn copy(&self) -> Self
         ensures { result ≡ self.now }
     {
@@ -187,11 +187,11 @@ impl EucJpState {
         }
     }
 
-    /// The steps over a piece, from any state.
+    /// Decodes a piece into the sink.
     ///
     /// # Errors
     ///
-    /// The sink's refusal, at once; nothing more is said of the state then.
+    /// The sink's refusal, at once; nothing is known of the state afterwards.
     pub fn feed<S: Sink>(
         &mut self,
         indexes: &IndexSet,
@@ -208,11 +208,11 @@ impl EucJpState {
         feed(self, indexes, piece, sink)
     }
 
-    /// The steps of the end.
+    /// Decodes the end.
     ///
     /// # Errors
     ///
-    /// The sink's refusal, at once; nothing more is said of the state then.
+    /// The sink's refusal, at once; nothing is known of the state afterwards.
     pub fn finish<S: Sink>(&mut self, indexes: &IndexSet, sink: &mut S) -> Result<(), S::Refusal>
         ensures given { Given S.takes S.refuses sink.old
             (steps (euc_jp (tables indexes.now).jis0208 (tables indexes.now).jis0212) true self.old []).text sink.new

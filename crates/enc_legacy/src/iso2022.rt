@@ -1,4 +1,4 @@
-//! The decoder of ISO-2022-JP.
+//! The ISO-2022-JP decoder.
 
 ghost use Rattle.std.specs.Prelude.{◌≡◌, OnOk, ◌+◌, ◌*◌, true, ◌≤◌, false, [], length, take};
 ghost use Rattle.enc_legacy.specs.Iso2022State.{IsStand, IsIso2022Pair};
@@ -24,8 +24,8 @@ use enc_model::{
 use lane_kernels::plain_front_2022;
 use std::marker::Model;
 
-/// A decoder of ISO-2022-JP (Encoding Standard, section 12.2.1): where it stands, the output state, to which an escape
-/// that means nothing goes back, and a flag, set between an escape and the next byte.
+/// The ISO-2022-JP decoder (Encoding Standard, section 12.2.1). Its state is the place, the output state, to which an
+/// unknown escape sequence returns, and the output flag, which is set between an escape sequence and the next byte.
 #[derive(Drop)]
 pub struct Iso2022State {
     place: Place,
@@ -41,7 +41,7 @@ impl Model for Iso2022State {
     ghost invariant = { λ s. IsStand s.place s.output s.flag };
 }
 
-/// The answer to a byte other than 1B in a set.
+/// The answer to a byte other than 1B in a character set.
 fn plain_answer(set: Charset, b: u8) -> Answer
     ensures { result ≡ iso2022_answer set b }
 {
@@ -72,7 +72,7 @@ fn plain_answer(set: Charset, b: u8) -> Answer
     }
 }
 
-/// The set that 1B and two bytes mean.
+/// The character set of an escape sequence.
 fn escape(lead: Introducer, b: u8) -> Option<Charset>
     ensures { result ≡ escape_of lead b }
 {
@@ -107,7 +107,7 @@ impl Iso2022State {
         }
     }
 
-    /// Goes on in the output state.
+    /// Returns to the output state.
     fn back(&mut self)
         ensures { self.new ≡ record { place = Place.In self.old.output; output = self.old.output; flag = false } }
     {
@@ -115,7 +115,7 @@ impl Iso2022State {
         self.flag = false;
     }
 
-    /// The end.
+    /// Reads the end.
     fn end(&mut self) -> (Answer, Restored)
         ensures answer { result.0 ≡ (iso2022_end self.old.place self.old.output self.old.flag).answer }
         ensures restored { restored_bytes result.1
@@ -139,7 +139,7 @@ impl Iso2022State {
         }
     }
 
-    /// A byte after 1B and one more.
+    /// Reads the last byte of an escape sequence.
     fn escaped(&mut self, lead: Introducer, b: u8) -> (Answer, Restored)
         ensures answer { result.0 ≡ (iso2022_byte [] (Place.Escape lead) self.old.output self.old.flag b).answer }
         ensures restored { restored_bytes
@@ -165,7 +165,7 @@ impl Iso2022State {
         }
     }
 
-    /// A byte other than 1B in a set.
+    /// Reads a byte other than 1B in a character set.
     fn plain(&mut self, set: Charset, b: u8) -> Answer
         requires { self.old.output ≡ set }
         ensures answer { result ≡ (iso2022_plain set self.old.output b).answer }
@@ -254,7 +254,7 @@ impl PairReader for Iso2022State {
 }
 
 impl Iso2022State {
-    /// Reads the ASCII that these begin with, and says how many bytes.
+    /// Decodes leading ASCII, and returns its length.
     #[inline(always)]
     fn read_ascii(&mut self, _indexes: &IndexSet, rest: &[u8], batch: &mut Batch) -> usize
         requires place { self.old.place ≡ In Ascii }
@@ -274,7 +274,7 @@ impl Iso2022State {
         run
     }
 
-    /// Reads the pairs of jis0208 that these begin with as long as they are ready, and says how many bytes they are.
+    /// Decodes leading pairs of jis0208 while they are ready, and returns how many bytes they are.
     #[inline(always)]
     fn read_pairs(&mut self, indexes: &IndexSet, rest: &[u8], batch: &mut Batch) -> usize
         requires place { self.old.place ≡ In Lead }
@@ -296,7 +296,7 @@ impl Iso2022State {
         run
     }
 
-    /// Reads a run of ASCII or of pairs, and says how many bytes it has.
+    /// Decodes a run of ASCII or of pairs, and returns its length.
     #[inline(always)]
     fn read_run(&mut self, indexes: &IndexSet, rest: &[u8], batch: &mut Batch) -> usize
         requires room { length batch.old + 12 * length rest.now ≤ ROOM }
@@ -338,7 +338,7 @@ impl BlockDecoder for Iso2022State {
 }
 
 impl Iso2022State {
-    /// A decoder that stands there, with this output state and flag.
+    /// A decoder with this place, output state and flag.
     pub fn standing(place: Place, output: Charset, flag: bool) -> Self
         requires { IsStand place output flag }
         ensures { result ≡ record { place = place; output = output; flag = flag } }
@@ -350,7 +350,7 @@ impl Iso2022State {
         }
     }
 
-    /// Where it stands, its output state and its flag.
+    /// The place, the output state and the flag.
     pub fn stand(&self) -> (Place, Charset, bool)
         ensures value { self.now ≡ record { place = result.0; output = result.1; flag = result.2 } }
         ensures valid { IsStand result.0 result.1 result.2 }
@@ -358,7 +358,7 @@ impl Iso2022State {
         (self.place, self.output, self.flag)
     }
 
-    /// The same state once more.
+    /// A copy of the state.
     pub fn copy(&self) -> Self
         ensures { result ≡ self.now }
     {
@@ -369,11 +369,11 @@ impl Iso2022State {
         }
     }
 
-    /// The steps over a piece, from any state.
+    /// Decodes a piece into the sink.
     ///
     /// # Errors
     ///
-    /// The sink's refusal, at once; nothing more is said of the state then.
+    /// The sink's refusal, at once; nothing is known of the state afterwards.
     pub fn feed<S: Sink>(
         &mut self,
         indexes: &IndexSet,
@@ -388,11 +388,11 @@ impl Iso2022State {
         feed(self, indexes, piece, sink)
     }
 
-    /// The steps of the end.
+    /// Decodes the end.
     ///
     /// # Errors
     ///
-    /// The sink's refusal, at once; nothing more is said of the state then.
+    /// The sink's refusal, at once; nothing is known of the state afterwards.
     pub fn finish<S: Sink>(&mut self, indexes: &IndexSet, sink: &mut S) -> Result<(), S::Refusal>
         ensures given { Given S.takes S.refuses sink.old
             (steps (iso2022 (tables indexes.now).jis0208) true self.old []).text sink.new result }

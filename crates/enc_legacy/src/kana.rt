@@ -1,4 +1,4 @@
-//! What the decoders of Japanese text share.
+//! Answers that the Japanese decoders share.
 
 ghost use Rattle.std.specs.Prelude.{◌≡◌, ◌+◌, ◌<◌, ℕ, Option, Some};
 ghost use Rattle.enc_model.specs.Stream.{restored_bytes};
@@ -6,7 +6,7 @@ ghost use Rattle.enc_model.specs.Japanese.{answer_of, pair_step};
 
 use enc_model::{Answer, Restored};
 
-/// The answer for a code point, or the error for none.
+/// The answer with this code point, or the error without one.
 pub(crate) fn answer_for(code: Option<char>) -> Answer
     ensures { result ≡ answer_of code }
 {
@@ -24,7 +24,7 @@ pub(crate) fn half_width(from_first: u8) -> Answer
     answer_for(char::from_u32(0xFF61 + from_first as u32))
 }
 
-/// The answer to a lead and this byte, for the code point of the two or none: without one, ASCII is read again.
+/// The answer to a lead and this byte, which have this code point or none. Without one, an ASCII byte is restored.
 pub(crate) fn pair_answer(code: Option<char>, b: u8) -> (Answer, Restored)
     ensures answer { result.0 ≡ answer_of code }
     ensures restored { restored_bytes result.1 ≡ (pair_step {S = ℕ} 0 code b).restored }

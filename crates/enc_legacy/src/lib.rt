@@ -1,4 +1,4 @@
-//! The single-byte and the Japanese decoders.
+//! The decoders of the single-byte and the Japanese encodings.
 #![tactic(auto)]
 
 mod euc_bytes;

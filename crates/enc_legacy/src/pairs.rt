@@ -7,13 +7,13 @@ ghost use Rattle.enc_model.specs.Indexes.{tables};
 use enc_index::{IndexSet, Kind};
 use enc_model::Utf8Char;
 
-/// More than any pointer of jis0208: what a byte adds that isn't of a pair.
+/// More than any pointer of jis0208: a byte that isn't part of a pair adds this.
 pub(crate) const NO_PAIR: usize = 0x8000;
 
-/// Where the rows of trails begin in a table of what bytes add: after those of leads, so that one address serves both.
+/// Where a table's rows for trails begin: after those for leads, so that one address serves both.
 pub(crate) const TRAILS: usize = 256;
 
-/// The characters of jis0208 at their pointers, where they are ready and none is at `NO_PAIR` or after it.
+/// The characters of jis0208 by their pointers, if they are ready and all pointers are below `NO_PAIR`.
 #[inline(always)]
 pub(crate) fn ready_rows(indexes: &IndexSet) -> Option<&[Option<Utf8Char>]>
     ensures few { IfSome result (λ r. length r.now ≤ NO_PAIR) }

@@ -1,4 +1,4 @@
-//! The decoder of Shift_JIS.
+//! The Shift_JIS decoder.
 
 ghost use Rattle.std.specs.Prelude.{◌≡◌, OnOk, IfSome, true, false, ◌<◌, ◌≤◌, ◌+◌, ℕ, [], Some, None};
 ghost use Rattle.enc_legacy.specs.ShiftJis.{IsShiftJisLead, IsShiftJisPair, IsShiftJisState};
@@ -20,7 +20,7 @@ use enc_model::{
 use lane_kernels::{ascii_front, ascii_lanes};
 use std::marker::Model;
 
-/// A decoder of Shift_JIS (Encoding Standard, section 12.3.1): the lead that is kept, or 0.
+/// The Shift_JIS decoder (Encoding Standard, section 12.3.1). Its state is the lead byte, or 0.
 #[derive(Drop)]
 pub struct ShiftJisState {
     lead: u8,
@@ -34,7 +34,7 @@ impl Model for ShiftJisState {
     ghost invariant = { λ s. IsShiftJisState s.lead };
 }
 
-/// The pointer of a lead and a trail.
+/// The pointer of a lead and a trail byte.
 fn shift_jis_pointer(lead: u8, b: u8) -> u32
     requires lead { IsShiftJisLead lead }
     requires trail { 0x40 ≤ b }
@@ -45,7 +45,7 @@ fn shift_jis_pointer(lead: u8, b: u8) -> u32
     (lead as u32 - lead_offset) * 188 + b as u32 - offset
 }
 
-/// What a lead and the byte after it stand for.
+/// The code point of a lead byte and the byte after it.
 fn shift_jis_char(indexes: &IndexSet, lead: u8, b: u8) -> Option<char>
     requires lead { IsShiftJisLead lead }
     ensures { result ≡ shift_jis_pair (tables indexes.now).jis0208 lead b }
@@ -94,7 +94,7 @@ impl Decoder for ShiftJisState {
     ghost calm = { λ t. shift_jis_calm (tables t).jis0208 };
 }
 
-/// The pointer that two bytes stand for in jis0208, or a number from `NO_PAIR` on where they stand for none.
+/// The pointer of two bytes in jis0208, or a number of at least `NO_PAIR` if they have none.
 #[inline(always)]
 fn pair_pointer(lead: u8, b: u8) -> u32
     ensures lead { result < NO_PAIR → IsShiftJisLead lead }
@@ -172,7 +172,7 @@ impl ShiftJisState {
         ShiftJisState { lead: 0 }
     }
 
-    /// A decoder that keeps this lead, or none where it is 0.
+    /// A decoder with this lead byte, or with none if it is 0.
     pub fn keeping(lead: u8) -> Self
         requires { IsShiftJisState lead }
         ensures { result ≡ lead }
@@ -180,7 +180,7 @@ impl ShiftJisState {
         ShiftJisState { lead }
     }
 
-    /// The lead that is kept, or 0.
+    /// The lead byte, or 0.
     pub fn lead(&self) -> u8
         ensures value { result ≡ self.now }
         ensures valid { IsShiftJisState result }
@@ -188,18 +188,18 @@ impl ShiftJisState {
         self.lead
     }
 
-    /// The same state once more.
+    /// A copy of the state.
     pub fn copy(&self) -> Self
         ensures { result ≡ self.now }
     {
         ShiftJisState { lead: self.lead }
     }
 
-    /// The steps over a piece, from any state.
+    /// Decodes a piece into the sink.
     ///
     /// # Errors
     ///
-    /// The sink's refusal, at once; nothing more is said of the state then.
+    /// The sink's refusal, at once; nothing is known of the state afterwards.
     pub fn feed<S: Sink>(
         &mut self,
         indexes: &IndexSet,
@@ -214,11 +214,11 @@ impl ShiftJisState {
         feed(self, indexes, piece, sink)
     }
 
-    /// The steps of the end.
+    /// Decodes the end.
     ///
     /// # Errors
     ///
-    /// The sink's refusal, at once; nothing more is said of the state then.
+    /// The sink's refusal, at once; nothing is known of the state afterwards.
     pub fn finish<S: Sink>(&mut self, indexes: &IndexSet, sink: &mut S) -> Result<(), S::Refusal>
         ensures given { Given S.takes S.refuses sink.old
             (steps (shift_jis (tables indexes.now).jis0208) true self.old []).text sink.new result }

@@ -1,4 +1,4 @@
-//! The decoder of the single-byte encodings.
+//! The single-byte decoder.
 
 ghost use Rattle.std.specs.Prelude.{◌≡◌, ◌<◌, ◌≤◌, ℕ, OnOk, IfOk, IfErr, true, false, ◌-◌, [], None, Some};
 ghost use Rattle.std.specs.Prelude.{length, take, slice_index};
@@ -18,7 +18,7 @@ use enc_model::{
 use lane_kernels::{AsciiLanes, ascii_front};
 use std::marker::Model;
 
-/// A decoder of a single-byte encoding (Encoding Standard, section 9.1), which keeps nothing but which one it is.
+/// The single-byte decoder (Encoding Standard, section 9.1). It has no state besides its encoding.
 #[derive(Drop)]
 pub struct SingleState {
     encoding: Encoding,
@@ -51,11 +51,11 @@ impl Decoder for SingleState {
     ghost calm = { λ t. single_in_calm (tables t) };
 }
 
-/// How many bytes are decoded at once: a batch has room for four bytes of each.
+/// How many bytes are decoded at once: the batch has room for four bytes of each.
 const MANY: usize = ROOM / 4;
 
 impl SingleState {
-    /// Goes on at the rest of a piece by what the bytes stand for, and says how far.
+    /// Decodes the next part of a piece by a table of all bytes. Returns its length.
     #[inline(always)]
     fn advance<S: Sink>(
         &self,
@@ -82,7 +82,7 @@ impl SingleState {
         Ok(end)
     }
 
-    /// The steps over a piece by what the bytes stand for.
+    /// Decodes a piece by a table of all bytes.
     fn feed_blocks<S: Sink>(
         &self,
         indexes: &IndexSet,
@@ -104,7 +104,7 @@ impl SingleState {
         Ok(())
     }
 
-    /// The steps over a piece by what the bytes stand for. The ASCII at the start is given to the sink as it is.
+    /// Decodes a piece by a table of all bytes. Leading ASCII goes to the sink as it is.
     fn feed_ready<S: Sink>(
         &self,
         indexes: &IndexSet,
@@ -142,7 +142,7 @@ impl SingleState {
         self.encoding
     }
 
-    /// The same state once more.
+    /// A copy of the state.
     pub fn copy(&self) -> Self
         ensures { result ≡ self.now }
     {
@@ -151,11 +151,11 @@ impl SingleState {
         }
     }
 
-    /// The steps over a piece.
+    /// Decodes a piece into the sink.
     ///
     /// # Errors
     ///
-    /// The sink's refusal, at once; nothing more is said of the state then.
+    /// The sink's refusal, at once; nothing is known of the state afterwards.
     pub fn feed<S: Sink>(
         &mut self,
         indexes: &IndexSet,
@@ -172,11 +172,11 @@ impl SingleState {
         }
     }
 
-    /// The steps of the end.
+    /// Decodes the end.
     ///
     /// # Errors
     ///
-    /// The sink's refusal, at once; nothing more is said of the state then.
+    /// The sink's refusal, at once; nothing is known of the state afterwards.
     pub fn finish<S: Sink>(&mut self, indexes: &IndexSet, sink: &mut S) -> Result<(), S::Refusal>
         ensures given { Given S.takes S.refuses sink.old
             (steps (single ((tables indexes.now).single self.old)) true single_start []).text sink.new result }

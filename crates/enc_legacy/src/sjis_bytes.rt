@@ -1,8 +1,8 @@
-//! What the two bytes of a pair of Shift_JIS add to its pointer (Encoding Standard, section 12.3.1).
+//! The pointer of two bytes in Shift_JIS, by a table (Encoding Standard, section 12.3.1).
 
-/// What each byte adds as a lead, and from `TRAILS` on as a trail: a lead 188 for each lead before it, and a trail 1
-/// for each trail before it. Leads are 81 to 9F and E0 to FC, and trails 40 to 7E and 80 to FC; other bytes add
-/// `NO_PAIR`, and so do F0 to F9 as leads, whose pairs are for private use and stand in no index.
+/// What each byte adds to the pointer as a lead, and from `TRAILS` on as a trail: 188 for each lead before it, 1 for
+/// each trail before it. Leads are 81 to 9F and E0 to FC, trails 40 to 7E and 80 to FC. Other bytes add `NO_PAIR`, and
+/// so do F0 to F9 as leads, since their pairs are for private use and in no index.
 #[rattlefmt::skip]
 pub(crate) static PAIRS: [u32; 512] = [
     32768, 32768, 32768, 32768, 32768, 32768, 32768, 32768, 32768, 32768, 32768, 32768, 32768, 32768, 32768, 32768,

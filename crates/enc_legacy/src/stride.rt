@@ -1,4 +1,4 @@
-//! Decoders that go over a block in strides.
+//! Decoding a block in strides.
 
 ghost use Rattle.std.specs.Prelude.{◌≡◌, ◌≤◌, ◌<◌, ◌+◌, ◌*◌, ◌∷◌, [], ℕ, false, length, take, IfSome, List, Option};
 ghost use Rattle.std.specs.Prelude.{All, slice_index};
@@ -9,9 +9,9 @@ ghost use Rattle.enc_model.specs.Stream.{steps};
 
 use enc_model::{Batch, Decoder, LANES, PairReader, ROOM, Utf8Char, decode_each};
 
-/// A decoder that reads some bytes at once: a run, the bytes of a character, or else one byte.
+/// A decoder that reads some bytes at once: a run, the bytes of a character, or one byte.
 pub trait Strider: Decoder {
-    /// Reads some bytes at the start of these, for whose text a batch surely has room, and says how many.
+    /// Decodes some leading bytes, for which the batch has room. Returns their count.
     fn stride(&mut self, tables: &Self::Tables, rest: &[u8], batch: &mut Batch) -> usize
         requires some { 0 < length rest.now }
         requires room { length batch.old + 12 * length rest.now ≤ ROOM }
@@ -22,19 +22,19 @@ pub trait Strider: Decoder {
         ensures state { self.new ≡ (steps (Self.handler tables.now) false self.old (take result rest.now)).state };
 }
 
-/// A decoder that reads ASCII and two-byte characters at once where it keeps nothing.
+/// A decoder that reads ASCII and two-byte characters at once when it has no lead byte.
 pub trait PairDecoder: Decoder + PairReader {
-    /// How many bytes at the start are ASCII and stand for themselves from here.
+    /// The length of the leading ASCII that decodes to itself.
     fn ascii(&self, tables: &Self::Tables, bytes: &[u8]) -> usize
         ensures { IsAsciiPrefix (Self.handler tables.now) self.now bytes.now result };
 
-    /// How many of the first 32 bytes are ASCII and stand for themselves from here.
+    /// The same among the first 32 bytes.
     fn ascii_lanes(&self, tables: &Self::Tables, bytes: &[u8]) -> usize
         requires { LANES ≤ length bytes.now }
         ensures few { result ≤ LANES }
         ensures prefix { IsAsciiPrefix (Self.handler tables.now) self.now bytes.now result };
 
-    /// Characters by their pointers, where a table has them ready and pairs are read from here.
+    /// The characters by their pointers, if they are ready and the state is one in which pairs begin.
     fn ready<'a>(&self, tables: &'a Self::Tables) -> Option<&'a [Option<Utf8Char>]>
         ensures { IfSome result (λ r. (a b c : ℕ) → Self.stand_for r.now a b c
             → steps (Self.handler tables.now) false self.now (a ∷ b ∷ []) ≡ record {
@@ -43,7 +43,7 @@ pub trait PairDecoder: Decoder + PairReader {
             }) };
 }
 
-/// Reads the pairs that these begin with as long as they are ready, and says how many bytes they are.
+/// Decodes leading pairs while they are ready, and returns how many bytes they are.
 #[inline(always)]
 fn read_pairs<D: PairDecoder>(
     state: &D,
@@ -63,7 +63,7 @@ fn read_pairs<D: PairDecoder>(
     }
 }
 
-/// Reads some of the ASCII that these begin with, and says how many bytes.
+/// Decodes some of the leading ASCII, and returns its length.
 #[inline(always)]
 fn read_ascii<D: PairDecoder>(
     state: &D,
@@ -87,7 +87,7 @@ fn read_ascii<D: PairDecoder>(
     run
 }
 
-/// Reads the ASCII that these begin with, or the pairs as long as they are ready, and says how many bytes they are.
+/// Decodes leading ASCII, or leading pairs while they are ready. Returns how many bytes they are.
 #[inline(always)]
 fn read_ready<D: PairDecoder>(
     state: &D,
@@ -108,7 +108,7 @@ fn read_ready<D: PairDecoder>(
     read_ascii(state, tables, rest, batch)
 }
 
-/// Reads ASCII, or pairs that are ready, or else one byte, and says how many bytes.
+/// Decodes leading ASCII, or ready pairs, or else one byte. Returns how many bytes.
 #[inline(always)]
 pub fn read_run<D: PairDecoder>(
     state: &mut D,
@@ -132,7 +132,7 @@ pub fn read_run<D: PairDecoder>(
     1
 }
 
-/// The steps over a block, for whose text a batch surely has room.
+/// Decodes a block, for which the batch has room.
 #[inline(always)]
 pub fn decode_strides<D: Strider>(
     state: &mut D,

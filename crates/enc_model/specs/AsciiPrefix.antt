@@ -1,8 +1,8 @@
--- Bytes that stand for themselves.
+-- Bytes that decode to themselves.
 use Rattle.std.specs.Prelude.{ℕ, ◌<◌, ◌≤◌, ◌≡◌, false, List, All, length, take}
 use Rattle.enc_model.specs.Stream.{Handler, steps}
 
--- from here so many bytes at the start are ASCII, and the text of themselves
+-- The first n bytes are ASCII and decode to themselves.
 pub record IsAsciiPrefix {S : Type 0} (h : Handler S) (s : S) (bytes : List ℕ) (n : ℕ) : Type 0 where
   pub within : n ≤ length bytes
   pub ascii : All (λ b. b < 128) (take n bytes)

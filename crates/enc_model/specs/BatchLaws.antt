@@ -1,9 +1,10 @@
--- A text that is gathered is a sink.
+-- A batch is a sink.
 use Rattle.std.proofs.Common.{ℕ, List, ◌++◌, sym, ◌∙◌, ap, append_assoc, append-nil, arith, length-append}
 use Rattle.std.specs.Str.{chars}
 use Rattle.enc_model.specs.Sink.{IsSink}
 use Rattle.enc_model.specs.Batches.{BatchTook, BatchRefused}
 
+-- The laws of a sink hold of a batch.
 pub batch_sink : {E : Type 0} → IsSink {A = List ℕ} {E = E} BatchTook BatchRefused
 batch_sink = record {
   none = λ a. record { text = sym (append-nil (chars a)); size = omega arith };

@@ -1,17 +1,17 @@
--- A text that is gathered, as a sink.
+-- A batch of decoded text.
 use Rattle.std.specs.Prelude.{ℕ, List, [], ◌∷◌, ◌≡◌, ◌≤◌, ◌<◌, ◌+◌, ◌*◌, ◌++◌, length}
 use Rattle.std.specs.Str.{chars}
 
--- the characters are there, each in at most four bytes
+-- The characters were appended, each with at most four bytes.
 pub record BatchTook (old given new : List ℕ) : Type 0 where
   pub text : chars new ≡ chars old ++ given
   pub size : length new ≤ length old + 4 * length given
 
--- there may have been no room
+-- There may have been no room.
 abbrev pub BatchRefused : {E : Type 0} → List ℕ → List ℕ → E → List ℕ → Type 0
 BatchRefused old given why new = 3072 < length old + 4 * length given
 
--- two by two the bytes stand for the characters
+-- Two by two, the bytes represent the characters.
 abbrev pub ArePairs : (ℕ → ℕ → ℕ → Type 0) → List ℕ → List ℕ → Type 0
 ArePairs stand_for [] [] = Unit {0}
 ArePairs stand_for (a ∷ b ∷ bytes) (c ∷ given) = stand_for a b c × ArePairs stand_for bytes given

@@ -1,23 +1,23 @@
--- The index set: the index files that the operator gave, and which encodings they make usable.
+-- The index set: the index files that the operator gave, and the encodings that they enable.
 use Rattle.std.specs.Prelude.{ℕ, Bool, true, false, ◌&&◌, List, [], Option, Some, None, replicate, slice_index_or}
 use Rattle.enc_model.specs.declared.Encoding.{Encoding}
 use Rattle.enc_model.specs.declared.Encoding.TheVariants as encodings
 use Rattle.enc_model.specs.Index.{Index}
 use Rattle.enc_model.specs.Encode.{Tables}
 
--- an index for each file that was set; `single` has a place for each of the fifteen single-byte encodings, in their
--- order
+-- The index of each file that was given. `single` has a place for each of the fifteen single-byte encodings, in their
+-- order.
 pub record IndexSet : Type 0 where
   pub jis0208 : Option Index
   pub jis0212 : Option Index
   pub katakana : Option Index
   pub single : List (Option Index)
 
--- no file was set
+-- No file was given.
 abbrev pub no_indexes : IndexSet
 no_indexes = record { jis0208 = None; jis0212 = None; katakana = None; single = replicate 15 None }
 
--- the place of a single-byte encoding among the fifteen
+-- The place of a single-byte encoding.
 abbrev pub place_of : Encoding → Option ℕ
 place_of encodings.Ibm866 = Some 0
 place_of encodings.Iso8859X2 = Some 1
@@ -36,23 +36,26 @@ place_of encodings.Windows1257 = Some 13
 place_of encodings.Windows1258 = Some 14
 place_of e = None
 
+-- The index at a place.
 abbrev pub at_place : List (Option Index) → Option ℕ → Option Index
 at_place single None = None
 at_place single (Some p) = slice_index_or single p None
 
--- the index of a single-byte encoding, where its file was set
+-- The index of a single-byte encoding, if its file was given.
 abbrev pub single_of : IndexSet → Encoding → Option Index
 single_of x e = at_place x.single (place_of e)
 
+-- The file was given.
 abbrev pub is_set : Option Index → Bool
 is_set None = false
 is_set (Some index) = true
 
--- a file that isn't set maps nothing
+-- A file that wasn't given maps nothing.
 abbrev pub pairs_of : Option Index → Index
 pairs_of None = []
 pairs_of (Some index) = index
 
+-- The indexes of the set.
 abbrev pub tables : IndexSet → Tables
 tables x = record {
   jis0208 = pairs_of x.jis0208;
@@ -61,8 +64,8 @@ tables x = record {
   single = λ e. pairs_of (single_of x e);
 }
 
--- UTF-8 and UTF-16 always; a single-byte encoding where its file was set; Shift_JIS needs jis0208, EUC-JP jis0208 and
--- jis0212, ISO-2022-JP jis0208 and katakana
+-- The encodings on offer: UTF-8 and UTF-16 always, a single-byte encoding with its file, Shift_JIS with jis0208, EUC-JP
+-- with jis0208 and jis0212, ISO-2022-JP with jis0208 and katakana.
 abbrev pub offers : IndexSet → Encoding → Bool
 offers x encodings.Utf8 = true
 offers x encodings.Utf16Be = true

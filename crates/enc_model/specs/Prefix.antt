@@ -1,12 +1,13 @@
--- A list that grows by what it is given, or by a prefix of it where that is refused.
+-- Output that grows by a text, or by a prefix of it if that is refused.
 use Rattle.std.specs.Prelude.{ℕ, List, ◌++◌, ◌≡◌}
 use Rattle.std.proofs.Common.{sym, ◌∙◌, ap, append_assoc, append-nil}
 use Rattle.enc_model.specs.Sink.{IsSink}
 
--- new is old and a part of the text's start
+-- The output grew by a prefix of the text.
 abbrev pub IsPrefix : List ℕ → List ℕ → List ℕ → Type 0
 IsPrefix old text new = (prefix : List ℕ) × (rest : List ℕ) × (text ≡ prefix ++ rest) × (new ≡ old ++ prefix)
 
+-- Such an output is a sink.
 pub prefix_sink : {E : Type 0} → IsSink {A = List ℕ} {E = E} (λ a x b. b ≡ a ++ x) (λ a x e b. IsPrefix a x b)
 prefix_sink = record {
   none = λ a. sym (append-nil a);

@@ -1,4 +1,4 @@
--- How a decoder's handler is run over a list of bytes.
+-- Running a decoder's handler over a list of bytes (Encoding Standard, section 4.1).
 use Rattle.std.specs.Prelude.{ℕ, zero, suc, ◌+◌, ◌*◌, ◌≤◌, ◌≡◌, Bool, true, false, List, [], ◌∷◌, ◌++◌, Option, Some}
 use Rattle.std.specs.Prelude.{None, length}
 use Rattle.enc_model.specs.declared.Answer.{Answer}
@@ -6,38 +6,39 @@ use Rattle.enc_model.specs.declared.Answer.TheVariants.{Point, Error, Nothing, F
 use Rattle.enc_model.specs.declared.Restored.{Restored}
 use Rattle.enc_model.specs.declared.Restored.TheVariants.{Zero, One, Two}
 
--- the bytes that are restored
+-- The restored bytes.
 abbrev pub restored_bytes : Restored → List ℕ
 restored_bytes Zero = []
 restored_bytes (One a) = a ∷ []
 restored_bytes (Two a b) = a ∷ b ∷ []
 
--- what a handler gives: its new state, its answer, and the bytes that it restores
+-- What a handler returns: the new state, its answer, and the bytes that it restores.
 pub record Step (S : Type 0) : Type 0 where
   pub state : S
   pub answer : Answer
   pub restored : List ℕ
 
--- a handler takes a byte, or None at the end
+-- A handler reads a byte, or None at the end.
 abbrev pub Handler : Type 0 → Type 0
 Handler S = S → Option ℕ → Step S
 
--- what was decoded, and the state after it
+-- The decoded code points, and the state after them.
 pub record Run (S : Type 0) : Type 0 where
   pub text : List ℕ
   pub state : S
 
--- what an answer adds to the text: each error one U+FFFD
+-- The code points of an answer. An error gives one U+FFFD.
 abbrev pub said : Answer → List ℕ
 said (Point c) = c ∷ []
 said Error = 0xFFFD ∷ []
 said Nothing = []
 said Finished = []
 
+-- A run after some text.
 abbrev pub after : {S : Type 0} → List ℕ → Run S → Run S
 after text run = record { text = text ++ run.text; state = run.state }
 
--- The handler over the whole list, restored bytes put back at the start; at most so many calls.
+-- The run over a whole list, in at most n calls. Restored bytes are put first.
 unfoldable pub steps_within : {S : Type 0} → ℕ → Handler S → Bool → S → List ℕ → Run S
 steps_within zero h ended s bytes = record { text = []; state = s }
 steps_within (suc n) h ended s (b ∷ bytes) =
@@ -50,25 +51,26 @@ steps_within (suc n) h true s [] =
       | _ ↦ after (said t.answer) (steps_within n h true t.state t.restored)
     ]
 
--- As many calls as there can be: a byte is read at most three times, and the end has at most eight.
+-- The run over a whole list. A byte is read at most three times, and the end takes at most eight calls.
 unfoldable pub steps : {S : Type 0} → Handler S → Bool → S → List ℕ → Run S
 steps h ended s bytes = steps_within (3 * length bytes + 8) h ended s bytes
 
--- THE SAME BYTE BY BYTE: each byte with what it restores read again at once.
+-- The same, byte by byte: restored bytes are read at once.
 
+-- The run of f over all bytes, one after the other.
 abbrev pub all_bytes : {S : Type 0} → (S → ℕ → Run S) → S → List ℕ → Run S
 all_bytes f s [] = record { text = []; state = s }
 all_bytes f s (b ∷ bytes) = after (f s b).text (all_bytes f (f s b).state bytes)
 
--- one byte, if it restores nothing
+-- The run over a byte that restores nothing.
 abbrev pub quick : {S : Type 0} → Handler S → S → ℕ → Run S
 quick h s b = let t = h s (Some b) in record { text = said t.answer; state = t.state }
 
--- one byte, and what it restores, which restores nothing
+-- The run over a byte and the bytes that it restores.
 abbrev pub byte_of : {S : Type 0} → Handler S → S → ℕ → Run S
 byte_of h s b = let t = h s (Some b) in after (said t.answer) (all_bytes (quick h) t.state t.restored)
 
--- the end, where so many answers at most come before it is finished
+-- The run over the end, with at most d answers before it is finished.
 abbrev pub end_to : {S : Type 0} → ℕ → Handler S → S → Run S
 end_to zero h s = record { text = []; state = s }
 end_to (suc d) h s =
@@ -78,21 +80,23 @@ end_to (suc d) h s =
       | _ ↦ let r = all_bytes (quick h) t.state t.restored in after (said t.answer ++ r.text) (end_to d h r.state)
     ]
 
+-- The run over the end.
 abbrev pub end_of : {S : Type 0} → Handler S → S → Run S
 end_of h s = end_to 4 h s
 
+-- The run over the end, or nothing.
 abbrev pub ending : {S : Type 0} → Handler S → Bool → S → Run S
 ending h true s = end_of h s
 ending h false s = record { text = []; state = s }
 
--- WHAT MAKES A HANDLER CALM
+-- Calm handlers.
 
--- these bytes, read from here, restore nothing
+-- These bytes restore nothing when they are read from here.
 abbrev pub IsQuiet : {S : Type 0} → Handler S → S → List ℕ → Type 0
 IsQuiet h s [] = Unit {0}
 IsQuiet h s (b ∷ bytes) = ((h s (Some b)).restored ≡ []) × IsQuiet h (h s (Some b)).state bytes
 
--- what the end gives is finished, or leads to a state of which the rest holds
+-- The end is finished, or it leads to a state of which `rest` holds.
 abbrev pub EndsStep : {S : Type 0} → (S → Type 0) → Handler S → Step S → Type 0
 EndsStep rest h t =
     elim t.answer [
@@ -100,17 +104,18 @@ EndsStep rest h t =
       | _ ↦ (length t.restored ≤ 1) × IsQuiet h t.state t.restored × rest (all_bytes (quick h) t.state t.restored).state
     ]
 
--- the end is finished within so many answers
+-- The end is finished within d answers.
 abbrev pub Ends : {S : Type 0} → ℕ → Handler S → S → Type 0
 Ends zero h s = ⊥
 Ends (suc d) h s = EndsStep (Ends d h) h (h s None)
 
+-- A byte restores at most two others, which restore nothing, and the end is finished within four answers.
 pub record IsCalm {S : Type 0} (h : Handler S) : Type 0 where
   pub few : (s : S) (b : ℕ) → length (h s (Some b)).restored ≤ 2
   pub quiet : (s : S) (b : ℕ) → IsQuiet h (h s (Some b)).state (h s (Some b)).restored
   pub ends : (s : S) → Ends 4 h s
 
--- THE STANDARD'S OWN FORM: a byte's answer, and then what it restores put back at the start.
+-- The standard's own form: a byte's answer, and then the run with the restored bytes put first.
 abbrev pub PutsBack : {S : Type 0} → Handler S → Type 0
 PutsBack {S} h = (ended : Bool) (s : S) (b : ℕ) (bytes : List ℕ) →
     steps h ended s (b ∷ bytes) ≡ (let t = h s (Some b) in after (said t.answer)

@@ -1,21 +1,24 @@
--- The decoder of UTF-8.
+-- The UTF-8 decoder (Encoding Standard, 8.1.1).
 use Rattle.std.specs.Prelude.{ℕ, ◌+◌, ◌-◌, ◌*◌, List, [], ◌∷◌, ◌++◌, Some, None, ◌==◌, nat_lt, if◌then◌else◌}
 use Rattle.enc_model.specs.declared.Answer.TheVariants.{Point, Error, Nothing, Finished}
 use Rattle.enc_model.specs.Stream.{Step, Handler}
 use Rattle.enc_model.specs.Index.{within}
 
+-- The state of the decoder.
 pub record Utf8 : Type 0 where
-  -- how many bytes are still needed, and the bounds of the next one
+  -- How many bytes are still needed, and the bounds of the next one.
   pub needed : ℕ
   pub lower : ℕ
   pub upper : ℕ
-  -- the code point as far as it is known, and the bytes that it came from
+  -- The code point so far, and the bytes that it came from.
   pub point : ℕ
   pub kept : List ℕ
 
+-- The first state.
 abbrev pub utf8_start : Utf8
 utf8_start = record { needed = 0; lower = 0x80; upper = 0xBF; point = 0; kept = [] }
 
+-- The step over a lead byte.
 abbrev pub lead_of : ℕ → ℕ → ℕ → ℕ → ℕ → Step Utf8
 lead_of b needed lower upper point =
     record {
@@ -25,6 +28,7 @@ lead_of b needed lower upper point =
       restored = [];
     }
 
+-- The step over the first byte of a character.
 abbrev pub utf8_first : ℕ → Step Utf8
 utf8_first b =
     if nat_lt b 0x80 then record { state = utf8_start; answer = Point b; restored = [] }
@@ -35,6 +39,7 @@ utf8_first b =
     (b - 0xF0)
     else record { state = utf8_start; answer = Error; restored = [] }
 
+-- The step over a further byte.
 abbrev pub utf8_next : Utf8 → ℕ → Step Utf8
 utf8_next s b =
     let point = s.point * 64 + (b - 0x80) in
@@ -45,6 +50,7 @@ utf8_next s b =
       restored = [];
     }
 
+-- The UTF-8 decoder.
 unfoldable pub utf8 : Handler Utf8
 utf8 s None =
     if s.needed == 0 then record { state = s; answer = Finished; restored = [] }
@@ -52,5 +58,5 @@ utf8 s None =
 utf8 s (Some b) =
     if s.needed == 0 then utf8_first b
     else if within s.lower s.upper b then utf8_next s b
-    -- the byte doesn't go on from what was kept: it is read again
+    -- The byte doesn't continue the character: it is restored.
     else record { state = utf8_start; answer = Error; restored = b ∷ [] }

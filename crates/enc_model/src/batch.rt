@@ -1,4 +1,4 @@
-//! Text that is gathered before it is given on.
+//! A buffer for decoded text, so that a sink takes many characters at once.
 
 ghost use Rattle.std.specs.Prelude.{◌≡◌, ◌≤◌, ◌<◌, ◌+◌, ◌*◌, ◌++◌, ◌∷◌, [], ℕ, List, All, length, take, true, map};
 ghost use Rattle.std.specs.Prelude.{slice_index, encode_utf8, Option, IfSome};
@@ -11,32 +11,32 @@ use crate::{Sink, Utf8Char};
 use std::marker::Model;
 use std::str::from_utf8_unchecked;
 
-/// How many bytes of UTF-8 a batch has room for.
+/// The bytes of UTF-8 that a batch has room for: 12 for each byte of a block.
 pub const ROOM: usize = 3072;
 
-/// How many bytes of any encoding surely give no more: a byte gives at most three characters, itself one and each of
-/// the two that it may restore.
+/// A block's length in bytes. A byte gives at most three characters: one itself, and one for each of the two bytes that
+/// it may restore.
 pub const BLOCK: usize = 256;
 
-/// How many bytes are looked at and stored at once where they are ASCII.
+/// How many bytes are compared and stored at once while they are ASCII.
 pub const LANES: usize = 32;
 
-/// Sees how much ASCII comes first.
+/// A finder of ASCII prefixes.
 pub trait AsciiFinder {
-    /// How many of the first 32 bytes are ASCII before one that isn't, or None where so many aren't that each is better
-    /// looked up.
+    /// The length of the ASCII prefix of the first 32 bytes. None if so few are ASCII that a lookup of each byte is
+    /// faster.
     fn prefix(&self, bytes: &[u8]) -> Option<usize>
         requires { LANES ≤ length bytes.now }
         ensures within { IfSome result (λ n. n ≤ LANES) }
         ensures ascii { IfSome result (λ n. All (λ b. b < 128) (take n bytes.now)) };
 }
 
-/// Knows what two bytes stand for.
+/// A reader of double-byte characters.
 pub trait PairReader {
-    // over such characters by their pointers two bytes stand for this one
+    // These two bytes represent this character, by the characters that are ready for pointers.
     ghost stand_for: { List (Option ℕ) → ℕ → ℕ → ℕ → Type 0 };
 
-    /// The character that two bytes stand for, where it is ready.
+    /// The character of two bytes, if it is ready.
     fn ready_pair<'a>(
         &self,
         ready: &'a [Option<Utf8Char>],
@@ -46,7 +46,7 @@ pub trait PairReader {
         ensures { IfSome result (λ c. stand_for ready.now first second c.now) };
 }
 
-/// Bytes, as many as there is room for.
+/// Bytes, up to a fixed count.
 #[derive(Drop)]
 struct Room {
     bytes: [u8; ROOM],
@@ -63,7 +63,8 @@ impl Model for Room {
     ghost invariant = { λ r. r.len ≤ 3072 };
 }
 
-/// Stores a character after the first so many bytes, and says how many they are then.
+/// Stores a character at `len`, and returns the length after it. Four bytes are written whatever the character's
+/// length, which saves a branch.
 #[inline(always)]
 fn store_code(bytes: &mut [u8; ROOM], len: usize, code: &Utf8Char) -> usize
     requires { len + 4 ≤ ROOM }
@@ -77,7 +78,7 @@ fn store_code(bytes: &mut [u8; ROOM], len: usize, code: &Utf8Char) -> usize
     len + count as usize
 }
 
-/// Stores what bytes stand for after the first so many bytes, and says how many they are then.
+/// Stores the character of each byte from `from` on, and returns the length after them.
 #[inline(always)]
 fn store_each(room: &mut [u8; ROOM], from: usize, chars: &[Utf8Char], bytes: &[u8]) -> usize
     requires text { is_utf8 (take from room.old) ≡ true }
@@ -95,7 +96,7 @@ fn store_each(room: &mut [u8; ROOM], from: usize, chars: &[Utf8Char], bytes: &[u
     len
 }
 
-/// Stores bytes after the first so many.
+/// Stores bytes at `from`.
 #[inline(always)]
 fn store_part(room: &mut [u8; ROOM], from: usize, part: &[u8])
     requires { from + length part.now ≤ ROOM }
@@ -105,8 +106,8 @@ fn store_part(room: &mut [u8; ROOM], from: usize, part: &[u8])
     room[from..end].copy_from_slice(part);
 }
 
-/// Stores the ASCII that these begin with after the first so many bytes, and says how many they are then: 32 bytes are
-/// stored, of which so many count.
+/// Stores the ASCII prefix of the bytes at `from`, and returns the length after it. 32 bytes are written; only the
+/// prefix counts.
 #[inline(always)]
 fn store_prefix(room: &mut [u8; ROOM], from: usize, bytes: &[u8], prefix: usize) -> usize
     requires text { is_utf8 (take from room.old) ≡ true }
@@ -122,8 +123,8 @@ fn store_prefix(room: &mut [u8; ROOM], from: usize, bytes: &[u8], prefix: usize)
     from + prefix
 }
 
-/// Stores what some of these stand for after the first so many bytes: ASCII and the byte after it, or else 32 bytes.
-/// Says how many of these they are, and how many are stored then.
+/// Stores the characters of some bytes at `from`: an ASCII prefix and the byte after it, or 32 bytes one by one.
+/// Returns how many bytes it took, and the length after them.
 #[inline(always)]
 fn store_some<F: AsciiFinder>(
     room: &mut [u8; ROOM],
@@ -183,7 +184,8 @@ impl Room {
         self.len = store_code(&mut self.bytes, self.len, code);
     }
 
-    /// Stores what bytes stand for. Here and in the next the length is a local of the loop, which a register can hold.
+    /// Stores the characters of the bytes. Here and in `store_pairs` the length is a local variable of the loop, so
+    /// that it stays in a register.
     #[inline(always)]
     fn store_bytes<F: AsciiFinder>(&mut self, prefixes: &F, chars: &[Utf8Char], bytes: &[u8])
         requires text { is_utf8 self.old ≡ true }
@@ -203,8 +205,7 @@ impl Room {
         self.len = store_each(&mut self.bytes, len, chars, &bytes[at..]);
     }
 
-    /// Stores what the pairs that these begin with stand for as long as they are ready, and says how many bytes they
-    /// are.
+    /// Stores the characters of leading pairs while they are ready, and returns how many bytes they are.
     #[inline(always)]
     fn store_pairs<P: PairReader>(
         &mut self,
@@ -232,7 +233,7 @@ impl Room {
         at
     }
 
-    /// Stores the ASCII that these begin with, of so many bytes.
+    /// Stores the first `prefix` bytes, which are ASCII.
     #[inline(always)]
     fn store_prefix(&mut self, bytes: &[u8], prefix: usize)
         requires text { is_utf8 self.old ≡ true }
@@ -267,7 +268,7 @@ impl Room {
     }
 }
 
-/// A text that is gathered, as a sink which refuses what it has no room for.
+/// Decoded text up to a fixed length, as a sink that refuses what it has no room for.
 #[derive(Drop)]
 pub struct Batch {
     room: Room,
@@ -284,12 +285,12 @@ impl Model for Batch {
     ghost invariant = { λ b. is_utf8 b.room ≡ true };
 }
 
-/// A batch had no room.
+/// The batch has no room.
 #[derive(Clone, Copy, Debug)]
 pub struct Full;
 
 impl Batch {
-    /// A batch without a character.
+    /// An empty batch.
     #[tactic(auto, using(crate::proofs::Gathered::nothing))]
     pub fn new() -> Self
         ensures { result ≡ [] }
@@ -297,7 +298,7 @@ impl Batch {
         Batch { room: Room::new() }
     }
 
-    /// Takes all out.
+    /// Empties the batch.
     #[tactic(auto, using(crate::proofs::Gathered::nothing))]
     pub fn clear(&mut self)
         ensures { self.new ≡ [] }
@@ -312,7 +313,7 @@ impl Batch {
         unsafe { from_utf8_unchecked(self.room.as_slice()) }
     }
 
-    /// How many bytes of UTF-8 it has room for yet.
+    /// How many more bytes of UTF-8 fit into the batch.
     #[inline(always)]
     pub fn left(&self) -> usize
         ensures { result + length self.now ≡ ROOM }
@@ -320,7 +321,7 @@ impl Batch {
         self.room.left()
     }
 
-    /// Takes a character that is ready in UTF-8.
+    /// Appends a character that is ready in UTF-8.
     #[inline(always)]
     pub fn push_code(&mut self, code: &Utf8Char)
         requires { length self.old + 4 ≤ ROOM }
@@ -329,7 +330,7 @@ impl Batch {
         self.room.store(code);
     }
 
-    /// Takes a character.
+    /// Appends a character.
     #[inline(always)]
     pub fn push(&mut self, c: char)
         requires { length self.old + 4 ≤ ROOM }
@@ -338,7 +339,7 @@ impl Batch {
         self.push_code(&Utf8Char::of(c));
     }
 
-    /// Takes what bytes stand for, those below 80 for themselves.
+    /// Appends the characters of these bytes. Those below 80 represent themselves.
     #[inline(always)]
     pub fn push_bytes<F: AsciiFinder>(&mut self, prefixes: &F, chars: &[Utf8Char], bytes: &[u8])
         requires long { length chars.now ≡ 256 }
@@ -349,7 +350,7 @@ impl Batch {
         self.room.store_bytes(prefixes, chars, bytes);
     }
 
-    /// Takes the ASCII that these begin with, of so many bytes, 32 stored at once.
+    /// Appends the first `prefix` bytes, which are ASCII; 32 are stored at once.
     #[inline(always)]
     pub fn push_front(&mut self, bytes: &[u8], prefix: usize)
         requires many { LANES ≤ length bytes.now }
@@ -361,8 +362,7 @@ impl Batch {
         self.room.store_prefix(bytes, prefix);
     }
 
-    /// Takes what the pairs that these begin with stand for as long as they are ready, and says how many bytes they
-    /// are.
+    /// Appends the characters of leading pairs while they are ready, and returns how many bytes they are.
     #[inline(always)]
     pub fn push_pairs<P: PairReader>(
         &mut self,
@@ -378,7 +378,7 @@ impl Batch {
         self.room.store_pairs(reader, ready, bytes)
     }
 
-    /// Takes a text.
+    /// Appends a text.
     #[inline(always)]
     pub fn push_str(&mut self, run: &str)
         requires { length self.old + length run.now ≤ ROOM }
@@ -387,7 +387,7 @@ impl Batch {
         self.room.append(run.as_bytes());
     }
 
-    /// Takes bytes below 80, each for itself.
+    /// Appends ASCII.
     #[inline(always)]
     pub fn push_ascii(&mut self, run: &[u8])
         requires ascii { All (λ b. b < 128) run.now }

@@ -1,4 +1,4 @@
-//! A handler over pieces.
+//! Running a decoder's handler over pieces.
 
 ghost use Rattle.std.specs.Prelude.{◌≡◌, ◌≤◌, length, ◌<◌, [], ◌∷◌, true, false, Option, None, OnOk, IfOk};
 ghost use Rattle.std.specs.Prelude.{IfErr, take, ◌+◌, ◌*◌};
@@ -11,20 +11,21 @@ ghost use Rattle.enc_model.specs.Sink.{Given};
 use crate::batch::{BLOCK, Batch, ROOM};
 use crate::{Answer, Restored, Sink};
 
-/// From how many bytes on an ASCII prefix is given to the sink as it is.
+/// An ASCII prefix of at least this many bytes goes to the sink as it is.
 const LONG_FRONT: usize = 64;
 
-/// How much of one is given at once: so little that it is still in the nearest cache when the sink copies it.
+/// The most bytes of an ASCII prefix that go to the sink at once: few enough to be still in the L1 cache when the sink
+/// copies them.
 const FRONT_STEP: usize = 4096;
 
-/// A decoder's state, and its handler.
+/// A decoder's state with its handler (Encoding Standard, section 4.1).
 pub trait Decoder {
     /// The index files that the handler reads.
     type Tables;
 
     ghost handler: { Self.Tables → Handler Self };
 
-    /// Takes a byte, or None at the end.
+    /// Reads a byte, or the end if there is none.
     fn read(&mut self, tables: &Self::Tables, byte: Option<u8>) -> (Answer, Restored)
         ensures answer { result.0 ≡ (handler tables.now self.old byte).answer }
         ensures restored { restored_bytes result.1 ≡ (handler tables.now self.old byte).restored }
@@ -33,21 +34,21 @@ pub trait Decoder {
     ghost calm: { (t : Self.Tables) → IsCalm (handler t) };
 }
 
-/// A decoder that reads a block of bytes at once. It stands apart from `Decoder`, since its bodies call functions over
-/// that.
+/// A decoder with a fast way over a block. It is a trait of its own, since its implementations call functions that need
+/// a `Decoder`.
 pub trait BlockDecoder: Decoder {
-    /// How many bytes at the start are ASCII and stand for themselves from here, as far as it looks.
+    /// The length of a prefix that is ASCII and decodes to itself. It may be shorter than the longest one.
     fn prefix(&self, tables: &Self::Tables, bytes: &[u8]) -> usize
         ensures { IsAsciiPrefix (Self.handler tables.now) self.now bytes.now result };
 
-    /// The steps over a block, for whose text a batch surely has room. `decode_each` does this for every decoder.
+    /// Decodes a block, for which the batch has room. `decode_each` does it for every decoder.
     fn decode_block(&mut self, tables: &Self::Tables, block: &[u8], batch: &mut Batch)
         requires { length batch.old + 12 * length block.now ≤ ROOM }
         ensures text { BatchTook batch.old (steps (Self.handler tables.now) false self.old block.now).text batch.new }
         ensures state { self.new ≡ (steps (Self.handler tables.now) false self.old block.now).state };
 }
 
-/// Gives the sink what an answer says.
+/// Gives the sink the character of an answer; an error gives U+FFFD.
 #[inline(always)]
 fn say<S: Sink>(answer: Answer, sink: &mut S) -> Result<(), S::Refusal>
     ensures { Given S.takes S.refuses sink.old (said answer) sink.new result }
@@ -59,7 +60,7 @@ fn say<S: Sink>(answer: Answer, sink: &mut S) -> Result<(), S::Refusal>
     }
 }
 
-/// Reads a byte that restores nothing.
+/// Reads a restored byte, which restores nothing itself.
 #[cold]
 fn again<D: Decoder, S: Sink>(
     state: &mut D,
@@ -75,7 +76,7 @@ fn again<D: Decoder, S: Sink>(
     say(answer, sink)
 }
 
-/// Reads restored bytes, which restore nothing.
+/// Reads the restored bytes.
 #[inline(always)]
 fn reread<D: Decoder, S: Sink>(
     state: &mut D,
@@ -98,7 +99,7 @@ fn reread<D: Decoder, S: Sink>(
     }
 }
 
-/// Reads a byte, and what it restores.
+/// Reads a byte, and then the bytes that it restores.
 #[inline(always)]
 fn step<D: Decoder, S: Sink>(
     state: &mut D,
@@ -115,7 +116,11 @@ fn step<D: Decoder, S: Sink>(
     reread(state, tables, restored, sink)
 }
 
-/// The steps over a piece, from any state, each character given to the sink alone.
+/// Decodes a piece, one character at a time.
+///
+/// # Errors
+///
+/// The sink's refusal, at once; nothing is known of the state afterwards.
 pub fn feed_each<D: Decoder, S: Sink>(
     state: &mut D,
     tables: &D::Tables,
@@ -132,7 +137,7 @@ pub fn feed_each<D: Decoder, S: Sink>(
     Ok(())
 }
 
-/// The steps over bytes, for whose text a batch surely has room, character by character.
+/// Decodes bytes into a batch that has room for them, one character at a time.
 #[inline(always)]
 pub fn decode_each<D: Decoder>(state: &mut D, tables: &D::Tables, bytes: &[u8], batch: &mut Batch)
     requires { length batch.old + 12 * length bytes.now ≤ ROOM }
@@ -145,7 +150,7 @@ pub fn decode_each<D: Decoder>(state: &mut D, tables: &D::Tables, bytes: &[u8], 
     }
 }
 
-/// How many bytes at the start, as far as is given at once, are ASCII and stand for themselves from here.
+/// The length of an ASCII prefix that decodes to itself, at most `FRONT_STEP`.
 #[inline(always)]
 fn next_prefix<D: BlockDecoder>(state: &D, tables: &D::Tables, rest: &[u8]) -> usize
     ensures { IsAsciiPrefix (D.handler tables.now) state.now rest.now result }
@@ -154,7 +159,7 @@ fn next_prefix<D: BlockDecoder>(state: &D, tables: &D::Tables, rest: &[u8]) -> u
     state.prefix(tables, &rest[..end])
 }
 
-/// Goes on at the rest of a piece, and says how far: over a long prefix of ASCII, or else over a block.
+/// Decodes the next part of a piece: a long ASCII prefix, or a block. Returns its length.
 fn advance<D: BlockDecoder, S: Sink>(
     state: &mut D,
     tables: &D::Tables,
@@ -183,7 +188,7 @@ fn advance<D: BlockDecoder, S: Sink>(
     Ok(end)
 }
 
-/// The steps over a piece, by long prefixes and blocks.
+/// Decodes a piece by ASCII prefixes and blocks.
 fn feed_blocks<D: BlockDecoder, S: Sink>(
     state: &mut D,
     tables: &D::Tables,
@@ -202,9 +207,8 @@ fn feed_blocks<D: BlockDecoder, S: Sink>(
     Ok(())
 }
 
-/// Gives the sink the long prefixes of ASCII that a piece begins with, and one that is all of its rest, and says how
-/// long
-/// they are together.
+/// Gives the sink the long ASCII prefixes of a piece, and a shorter one if it is all that is left. Returns their
+/// length.
 fn give_prefixes<D: BlockDecoder, S: Sink>(
     state: &D,
     tables: &D::Tables,
@@ -232,7 +236,11 @@ fn give_prefixes<D: BlockDecoder, S: Sink>(
     Ok(at)
 }
 
-/// The steps over a piece, from any state. Where all of it is ASCII, nothing is made ready for blocks.
+/// Decodes a piece. A batch is only made if the piece isn't all ASCII.
+///
+/// # Errors
+///
+/// The sink's refusal, at once; nothing is known of the state afterwards.
 pub fn feed<D: BlockDecoder, S: Sink>(
     state: &mut D,
     tables: &D::Tables,
@@ -250,7 +258,7 @@ pub fn feed<D: BlockDecoder, S: Sink>(
     feed_blocks(state, tables, &piece[prefix..], sink)
 }
 
-/// The end, with so many answers at most.
+/// Decodes the end, with at most `calls` answers before it is finished.
 fn finish_within<D: Decoder, S: Sink>(
     state: &mut D,
     tables: &D::Tables,
@@ -273,7 +281,11 @@ fn finish_within<D: Decoder, S: Sink>(
     finish_within(state, tables, calls - 1, sink)
 }
 
-/// The steps of the end.
+/// Decodes the end.
+///
+/// # Errors
+///
+/// The sink's refusal, at once; nothing is known of the state afterwards.
 pub fn finish<D: Decoder, S: Sink>(
     state: &mut D,
     tables: &D::Tables,

@@ -1,4 +1,4 @@
-//! The laws of the definitions, each as the contract of a function that does nothing.
+//! Laws about the definitions. The functions do nothing; their contracts are the laws.
 
 ghost use Rattle.std.specs.Prelude.{◌≡◌, ◌++◌, List, ℕ, Bool, true, false, None};
 ghost use Rattle.enc_model.specs.declared.Encoding.{Encoding};
@@ -11,7 +11,7 @@ ghost use Rattle.enc_model.specs.Encode.{Tables};
 ghost use Rattle.enc_model.specs.Decode.{Decoding, decoding, after_run, decoded, advance, conclude};
 ghost use Rattle.enc_model.specs.Transcode.{Transcoder, IsAt, stepped, added, so_far};
 
-/// A byte's answer, and then what it restores, put back at the start.
+/// The steps over a byte are its answer, and then the steps over the bytes that it restores, put back first.
 pub fn restored_first()
     ensures utf8 { PutsBack utf8 }
     ensures utf16 { (big : Bool) → PutsBack (utf16 big) }
@@ -21,21 +21,21 @@ pub fn restored_first()
     ensures iso2022 { (jis0208 : Index) → PutsBack (iso2022 jis0208) }
 {}
 
-/// The steps over b ++ c are the steps over b, and then over c from the end state.
+/// The steps over b ++ c are those over b, and then those over c from the state after b.
 pub fn in_any_cut()
     ensures { (t : Tables) (ended : Bool) (s : Decoding) (b c : List ℕ) →
         decoding t ended s (b ++ c) ≡ after_run (decoding t false s b).text
         (decoding t ended (decoding t false s b).state c) }
 {}
 
-/// Decoding with a BOM goes on from where it stands.
+/// Decoding with BOM sniffing can be continued after any bytes.
 pub fn with_a_bom()
     ensures more { (t : Tables) (e : Encoding) (b c : List ℕ) → advance t e (decoded t e b false) c ≡ decoded t e
         (b ++ c) false }
     ensures end { (t : Tables) (e : Encoding) (b : List ℕ) → conclude t e (decoded t e b false) ≡ decoded t e b true }
 {}
 
-/// From where a transcoder stands, the text grows by what a piece adds, and the next state is where all bytes end.
+/// After any bytes, the text grows by what a piece adds, and the next state is the one after all bytes.
 pub fn text_grows()
     ensures text { (t : Tables) (s : Transcoder) (b c : List ℕ) → IsAt t s b
         → (so_far t s (b ++ c)).bytes ≡ (so_far t s b).bytes ++ (added t s c).bytes }

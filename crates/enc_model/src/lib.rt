@@ -1,4 +1,5 @@
-//! The encodings and their decoders, as definitions.
+//! The Encoding Standard's encodings, decoders and encoders as definitions, and the code that runs a decoder over
+//! pieces.
 #![tactic(auto)]
 
 mod batch;
@@ -15,7 +16,7 @@ pub use decoder::{BlockDecoder, Decoder, decode_each, feed, feed_each, finish};
 pub use laws::{in_any_cut, restored_first, text_grows, with_a_bom};
 pub use utf8_char::Utf8Char;
 
-/// An encoding of the profile.
+/// The encodings of this gateway. Their order is part of the spool's format.
 #[derive(Clone, Copy, Debug, PartialEq, Eq)]
 pub enum Encoding {
     Utf8,
@@ -41,27 +42,27 @@ pub enum Encoding {
     Windows1258,
 }
 
-/// What an encoder does with a character that its encoding lacks.
+/// The error mode of an encoder (Encoding Standard, section 4.1): html writes a decimal reference, fatal is an error.
 #[derive(Clone, Copy, Debug, PartialEq, Eq)]
 pub enum Mode {
     Html,
     Fatal,
 }
 
-/// What a decoder's handler answers to a byte or to the end.
+/// A decoder handler's answer to a byte or to the end.
 #[derive(Clone, Copy, Debug, PartialEq, Eq)]
 pub enum Answer {
-    /// a code point
+    /// A code point.
     Point(char),
-    /// an error, which gives one U+FFFD
+    /// An error, which gives one U+FFFD.
     Error,
-    /// nothing yet
+    /// Continue: nothing yet.
     Nothing,
-    /// all is decoded
+    /// Everything is decoded.
     Finished,
 }
 
-/// The bytes that a handler restores, to be read again first.
+/// The bytes that a handler restores: they are read again before the others.
 #[derive(Clone, Copy, Debug, PartialEq, Eq)]
 pub enum Restored {
     Zero,
@@ -69,18 +70,18 @@ pub enum Restored {
     Two(u8, u8),
 }
 
-/// Where decoded text goes.
+/// A taker of decoded text.
 pub trait Sink {
     /// Why it takes no more.
     type Refusal;
 
-    // from the first it takes these scalars and is then the last
+    // From the first state it takes these scalars and comes to the second.
     ghost takes: { Self → List ℕ → Self → Type 0 };
 
-    // asked from the first for these scalars, it refuses some of them for this reason and is then the last
+    // From the first state it refuses some of these scalars for this reason and comes to the second.
     ghost refuses: { Self → List ℕ → Self.Refusal → Self → Type 0 };
 
-    /// Takes one character.
+    /// Takes a character.
     fn put(&mut self, c: char) -> Result<(), Self::Refusal>
         ensures { Given takes refuses self.old (c ∷ []) self.new result };
 
@@ -89,7 +90,7 @@ pub trait Sink {
         requires { All (λ b. b < 128) run.now }
         ensures { Given takes refuses self.old run.now self.new result };
 
-    /// Takes a text: its characters one by one, where a sink has no shorter way.
+    /// Takes a text. By default it takes the characters one by one.
     fn text(&mut self, run: &str) -> Result<(), Self::Refusal>
         ensures { Given takes refuses self.old (chars run.now) self.new result }
     {
@@ -102,7 +103,7 @@ pub trait Sink {
     ghost is_sink: { IsSink takes refuses };
 }
 
-/// A set of characters in ISO-2022-JP.
+/// A character set of ISO-2022-JP (Encoding Standard, section 12.2.1).
 #[derive(Clone, Copy, Debug, PartialEq, Eq)]
 pub enum Charset {
     Ascii,
@@ -111,22 +112,22 @@ pub enum Charset {
     Lead,
 }
 
-/// What may follow 1B in ISO-2022-JP.
+/// The byte after 1B in an escape sequence of ISO-2022-JP.
 #[derive(Clone, Copy, Debug, PartialEq, Eq)]
 pub enum Introducer {
     Dollar,
     Paren,
 }
 
-/// Where a decoder of ISO-2022-JP stands.
+/// The place of an ISO-2022-JP decoder.
 #[derive(Clone, Copy, Debug, PartialEq, Eq)]
 pub enum Place {
-    /// in a set of characters
+    /// In a character set.
     In(Charset),
-    /// after this lead
+    /// After this lead byte.
     Trail(u8),
-    /// after 1B
+    /// After 1B.
     EscapeStart,
-    /// after 1B and this
+    /// After 1B and this byte.
     Escape(Introducer),
 }

@@ -1,11 +1,11 @@
-//! A character as the bytes that it is stored as.
+//! A character as its bytes in UTF-8.
 
 ghost use Rattle.std.specs.Prelude.{◌≡◌, ◌≤◌, take, encode_utf8};
 ghost use Rattle.std.specs.Char.{IsScalar};
 
 use std::marker::Model;
 
-/// A character in UTF-8, ready to be stored without a branch: its bytes with others after them, and how many they are.
+/// A character in UTF-8 that can be stored without a branch: four bytes, of which the first `len` are the character's.
 #[derive(Drop)]
 pub struct Utf8Char {
     bytes: [u8; 4],
@@ -24,7 +24,7 @@ impl Model for Utf8Char {
 }
 
 impl Utf8Char {
-    /// The code of a character.
+    /// The bytes of a character.
     #[inline(always)]
     #[tactic(auto, using(crate::proofs::Ready::ready_one, crate::proofs::Ready::ready_two, crate::proofs::Ready::ready_three, crate::proofs::Ready::ready_four))]
     pub fn of(c: char) -> Self
@@ -61,7 +61,7 @@ impl Utf8Char {
         }
     }
 
-    /// Four bytes, the first of them those of the character, and how many they are.
+    /// Four bytes, and how many of them are the character's.
     #[inline(always)]
     pub(crate) fn parts(&self) -> ([u8; 4], u8)
         ensures code { take result.1 result.0 ≡ encode_utf8 self.now }

@@ -1,4 +1,4 @@
--- The bytes that may still become a BOM, and what a piece after them makes of them.
+-- BOM sniffing over pieces (Encoding Standard, section 6).
 use Rattle.std.specs.Prelude.{ℕ, ◌≡◌, ◌≤◌, true, false, List, [], ◌∷◌, ◌++◌, drop, length}
 use Rattle.enc_model.specs.declared.Encoding.{Encoding}
 use Rattle.enc_model.specs.declared.Encoding.TheVariants as encodings
@@ -8,7 +8,7 @@ use Rattle.enc_stream.specs.declared.sniff.Held.TheVariants.{Nothing, Ef, EfBb, 
 use Rattle.enc_stream.specs.declared.sniff.Sniffed.{Sniffed}
 use Rattle.enc_stream.specs.declared.sniff.Sniffed.TheVariants.{Still, Bom, Plain}
 
--- the bytes that are held
+-- The held bytes.
 abbrev pub held_bytes : Held → List ℕ
 held_bytes Nothing = []
 held_bytes Ef = 0xEF ∷ []
@@ -16,7 +16,7 @@ held_bytes EfBb = 0xEF ∷ 0xBB ∷ []
 held_bytes Fe = 0xFE ∷ []
 held_bytes Ff = 0xFF ∷ []
 
--- with this byte after them they are the BOM of this encoding
+-- With this byte after them, they are the BOM of this encoding.
 abbrev pub LacksOne : Held → ℕ → Encoding → Type 0
 LacksOne Nothing last e = ⊥
 LacksOne Ef last e = ⊥
@@ -24,7 +24,7 @@ LacksOne EfBb last e = (last ≡ 0xBF) × (e ≡ encodings.Utf8)
 LacksOne Fe last e = (last ≡ 0xFF) × (e ≡ encodings.Utf16Be)
 LacksOne Ff last e = (last ≡ 0xFE) × (e ≡ encodings.Utf16Le)
 
--- What the held bytes and a piece are: still undecided, a BOM and the piece without its first bytes, or no BOM.
+-- The held bytes and the piece are still undecided; or they begin with a BOM, which ends in the piece; or they don't.
 abbrev pub Sniffs : Held → List ℕ → Sniffed → Type 0
 Sniffs held piece (Still next) =
     (undecided (held_bytes held ++ piece) ≡ true) × (held_bytes next ≡ held_bytes held ++ piece)

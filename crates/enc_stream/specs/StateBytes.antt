@@ -1,8 +1,8 @@
--- THE 32 STATE BYTES OF A TRANSCODER, which the gateway keeps of an upload: the format is its own.
+-- The 32 state bytes of a transcoder. A spool stores them for each upload; the format is the gateway's own.
 --
 -- Bytes 0, 1, 2: the numbers of the source encoding, of the output encoding and of the mode. Byte 3: the phase. From
--- byte 4 on what the phase keeps: the count of held bytes and these, or the encoding in effect and its decoder's state.
--- Byte 16: the encoder's state. All others are 0.
+-- byte 4 on, the state of the phase: the count of held bytes and the bytes, or the encoding in effect and its decoder's
+-- state. Byte 16: the encoder's state. All others are 0.
 use Rattle.std.specs.Prelude.{ℕ, zero, suc, ◌/◌, ◌%◌, ◌≤◌, ◌<◌, ◌≡◌, ◌⊎◌, Bool, true, false, List, [], ◌∷◌, ◌++◌}
 use Rattle.std.specs.Prelude.{Option, Some, None, length, if◌then◌else◌}
 use Rattle.enc_model.specs.declared.Encoding.{Encoding}
@@ -28,8 +28,9 @@ use Rattle.enc_legacy.specs.EucJpState.{IsEucJpState}
 use Rattle.enc_legacy.specs.Iso2022State.{IsStand}
 use Rattle.enc_stream.specs.Standing.{Standing, IsOutput}
 
--- NUMBERS
+-- Numbers.
 
+-- The number of the encoding.
 abbrev pub encoding_number : Encoding → ℕ
 encoding_number Utf8 = 0
 encoding_number Utf16Be = 1
@@ -53,59 +54,63 @@ encoding_number Windows1256 = 18
 encoding_number Windows1257 = 19
 encoding_number Windows1258 = 20
 
+-- The number of the mode.
 abbrev pub mode_number : Mode → ℕ
 mode_number Html = 0
 mode_number Fatal = 1
 
--- the encoder's state, in ISO-2022-JP
+-- The number of the encoder's state, which only ISO-2022-JP changes.
 abbrev pub shift_number : Shift → ℕ
 shift_number InAscii = 0
 shift_number InRoman = 1
 shift_number InJis = 2
 
--- before the BOM is decided, decoding, and after the end
+-- The number of the phase: before a BOM is decided, decoding, and after the end.
 abbrev pub phase_number : Phase → ℕ
 phase_number (Before held) = 0
 phase_number (During s) = 1
 phase_number Over = 2
 
--- A DECODER'S STATE
+-- The states of decoders.
 
--- how many bytes are kept, and these
+-- The count of bytes, and the bytes.
 abbrev pub counted : List ℕ → List ℕ
 counted bytes = length bytes ∷ bytes
 
--- 1 for a byte that is kept and 2 for a lead surrogate; the byte; the lead, the higher byte first
+-- 1 for an odd byte plus 2 for a lead surrogate; the byte; the surrogate, its high byte first.
 abbrev pub utf16_bytes : Option ℕ → Option ℕ → List ℕ
 utf16_bytes None None = 0 ∷ []
 utf16_bytes (Some byte) None = 1 ∷ byte ∷ []
 utf16_bytes None (Some lead) = 2 ∷ 0 ∷ lead / 256 ∷ lead % 256 ∷ []
 utf16_bytes (Some byte) (Some lead) = 3 ∷ byte ∷ lead / 256 ∷ lead % 256 ∷ []
 
+-- 1 if the flag is set.
 abbrev pub flag_number : Bool → ℕ
 flag_number false = 0
 flag_number true = 1
 
+-- The number of the character set.
 abbrev pub charset_number : Charset → ℕ
 charset_number Ascii = 0
 charset_number Roman = 1
 charset_number Katakana = 2
 charset_number Lead = 3
 
--- where a decoder of ISO-2022-JP stands, and the byte that it keeps there, or 0
+-- The number of a place of the ISO-2022-JP decoder.
 abbrev pub place_number : Place → ℕ
 place_number (In set) = charset_number set
 place_number (Trail lead) = 4
 place_number EscapeStart = 5
 place_number (Escape lead) = 6
 
+-- The lead byte at that place, or 0.
 abbrev pub place_lead : Place → ℕ
 place_lead (In set) = 0
 place_lead (Trail lead) = lead
 place_lead EscapeStart = 0
 place_lead (Escape lead) = introducer_byte lead
 
--- what is kept of a decoder's state, without zeros at the end
+-- The state of a decoder, without zeros at the end.
 abbrev pub decoder_bytes : Decoding → List ℕ
 decoder_bytes (OfUtf8 s) = counted s.kept
 decoder_bytes (OfUtf16 big s) = utf16_bytes s.byte s.lead
@@ -115,7 +120,7 @@ decoder_bytes (OfIso2022 s) =
     place_number s.place ∷ charset_number s.output ∷ place_lead s.place ∷ flag_number s.flag ∷ []
 decoder_bytes (OfSingle e s) = []
 
--- the encoding that a decoder reads
+-- The encoding that a decoder decodes.
 abbrev pub encoding_of : Decoding → Encoding
 encoding_of (OfUtf8 s) = Utf8
 encoding_of (OfUtf16 big s) = if big then Utf16Be else Utf16Le
@@ -124,31 +129,33 @@ encoding_of (OfEucJp s) = EucJp
 encoding_of (OfIso2022 s) = Iso2022Jp
 encoding_of (OfSingle e s) = e
 
--- THE BYTES
+-- The bytes.
 
--- what a phase keeps
+-- The state of a phase.
 abbrev pub phase_bytes : Phase → List ℕ
 phase_bytes (Before held) = counted held
 phase_bytes (During s) = encoding_number (encoding_of s) ∷ decoder_bytes s
 phase_bytes Over = []
 
--- the bytes, and zeros after them, so many in all
+-- The bytes, filled with zeros up to n.
 abbrev pub padded : ℕ → List ℕ → List ℕ
 padded zero bytes = []
 padded (suc n) [] = 0 ∷ padded n []
 padded (suc n) (b ∷ bytes) = b ∷ padded n bytes
 
+-- The state bytes of a transcoder.
 abbrev pub state_bytes : Transcoder → List ℕ
 state_bytes s =
     encoding_number s.from ∷ encoding_number s.to ∷ mode_number s.mode ∷ phase_number s.phase
     ∷ (padded 12 (phase_bytes s.phase) ++ padded 16 (shift_number s.shift ∷ []))
 
--- THE SOUND STATES: those that a transcoder can be in
+-- The valid states: those that a transcoder can be in.
 
--- the encoding in effect is the source's, or that of a BOM
+-- The encoding in effect is the one of the label, or the one of a BOM.
 abbrev pub IsInEffect : Encoding → Encoding → Type 0
 IsInEffect from e = (e ≡ from) ⊎ ((e ≡ Utf8) ⊎ ((e ≡ Utf16Be) ⊎ (e ≡ Utf16Le)))
 
+-- A single-byte encoding.
 abbrev pub IsSingle : Encoding → Type 0
 IsSingle Utf8 = ⊥
 IsSingle Utf16Be = ⊥
@@ -158,35 +165,35 @@ IsSingle EucJp = ⊥
 IsSingle Iso2022Jp = ⊥
 IsSingle _ = Unit {0}
 
--- a decoder without a state of its own is one of a single-byte encoding
+-- A decoder without a state belongs to a single-byte encoding.
 abbrev pub IsOwn : Decoding → Type 0
 IsOwn (OfSingle e s) = IsSingle e
 IsOwn _ = Unit {0}
 
--- what is held may become a BOM, and what is decoded is decoded from the encoding in effect
+-- The held bytes may become a BOM, and the decoder is the one of the encoding in effect.
 abbrev pub IsPhaseOf : Encoding → Phase → Type 0
 IsPhaseOf from (Before held) = undecided held ≡ true
 IsPhaseOf from (During s) = IsOwn s × IsInEffect from (encoding_of s)
 IsPhaseOf from Over = Unit {0}
 
--- only while text is decoded to ISO-2022-JP is the encoder in another state than ASCII
+-- The encoder leaves ASCII only while text is encoded in ISO-2022-JP.
 abbrev pub IsShiftIn : Phase → Encoding → Shift → Type 0
 IsShiftIn (Before held) to shift = shift ≡ InAscii
 IsShiftIn (During s) to shift = (to ≡ Iso2022Jp) ⊎ (shift ≡ InAscii)
 IsShiftIn Over to shift = shift ≡ InAscii
 
--- a transcoder's parts fit one another
+-- The parts of the transcoder fit one another.
 pub record IsFitting (s : Transcoder) : Type 0 where
   pub output : IsOutput s.to
   pub phase : IsPhaseOf s.from s.phase
   pub shift : IsShiftIn s.phase s.to s.shift
 
--- what is kept as a byte is one
+-- The odd byte is a byte.
 abbrev pub IsByte : Option ℕ → Type 0
 IsByte None = Unit {0}
 IsByte (Some b) = b < 256
 
--- a decoder's state is one that it can be in
+-- The decoder can be in this state.
 abbrev pub IsReached : Decoding → Type 0
 IsReached (OfUtf8 s) = IsAfter s × (length s.kept ≤ 3)
 IsReached (OfUtf16 big s) = IsByte s.byte × IsCarried s.lead
@@ -195,15 +202,16 @@ IsReached (OfEucJp s) = IsEucJpState s.lead s.flag
 IsReached (OfIso2022 s) = IsStand s.place s.output s.flag
 IsReached (OfSingle e s) = Unit {0}
 
+-- The decoder of the phase can be in its state.
 abbrev pub IsReachedIn : Phase → Type 0
 IsReachedIn (During s) = IsReached s
 IsReachedIn _ = Unit {0}
 
--- what `pack` writes the bytes of, and `unpack` reads
+-- The states that `pack` encodes and `unpack` decodes.
 pub record IsValid (s : Transcoder) : Type 0 where
   pub fitting : IsFitting s
   pub reached : IsReachedIn s.phase
 
--- a transcoder that stands there, and takes more
+-- A transcoder that isn't spent.
 abbrev pub standing : Transcoder → Standing
 standing s = record { transcoder = s; spent = false }

@@ -1,4 +1,4 @@
-//! The decoder of whichever encoding is in effect.
+//! The decoders of all encodings as one enum.
 
 ghost use Rattle.std.specs.Prelude.{◌≡◌, OnOk, IfSome, MatchOption, true, false, []};
 ghost use Rattle.enc_model.specs.Decode.{Decoding, decoding, decoding_start};
@@ -43,7 +43,7 @@ impl AnyDecoder {
         }
     }
 
-    /// The same state once more.
+    /// A copy of the state.
     pub fn copy(&self) -> Self
         ensures { decoding_of result ≡ decoding_of self.now }
     {
@@ -57,7 +57,7 @@ impl AnyDecoder {
         }
     }
 
-    /// The steps over a piece. Where the sink refuses, nothing more is said of the state.
+    /// Decodes a piece into the sink. If the sink refuses, nothing is known of the state afterwards.
     #[tactic(auto, unfolding(enc_model::specs::Decode::decoding), using(crate::proofs::Singles::only_state))]
     pub fn feed<S: Sink>(
         &mut self,
@@ -80,7 +80,7 @@ impl AnyDecoder {
         }
     }
 
-    /// The steps of the end. Where the sink refuses, nothing more is said of the state.
+    /// Decodes the end of the bytes. If the sink refuses, nothing is known of the state afterwards.
     #[tactic(auto, unfolding(enc_model::specs::Decode::decoding))]
     pub fn finish<S: Sink>(&mut self, set: &IndexSet, sink: &mut S) -> Result<(), S::Refusal>
         ensures { Given S.takes S.refuses sink.old (decoding (tables set.now) true (decoding_of self.old) []).text
@@ -96,7 +96,7 @@ impl AnyDecoder {
         }
     }
 
-    /// The encoding that it reads.
+    /// The encoding that it decodes.
     pub fn encoding(&self) -> Encoding
         ensures { result ≡ encoding_of (decoding_of self.now) }
     {
@@ -113,7 +113,7 @@ impl AnyDecoder {
         }
     }
 
-    /// Its state as bytes, without the encoding.
+    /// The state as bytes, without the encoding.
     pub fn pack(&self) -> [u8; 4]
         ensures bytes { result ≡ padded 4 (decoder_bytes (decoding_of self.now)) }
         ensures reached { IsReached (decoding_of self.now) }
@@ -128,7 +128,8 @@ impl AnyDecoder {
         }
     }
 
-    /// The decoder that has this state. Bytes that no decoder packs may be read as some other state's.
+    /// The decoder with this state. Bytes that no decoder packs may be taken for another state's; `Transcoder::unpack`
+    /// compares.
     pub fn unpack(encoding: Encoding, bytes: [u8; 4]) -> Option<Self>
         ensures encoding { IfSome result (λ d. IsOwn (decoding_of d) × (encoding_of (decoding_of d) ≡ encoding)) }
         ensures same { (s : Decoding) → IsOwn s → IsReached s → encoding_of s ≡ encoding

@@ -1,18 +1,18 @@
-//! Why a transcoder writes no more.
+//! The errors of a transcoder.
 
 ghost use Rattle.std.specs.Prelude.{◌≡◌};
 
 use enc_encode::EncodeError;
 use std::alloc::AllocError;
 
-/// Why a transcoder wrote no more.
+/// Why a transcoder stopped.
 #[derive(Clone, Copy, Debug, PartialEq, Eq)]
 pub enum TranscodeError {
     /// The output could not grow.
     NoMemory,
-    /// The encoding lacks this character, and the mode is fatal.
+    /// The target encoding lacks this character, and the mode is fatal.
     Unencodable(char),
-    /// A call was refused before, or the end was taken.
+    /// An earlier call was refused, or the end was decoded.
     Spent,
 }
 

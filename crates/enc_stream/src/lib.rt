@@ -1,4 +1,5 @@
-//! A decoder and an encoder as one value, and its state as 32 bytes.
+//! Transcoding: a decoder and an encoder as one value whose state fits 32 bytes, so that an upload's text can go on
+//! after any cut.
 #![tactic(auto)]
 
 mod decoder;

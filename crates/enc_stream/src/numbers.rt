@@ -1,4 +1,4 @@
-//! The numbers of encodings, modes and states in the state bytes.
+//! The numbers of encodings, modes and states in the state bytes. They are part of the spool's format.
 
 ghost use Rattle.std.specs.Prelude.{◌≡◌, Some, MatchOption};
 ghost use Rattle.enc_model.specs.declared.Encoding.{Encoding as Encodings};
@@ -11,14 +11,14 @@ ghost use Rattle.enc_stream.specs.StateBytes.{encoding_number, mode_number, shif
 use enc_encode::ShiftState;
 use enc_model::{Charset, Encoding, Mode};
 
-/// An encoding's number.
+/// The number of the encoding.
 pub fn number_of_encoding(encoding: Encoding) -> u8
     ensures { result ≡ encoding_number encoding }
 {
     encoding as u8
 }
 
-/// The encoding of a number.
+/// The encoding of this number.
 pub fn encoding_at(number: u8) -> Option<Encoding>
     ensures { (e : Encodings) → encoding_number e ≡ number → result ≡ Some e }
 {
@@ -48,14 +48,14 @@ pub fn encoding_at(number: u8) -> Option<Encoding>
     })
 }
 
-/// A mode's number.
+/// The number of the mode.
 pub fn number_of_mode(mode: Mode) -> u8
     ensures { result ≡ mode_number mode }
 {
     mode as u8
 }
 
-/// The mode of a number.
+/// The mode of this number.
 pub fn mode_at(number: u8) -> Option<Mode>
     ensures { (m : Modes) → mode_number m ≡ number → result ≡ Some m }
 {
@@ -66,14 +66,14 @@ pub fn mode_at(number: u8) -> Option<Mode>
     }
 }
 
-/// The number of an encoder's state.
+/// The number of the encoder's state.
 pub fn number_of_shift(shift: ShiftState) -> u8
     ensures { result ≡ shift_number (shift_of shift) }
 {
     shift as u8
 }
 
-/// The encoder's state of a number.
+/// The encoder's state of this number.
 pub fn shift_at(number: u8) -> Option<ShiftState>
     ensures { (s : Shift) → shift_number s ≡ number → MatchOption result ⊥ (λ state. shift_of state ≡ s) }
 {
@@ -85,14 +85,14 @@ pub fn shift_at(number: u8) -> Option<ShiftState>
     }
 }
 
-/// The number of a set of characters.
+/// The number of the character set.
 pub fn number_of_charset(set: Charset) -> u8
     ensures { result ≡ charset_number set }
 {
     set as u8
 }
 
-/// The set of characters of a number.
+/// The character set of this number.
 pub fn charset_at(number: u8) -> Option<Charset>
     ensures { (s : Charsets) → charset_number s ≡ number → result ≡ Some s }
 {

@@ -1,12 +1,12 @@
-//! How far a transcoder has come.
+//! The progress of a transcoder.
 
 /// How far a transcoder has come.
 #[derive(Clone, Copy, Debug, PartialEq, Eq, Drop)]
 pub enum Progress {
-    /// A BOM may still come: all bytes so far are held, and they are so many.
+    /// A BOM may still come. This many bytes arrived and are held.
     Holding(usize),
-    /// It decodes.
+    /// The encoding is known, and bytes are decoded.
     Decoding,
-    /// It has read the end.
+    /// The end was decoded.
     Ended,
 }

@@ -1,4 +1,4 @@
-//! The sniffing of a BOM, over pieces.
+//! BOM sniffing over pieces (Encoding Standard, section 6).
 
 ghost use Rattle.std.specs.Prelude.{◌≡◌, ◌∷◌, [], ℕ, List, true, MatchOption};
 ghost use Rattle.enc_model.specs.Decode.{undecided};
@@ -7,7 +7,7 @@ ghost use Rattle.enc_stream.specs.StateBytes.{counted, padded};
 
 use enc_model::Encoding;
 
-/// The bytes that were read while a BOM may still come.
+/// The bytes that are held because they may become a BOM.
 #[derive(Clone, Copy, Debug, PartialEq, Eq)]
 pub enum Held {
     Nothing,
@@ -17,14 +17,14 @@ pub enum Held {
     Ff,
 }
 
-/// What held bytes and a piece after them are.
+/// What held bytes and a further piece turn out to be.
 #[derive(Clone, Copy, Debug, PartialEq, Eq)]
 pub enum Sniffed {
-    /// A BOM may still come.
+    /// They may still become a BOM.
     Still(Held),
-    /// The BOM of this encoding, which ends after so many bytes of the piece.
+    /// The BOM of this encoding. It ends after this many bytes of the piece.
     Bom(Encoding, usize),
-    /// No BOM.
+    /// Not a BOM.
     Plain,
 }
 
@@ -41,7 +41,7 @@ pub fn bytes_of(held: Held) -> &'static [u8]
     }
 }
 
-/// The count of the held bytes, and these.
+/// The count of the held bytes, and the bytes.
 pub fn held_packed(held: Held) -> [u8; 5]
     ensures { result ≡ padded 5 (counted (held_bytes held)) }
 {
@@ -54,7 +54,7 @@ pub fn held_packed(held: Held) -> [u8; 5]
     }
 }
 
-/// The held bytes of this count.
+/// The held bytes with this count.
 pub fn held_at(count: u8, first: u8, second: u8) -> Option<Held>
     ensures { (bytes : List ℕ) → undecided bytes ≡ true → padded 3 (counted bytes) ≡ count ∷ first ∷ second ∷ []
         → MatchOption result ⊥ (λ held. held_bytes held ≡ bytes) }
@@ -69,7 +69,7 @@ pub fn held_at(count: u8, first: u8, second: u8) -> Option<Held>
     }
 }
 
-/// Sniffs a piece after no byte.
+/// Sniffs a piece when nothing is held.
 fn sniff_first(piece: &[u8]) -> Sniffed
     ensures { Sniffs Held.Nothing piece.now result }
 {
@@ -86,7 +86,7 @@ fn sniff_first(piece: &[u8]) -> Sniffed
     }
 }
 
-/// Sniffs a piece after EF.
+/// Sniffs a piece when EF is held.
 fn sniff_second(piece: &[u8]) -> Sniffed
     ensures { Sniffs Held.Ef piece.now result }
 {
@@ -98,7 +98,7 @@ fn sniff_second(piece: &[u8]) -> Sniffed
     }
 }
 
-/// Sniffs a piece after what a BOM lacks one byte of.
+/// Sniffs a piece when a BOM lacks one byte.
 fn sniff_last(held: Held, last: u8, encoding: Encoding, piece: &[u8]) -> Sniffed
     requires { LacksOne held last encoding }
     ensures { Sniffs held piece.now result }
@@ -110,7 +110,7 @@ fn sniff_last(held: Held, last: u8, encoding: Encoding, piece: &[u8]) -> Sniffed
     }
 }
 
-/// Sniffs a piece after held bytes.
+/// Sniffs a piece after the held bytes.
 pub fn sniff(held: Held, piece: &[u8]) -> Sniffed
     ensures { Sniffs held piece.now result }
 {

@@ -1,4 +1,4 @@
-//! Decoding with the sniffing of a BOM, over pieces.
+//! Decoding over pieces, which begins with BOM sniffing.
 
 ghost use Rattle.std.specs.Prelude.{◌≡◌, ◌++◌, ◌↔◌, IfOk, IsTrue, false};
 ghost use Rattle.enc_model.specs.Decode.{decoding, decoding_start};
@@ -17,7 +17,7 @@ use crate::sniff::{Held, Sniffed, bytes_of, held_at, held_packed, sniff};
 use enc_index::IndexSet;
 use enc_model::{Encoding, Sink};
 
-/// Where a transcoder stands.
+/// The stage of a transcoder.
 #[derive(Drop)]
 pub enum Stage {
     /// A BOM may still come.
@@ -37,7 +37,7 @@ impl Stage {
     ghost use Rattle.enc_stream.specs.Progress.{progress_of};
     ghost use Rattle.enc_stream.specs.StateBytes.{IsPhaseOf, IsReachedIn, phase_number, phase_bytes, padded};
 
-    /// The same stage once more.
+    /// A copy of the stage.
     pub fn copy(&self) -> Self
         ensures phase { phase_at result ≡ phase_at self.now }
         ensures spent { is_spent_at result ≡ is_spent_at self.now }
@@ -72,7 +72,7 @@ impl Stage {
         }
     }
 
-    /// What it keeps, as bytes.
+    /// The state of the stage as bytes.
     pub fn pack(&self) -> [u8; 5]
         ensures bytes { result ≡ padded 5 (phase_bytes (phase_at self.now)) }
         ensures reached { IsReachedIn (phase_at self.now) }
@@ -88,7 +88,8 @@ impl Stage {
         }
     }
 
-    /// The stage of this phase that keeps this. Bytes that no stage packs may be read as some other's.
+    /// The stage of this phase with this state. Bytes that no stage packs may be taken for another's;
+    /// `Transcoder::unpack` compares.
     pub fn unpack(from: Encoding, phase: u8, kept: [u8; 5]) -> Option<Self>
         ensures fits { IfSome result (λ stage. IsPhaseOf from (phase_at stage) × (is_spent_at stage ≡ false)) }
         ensures same { (p : Phase) → IsPhaseOf from p → IsReachedIn p → phase_number p ≡ phase
@@ -112,7 +113,7 @@ impl Stage {
     }
 }
 
-/// Whether the encoding in effect may be this one: the source's, or that of a BOM.
+/// Whether this may be the encoding in effect: the one of the label, or the one of a BOM.
 fn is_in_effect(from: Encoding, encoding: Encoding) -> bool
     ensures { IsTrue result ↔ IsInEffect from encoding }
 {
@@ -123,7 +124,7 @@ fn is_in_effect(from: Encoding, encoding: Encoding) -> bool
         )
 }
 
-/// Decodes the first bytes of an encoding.
+/// Decodes the first piece after a BOM.
 fn begin<S: Sink>(
     encoding: Encoding,
     set: &IndexSet,
@@ -140,7 +141,7 @@ fn begin<S: Sink>(
     Ok(decoder)
 }
 
-/// Decodes held bytes that are no BOM, and a piece after them.
+/// Decodes held bytes that aren't a BOM, and the piece after them.
 fn begin_plain<S: Sink>(
     from: Encoding,
     held: Held,
@@ -159,7 +160,7 @@ fn begin_plain<S: Sink>(
     Ok(decoder)
 }
 
-/// Sniffs a piece after held bytes, and decodes what is no BOM.
+/// Sniffs a piece after held bytes, and decodes it once the encoding is known.
 fn decide<S: Sink>(
     from: Encoding,
     held: Held,
@@ -186,7 +187,7 @@ fn decide<S: Sink>(
     }
 }
 
-/// Decodes a piece, from any stage but the last two.
+/// Decodes a piece. The stage is neither `Over` nor `Spent`.
 #[tactic(auto, unfolding(enc_model::specs::Transcode::fed))]
 pub fn go_on<S: Sink>(
     stage: Stage,
@@ -212,7 +213,7 @@ pub fn go_on<S: Sink>(
     }
 }
 
-/// Decodes held bytes that are all there is, and the end.
+/// Decodes held bytes as the whole input, and the end.
 fn conclude_held<S: Sink>(
     from: Encoding,
     held: Held,
@@ -226,7 +227,7 @@ fn conclude_held<S: Sink>(
     decoder.finish(set, sink)
 }
 
-/// Decodes the end, from any stage but the last two.
+/// Decodes the end. The stage is neither `Over` nor `Spent`.
 #[tactic(auto, unfolding(enc_model::specs::Transcode::fed_end))]
 pub fn conclude<S: Sink>(
     stage: Stage,

@@ -14,7 +14,7 @@ use enc_legacy::{EucJpState, Iso2022State, ShiftJisState};
 use enc_model::{Charset, Introducer, Place};
 use enc_unicode::{Order, Utf8State, Utf16State};
 
-/// How many bytes are kept, and these.
+/// The count of the bytes of an unfinished character, and the bytes.
 pub fn utf8_bytes(state: &Utf8State) -> [u8; 4]
     ensures bytes { result ≡ padded 4 (decoder_bytes (OfUtf8 state.now)) }
     ensures reached { IsReached (OfUtf8 state.now) }
@@ -42,7 +42,7 @@ pub fn utf8_at(bytes: [u8; 4]) -> Option<Utf8State>
     }
 }
 
-/// 1 for a byte that is kept and 2 for a lead surrogate; the byte; the lead, the higher byte first.
+/// 1 for an odd byte plus 2 for a lead surrogate; the byte; the surrogate, its high byte first.
 pub fn utf16_bytes(state: &Utf16State) -> [u8; 4]
     ensures bytes { result ≡ padded 4 (decoder_bytes (OfUtf16 state.now.big state.now.state)) }
     ensures reached { IsReached (OfUtf16 state.now.big state.now.state) }
@@ -76,7 +76,7 @@ pub fn utf16_at(order: Order, bytes: [u8; 4]) -> Option<Utf16State>
     }
 }
 
-/// The state of this lead.
+/// The state after this lead byte, or after none.
 pub fn shift_jis_at(lead: u8) -> Option<ShiftJisState>
     ensures { IsShiftJisState lead → result ≡ Some lead }
 {
@@ -86,7 +86,7 @@ pub fn shift_jis_at(lead: u8) -> Option<ShiftJisState>
     }
 }
 
-/// The lead, and 1 where the flag is set.
+/// The lead byte, and 1 if the flag is set.
 pub fn euc_jp_bytes(state: &EucJpState) -> [u8; 4]
     ensures bytes { result ≡ padded 4 (decoder_bytes (OfEucJp state.now)) }
     ensures reached { IsReached (OfEucJp state.now) }
@@ -95,7 +95,7 @@ pub fn euc_jp_bytes(state: &EucJpState) -> [u8; 4]
     [lead, flag as u8, 0, 0]
 }
 
-/// The state of this lead and flag.
+/// The state with this lead byte and flag.
 pub fn euc_jp_at(lead: u8, flag: u8) -> Option<EucJpState>
     ensures { (s : EucJp) → IsReached (OfEucJp s) → padded 4 (decoder_bytes (OfEucJp s)) ≡ lead ∷ flag ∷ 0 ∷ 0 ∷ []
         → result ≡ Some s }
@@ -107,7 +107,7 @@ pub fn euc_jp_at(lead: u8, flag: u8) -> Option<EucJpState>
     }
 }
 
-/// Where it stands, the output state, the byte that is kept and 1 where the flag is set.
+/// The place, the output state, the lead byte, and 1 if the flag is set.
 pub fn iso2022_bytes(state: &Iso2022State) -> [u8; 4]
     ensures bytes { result ≡ padded 4 (decoder_bytes (OfIso2022 state.now)) }
     ensures reached { IsReached (OfIso2022 state.now) }

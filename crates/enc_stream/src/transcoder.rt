@@ -27,8 +27,8 @@ use enc_model::{Encoding, Mode};
 use std::marker::Model;
 use std::mem;
 
-/// A decoder and an encoder as one value: bytes in one encoding in, in any pieces, and the bytes of the same text in
-/// another out.
+/// A decoder and an encoder as one value. It takes the bytes of a text in one encoding, in any pieces, and gives the
+/// bytes of the same text in another.
 #[derive(Drop)]
 pub struct Transcoder {
     from: Encoding,
@@ -69,7 +69,7 @@ impl Model for Transcoder {
         }) };
 }
 
-/// The encoder of an output encoding, a mode and a state, each by its number.
+/// The encoder with this output encoding, mode and state, each given by its number.
 fn encoder_at(to: u8, mode: u8, shift: u8) -> Option<Encoder>
     ensures output { IfSome result (λ e. IsOutput e.to) }
     ensures same { (e : EncoderState) → IsOutput e.to → encoding_number e.to ≡ to → mode_number e.mode ≡ mode
@@ -82,8 +82,7 @@ fn encoder_at(to: u8, mode: u8, shift: u8) -> Option<Encoder>
     Some(Encoder::resume(to, mode_at(mode)?, shift_at(shift)?))
 }
 
-/// Whether an encoder may stand there in this stage: only while text is decoded to ISO-2022-JP in another state than
-/// ASCII.
+/// Whether the encoder may be in this state: outside ASCII only while it encodes ISO-2022-JP.
 fn is_encoder_in(stage: &Stage, encoder: Encoder) -> bool
     ensures { IsTrue result ↔ IsShiftIn (phase_at stage.now) encoder.to encoder.shift }
 {
@@ -92,8 +91,8 @@ fn is_encoder_in(stage: &Stage, encoder: Encoder) -> bool
 }
 
 impl Transcoder {
-    /// A transcoder that has read nothing. `to` is an output encoding, as 'get an output encoding' of the Encoding
-    /// Standard gives it (section 4.3): UTF-16 is none.
+    /// A transcoder that has read nothing. `to` is an output encoding (Encoding Standard, section 4.3), which UTF-16
+    /// isn't.
     pub fn new(from: Encoding, to: Encoding, mode: Mode) -> Self
         requires { IsOutput to }
         ensures value { result ≡ start from to mode }
@@ -106,7 +105,8 @@ impl Transcoder {
         }
     }
 
-    /// A transcoder after the end of a text without bytes, as `new` and then `finish` make it.
+    /// A transcoder after the end of an empty text, as `new` and `finish` make it. An upload of length 0 begins with
+    /// it.
     pub fn ended(from: Encoding, to: Encoding, mode: Mode) -> Self
         requires { IsOutput to }
         ensures { result ≡ finished (start from to mode) }
@@ -119,7 +119,7 @@ impl Transcoder {
         }
     }
 
-    /// The same transcoder once more. It takes no memory.
+    /// A copy of the transcoder. It allocates nothing.
     pub fn copy(&self) -> Self
         ensures { result ≡ self.now }
     {
@@ -130,62 +130,62 @@ impl Transcoder {
         }
     }
 
-    /// The encoding that its bytes are in, by their label.
+    /// The encoding of its bytes by their label. A BOM may put another one in effect.
     pub fn from(&self) -> Encoding
         ensures { result ≡ self.now.transcoder.from }
     {
         self.from
     }
 
-    /// The encoding that it writes.
+    /// The encoding of its text.
     pub fn to(&self) -> Encoding
         ensures { result ≡ self.now.transcoder.to }
     {
         self.encoder.to()
     }
 
-    /// What it does with a character that the written encoding lacks.
+    /// The error mode for characters that `to` lacks.
     pub fn mode(&self) -> Mode
         ensures { result ≡ self.now.transcoder.mode }
     {
         self.encoder.mode()
     }
 
-    /// Whether a refusal, `NoMemory` or `Unencodable`, spent it. After the end it is not spent.
+    /// Whether a refusal, `NoMemory` or `Unencodable`, spent it. The end doesn't.
     pub fn is_spent(&self) -> bool
         ensures { result ≡ self.now.spent }
     {
         matches!(self.stage, Stage::Spent)
     }
 
-    /// How far it has come. A spent one is told as after the end.
+    /// How far it has come. A spent one is reported as ended.
     pub fn progress(&self) -> Progress
         ensures { result ≡ progress_of self.now.transcoder.phase }
     {
         self.stage.progress()
     }
 
-    /// Whether it takes no more.
+    /// Whether it takes no more bytes.
     fn is_done(&self) -> bool
         ensures { result ≡ is_done self.now }
     {
         matches!(self.stage, Stage::Over | Stage::Spent)
     }
 
-    /// Its 32 state bytes, of which `unpack` makes it again. Their form is the gateway's own:
+    /// Its 32 state bytes, from which `unpack` makes it again. Their form is the gateway's own:
     ///
     /// - 0, 1, 2: the numbers of the source encoding and the output encoding, 0 to 20 in the order of `Encoding`; the
-    ///   mode, 0 for html and 1 for fatal.
+    /// mode, 0 for html and 1 for fatal.
     /// - 3: 0 before a BOM is decided, 1 from then on, 2 after the end.
-    /// - 4 on, before the BOM is decided: how many bytes are held, and these.
-    /// - 4, from then on: the number of the encoding in effect. 5 on, its decoder's state. UTF-8: how many bytes are
-    ///   kept, and these. UTF-16: 1 for a byte that is kept plus 2 for a lead surrogate; the byte; the lead, the higher
-    ///   byte first. Shift_JIS: the lead or 0. EUC-JP: the lead or 0; 1 where it is one of jis0212. ISO-2022-JP: 0 to 3
-    ///   for the sets ASCII, Roman, katakana and jis0208, 4 after a lead, 5 after 1B and 6 after one byte more; the
-    ///   output state, 0 to 3; the byte that is kept or 0; the flag.
+    /// - 4 on, before the BOM is decided: the count of held bytes, and the bytes.
+    /// - 4, from then on: the number of the encoding in effect. 5 on: the state of its decoder. UTF-8: the count of
+    /// bytes of an unfinished character, and the bytes. UTF-16: 1 for an odd byte plus 2 for a lead surrogate; the
+    /// byte; the surrogate, high byte first. Shift_JIS: the lead or 0. EUC-JP: the lead or 0; 1 if it is one of
+    /// jis0212. ISO-2022-JP: 0 to 3 for the sets ASCII, Roman, katakana and jis0208, 4 after a lead, 5 after 1B and 6
+    /// after one more byte; the output state, 0 to 3; the lead or 0; the flag.
     /// - 16: the encoder's state, 0 for ASCII, 1 for Roman, 2 for jis0208.
     ///
-    /// All others are 0. It takes no memory.
+    /// All others are 0.
     pub fn pack(&self) -> [u8; 32]
         requires { self.now.spent ≡ false }
         ensures bytes { result ≡ state_bytes self.now.transcoder }
@@ -206,7 +206,7 @@ impl Transcoder {
         bytes
     }
 
-    /// The transcoder whose state bytes these are, where they are any's. Bytes of none may be read as some other's.
+    /// The transcoder with these state bytes. Bytes of no state may be taken for another's.
     fn read(bytes: &[u8; 32]) -> Option<Self>
         ensures ready { IfSome result (λ t. t.spent ≡ false) }
         ensures same { (s : State) → IsValid s → state_bytes s ≡ bytes.now → result ≡ Some (standing s) }
@@ -236,8 +236,7 @@ impl Transcoder {
         })
     }
 
-    /// The transcoder of these state bytes, or None where they are those of none: each state has one spelling. It takes
-    /// no memory.
+    /// The transcoder with these state bytes, or None if no transcoder has them. Each state has exactly one spelling.
     pub fn unpack(bytes: &[u8; 32]) -> Option<Self>
         ensures unpacked { MatchOption result ((s : State) → IsValid s → state_bytes s ≢ bytes.now)
             (λ t. (t.spent ≡ false) × IsValid t.transcoder × (state_bytes t.transcoder ≡ bytes.now)) }
@@ -251,14 +250,14 @@ impl Transcoder {
         }
     }
 
-    /// Takes a piece: decodes it (Encoding Standard, sections 4 and 6, with the sniffing of a BOM) and appends its code
-    /// to `out`. What is incomplete waits for the next piece or the end. `set` is the index set of all calls.
+    /// Decodes a piece (Encoding Standard, sections 4 and 6) and appends the encoded text to `out`. An unfinished
+    /// character waits for the next piece or the end. All calls have to be given the same index set.
     ///
     /// # Errors
     ///
-    /// `Spent` where a call was refused before or the end was taken; nothing changes then. `NoMemory` where `out` had
-    /// no room and could not grow, `Unencodable(c)` for the first code point without a code in fatal mode; `out` has
-    /// then grown by a prefix of what was to come, and the transcoder is spent.
+    /// `Spent` if an earlier call was refused or the end was decoded; nothing changes. `NoMemory` if `out` had no room
+    /// and could not grow. `Unencodable(c)` for the first unmappable code point in fatal mode. After these two `out`
+    /// has grown by a prefix of the text, and the transcoder is spent.
     pub fn feed(
         &mut self,
         set: &IndexSet,
@@ -287,11 +286,11 @@ impl Transcoder {
         Ok(())
     }
 
-    /// Takes the end: what is incomplete is decoded as an error, and the encoder's closing bytes are appended.
+    /// Decodes the end: an unfinished character is an error, and the encoder's final bytes are appended.
     ///
     /// # Errors
     ///
-    /// As `feed`. After an `Ok` each call answers `Spent`.
+    /// Those of `feed`. After an `Ok` every call answers `Spent`.
     pub fn finish(&mut self, set: &IndexSet, out: &mut Vec<u8>) -> Result<(), TranscodeError>
         ensures spent { IsErrOf result TranscodeError.Spent ↔ IsTrue (is_done self.old) }
         ensures added { OnOk result

@@ -1,4 +1,4 @@
-//! The code of what is decoded.
+//! Encoding what is decoded.
 
 ghost use Rattle.std.specs.Prelude.{◌≡◌, ◌<◌, ◌≤◌, false, OnOk, IfOk, IfErr, vec_capacity};
 ghost use Rattle.enc_encode.specs.State.{shifted, code_from};
@@ -15,7 +15,8 @@ use enc_index::IndexSet;
 use enc_model::Encoding;
 use std::mem;
 
-/// Decodes a piece, from any stage but the last two, and appends its code: the next stage, and the encoder after it.
+/// Decodes a piece and appends its encoded text. The stage is neither `Over` nor `Spent`. Returns the next stage and
+/// the encoder.
 #[tactic(auto, using(crate::proofs::Refusals::sink_wrote))]
 pub fn transcode(
     stage: Stage,
@@ -45,7 +46,7 @@ pub fn transcode(
     Ok((outcome?, encoder))
 }
 
-/// Decodes the end, from any stage but the last two, and appends its code: the encoder after it.
+/// Decodes the end and appends its encoded text, without the encoder's final bytes. Returns the encoder.
 #[tactic(auto, using(crate::proofs::Refusals::sink_wrote))]
 fn transcode_end(
     stage: Stage,
@@ -72,8 +73,7 @@ fn transcode_end(
     Ok(encoder)
 }
 
-/// Decodes the end, from any stage but the last two, and appends its code and the bytes of the end: the encoder after
-/// it.
+/// Decodes the end, and appends its encoded text and the encoder's final bytes. Returns the encoder.
 #[tactic(auto, using(crate::proofs::Ends::end_written, crate::proofs::Ends::stopped_before))]
 pub fn write_end(
     stage: Stage,

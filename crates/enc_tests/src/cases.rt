@@ -1,4 +1,4 @@
-//! Lines of test cases: labels, modes, and bytes in hexadecimal.
+//! Parsers for lines of test cases, which have labels, modes, and bytes in hexadecimal.
 
 use enc_labels::encoding_of;
 use enc_model::{Encoding, Mode};
@@ -13,7 +13,7 @@ fn digit(rt: &impl Abort, byte: u8) -> u8 {
     value as u8
 }
 
-/// Bytes that are written in hexadecimal.
+/// The bytes that `hex` encodes.
 pub fn bytes_of(rt: &impl Abort, alloc: Global, hex: &str) -> Vec<u8> {
     let mut bytes = Vec::new(alloc);
     let digits = hex.as_bytes();
@@ -26,7 +26,7 @@ pub fn bytes_of(rt: &impl Abort, alloc: Global, hex: &str) -> Vec<u8> {
     bytes
 }
 
-/// A line's first word, and what is after it.
+/// The first word of a line, and the rest.
 pub fn word<'a>(rt: &impl Abort, line: &'a str) -> (&'a str, &'a str) {
     line.split_once(' ').expect(rt, "two words")
 }

@@ -1,4 +1,4 @@
-//! Index files and look-ups at worked examples.
+//! Index files and look-ups in worked examples.
 
 use enc_index::{Index, Kind, ReadError};
 use enc_model::Encoding;

@@ -1,4 +1,4 @@
-//! The kernels against loops that take a byte or a unit at a time.
+//! The kernels compared with loops that take a byte or a unit at a time.
 
 ghost use Rattle.std.specs.Prelude.{◌≤◌};
 
@@ -7,7 +7,7 @@ use lane_kernels::{
 };
 use std::process::Abort;
 
-/// The longest prefix below 80 without some, a byte at a time.
+/// The length of the longest prefix of bytes below 80 (hexadecimal) without those of `without`, a byte at a time.
 fn slow_prefix(bytes: &[u8], without: &[u8]) -> usize {
     for i in 0..bytes.len() {
         let byte = bytes[i];
@@ -18,7 +18,7 @@ fn slow_prefix(bytes: &[u8], without: &[u8]) -> usize {
     bytes.len()
 }
 
-/// The longest prefix from the lowest to the highest, a byte at a time.
+/// The length of the longest prefix of bytes from `lo` to `hi`, a byte at a time.
 fn slow_range(bytes: &[u8], lo: u8, hi: u8) -> usize {
     for i in 0..bytes.len() {
         if bytes[i] < lo || hi < bytes[i] {
@@ -30,7 +30,7 @@ fn slow_range(bytes: &[u8], lo: u8, hi: u8) -> usize {
 
 const PLACES: [usize; 14] = [0, 1, 30, 31, 32, 33, 63, 64, 100, 127, 128, 198, 199, 200];
 
-/// Bytes of one value, with another at a place, where that is in range.
+/// 200 bytes of one value, with another value at `place` if it is in range.
 fn filled(fill: u8, place: usize, stop: u8) -> [u8; 200] {
     let mut bytes = [fill; 200];
     if place < 200 {
@@ -63,7 +63,8 @@ fn prefixes(rt: HostRuntime) {
 
 #[test]
 fn ranges(rt: HostRuntime) {
-    // the lowest and the highest byte, one of them, and one that is first past them or in an empty range
+    // Each row: a range, a byte within it, and one outside it. The range of all bytes has none outside, and the last
+    // range is empty.
     for (lo, hi, fill, stop) in [
         (0xA1, 0xFE, 0xA1, 0xA0),
         (0xA1, 0xFE, 0xFE, 0xFF),
@@ -86,7 +87,7 @@ fn ranges(rt: HostRuntime) {
     }
 }
 
-/// The units below 80 at the start as bytes, one at a time.
+/// Writes the units below 80 (hexadecimal) at the start as bytes, one at a time, and returns how many.
 fn slow_narrow(units: &[u16], out: &mut [u8]) -> usize {
     for i in 0..units.len() {
         if i >= out.len() || units[i] >= 0x80 {
@@ -124,10 +125,10 @@ fn narrowing(rt: HostRuntime) {
     }
 }
 
-/// The byte that is left over of a block after a carried one.
+/// The byte that is left over at the end of a block after a carried one.
 const LEFT: u8 = 0x7F;
 
-/// The bytes of 32 units, after the first one where that is carried.
+/// The bytes of 32 units. If one is carried, the first byte comes apart, and the block ends with `LEFT`.
 fn bytes_of_units(order: Order, units: &[u16; 32], is_carried: bool) -> (Option<u8>, [u8; 64]) {
     let mut bytes = [LEFT; 65];
     for i in 0..32 {
@@ -153,8 +154,9 @@ fn bytes_of_units(order: Order, units: &[u16; 32], is_carried: bool) -> (Option<
     }
 }
 
-/// A block of these units, after a carried lead D83D or after none, is paired, and this lead is carried on, or it
-/// isn't, and what is carried stays. A byte is carried, or none.
+/// Checks a block of these units in both orders, with and without a carried byte, after a carried lead D83D if
+/// `carries` is true. If `paired` is given, the block is accepted, and this is the lead that is carried afterwards.
+/// Otherwise it is refused, and what is carried doesn't change.
 fn is_paired(rt: &impl Abort, units: &[u16; 32], carries: bool, paired: Option<Option<u16>>) {
     for (order, is_carried) in [
         (Order::Big, false),
@@ -178,8 +180,9 @@ fn is_paired(rt: &impl Abort, units: &[u16; 32], carries: bool, paired: Option<O
     }
 }
 
-/// A lead at each place, a trail, and both, after a carried lead and after none, in both orders, with a byte that is
-/// carried and without: only a trail follows a lead, which may be the carried one, and a trail follows nothing else.
+/// A lead at each place, a trail, and both, after a carried lead and after none. A block is accepted only if each lead
+/// is followed by a trail, and each trail follows a lead; the first trail may follow the carried lead, and the last
+/// lead is carried.
 #[test]
 fn surrogates_at_each_place_of_a_block(rt: HostRuntime) {
     for place in 0..32usize {

@@ -1,4 +1,4 @@
-//! The labels, as the Encoding Standard's table has them.
+//! The labels of the Encoding Standard's table (section 4.2).
 
 use enc_labels::{encoding_of, name_of, output_of};
 use enc_model::Encoding;
@@ -67,7 +67,7 @@ fn every_label(rt: HostRuntime) {
     assert_eq!(rt; labels, 114);
 }
 
-/// Labels with whitespace or large letters, and what is none.
+/// Labels with whitespace or capital letters, and words that are no labels.
 static OTHERS: [(&[u8], Option<Encoding>); 6] = [
     (b"\t Latin1\n", Some(Encoding::Windows1252)),
     (b"\r\x0CUTF-8 ", Some(Encoding::Utf8)),

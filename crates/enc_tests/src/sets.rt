@@ -6,7 +6,7 @@ use enc_model::Encoding;
 use std::alloc::Global;
 use std::process::Abort;
 
-/// The set of these files, a kind and its lines each.
+/// The set of these files, each with its kind and its lines.
 pub fn set_of(rt: &impl Abort, alloc: Global, files: &[(Kind, &str)]) -> IndexSet {
     let mut set = IndexSet::new(alloc).expect(rt, "memory");
     for (kind, lines) in files {
@@ -15,7 +15,7 @@ pub fn set_of(rt: &impl Abort, alloc: Global, files: &[(Kind, &str)]) -> IndexSe
     set
 }
 
-/// The lines of the index file with these code points at its pointers.
+/// The lines of an index file. `codes` has the code point at each pointer, and 0000 at a pointer without one.
 fn lines_of(rt: &impl Abort, alloc: Global, codes: &str) -> Vec<u8> {
     let mut lines = Vec::new(alloc);
     for (pointer, code) in codes.split_whitespace().enumerate() {
@@ -29,7 +29,7 @@ fn lines_of(rt: &impl Abort, alloc: Global, codes: &str) -> Vec<u8> {
     lines
 }
 
-/// The set of all files.
+/// The set of all index files.
 pub fn all_files(rt: &impl Abort, alloc: Global) -> IndexSet {
     let files = [
         (Kind::Jis0208, JIS0208),
@@ -59,7 +59,7 @@ pub fn all_files(rt: &impl Abort, alloc: Global) -> IndexSet {
     set
 }
 
-/// What the worked examples need of the index files.
+/// The entries of the index files that the worked examples need.
 pub fn few_pairs(rt: &impl Abort, alloc: Global) -> IndexSet {
     let jis0208 =
         "0\t3000\n2\t3002\n60\tFF0D\n283\t3042\n1410\t4E9C\n3569\t65E5\n4007\t672C\n8272\t7E8A\n10744\t7E8A\n";

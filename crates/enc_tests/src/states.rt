@@ -1,4 +1,4 @@
-//! A transcoder's state bytes.
+//! The state bytes of a transcoder.
 
 use crate::cases::{between, bytes_of, word};
 use crate::sets::few_pairs;
@@ -8,7 +8,7 @@ use enc_stream::Transcoder;
 use std::alloc::Global;
 use std::process::Abort;
 
-/// The state bytes that begin with these, zeros after them.
+/// 32 state bytes: `prefix`, then zeros.
 fn with_zeros(prefix: &[u8]) -> [u8; 32] {
     let mut bytes = [0; 32];
     for (place, byte) in bytes.iter_mut().zip(prefix.iter()) {
@@ -17,7 +17,8 @@ fn with_zeros(prefix: &[u8]) -> [u8; 32] {
     bytes
 }
 
-/// Packs after a piece, and goes on from the bytes to the text of all.
+/// Checks the state bytes after a first piece. A transcoder that is unpacked from them takes the second piece, and the
+/// text of both is as wanted.
 fn goes_on(rt: &impl Abort, alloc: Global, set: &IndexSet, mut first: Transcoder, line: &str) {
     let (prefix, rest) = word(rt, line);
     let (state, rest) = word(rt, rest);
@@ -37,7 +38,7 @@ fn goes_on(rt: &impl Abort, alloc: Global, set: &IndexSet, mut first: Transcoder
     assert!(rt; next.pack()[3] == 2);
 }
 
-/// On each line two encodings, a piece, the state bytes after it, another piece, and the text of both.
+/// Each line: two encodings, a piece, the state bytes after it, another piece, and the text of both.
 const STATES: &str = "\
 UTF-8 UTF-8 EFBB 0000000002EFBB BF41 41
 UTF-8 UTF-8 F09F98 000000010003F09F98 80 F09F9880
@@ -64,34 +65,36 @@ fn state_bytes_after_a_piece(rt: HostRuntime) {
 #[test]
 fn state_bytes_of_no_state(rt: HostRuntime) {
     let none: [&[u8]; 23] = [
-        // numbers of nothing, and UTF-16 as the output
+        // numbers that don't exist, and UTF-16 as the output
         &[21],
         &[0, 1],
         &[0, 0, 2],
         &[0, 0, 0, 3],
-        // held bytes that are no BOM's
+        // held bytes that aren't a proper prefix of a byte order mark
         &[0, 0, 0, 0, 1, 0x41],
         &[0, 0, 0, 0, 3, 0xEF, 0xBB, 0xBF],
-        // something after the end
+        // an encoding in effect after the end
         &[0, 0, 0, 2, 1],
-        // an encoding in effect that is neither the source's nor a BOM's
+        // an encoding in effect that is neither the source's nor a byte order mark's
         &[0, 0, 0, 1, 3],
-        // no prefix of a character
+        // bytes that aren't a proper prefix of a character
         &[0, 0, 0, 1, 0, 2, 0xE0, 0x80],
         &[0, 0, 0, 1, 0, 4, 0xF0, 0x9F, 0x98, 0x80],
         &[0, 0, 0, 1, 0, 0, 0x80],
-        // a lead that is no surrogate, and one that isn't said to be kept
+        // UTF-16: a lead that is no lead surrogate, and a lead whose flag is missing
         &[2, 0, 0, 1, 2, 2, 0, 0xDC, 0],
         &[2, 0, 0, 1, 2, 0, 0, 0xD8, 0],
-        // a lead of no character, and a flag without a lead
+        // Shift_JIS and EUC-JP: a byte that is no lead byte, and a jis0212 flag without a lead or with one that
+        // excludes it
         &[3, 0, 0, 1, 3, 0xA0],
         &[4, 0, 0, 1, 4, 0, 1],
         &[4, 0, 0, 1, 4, 0x8E, 1],
         &[4, 0, 0, 1, 4, 0x8F, 1],
-        // an output state that isn't the set, and a flag after a lead
+        // ISO-2022-JP: a state that doesn't match its output state, and an output flag after a lead byte
         &[5, 0, 0, 1, 5, 3, 0, 0, 0],
         &[5, 0, 0, 1, 5, 4, 3, 0x24, 1],
-        // an encoder's state that UTF-8 lacks, and one before and after decoding, and one that is none
+        // an encoder state for UTF-8, which has none; one before decoding and one after the end; and one that doesn't
+        // exist
         &[0, 0, 0, 1, 0, 0, 0, 0, 0, 0, 0, 0, 0, 0, 0, 0, 1],
         &[0, 5, 0, 0, 0, 0, 0, 0, 0, 0, 0, 0, 0, 0, 0, 0, 2],
         &[0, 5, 0, 2, 0, 0, 0, 0, 0, 0, 0, 0, 0, 0, 0, 0, 1],

@@ -1,9 +1,9 @@
 //! Strings that encoding_rs 0.8.31, another implementation of the Encoding Standard, decoded and encoded.
 
-/// On each line a direction, a label, bytes and bytes, which are hexadecimal: `decode` of the first gives the second in
-/// UTF-8, `encode` of the first, which is UTF-8, the second, with a reference for each character that the encoding
-/// lacks. Made by `tools/strings` with the seed 20261125, and folded here: of the twelve that are decoded in each
-/// encoding four begin with a byte order mark or with a part of one.
+/// Each line: a direction, a label, and two byte strings in hexadecimal. `decode` of the first gives the second, which
+/// is UTF-8. `encode` of the first, which is UTF-8, gives the second, with a numeric reference for each unmappable
+/// character. The lines were made by `tools/strings` with the seed 20261125, and are wrapped here. Of the twelve that
+/// are decoded in each encoding, four begin with a byte order mark or a part of one.
 #[rattlefmt::skip]
 pub static STRINGS: &str = "\
 decode UTF-8 efbbbfbff090ffeda08000ebc2a2f49080 efbfbdefbfbdefbfbdefbfbdefbfbdefbfbd00efbfbdc2a2efbfbdefbfbdefbfbd

@@ -1,8 +1,8 @@
-//! Texts that Python's codecs decoded and encoded, to be repeated.
+//! Texts that Python's codecs decoded and encoded. The tests repeat them.
 
-/// On each line a direction, a label, bytes and bytes, which are hexadecimal: `decode` of the first gives the second in
-/// UTF-8, `encode` of the first, which is UTF-8, the second. Each begins and ends in ASCII or between characters, so
-/// that it may be repeated.
+/// Each line: a direction, a label, and two byte strings in hexadecimal. `decode` of the first gives the second, which
+/// is UTF-8. `encode` of the first, which is UTF-8, gives the second. Each begins and ends in ASCII or between
+/// characters, so it can be repeated.
 #[rattlefmt::skip]
 pub static TEXTS: &str = "\
 decode UTF-8 537068696e78206f6620626c61636b2071756172747a2c206a75646765206d7920766f773b207061636b206d7920626f7820776974\

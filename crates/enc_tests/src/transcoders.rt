@@ -1,4 +1,4 @@
-//! Bytes in pieces, and the text after them.
+//! The text of bytes that come in pieces, whatever the cuts between them.
 
 ghost use Rattle.std.specs.Prelude.{◌≤◌};
 
@@ -21,7 +21,7 @@ fn start_of(rt: &impl Abort, direction: &str, label: &str) -> Transcoder {
     }
 }
 
-/// The text of bytes that come in pieces of a size.
+/// The text of bytes that come in pieces of `size` bytes.
 fn in_pieces(
     rt: &impl Abort,
     alloc: Global,
@@ -65,7 +65,7 @@ fn in_two(
     out
 }
 
-/// Checks the text of bytes that come one by one, and in two pieces with the cut at each place, so also whole.
+/// Checks the text of bytes that come one by one, and in two pieces with each possible cut, the ends included.
 fn in_any_cut(
     rt: &impl Abort,
     alloc: Global,
@@ -82,7 +82,7 @@ fn in_any_cut(
     }
 }
 
-/// Checks a line of a direction, a label, bytes, and what they give.
+/// Checks a line: a direction, a label, the bytes and their text.
 fn holds(rt: &impl Abort, alloc: Global, set: &IndexSet, line: &str) {
     let (direction, rest) = word(rt, line);
     let (label, rest) = word(rt, rest);
@@ -100,7 +100,7 @@ fn all_hold(rt: &impl Abort, alloc: Global, set: &IndexSet, lines: &str) {
     }
 }
 
-/// Twelve are decoded in each of 21 encodings, and twelve encoded in each of the 19 that texts are stored in.
+/// Twelve strings are decoded from each of 21 encodings, and twelve are encoded to each of the 19 output encodings.
 #[test]
 fn strings_of_another_implementation(rt: HostRuntime) {
     let set = all_files(&rt, rt.alloc());
@@ -109,7 +109,7 @@ fn strings_of_another_implementation(rt: HostRuntime) {
     all_hold(&rt, rt.alloc(), &set, lines);
 }
 
-/// The bytes of hexadecimal digits, 80 times over.
+/// The bytes that `hex` encodes, 80 times.
 fn repeated(rt: &impl Abort, alloc: Global, hex: &str) -> Vec<u8> {
     let bytes = bytes_of(rt, alloc, hex);
     let mut all = Vec::new(alloc);
@@ -119,7 +119,7 @@ fn repeated(rt: &impl Abort, alloc: Global, hex: &str) -> Vec<u8> {
     all
 }
 
-/// Checks a line whose bytes come many times over, so that blocks and windows are crossed.
+/// Checks a line whose bytes are repeated, so that characters cross the ends of blocks and windows.
 fn holds_repeated(rt: &impl Abort, alloc: Global, set: &IndexSet, line: &str) {
     let (direction, rest) = word(rt, line);
     let (label, rest) = word(rt, rest);
@@ -154,7 +154,7 @@ fn letter_of(label: &str) -> &'static [u8] {
     }
 }
 
-/// A letter so many times, bytes, and so many times again.
+/// `times.0` letters, the bytes, and `times.1` letters.
 fn among_letters(
     rt: &impl Abort,
     alloc: Global,
@@ -173,7 +173,7 @@ fn among_letters(
     all
 }
 
-/// Checks a line whose bytes stand among so many letters, in two pieces, cut within the bytes and around them.
+/// Checks a line with letters before and after its bytes, in two pieces. The cut is within the bytes or near them.
 fn holds_among(
     rt: &impl Abort,
     alloc: Global,
@@ -200,7 +200,7 @@ fn holds_among(
     }
 }
 
-/// What stands among letters: one character in each encoding, and faults.
+/// One character in each encoding, and malformed bytes. They come between letters.
 const AMONG: &str = "\
 decode windows-1252 E9 C3A9
 encode windows-1252 C3A9 E9
@@ -232,7 +232,7 @@ decode UTF-16BE D83DD83DDE00DE00 EFBFBDF09F9880EFBFBD
 decode UTF-16BE DE00D83D EFBFBDEFBFBD
 ";
 
-/// What stands at the end: characters that it cuts. An odd byte, alone or after a lead surrogate, is one fault.
+/// Characters that the end of the text cuts. An odd byte of UTF-16, alone or after a lead surrogate, is one error.
 const AT_THE_END: &str = "\
 decode UTF-8 F09F98 EFBFBD
 decode Shift_JIS 82 EFBFBD
@@ -259,7 +259,7 @@ fn characters_and_faults_among_letters(rt: HostRuntime) {
     }
 }
 
-/// After so many letters that blocks, prefixes of 512 bytes and windows are crossed.
+/// So many letters come first that the characters cross the ends of blocks, prefixes of 512 bytes and windows.
 #[test]
 fn characters_and_faults_after_many_letters(rt: HostRuntime) {
     let set = few_pairs(&rt, rt.alloc());
@@ -276,7 +276,7 @@ fn characters_and_faults_after_many_letters(rt: HostRuntime) {
     }
 }
 
-/// On each line two encodings, bytes, the text before the first character that isn't encoded, and this character. It is
+/// Each line: two encodings, the bytes, the text before the first unmappable character, and this character, which is
 /// refused in the mode `fatal`.
 const FATAL: &str = "\
 UTF-8 windows-1252 41C3A9E3818242 41E9 3042
@@ -296,7 +296,7 @@ ISO-2022-JP EUC-JP 410E41 41 FFFD
 windows-1252 EUC-JP 418D 41 FFFD
 ";
 
-/// How two pieces and their end are answered, by what `out` gets before a refusal.
+/// The answer to two pieces and the end. `out` gets the text before a refusal.
 fn answer_of(
     start: &Transcoder,
     set: &IndexSet,
@@ -309,7 +309,7 @@ fn answer_of(
     transcoder.finish(set, out)
 }
 
-/// Checks a line: the bytes are refused in the same way in two pieces with the cut at each place.
+/// Checks a line: the bytes are refused in the same way in two pieces with each possible cut.
 fn refuses_in_any_cut(rt: &impl Abort, alloc: Global, set: &IndexSet, line: &str) {
     let (from, rest) = word(rt, line);
     let (to, rest) = word(rt, rest);
@@ -338,7 +338,7 @@ fn refusals_in_any_cut(rt: HostRuntime) {
     }
 }
 
-/// Worked examples, which stand on a few entries of the index files.
+/// Worked examples, which need only a few entries of the index files.
 const WORKED: &str = "\
 decode UTF-8 EFBBBF41 41
 decode UTF-8 F09080 EFBFBD
@@ -388,10 +388,10 @@ fn worked_examples(rt: HostRuntime) {
     all_hold(&rt, rt.alloc(), &set, WORKED);
 }
 
-/// What an encoder does where its index has few entries: their files, and lines.
+/// Encoders with few index entries: the index files, and the lines.
 const SPARSE: [(&[(Kind, &str)], &str); 4] = [
     (&[], "encode windows-1252 C3A9 26233233333B"),
-    // katakana that stand for one another
+    // two half-width katakana that map to each other
     (
         &[
             (Kind::Jis0208, "0\tFF61\n"),
@@ -399,7 +399,7 @@ const SPARSE: [(&[(Kind, &str)], &str); 4] = [
         ],
         "encode ISO-2022-JP EFBDA2EFBDA1 1B244221211B2842262336353337383B",
     ),
-    // a pointer past the last row of two bytes: none in EUC-JP and ISO-2022-JP
+    // a pointer after the last row of two bytes, which has no bytes in EUC-JP and ISO-2022-JP
     (
         &[
             (Kind::Jis0208, "8836\t7E8A\n"),
@@ -412,7 +412,7 @@ encode ISO-2022-JP E7BA8A 262333323339343B
 encode Shift_JIS E7BA8A F040
 ",
     ),
-    // a character that another stands for, and that has no pointer
+    // characters that the encoder replaces with one without a pointer, and a katakana without an entry
     (
         &[
             (Kind::Jis0208, "0\t3000\n"),
@@ -434,7 +434,7 @@ fn indexes_of_few_entries(rt: HostRuntime) {
     }
 }
 
-/// Checks a line of an encoding, another, and pieces, each with the text after it.
+/// Checks a line: two encodings, and pieces, each with the text after it.
 fn gives_so_far(rt: &impl Abort, alloc: Global, set: &IndexSet, line: &str) {
     let (from, rest) = word(rt, line);
     let (to, pieces) = word(rt, rest);

@@ -3,12 +3,11 @@ use Rattle.std.specs.Prelude.{ℕ, ◌+◌, ◌<◌, ◌≡◌, List, false, tak
 use Rattle.enc_model.specs.Stream.{after, steps}
 use Rattle.enc_model.specs.Utf8.{utf8, utf8_start, utf8_first, lead_of}
 
--- a character begins with such a byte and needs so many more, of which the first has no bounds of its own
+-- A character begins with this byte and needs n more, which may all be 80 to BF.
 abbrev pub IsLead : ℕ → ℕ → Type 0
 IsLead lead n = utf8_first lead ≡ lead_of lead n 0x80 0xBF (utf8_first lead).state.point
 
--- the first so many bytes are characters that are cut: this text stands for them, and a byte after them is read from
--- the start
+-- The first n bytes are cut characters with this text, and a byte after them is read as the first of a character.
 abbrev pub AreCut : List ℕ → ℕ → List ℕ → Type 0
 AreCut bytes n text =
     (k : ℕ) → 0 < k → steps utf8 false utf8_start (take (n + k) bytes)

@@ -1,6 +1,7 @@
--- A sink of which nothing is known but that it refuses nothing.
+-- A sink that takes everything and claims nothing.
 use Rattle.enc_model.specs.Sink.{IsSink}
 
+-- The laws of a sink hold of it.
 pub nowhere_sink : {A E : Type 0} → IsSink {A = A} {E = E} (λ old text new. Unit {0}) (λ old text why new. ⊥)
 nowhere_sink = record {
   none = λ a. tt;

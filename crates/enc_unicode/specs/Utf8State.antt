@@ -1,17 +1,18 @@
--- What holds of the fields of the UTF-8 decoder.
+-- The fields of the UTF-8 decoder.
 use Rattle.std.specs.Prelude.{ℕ, ◌+◌, ◌-◌, ◌*◌, ◌<◌, ◌≤◌, ◌≡◌, ◌⊎◌, List, false}
 use Rattle.enc_model.specs.Stream.{steps}
 use Rattle.enc_model.specs.Utf8.{Utf8, utf8, utf8_start}
 
--- where the bytes lead from the start
+-- The state after these bytes.
 abbrev pub utf8_after : List ℕ → Utf8
 utf8_after bytes = (steps utf8 false utf8_start bytes).state
 
--- From low to high no surrogate begins, and no number is above the greatest: surrogates lie from here to there.
+-- From `low` to `high` there is no surrogate and no number above the greatest. Surrogates are from `below` up to
+-- `above`.
 abbrev pub Avoids : ℕ → ℕ → ℕ → ℕ → ℕ → Type 0
 Avoids below above greatest low high = ((high < below) ⊎ (above ≤ low)) × (high ≤ greatest)
 
--- the code points that may still come are scalars
+-- The code points that the state may still lead to are scalars.
 pub record IsUtf8State (needed lower upper point current : ℕ) : Type 0 where
   pub none : needed ≡ 0 → (lower ≡ 0x80) × (upper ≡ 0xBF) × (point ≡ 0) × (current ≡ 0)
   pub bounds : (0x80 ≤ lower) × (upper ≤ 0xBF) × (current + needed ≤ 4) × (needed ≤ 3)
@@ -19,6 +20,6 @@ pub record IsUtf8State (needed lower upper point current : ℕ) : Type 0 where
   pub two : needed ≡ 2 → Avoids 0x360 0x380 0x43FF (point * 64 + (lower - 0x80)) (point * 64 + (upper - 0x80))
   pub three : needed ≡ 3 → Avoids 0 0x10 0x10F (point * 64 + (lower - 0x80)) (point * 64 + (upper - 0x80))
 
--- a state is where the bytes that it keeps lead
+-- The state is the one after the bytes of its unfinished character.
 abbrev pub IsAfter : Utf8 → Type 0
 IsAfter s = s ≡ utf8_after s.kept

@@ -1,4 +1,4 @@
-//! Bytes of UTF-16, 32 units at a time where they are paired.
+//! Decoding UTF-16 in blocks: 32 units at a time if their surrogates are paired.
 
 ghost use Rattle.std.specs.Prelude.{◌≡◌, ◌<◌, ◌≤◌, ◌+◌, ◌*◌, false, length, take};
 ghost use Rattle.std.specs.Bool.{OnTrue, OnFalse};
@@ -12,10 +12,10 @@ ghost use Rattle.lane_kernels.specs.Units.{IsCarried};
 use enc_model::{Batch, ROOM};
 use lane_kernels::{Order, Pairing, Step, lead_in, paired, paired_units_decode};
 
-/// How many bytes are looked at in one go.
+/// How many bytes are decoded at once.
 const LANES: usize = 64;
 
-/// Takes what a step says.
+/// Appends the text of a step.
 fn push_step(step: Step, batch: &mut Batch)
     requires { length batch.old + 8 ≤ ROOM }
     ensures { BatchTook batch.old (step_text step) batch.new }
@@ -28,7 +28,7 @@ fn push_step(step: Step, batch: &mut Batch)
     }
 }
 
-/// Takes the character that a unit completes after a carried lead or none.
+/// Appends the character that a unit completes, given the lead surrogate before it, if any.
 #[inline(always)]
 fn push_unit(carried: Option<u16>, unit: u16, batch: &mut Batch)
     requires carried { IsCarried carried }
@@ -42,9 +42,9 @@ fn push_unit(carried: Option<u16>, unit: u16, batch: &mut Batch)
     }
 }
 
-/// Takes the characters of units after a carried lead or none.
+/// Appends the characters of units, given the lead surrogate before them, if any.
 ///
-/// Never inlined: its caller would else take each unit out of the lanes first, also where it isn't called.
+/// Never inlined: its caller would otherwise take each unit out of the lanes even if it doesn't call this.
 #[inline(never)]
 fn push_units(carried: Option<u16>, units: &[u16; 32], batch: &mut Batch)
     requires carried { IsCarried carried }
@@ -58,7 +58,7 @@ fn push_units(carried: Option<u16>, units: &[u16; 32], batch: &mut Batch)
     }
 }
 
-/// The steps over bytes, one after the other.
+/// Decodes bytes one by one.
 fn decode_each(pairing: &mut Pairing, order: Order, bytes: &[u8], batch: &mut Batch)
     requires { length batch.old + 12 * length bytes.now ≤ ROOM }
     ensures text { BatchTook batch.old (steps (utf16 (is_big order)) false pairing.old bytes.now).text batch.new }
@@ -69,7 +69,7 @@ fn decode_each(pairing: &mut Pairing, order: Order, bytes: &[u8], batch: &mut Ba
     }
 }
 
-/// The steps over 64 bytes if their units are paired, and whether they are.
+/// Decodes 64 bytes if their units are paired. Returns whether they are.
 fn decode_paired(pairing: &mut Pairing, order: Order, bytes: &[u8; 64], batch: &mut Batch) -> bool
     requires { length batch.old + 128 ≤ ROOM }
     ensures text { OnTrue result
@@ -87,7 +87,7 @@ fn decode_paired(pairing: &mut Pairing, order: Order, bytes: &[u8; 64], batch: &
     is_paired
 }
 
-/// Goes on in a block, and says how far: over 64 bytes, or over all where there are fewer.
+/// Decodes the next part of a block: 64 bytes, or all if there are fewer. Returns its length.
 fn decode_some(pairing: &mut Pairing, order: Order, rest: &[u8], batch: &mut Batch) -> usize
     requires some { 0 < length rest.now }
     requires room { length batch.old + 12 * length rest.now ≤ ROOM }
@@ -106,7 +106,7 @@ fn decode_some(pairing: &mut Pairing, order: Order, rest: &[u8], batch: &mut Bat
     count
 }
 
-/// The steps over a block, for whose text a batch surely has room.
+/// Decodes a block, for which the batch has room.
 pub fn decode_block(pairing: &mut Pairing, order: Order, block: &[u8], batch: &mut Batch)
     requires { length batch.old + 12 * length block.now ≤ ROOM }
     ensures text { BatchTook batch.old (steps (utf16 (is_big order)) false pairing.old block.now).text batch.new }

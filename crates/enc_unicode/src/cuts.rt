@@ -1,4 +1,4 @@
-//! Characters that are cut: a byte comes with which they can't go on.
+//! Characters that are cut short by a byte that can't continue them.
 
 ghost use Rattle.std.specs.Prelude.{◌≡◌, ◌+◌, ◌*◌, ◌<◌, ◌≤◌, ◌∷◌, [], ℕ, List, false, length, slice_index, true};
 ghost use Rattle.enc_model.specs.Batches.{BatchTook};
@@ -8,7 +8,7 @@ ghost use Rattle.enc_unicode.specs.Cuts.{AreCut, IsLead};
 use crate::well_formed::follows;
 use enc_model::{Batch, ROOM};
 
-/// How many of these bytes at the start may go on with a character, at most so many.
+/// How many continuation bytes these begin with, at most `most`.
 #[inline(always)]
 pub fn trail_len(bytes: &[u8], most: usize) -> usize
     ensures within { result ≤ length bytes.now }
@@ -23,7 +23,7 @@ pub fn trail_len(bytes: &[u8], most: usize) -> usize
     at
 }
 
-/// How many bytes a character needs after this one, where the next has no bounds of its own; or else 0.
+/// How many bytes follow this lead if all may be 80 to BF; 0 for all other bytes.
 #[inline(always)]
 fn needed_after(lead: u8) -> usize
     ensures { 0 < result → IsLead lead result }
@@ -36,7 +36,7 @@ fn needed_after(lead: u8) -> usize
     }
 }
 
-/// How many bytes there are of a character that begins here and is cut, or else 0.
+/// How many bytes a cut character here has, or 0 if none begins here.
 #[inline(always)]
 fn cut_len(bytes: &[u8]) -> usize
     requires { 0 < length bytes.now }
@@ -52,7 +52,7 @@ fn cut_len(bytes: &[u8]) -> usize
     }
 }
 
-/// Takes U+FFFD for each of the characters at the start that are cut, and says how many bytes there are of them.
+/// Appends U+FFFD for each of the cut characters that these begin with, and returns the length of all of them.
 #[inline(always)]
 pub fn push_cuts(bytes: &[u8], batch: &mut Batch) -> usize
     requires some { 0 < length bytes.now }

@@ -1,4 +1,4 @@
-//! Short runs where faults are dense: bytes with which no character begins, and a little ASCII.
+//! Short runs in faulty text: bytes that begin no character, and a little ASCII.
 
 ghost use Rattle.std.specs.Prelude.{◌≡◌, ◌+◌, ◌*◌, ◌<◌, ◌≤◌, false, length, take};
 ghost use Rattle.enc_model.specs.Batches.{BatchTook};
@@ -9,10 +9,10 @@ ghost use Rattle.enc_unicode.specs.Looks.{begins_none};
 use enc_model::{Batch, LANES, ROOM};
 use lane_kernels::ascii_lanes;
 
-/// How much ASCII is stored alone at most: more is better read as a text.
+/// The most ASCII that is stored here: more is read faster as a text.
 const FEW: usize = 8;
 
-/// Whether no character begins with a byte.
+/// Whether no character begins with this byte.
 #[inline(always)]
 fn begins_none(b: u8) -> bool
     ensures { result ≡ begins_none b }
@@ -20,7 +20,7 @@ fn begins_none(b: u8) -> bool
     matches!(b, 0x80..=0xC1 | 0xF5..=0xFF)
 }
 
-/// Takes U+FFFD for each of the bytes at the start with which no character begins, and says how many they are.
+/// Appends U+FFFD for each leading byte that begins no character, and returns their count.
 #[inline(always)]
 fn push_faults(bytes: &[u8], batch: &mut Batch) -> usize
     requires { length batch.old + 12 * length bytes.now ≤ ROOM }
@@ -37,7 +37,7 @@ fn push_faults(bytes: &[u8], batch: &mut Batch) -> usize
     at
 }
 
-/// Takes the ASCII at the start where it is little, and says how much it is.
+/// Appends the leading ASCII if it is short, and returns its length.
 #[inline(always)]
 fn push_little_ascii(bytes: &[u8], batch: &mut Batch) -> usize
     requires { length batch.old + 12 * length bytes.now ≤ ROOM }
@@ -57,7 +57,7 @@ fn push_little_ascii(bytes: &[u8], batch: &mut Batch) -> usize
     prefix
 }
 
-/// Takes faults or a little ASCII at the start, and says how many bytes they are. Where they are none, the batch is
+/// Appends leading faults or a little ASCII, and returns how many bytes they are. If they are none, the batch is
 /// unchanged.
 #[inline(always)]
 pub fn push_few(bytes: &[u8], batch: &mut Batch) -> usize

@@ -1,19 +1,19 @@
-//! Where a well-formed text seems to end, by leads and the bytes that go on after them.
+//! Guessing where well-formed text ends, by comparing lead and continuation bytes.
 
 ghost use Rattle.std.specs.Prelude.{◌+◌, ◌<◌, ◌≤◌, length};
 
 use std::simd::prelude::*;
 
-/// How many bytes are looked at in one go.
+/// How many bytes are compared at once.
 const LANES: usize = 64;
 
-/// How many bytes before them tell what they should be.
+/// How many bytes before them decide what they should be.
 const BEFORE: usize = 3;
 
-/// How many bytes are needed for a guess.
+/// How many bytes a guess needs.
 pub const FEWEST: usize = LANES + BEFORE;
 
-/// Lanes for 64 bytes at a place, of which those are high where a character goes on too early or too late.
+/// Compares 64 bytes from `at` on. A lane is high if a continuation byte is missing or superfluous there.
 #[inline(always)]
 fn seeming_faults(bytes: &[u8], at: usize) -> u8x64
     requires { (BEFORE ≤ at) × (at + LANES ≤ length bytes.now) }
@@ -26,13 +26,13 @@ fn seeming_faults(bytes: &[u8], at: usize) -> u8x64
     (second | third | fourth) ^ follows
 }
 
-/// A bit for each lane that is high.
+/// A bit for each high lane.
 #[inline(always)]
 fn high(lanes: u8x64) -> u64 {
     lanes.simd_ge(u8x64::splat(0x80)).to_bitmask()
 }
 
-/// How many bytes lie before the first seeming fault of whole blocks.
+/// How many bytes precede the first seeming fault, in whole blocks.
 #[inline(always)]
 fn end_in_blocks(bytes: &[u8]) -> usize
     requires { FEWEST ≤ length bytes.now }
@@ -49,8 +49,8 @@ fn end_in_blocks(bytes: &[u8]) -> usize
     at
 }
 
-/// How many bytes lie before the first seeming fault, at least three. It is a guess, which has to be checked: overlong
-/// forms, surrogates, numbers above the greatest and faults of the first three bytes aren't seen.
+/// How many bytes precede the first seeming fault, at least three. The result has to be checked: overlong forms,
+/// surrogates, code points above 10FFFF and faults in the first three bytes aren't seen.
 pub fn seeming_end(bytes: &[u8]) -> usize
     requires { FEWEST ≤ length bytes.now }
     ensures { result ≤ length bytes.now }

@@ -1,4 +1,4 @@
-//! The decoders of UTF-8 and UTF-16.
+//! The decoders of UTF-8 and UTF-16, with vector code for long runs.
 #![tactic(auto)]
 
 mod blocks;

@@ -1,4 +1,4 @@
-//! Units below 800 as UTF-8, eight at a time.
+//! Encoding units below 800 as UTF-8, eight at a time.
 
 ghost use Rattle.std.specs.Prelude.{◌≡◌, ◌+◌, ◌<◌, ◌≤◌, ◌++◌, All, ltb, length, take, map};
 ghost use Rattle.std.specs.Prelude.{encode_utf8_all};
@@ -10,7 +10,7 @@ ghost use Rattle.enc_unicode.specs.Packing.{narrow_row_of, narrow_word, narrow_w
 use crate::narrow_packs::NARROW_PACKS;
 use std::simd::prelude::*;
 
-/// How much room 32 units below 800 need: two bytes each, of which a store of 16 writes none too many.
+/// The room for 32 units below 800: two bytes each. A store of 16 bytes never writes beyond it.
 const BLOCK_CODE: usize = 64;
 
 /// For each unit a number of two bytes that begins with the unit's UTF-8, the lowest byte first.
@@ -32,7 +32,7 @@ fn codes(units: u16x8) -> u8x16
     words(units).to_le_bytes()
 }
 
-/// A bit for each unit that is below 80.
+/// A bit for each unit below 80.
 #[inline(always)]
 fn ascii_class(units: u16x8) -> u64
     ensures mask { result ≡ mask_l (map (λ u. ltb u 128) units) }
@@ -41,7 +41,7 @@ fn ascii_class(units: u16x8) -> u64
     units.simd_lt(u16x8::splat(0x80)).to_bitmask()
 }
 
-/// The places of the bytes that the units' UTF-8 has of their words, and how many they are.
+/// The places of the units' UTF-8 bytes within their words, and how many they are.
 #[inline(always)]
 fn pack(units: u16x8) -> ([u8; 16], usize)
     requires { All (λ unit. unit < 2048) units }
@@ -66,7 +66,7 @@ fn eight_at(units: &[u16], at: usize) -> u16x8
     u16x8::from_slice(&units[at..])
 }
 
-/// Writes eight units after the first so many bytes, and counts on.
+/// Encodes eight units at `from`, and returns the length after them.
 #[inline(always)]
 fn write_eight(units: u16x8, code: &mut [u8], from: usize) -> usize
     requires room { from + 16 ≤ length code.old }
@@ -80,7 +80,7 @@ fn write_eight(units: u16x8, code: &mut [u8], from: usize) -> usize
     from + count
 }
 
-/// Writes units after the first so many bytes, and counts on.
+/// Encodes the units at `from`, and returns the length after them.
 #[inline(always)]
 fn write_eights(units: &[u16; 32], code: &mut [u8], from: usize) -> usize
     requires room { from + BLOCK_CODE ≤ length code.old }
@@ -97,7 +97,7 @@ fn write_eights(units: &[u16; 32], code: &mut [u8], from: usize) -> usize
     len
 }
 
-/// Writes units below 800 after the first so many bytes, which are a text, and counts on.
+/// Encodes units below 800 at `from`, after a text, and returns the length after them.
 #[inline(always)]
 pub fn write_narrow(units: u16x32, code: &mut [u8], from: usize) -> usize
     requires room { from + BLOCK_CODE ≤ length code.old }

@@ -1,7 +1,7 @@
-//! Which bytes of eight narrow units' words their UTF-8 has.
+//! A table for `narrow`: which bytes of eight words are UTF-8.
 
-/// For each class of eight units below 800 (bit k: unit k is below 80) the places of the bytes that its words of two
-/// bytes begin with, one or two each.
+/// For each class of eight units below 800 (bit k is set if unit k is below 80), the places of the UTF-8 bytes within
+/// their two-byte words, one or two for each.
 pub(crate) static NARROW_PACKS: [[u8; 16]; 256] = [
     [0, 1, 2, 3, 4, 5, 6, 7, 8, 9, 10, 11, 12, 13, 14, 15],
     [0, 2, 3, 4, 5, 6, 7, 8, 9, 10, 11, 12, 13, 14, 15, 0],

@@ -1,4 +1,4 @@
-//! Units without surrogates as UTF-8, four at a time.
+//! Encoding units without surrogates as UTF-8, four at a time.
 
 ghost use Rattle.std.specs.Prelude.{◌≡◌, ◌+◌, ◌*◌, ◌%◌, ◌<◌, ◌≤◌, ◌++◌, All, ltb, length, take, map, slice_index};
 ghost use Rattle.std.specs.Prelude.{encode_utf8_all};
@@ -12,7 +12,7 @@ ghost use Rattle.enc_unicode.specs.Packing.{row_of, word, word_bytes};
 use crate::packs::PACKS;
 use std::simd::prelude::*;
 
-/// How much room 32 units need: three bytes each, and as many more as a store of 16 writes too many.
+/// The room for 32 units: three bytes each, and 16 more, since each store writes 16 bytes.
 pub const BLOCK_CODE: usize = 112;
 
 /// The units in wider lanes.
@@ -45,7 +45,7 @@ fn codes(units: u16x4) -> u8x16
     words(units).to_le_bytes()
 }
 
-/// A bit for each unit that is below a limit.
+/// A bit for each unit below a limit.
 #[inline(always)]
 fn below(units: u16x4, limit: u32) -> u64
     ensures mask { result ≡ mask_l (map (λ u. ltb u limit) units) }
@@ -54,7 +54,7 @@ fn below(units: u16x4, limit: u32) -> u64
     widened(units).simd_lt(u32x4::splat(limit)).to_bitmask()
 }
 
-/// The places of the bytes that the units' UTF-8 has of their words, and in the last byte how many they are.
+/// The places of the units' UTF-8 bytes within their words, and in the last byte how many they are.
 #[inline(always)]
 fn pack(units: u16x4) -> [u8; 16]
     ensures long { length result ≡ 16 }
@@ -75,7 +75,7 @@ fn four_at(units: &[u16], at: usize) -> u16x4
     u16x4::from_slice(&units[at..])
 }
 
-/// Writes four units after the first so many bytes, and counts on.
+/// Encodes four units at `from`, and returns the length after them.
 #[inline(always)]
 fn write_four(units: u16x4, code: &mut [u8], from: usize) -> usize
     requires room { from + 16 ≤ length code.old }
@@ -88,7 +88,7 @@ fn write_four(units: u16x4, code: &mut [u8], from: usize) -> usize
     from + pack[15] as usize
 }
 
-/// Writes units after the first so many bytes, and counts on.
+/// Encodes the units at `from`, and returns the length after them.
 #[inline(always)]
 fn write_fours(units: &[u16; 32], code: &mut [u8], from: usize) -> usize
     requires { from + BLOCK_CODE ≤ length code.old }
@@ -104,7 +104,7 @@ fn write_fours(units: &[u16; 32], code: &mut [u8], from: usize) -> usize
     len
 }
 
-/// Writes units without surrogates after the first so many bytes, which are a text, and counts on.
+/// Encodes units without surrogates at `from`, after a text, and returns the length after them.
 #[inline(always)]
 pub fn write_units(units: u16x32, code: &mut [u8], from: usize) -> usize
     requires room { from + BLOCK_CODE ≤ length code.old }

@@ -1,7 +1,7 @@
-//! Which bytes of four units' words their UTF-8 has.
+//! A table for `packing`: which bytes of four words are UTF-8.
 
-/// For each class of four units (bit k: unit k is below 80; bit 4 + k: it is below 800) the places of the bytes that
-/// its words of four bytes begin with, one, two or three each, and in the last byte how many they are.
+/// For each class of four units (bit k is set if unit k is below 80, bit 4 + k if it is below 800), the places of the
+/// UTF-8 bytes within their four-byte words, one to three for each. The last byte is their count.
 pub(crate) static PACKS: [[u8; 16]; 256] = [
     [0, 1, 2, 4, 5, 6, 8, 9, 10, 12, 13, 14, 0, 0, 0, 12],
     [0, 1, 4, 5, 6, 8, 9, 10, 12, 13, 14, 0, 0, 0, 0, 11],

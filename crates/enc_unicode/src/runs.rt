@@ -1,4 +1,4 @@
-//! Bytes of UTF-16 without surrogates as UTF-8, 32 units at a time.
+//! Runs of UTF-16 without surrogates, 32 units at a time.
 
 ghost use Rattle.std.specs.Prelude.{◌≡◌, ◌+◌, ◌*◌, ◌/◌, ◌%◌, ◌<◌, ◌≤◌, IfSome, IfNone, All, false, not};
 ghost use Rattle.std.specs.Prelude.{length, map, take};
@@ -18,13 +18,13 @@ use crate::packing::{BLOCK_CODE, write_units};
 use lane_kernels::Order;
 use std::simd::prelude::*;
 
-/// How many bytes are read in one go.
+/// How many bytes are decoded at once.
 const LANES: usize = 64;
 
-/// How many bytes of UTF-8 are gathered before a sink takes them.
+/// How many bytes of UTF-8 are gathered before the sink takes them.
 pub const CODE: usize = 2048;
 
-/// The units of 64 bytes, of which the lower comes first.
+/// The units of 64 bytes in little-endian order.
 #[inline(always)]
 fn low_first(bytes: u8x64) -> u16x32
     ensures { result ≡ units_of false bytes }
@@ -32,7 +32,7 @@ fn low_first(bytes: u8x64) -> u16x32
     u16x32::from_le_bytes(bytes)
 }
 
-/// Each unit with its two bytes changed round.
+/// The units with their bytes swapped.
 #[inline(always)]
 fn turned_round(units: u16x32) -> u16x32
     ensures { result ≡ map (λ unit. unit % 256 * 256 + unit / 256) units }
@@ -52,7 +52,7 @@ fn units_in(order: Order, bytes: &[u8; LANES]) -> u16x32
     }
 }
 
-/// A bit for each unit, set where the unit is from the lowest to the highest.
+/// A bit for each unit from the lowest to the highest.
 #[inline(always)]
 fn mask_within(units: u16x32, lowest: u16, highest: u16) -> u64
     ensures { result ≡ mask_l (map (within lowest highest) units) }
@@ -84,7 +84,7 @@ fn is_narrow(units: u16x32) -> bool
     has_none(units, 0x800, 0xFFFF)
 }
 
-/// Writes units below 80 after the first so many bytes, which are a text.
+/// Writes units below 80 at `from`, after a text.
 #[inline(always)]
 fn write_ascii(units: u16x32, code: &mut [u8], from: usize)
     requires room { from + 32 ≤ length code.old }
@@ -95,7 +95,8 @@ fn write_ascii(units: u16x32, code: &mut [u8], from: usize)
     units.cast::<u8>().copy_to_slice(&mut code[from..]);
 }
 
-/// Writes the units of 64 bytes after the first so many, which are a text, where none is a surrogate, and counts on.
+/// Encodes the units of 64 bytes at `from`, after a text, and returns the length after them; None if one is a
+/// surrogate.
 #[inline(always)]
 fn write_block(
     order: Order,
@@ -123,7 +124,7 @@ fn write_block(
     None
 }
 
-/// The same of the 64 bytes that others begin with, where there are as many.
+/// The same for the first 64 bytes, if there are as many.
 #[inline(always)]
 fn write_next(order: Order, rest: &[u8], code: &mut [u8; CODE], from: usize) -> Option<usize>
     requires room { from + BLOCK_CODE ≤ CODE }
@@ -138,8 +139,7 @@ fn write_next(order: Order, rest: &[u8], code: &mut [u8; CODE], from: usize) -> 
     }
 }
 
-/// Writes the text that bytes begin with, as far as there is room, blocks are whole and no unit is a surrogate: how
-/// many bytes were read, and how many written.
+/// Decodes leading blocks without surrogates as long as there is room. Returns how many bytes were read and written.
 pub fn write_text(order: Order, bytes: &[u8], code: &mut [u8; CODE]) -> (usize, usize)
     ensures read { result.0 ≤ length bytes.now }
     ensures few { result.1 ≤ CODE }

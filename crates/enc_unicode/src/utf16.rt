@@ -1,4 +1,4 @@
-//! The decoder of UTF-16.
+//! The UTF-16 decoder.
 
 ghost use Rattle.std.specs.Prelude.{◌≡◌, IfOk, IfErr, OnOk, true, false, ◌<◌, ◌≤◌, ◌-◌, ◌*◌, [], Some, None};
 ghost use Rattle.std.specs.Prelude.{length, take};
@@ -18,7 +18,7 @@ use lane_kernels::{Order, Pairing, paired, unit_in};
 use std::marker::Model;
 use std::str::from_utf8_unchecked;
 
-/// What is kept of the bytes so far: the first byte of a unit, and a lead surrogate.
+/// The state: the first byte of a unit, and a lead surrogate.
 #[derive(Drop)]
 struct Units {
     byte: Option<u8>,
@@ -34,7 +34,7 @@ impl Model for Units {
 }
 
 impl Units {
-    /// Nothing is kept.
+    /// The state before the first byte.
     fn new() -> Self
         ensures { result ≡ utf16_start }
     {
@@ -44,7 +44,7 @@ impl Units {
         }
     }
 
-    /// The same once more.
+    /// A copy of the state.
     fn copy(&self) -> Self
         ensures { result ≡ self.now }
     {
@@ -54,7 +54,7 @@ impl Units {
         }
     }
 
-    /// Takes a unit where no byte is kept.
+    /// Reads a unit; no byte is pending.
     fn unit(&mut self, unit: u16, first: u8, second: u8) -> (Answer, Restored)
         requires { self.old.byte ≡ None }
         ensures answer { result.0 ≡ (utf16_unit self.old.lead unit first second).answer }
@@ -81,7 +81,7 @@ impl Units {
         }
     }
 
-    /// The end: nothing is kept from then on.
+    /// Reads the end.
     fn end(&mut self) -> Answer
         ensures answer { result ≡ (utf16_end self.old.byte self.old.lead).answer }
         ensures restored { (utf16_end self.old.byte self.old.lead).restored ≡ [] }
@@ -136,14 +136,15 @@ impl BlockDecoder for Units {
 }
 
 impl Units {
-    /// Whether nothing is kept.
+    /// Whether neither a byte nor a lead is pending.
     fn is_empty(&self) -> bool
         ensures { OnTrue result (self.now ≡ utf16_start) }
     {
         self.byte.is_none() && self.lead.is_none()
     }
 
-    /// How many bytes are read at once where no run begins: those that a kept byte or lead needs, or else a block.
+    /// How many bytes to decode as a block if no run begins: those that complete a pending unit or pair, or else a
+    /// whole block.
     fn count(&self, rest: &[u8]) -> usize
         requires { 0 < length rest.now }
         ensures { (0 < result) × (result ≤ length rest.now) }
@@ -156,8 +157,7 @@ impl Units {
         wanted.min(rest.len())
     }
 
-    /// Goes on at the rest of a piece, and says how far: over the run without surrogates at its prefix, or over a block
-    /// where there is none.
+    /// Decodes the next part of a piece: a run without surrogates, or a block. Returns its length.
     fn advance<S: Sink>(
         &mut self,
         order: Order,
@@ -186,7 +186,7 @@ impl Units {
         Ok(count)
     }
 
-    /// The steps over a piece, by runs without surrogates and by blocks.
+    /// Decodes a piece by runs without surrogates and by blocks.
     fn feed_runs<S: Sink>(
         &mut self,
         order: Order,
@@ -205,7 +205,7 @@ impl Units {
     }
 }
 
-/// A decoder of UTF-16 (Encoding Standard, section 14.2.1), in the order that it was made with.
+/// The UTF-16 decoder (Encoding Standard, section 14.2.1), in one byte order.
 #[derive(Drop)]
 pub struct Utf16State {
     order: Order,
@@ -229,7 +229,7 @@ impl Utf16State {
         }
     }
 
-    /// A decoder that keeps this: the first byte of a unit, and a lead surrogate.
+    /// A decoder with this pending byte and lead surrogate.
     pub fn keeping(order: Order, byte: Option<u8>, lead: Option<u16>) -> Self
         requires { IsCarried lead }
         ensures { result ≡ record { big = is_big order; state = record { byte = byte; lead = lead } } }
@@ -240,21 +240,21 @@ impl Utf16State {
         }
     }
 
-    /// The order of the bytes of a unit.
+    /// The byte order.
     pub fn order(&self) -> Order
         ensures { is_big result ≡ self.now.big }
     {
         self.order
     }
 
-    /// The byte that is kept, the first of a unit.
+    /// The pending first byte of a unit.
     pub fn byte(&self) -> Option<u8>
         ensures { result ≡ self.now.state.byte }
     {
         self.units.byte
     }
 
-    /// The lead surrogate that is kept.
+    /// The pending lead surrogate.
     pub fn lead(&self) -> Option<u16>
         ensures value { result ≡ self.now.state.lead }
         ensures surrogate { IsCarried result }
@@ -262,7 +262,7 @@ impl Utf16State {
         self.units.lead
     }
 
-    /// The same state once more.
+    /// A copy of the state.
     pub fn copy(&self) -> Self
         ensures { result ≡ self.now }
     {
@@ -272,11 +272,11 @@ impl Utf16State {
         }
     }
 
-    /// The steps over a piece, from any state.
+    /// Decodes a piece into the sink.
     ///
     /// # Errors
     ///
-    /// The sink's refusal, at once; nothing more is said of the state then.
+    /// The sink's refusal, at once; nothing is known of the state afterwards.
     pub fn feed<S: Sink>(&mut self, piece: &[u8], sink: &mut S) -> Result<(), S::Refusal>
         ensures given { Given S.takes S.refuses sink.old
             (steps (utf16 self.old.big) false self.old.state piece.now).text sink.new result }
@@ -287,11 +287,11 @@ impl Utf16State {
         self.units.feed_runs(self.order, piece, sink)
     }
 
-    /// The steps of the end.
+    /// Decodes the end.
     ///
     /// # Errors
     ///
-    /// The sink's refusal, at once; nothing more is said of the state then.
+    /// The sink's refusal, at once; nothing is known of the state afterwards.
     pub fn finish<S: Sink>(&mut self, sink: &mut S) -> Result<(), S::Refusal>
         ensures given { Given S.takes S.refuses sink.old (steps (utf16 self.old.big) true self.old.state []).text
             sink.new result }

@@ -1,4 +1,4 @@
-//! The decoder of UTF-8.
+//! The UTF-8 decoder.
 
 ghost use Rattle.std.specs.Prelude.{◌≡◌, ◌≢◌, IfSome, IfNone, IfOk, IfErr, OnOk, true, false, ◌<◌, ◌≤◌, ◌+◌, ◌*◌, []};
 ghost use Rattle.std.specs.Prelude.{◌∷◌, length, take, Some};
@@ -18,12 +18,12 @@ use enc_model::{Answer, BLOCK, Batch, Decoder, ROOM, Restored, Sink, decode_each
 use std::convert::Infallible;
 use std::marker::Model;
 
-/// How many bytes of a character may stand at a piece's end without its last.
+/// The most bytes of an unfinished character at a piece's end.
 const CUT: usize = 3;
 
-/// A decoder of UTF-8 (Encoding Standard, section 8.1.1): how many bytes are still needed, the bounds of the next one,
-/// the code point as far as it is known, and the bytes that it came from. Whether the piece before had faults decides
-/// how a text is looked for at first, and nothing else.
+/// The UTF-8 decoder (Encoding Standard, section 8.1.1): how many bytes are still needed, the bounds of the next one,
+/// the code point so far, and the bytes that it came from. `faulty` says whether the last piece had faults; it only
+/// chooses the strategy for the next one.
 #[derive(Drop)]
 pub struct Utf8State {
     needed: u8,
@@ -59,7 +59,7 @@ impl Utf8State {
         Self::needs(0, 0x80, 0xBF, 0, 0, 0)
     }
 
-    /// The same state once more.
+    /// A copy of the state.
     pub fn copy(&self) -> Self
         ensures { result ≡ self.now }
     {
@@ -74,8 +74,7 @@ impl Utf8State {
         }
     }
 
-    /// The bytes that are kept: the prefix of a character that isn't whole yet, empty between characters. The state is
-    /// the one that they lead to from the start.
+    /// The bytes of an unfinished character. The state is the one after them.
     pub fn kept(&self) -> &[u8]
         ensures bytes { result.now ≡ self.now.kept }
         ensures after { IsAfter self.now }
@@ -84,7 +83,7 @@ impl Utf8State {
         &self.kept[..self.current as usize]
     }
 
-    /// The state that these bytes lead to from the start, or None where it doesn't keep just them.
+    /// The decoder state after these bytes, or None if they are not all of one unfinished character.
     pub fn after(bytes: &[u8]) -> Option<Self>
         ensures some { IfSome result (λ s. (s ≡ utf8_after bytes.now) × (s.kept ≡ bytes.now)) }
         ensures none { IfNone result ((utf8_after bytes.now).kept ≢ bytes.now) }
@@ -96,7 +95,7 @@ impl Utf8State {
         }
     }
 
-    /// A decoder that needs more bytes after a lead.
+    /// A decoder that needs more bytes after a lead byte.
     fn needs(needed: u8, lower: u8, upper: u8, point: u32, lead: u8, current: u8) -> Self
         requires valid { IsUtf8State needed lower upper point current }
         requires after { IsAfter
@@ -116,7 +115,7 @@ impl Utf8State {
         }
     }
 
-    /// Takes a byte where none is needed.
+    /// Reads the first byte of a character.
     #[inline(always)]
     fn first(&mut self, b: u8) -> Answer
         requires { self.old.needed ≡ 0 }
@@ -146,7 +145,7 @@ impl Utf8State {
         }
     }
 
-    /// Takes a byte within the bounds.
+    /// Reads a byte within the bounds.
     fn next(&mut self, b: u8) -> Answer
         requires needed { 0 < self.old.needed }
         requires within { (self.old.lower ≤ b) × (b ≤ self.old.upper) }
@@ -171,7 +170,7 @@ impl Utf8State {
     }
 }
 
-/// Where text goes that nobody reads.
+/// A sink that ignores all text.
 #[derive(Drop)]
 struct Nowhere;
 
@@ -226,11 +225,11 @@ impl Decoder for Utf8State {
 }
 
 impl Utf8State {
-    /// The steps over a piece, from any state.
+    /// Decodes a piece into the sink.
     ///
     /// # Errors
     ///
-    /// The sink's refusal, at once; nothing more is said of the state then.
+    /// The sink's refusal, at once; nothing is known of the state afterwards.
     pub fn feed<S: Sink>(&mut self, piece: &[u8], sink: &mut S) -> Result<(), S::Refusal>
         ensures given { Given S.takes S.refuses sink.old (steps utf8 false self.old piece.now).text sink.new result }
         ensures state { OnOk result (self.new ≡ (steps utf8 false self.old piece.now).state) }
@@ -242,8 +241,8 @@ impl Utf8State {
         self.feed_parts(&piece[prefix..], sink)
     }
 
-    /// Gives the sink the texts that bytes begin with, one window after the other, and says how far they go: none where
-    /// faults are to be expected.
+    /// Gives the sink the well-formed texts that the bytes begin with, window by window, and returns their length.
+    /// After a faulty piece it gives none.
     fn give_texts<S: Sink>(&self, bytes: &[u8], sink: &mut S) -> Result<usize, S::Refusal>
         ensures within { IfOk result (λ n. n ≤ length bytes.now) }
         ensures taken { IfOk result
@@ -265,8 +264,7 @@ impl Utf8State {
         Ok(at)
     }
 
-    /// The steps over a piece, at whose prefix a text was looked for already where nothing is kept. Where no text
-    /// begins, a block is gathered first.
+    /// Decodes the rest of a piece after `give_texts`. Where no text begins, a block is decoded.
     fn feed_parts<S: Sink>(&mut self, piece: &[u8], sink: &mut S) -> Result<(), S::Refusal>
         ensures given { Given S.takes S.refuses sink.old (steps utf8 false self.old piece.now).text sink.new result }
         ensures state { OnOk result (self.new ≡ (steps utf8 false self.old piece.now).state) }
@@ -286,7 +284,7 @@ impl Utf8State {
         Ok(())
     }
 
-    /// Where a text is looked for at first where no more texts were given.
+    /// The first strategy after `give_texts`.
     fn first_look(&self) -> Look {
         if self.faulty {
             Look::Resumed
@@ -297,13 +295,13 @@ impl Utf8State {
         }
     }
 
-    /// Whether bytes where this text was found seem to begin with a fault: they are more than a character that the
-    /// piece's end cuts.
+    /// Whether the bytes, which begin with this text, begin with a fault. A character cut by the end of the piece
+    /// doesn't count.
     fn is_fault(&self, text: &str, bytes: &[u8]) -> bool {
         text.is_empty() && self.needed == 0 && CUT < bytes.len()
     }
 
-    /// A well-formed text that bytes begin with, empty within a character.
+    /// A well-formed text that the bytes begin with. It is empty within a character.
     fn text_at_start<'a>(&self, bytes: &'a [u8], look: Look) -> &'a str
         ensures prefix { result.now ≡ take (length result.now) bytes.now }
         ensures start { 0 < length result.now → self.now ≡ utf8_start }
@@ -315,8 +313,7 @@ impl Utf8State {
         }
     }
 
-    /// Goes on at the rest of a piece, and says how far: over the text at its prefix, or over a block where that is
-    /// empty.
+    /// Decodes the next part of a piece: the text that it begins with, or a block if that is empty. Returns its length.
     fn advance<S: Sink>(
         &mut self,
         rest: &[u8],
@@ -345,7 +342,7 @@ impl Utf8State {
         Ok(count)
     }
 
-    /// How many bytes are read at once where no text begins: those that go on with a character, or else a block.
+    /// How many bytes to decode as a block if no text begins: those that continue a character, or else a whole block.
     fn count(&self, rest: &[u8], look: Look) -> usize
         requires { 0 < length rest.now }
         ensures some { (0 < result) × (result ≤ length rest.now) }
@@ -357,7 +354,7 @@ impl Utf8State {
         }
     }
 
-    /// The steps over a block, for whose text a batch surely has room.
+    /// Decodes a block, for which the batch has room.
     fn decode_block(&mut self, block: &[u8], batch: &mut Batch)
         requires { length batch.old + 12 * length block.now ≤ ROOM }
         ensures text { BatchTook batch.old (steps utf8 false self.old block.now).text batch.new }
@@ -369,8 +366,7 @@ impl Utf8State {
         }
     }
 
-    /// Goes on in a block, and says how far: over the well-formed text at its prefix, or else over characters that are
-    /// cut and a byte.
+    /// Decodes the next part of a block: a well-formed text, or else cut characters and one byte. Returns its length.
     fn decode_some(&mut self, rest: &[u8], batch: &mut Batch) -> usize
         requires some { 0 < length rest.now }
         requires room { length batch.old + 12 * length rest.now ≤ ROOM }
@@ -393,7 +389,7 @@ impl Utf8State {
         self.decode_cuts(rest, batch)
     }
 
-    /// Goes on within a character, over a byte, or over those that follow where the first of several cuts it.
+    /// Decodes within a character: one byte that continues it, or cut characters that follow. Returns how many bytes.
     fn decode_kept(&mut self, rest: &[u8], batch: &mut Batch) -> usize
         requires needed { 0 < self.old.needed }
         requires some { 0 < length rest.now }
@@ -411,7 +407,7 @@ impl Utf8State {
         self.decode_cuts(rest, batch)
     }
 
-    /// Whether a character goes on with this byte.
+    /// Whether this byte continues the character.
     #[inline(always)]
     fn goes_on(&self, b: u8) -> bool
         ensures { result ≡ within self.now.lower self.now.upper b }
@@ -419,7 +415,7 @@ impl Utf8State {
         self.lower <= b && b <= self.upper
     }
 
-    /// Goes on from the start, over characters that are cut and the byte after them.
+    /// Decodes cut characters and the byte after them. Returns how many bytes.
     #[inline(always)]
     fn decode_cuts(&mut self, rest: &[u8], batch: &mut Batch) -> usize
         requires start { self.old ≡ utf8_start }
@@ -434,11 +430,11 @@ impl Utf8State {
         cut + 1
     }
 
-    /// The steps of the end.
+    /// Decodes the end.
     ///
     /// # Errors
     ///
-    /// The sink's refusal, at once; nothing more is said of the state then.
+    /// The sink's refusal, at once; nothing is known of the state afterwards.
     pub fn finish<S: Sink>(&mut self, sink: &mut S) -> Result<(), S::Refusal>
         ensures given { Given S.takes S.refuses sink.old (steps utf8 true self.old []).text sink.new result }
         ensures state { OnOk result (self.new ≡ (steps utf8 true self.old []).state) }

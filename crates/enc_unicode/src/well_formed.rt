@@ -1,4 +1,4 @@
-//! The well-formed text that bytes begin with.
+//! Finding the well-formed text that bytes begin with.
 
 ghost use Rattle.std.specs.Prelude.{◌≡◌, ◌<◌, ◌≤◌, length, slice_index, take};
 ghost use Rattle.std.specs.Str.{IsUtf8};
@@ -11,49 +11,49 @@ use lane_kernels::ascii_front;
 use simdutf8::basic;
 use std::str::from_utf8_unchecked;
 
-/// How many bytes are looked at in one go at first.
+/// The length of the first window.
 const FIRST: usize = 1024;
 
-/// How many bytes are looked at in one go at most.
+/// The length of the longest window.
 const WIDEST: usize = 4096;
 
-/// How many bytes are looked at for a fault: not so many that a wrong guess costs much.
+/// How many bytes are searched for a fault: few enough that a wrong guess is cheap.
 const GUESSED: usize = 1024;
 
-/// How many bytes a text has at least for faults to be rare.
+/// Faults are rare if the texts between them have at least this many bytes.
 const LONG: usize = 48;
 
-/// How many bytes are read from a fault on at most where faults are rare.
+/// The most bytes that are decoded from a fault on if faults are rare.
 const FAULT: usize = 8;
 
-/// How many bytes longer the text of a block may be than the block for its faults to be few.
+/// A block has few faults if its text is at most this many bytes longer than the block.
 const FEW: usize = 32;
 
-/// Where a text is looked for.
+/// Where to look for a text.
 #[derive(Clone, Copy)]
 pub enum Look {
-    /// In so many bytes, or else up to the first fault in them.
+    /// In this many bytes, or else up to the first fault in them.
     Within(usize),
-    /// Up to the first fault of a piece, whose piece before had faults.
+    /// Up to the first fault of a piece that follows a faulty one.
     Resumed,
     /// Up to the next fault.
     ToFault,
-    /// Not here, where a fault was found.
+    /// Not here, since a fault was found here.
     AtFault,
     /// Nowhere, since faults are dense.
     Nowhere,
 }
 
 impl Look {
-    /// Where a text is looked for before a fault was seen.
+    /// The strategy before any fault.
     pub fn first() -> Self
         ensures { IsNarrow result }
     {
         Look::Within(FIRST)
     }
 
-    /// Where to look after a text of so many bytes: further where it filled the reach, and else past the fault that
-    /// ended it if it was long.
+    /// The strategy after a text of this length: a longer window if it filled this one; else the fault after it, if the
+    /// text was long.
     pub fn after_text(self, found: usize) -> Self
         ensures { IsNarrow result }
     {
@@ -69,7 +69,7 @@ impl Look {
         }
     }
 
-    /// Where to look after what was found as a text, or else read and written as a block.
+    /// The strategy after a text, or after a block of which this many bytes were read and written.
     pub fn after(self, found: usize, read: usize, written: usize) -> Self
         ensures { IsNarrow self → IsNarrow result }
     {
@@ -79,8 +79,8 @@ impl Look {
         }
     }
 
-    /// Where to look after a block, of whose bytes so many were read and written: nowhere if it had many faults. What
-    /// is left of a character that was kept says nothing.
+    /// The strategy after a block: texts aren't sought any more if it had many faults. A block that is only the rest of
+    /// a character doesn't count.
     fn after_block(self, read: usize, written: usize) -> Self
         ensures { IsNarrow self → IsNarrow result }
     {
@@ -92,7 +92,7 @@ impl Look {
         }
     }
 
-    /// How many bytes are read as a block where no text is found.
+    /// How many bytes to decode as a block if no text is found.
     pub fn block_len(self, bytes: &[u8]) -> usize
         requires { 0 < length bytes.now }
         ensures some { (0 < result) × (result ≤ length bytes.now) }
@@ -105,7 +105,7 @@ impl Look {
     }
 }
 
-/// How many of these bytes are whole characters, if they are well-formed up to the last.
+/// How many of these bytes are whole characters, if all but the last are well-formed.
 fn whole(bytes: &[u8]) -> usize
     ensures { result ≤ length bytes.now }
 {
@@ -132,13 +132,13 @@ fn whole(bytes: &[u8]) -> usize
     len
 }
 
-/// Whether a character may begin with a byte.
+/// Whether a character may begin with this byte.
 #[inline(always)]
 fn begins(byte: u8) -> bool {
     matches!(byte, 0x00..=0x7F | 0xC2..=0xF4)
 }
 
-/// How many bytes are read from a fault on: the first, and those after it with which no character begins.
+/// How many bytes to decode from a fault on: the first, and those after it that begin no character.
 fn fault_len(bytes: &[u8]) -> usize
     requires { 0 < length bytes.now }
     ensures some { (0 < result) × (result ≤ length bytes.now) }
@@ -152,7 +152,7 @@ fn fault_len(bytes: &[u8]) -> usize
     at
 }
 
-/// How many bytes a block has at the start of these, so that it cuts no character.
+/// How many bytes to decode as a block without cutting a character.
 fn block_len(bytes: &[u8]) -> usize
     requires { 0 < length bytes.now }
     ensures some { (0 < result) × (result ≤ length bytes.now) }
@@ -165,7 +165,7 @@ fn block_len(bytes: &[u8]) -> usize
     if len == 0 { BLOCK } else { len }
 }
 
-/// The bytes within reach as a text, but for a character that the reach cuts; empty where they are no text.
+/// The text in the first `reach` bytes, without a character that their end cuts. Empty if they aren't a text.
 fn text_within(bytes: &[u8], reach: usize) -> &str
     ensures { result.now ≡ take (length result.now) bytes.now }
 {
@@ -180,8 +180,8 @@ fn text_within(bytes: &[u8], reach: usize) -> &str
     }
 }
 
-/// The text before the place among the first bytes where it seems to end; empty where the guess is wrong. Of a few
-/// bytes it is found by characters.
+/// The text before the guessed end, in the first `GUESSED` bytes. Empty if the guess is wrong. If there are few bytes,
+/// they are searched character by character.
 #[inline(always)]
 fn text_before_guess(bytes: &[u8]) -> &str
     ensures { result.now ≡ take (length result.now) bytes.now }
@@ -197,7 +197,7 @@ fn text_before_guess(bytes: &[u8]) -> &str
     text_within(bytes, end)
 }
 
-/// The bytes within reach.
+/// The first `reach` bytes.
 #[inline(always)]
 fn window(bytes: &[u8], reach: usize) -> &[u8]
     ensures { result.now ≡ take (length result.now) bytes.now }
@@ -209,7 +209,7 @@ fn window(bytes: &[u8], reach: usize) -> &[u8]
     }
 }
 
-/// The run of ASCII that bytes begin with.
+/// The run of ASCII that the bytes begin with.
 #[inline(always)]
 fn ascii_text(bytes: &[u8]) -> &str
     ensures { result.now ≡ take (length result.now) bytes.now }
@@ -218,7 +218,7 @@ fn ascii_text(bytes: &[u8]) -> &str
     unsafe { from_utf8_unchecked(&bytes[..len]) }
 }
 
-/// The text within reach, or that before its first fault.
+/// The text in the first `reach` bytes, or the text before its first fault.
 fn text_in_reach(bytes: &[u8], reach: usize) -> &str
     ensures { result.now ≡ take (length result.now) bytes.now }
 {
@@ -230,7 +230,7 @@ fn text_in_reach(bytes: &[u8], reach: usize) -> &str
     }
 }
 
-/// A text that bytes begin with where nothing is known of them: a long run of ASCII, or else the text within reach.
+/// The text at the start of a piece: a long run of ASCII, or else the text in the first window.
 fn text_at_first(bytes: &[u8]) -> &str
     ensures { result.now ≡ take (length result.now) bytes.now }
 {
@@ -242,7 +242,7 @@ fn text_at_first(bytes: &[u8]) -> &str
     }
 }
 
-/// A text that bytes begin with, as far as is looked.
+/// A text that the bytes begin with, by this strategy.
 pub fn text_found(bytes: &[u8], look: Look) -> &str
     ensures { result.now ≡ take (length result.now) bytes.now }
 {
@@ -254,7 +254,7 @@ pub fn text_found(bytes: &[u8], look: Look) -> &str
     }
 }
 
-/// Whether a byte may go on with a character.
+/// Whether this is a continuation byte.
 #[inline(always)]
 pub fn follows(byte: u8) -> bool
     ensures { result ≡ within 0x80 0xBF byte }
@@ -262,7 +262,7 @@ pub fn follows(byte: u8) -> bool
     matches!(byte, 0x80..=0xBF)
 }
 
-/// How many bytes the character of two bytes has that may begin here.
+/// The length of the two-byte character here, or 0.
 #[inline(always)]
 fn two_len(bytes: &[u8]) -> usize
     requires some { 0 < length bytes.now }
@@ -276,7 +276,7 @@ fn two_len(bytes: &[u8]) -> usize
     if follows(bytes[1]) { 2 } else { 0 }
 }
 
-/// How many bytes the character of three bytes has that may begin here, whose second byte has no bounds of its own.
+/// The length of the three-byte character here, or 0. Its second byte may be any of 80 to BF.
 #[inline(always)]
 fn three_len(bytes: &[u8]) -> usize
     requires some { 0 < length bytes.now }
@@ -293,14 +293,14 @@ fn three_len(bytes: &[u8]) -> usize
     if follows(bytes[2]) { 3 } else { 0 }
 }
 
-/// The first four bytes, or all where there are fewer.
+/// The first four bytes, or all if there are fewer.
 fn first_four(bytes: &[u8]) -> &[u8]
     ensures { result.now ≡ take (length result.now) bytes.now }
 {
     if 4 < bytes.len() { &bytes[..4] } else { bytes }
 }
 
-/// The longest text that bytes begin with, as std finds it.
+/// The longest text that the bytes begin with, as std finds it.
 fn longest_text(bytes: &[u8]) -> &str
     ensures { result.now ≡ take (length result.now) bytes.now }
 {
@@ -310,7 +310,7 @@ fn longest_text(bytes: &[u8]) -> &str
     }
 }
 
-/// How many of the first four bytes are a text: the way of the characters that are rare.
+/// How many of the first four bytes are a text: the slow way, for rare characters.
 fn other_len(bytes: &[u8]) -> usize
     ensures few { result ≤ length bytes.now }
     ensures utf8 { IsUtf8 (take result bytes.now) }
@@ -318,7 +318,7 @@ fn other_len(bytes: &[u8]) -> usize
     longest_text(first_four(bytes)).len()
 }
 
-/// How many bytes the text has that is found at once: a run of ASCII or a character, nothing where none begins.
+/// The length of a text that is found quickly: a run of ASCII or one character; 0 if none begins here.
 #[inline(always)]
 fn text_len(bytes: &[u8]) -> usize
     requires { 0 < length bytes.now }
@@ -334,7 +334,7 @@ fn text_len(bytes: &[u8]) -> usize
     }
 }
 
-/// The text that bytes begin with, up to the first fault.
+/// The text that the bytes begin with, up to the first fault.
 #[inline(always)]
 pub fn text_before_fault(bytes: &[u8]) -> &str
     ensures { result.now ≡ take (length result.now) bytes.now }

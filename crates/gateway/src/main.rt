@@ -1,4 +1,4 @@
-//! A gateway for resumable uploads of text in old and new encodings.
+//! The program: a gateway for resumable uploads of text in old and new encodings.
 #![tactic(auto)]
 
 mod scripting;
@@ -25,7 +25,7 @@ fn main(rt: HostRuntime) -> ExitCode {
     ExitCode::from(status)
 }
 
-// Does what the command line asks for: the status that the program ends with.
+// Does what the command line asks for, and returns the exit status.
 fn run(rt: &HostRuntime, words: &[String]) -> u8 {
     match read_order(rt.alloc(), words) {
         Ok(Some(order)) => ended(&mut rt.stderr(), obey(rt, order)),
@@ -34,7 +34,7 @@ fn run(rt: &HostRuntime, words: &[String]) -> u8 {
     }
 }
 
-// Does what there is to do.
+// Does an order.
 fn obey<'a>(rt: &'a HostRuntime, order: Order<'a>) -> Result<u8, Failure<'a>> {
     let alloc = rt.alloc();
     match order {
@@ -45,7 +45,7 @@ fn obey<'a>(rt: &'a HostRuntime, order: Order<'a>) -> Result<u8, Failure<'a>> {
         } => {
             let Formatted { pages, read } = format_file(rt, alloc, spool, blocks, indexes)?;
             say_formatted(&mut io::writer(rt), blocks, pages)?;
-            // Where standard error takes nothing, the index files aren't told.
+            // If standard error can't be written, the index files aren't reported.
             let told = say_read(&mut rt.stderr(), read.as_slice());
             drop(told);
         }
@@ -83,7 +83,7 @@ fn words(rt: &HostRuntime, alloc: Global) -> io::Result<Vec<String>> {
     Ok(words)
 }
 
-// Why the command line has no words: one that isn't UTF-8 is a usage fault.
+// The failure to read the command line. A word that isn't UTF-8 is a usage fault.
 fn no_words<'a>(rt: &HostRuntime, error: io::Error) -> Result<u8, Failure<'a>> {
     match error.kind() {
         io::ErrorKind::InvalidData => {
@@ -95,7 +95,7 @@ fn no_words<'a>(rt: &HostRuntime, error: io::Error) -> Result<u8, Failure<'a>> {
     }
 }
 
-// Prints help, or what is wrong with the command line. Out of memory is no fault of the command line.
+// Prints help, or the fault of the command line. Out of memory isn't a fault of the command line.
 fn refuse<'a>(rt: &HostRuntime, error: Error) -> Result<u8, Failure<'a>> {
     if error.kind() == ErrorKind::OutOfMemory {
         return Err(Failure::from(Fault::NoMemory));

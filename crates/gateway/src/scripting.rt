@@ -1,4 +1,4 @@
-//! Standard input as a script over a spool.
+//! Running standard input as a script over a spool.
 
 use enc_index::IndexSet;
 use gateway_engine::{Counted, CountedRead, CountedWrite, RunFault, run};
@@ -10,7 +10,7 @@ use std::alloc::Global;
 // How many text blocks a spool in memory has.
 const MEMORY_BLOCKS: u32 = 64;
 
-/// Runs standard input as a script over the spool in a file, or over a fresh one in memory where `-` stands for it.
+/// Runs standard input as a script over the spool in a file, or over a fresh one in memory for `-`.
 pub(crate) fn run_script<'a>(
     rt: &HostRuntime,
     alloc: Global,
@@ -34,8 +34,7 @@ pub(crate) fn run_script<'a>(
     }
 }
 
-// Runs a script from `reader` over the spool on a disk, and writes to `writer` what its calls give. The disk is handed
-// back.
+// Runs a script from `reader` over the spool on a disk, and writes its output to `writer`. The disk is returned.
 fn run_over_disk<D: Disk + Drop, R: CountedRead, W: CountedWrite>(
     alloc: Global,
     reader: &mut R,
@@ -48,7 +47,7 @@ fn run_over_disk<D: Disk + Drop, R: CountedRead, W: CountedWrite>(
     }
 }
 
-// Why a run ended, as the program tells it.
+// The program's error for a run that ended early.
 fn fault_of(fault: RunFault) -> Fault {
     match fault {
         RunFault::Open(fault) => Fault::from(fault),

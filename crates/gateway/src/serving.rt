@@ -1,4 +1,4 @@
-//! A spool in a file, served over sockets.
+//! Serving a spool in a file over sockets.
 ghost use Rattle.std.specs.Prelude.{◌≡◌, [], ◌∷◌, IsErr, IsErrAnd, IsOk};
 ghost use Rattle.std.specs.Net.Addr.{ipv4_octets};
 ghost use Rattle.std.specs.Net.Socket.{v4_ip, v4_port};
@@ -18,7 +18,7 @@ use std::alloc::Global;
 use std::io::{self, IsTerminal, Read, Write};
 use std::net::{Ipv4Addr, OpenListener, OpenStream, SocketAddr, SocketAddrV4, TcpListener};
 
-/// Serves the spool in a file, at a port of 127.0.0.1 that is printed. At the end the number of connections is told
+/// Serves the spool in a file at a port of 127.0.0.1, which is printed. At the end the number of connections is printed
 /// on standard error.
 pub(crate) fn serve_file<'a>(
     rt: &HostRuntime,
@@ -51,13 +51,13 @@ pub(crate) fn serve_file<'a>(
         service.turns,
     );
     let disk = gateway.into_disk();
-    // Where standard error takes nothing, the count isn't told.
+    // If standard error can't be written, the count isn't reported.
     let told = say_served(&mut rt.stderr(), connections);
     drop(told);
     outcome(served, spool, &disk)
 }
 
-// How serving ended: with status 3 where it was refused.
+// The result of serving: a disk fault gives exit status 3.
 fn outcome<'a>(
     served: Result<(), DiskFault>,
     spool: &'a str,
@@ -72,14 +72,14 @@ fn outcome<'a>(
     }
 }
 
-// Listens at a port of 127.0.0.1, and prints which one.
+// Listens at a port of 127.0.0.1, and prints it.
 fn listen<'a>(rt: &HostRuntime, port: u16) -> Result<TcpListener, Failure<'a>> {
     let (listener, address) = listen_at(rt, SocketAddr::V4(address_of(port)))?;
     println!(rt; "listening {address}")?;
     Ok(listener)
 }
 
-// A listener at an address, and the address that it has: of any port where that was 0.
+// A listener at an address, and its actual address: for port 0 the system chooses a port.
 fn listen_at<'a>(
     rt: &HostRuntime,
     address: SocketAddr,
@@ -96,7 +96,7 @@ fn bind(rt: &HostRuntime, address: SocketAddr) -> io::Result<(TcpListener, Socke
     Ok((listener, address))
 }
 
-// What is listened at: a port of 127.0.0.1, and no other address.
+// The address to listen at: a port of 127.0.0.1, and never another address.
 fn address_of(port: u16) -> SocketAddrV4
     ensures address { ipv4_octets (v4_ip result) ≡ 127 ∷ 0 ∷ 0 ∷ 1 ∷ [] }
     ensures port { v4_port result ≡ port }
@@ -104,24 +104,24 @@ fn address_of(port: u16) -> SocketAddrV4
     SocketAddrV4::new(Ipv4Addr::LOCALHOST, port)
 }
 
-/// What a server is to tell while it serves.
+/// What a server prints while it serves.
 #[derive(Clone, Copy, Drop)]
 pub(crate) struct Telling {
-    /// nothing but what is wrong
+    /// Only errors.
     pub(crate) quiet: bool,
-    /// what is asked and answered, on standard error
+    /// Requests and replies, on standard error.
     pub(crate) log: bool,
 }
 
 impl Telling {
-    // Whether there is a log: at a terminal it needn't be asked for.
+    // Whether there is a log. At a terminal it needn't be asked for.
     fn has_log(self, rt: &HostRuntime) -> bool {
         self.log || !self.quiet && rt.stderr().is_terminal()
     }
 }
 
-/// Serves the spool in a file until the program is ended, or the disk fails. What is served and where is printed,
-/// unless it is to be quiet, and where other machines may reach it there is a warning on standard error.
+/// Serves the spool in a file until the program is ended or there is a disk fault. Prints the spool and the address,
+/// unless it is quiet, and a warning on standard error if other machines may reach the address.
 pub(crate) fn serve_up<'a>(
     rt: &HostRuntime,
     alloc: Global,
@@ -154,7 +154,7 @@ pub(crate) fn serve_up<'a>(
     }
 }
 
-// A gateway over the spool on a disk, and how much of the spool is in use. The disk comes back with each refusal.
+// A gateway over the spool on a disk, and how much of the spool is in use. A refusal returns the disk.
 fn open_gateway(
     alloc: Global,
     disk: FileDisk,
@@ -169,7 +169,7 @@ fn open_gateway(
     }
 }
 
-// Listens at an address, and says so: of which spool, where that is to be told, and whether others may reach it.
+// Listens at an address. Prints the spool and the address, if `told` is given, and a warning if others may reach it.
 fn listen_openly<'a>(
     rt: &HostRuntime,
     alloc: Global,
@@ -183,7 +183,7 @@ fn listen_openly<'a>(
     }
     let place = address.to_string(alloc)?;
     if !address.ip().is_loopback() {
-        // Where standard error takes nothing, it isn't told.
+        // If standard error can't be written, the warning is lost.
         let warned = say_open(&mut rt.stderr(), place.as_str());
         drop(warned);
     }
@@ -206,7 +206,7 @@ fn serve_logged(
     served
 }
 
-// Serves until the disk fails: serving that ended by itself goes on. The disk comes back.
+// Serves until there is a disk fault; when serving ends by itself, it begins again. The disk is returned.
 fn serve_on_and_on<L: OpenListener>(
     rt: &HostRuntime,
     alloc: Global,

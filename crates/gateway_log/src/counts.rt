@@ -1,22 +1,22 @@
-//! How much passed.
+//! Counts of the traffic.
 
-/// What passed in a minute.
+/// The traffic of a minute.
 #[derive(Clone, Copy, Drop)]
 pub(crate) struct Counts {
     pub(crate) connections: u64,
     pub(crate) requests: u64,
-    /// replies with a status of 200 to 399
+    /// Replies with a status of 200 to 399.
     pub(crate) served: u64,
-    /// those of 400 to 499
+    /// Replies with a status of 400 to 499.
     pub(crate) refused: u64,
-    /// those of 500 and above
+    /// Replies with a status of 500 and above.
     pub(crate) failed: u64,
     pub(crate) bytes_in: u64,
     pub(crate) bytes_out: u64,
 }
 
 impl Counts {
-    /// Nothing passed.
+    /// No traffic.
     pub(crate) const NONE: Counts = Counts {
         connections: 0,
         requests: 0,
@@ -27,28 +27,28 @@ impl Counts {
         bytes_out: 0,
     };
 
-    /// Whether nothing passed.
+    /// Whether there was no traffic.
     pub(crate) fn is_none(&self) -> bool {
         self.connections == 0 && self.bytes_in == 0 && self.bytes_out == 0
     }
 
-    /// A connection was accepted.
+    /// Counts an accepted connection.
     pub(crate) fn add_connection(&mut self) {
         self.connections = self.connections.saturating_add(1);
     }
 
-    /// So many bytes came, and with them the heads of so many requests.
+    /// Counts received bytes, and the requests whose heads they complete.
     pub(crate) fn add_in(&mut self, bytes: usize, requests: u64) {
         self.bytes_in = self.bytes_in.saturating_add(bytes as u64);
         self.requests = self.requests.saturating_add(requests);
     }
 
-    /// So many bytes went.
+    /// Counts sent bytes.
     pub(crate) fn add_out(&mut self, bytes: usize) {
         self.bytes_out = self.bytes_out.saturating_add(bytes as u64);
     }
 
-    /// A reply with this status went.
+    /// Counts a reply with this status.
     pub(crate) fn add_reply(&mut self, status: u16) {
         let class = match status {
             0..=399 => &mut self.served,

@@ -1,27 +1,27 @@
-//! Heads of requests and of replies, as far as a log tells them.
+//! Heads of requests and replies, as far as the log needs them.
 
 use std::alloc::Global;
 use std::str;
 
-/// What a head says.
+/// The parts of a head that the log shows.
 #[derive(Drop)]
 pub(crate) struct Head {
-    /// the first line, or its first 256 bytes
+    /// The first line, or its first 256 bytes.
     first: Vec<u8>,
-    /// whether a line has passed
+    /// Whether a line has passed.
     begun: bool,
-    /// `Upload-Offset`
+    /// `Upload-Offset`.
     pub(crate) offset: Option<u64>,
-    /// `Upload-Length`
+    /// `Upload-Length`.
     pub(crate) length: Option<u64>,
-    /// `Content-Length`
+    /// `Content-Length`.
     pub(crate) body: Option<u64>,
-    /// `X-Refusal`
+    /// `X-Refusal`.
     pub(crate) refusal: Option<u64>,
 }
 
 impl Head {
-    /// No line has passed.
+    /// A head without lines.
     pub(crate) fn new(alloc: Global) -> Self {
         Head {
             first: Vec::new(alloc),
@@ -38,30 +38,29 @@ impl Head {
         self.begun
     }
 
-    /// The words of the first line, by their place: the method of a request is 0 and its path 1, the status of a
-    /// reply is 1.
+    /// A word of the first line, by its place. In a request 0 is the method and 1 the path; in a reply 1 is the status.
     pub(crate) fn word(&self, place: usize) -> Option<&[u8]> {
         self.first.split(|byte| *byte == b' ').nth(place)
     }
 
-    /// The status of a reply. `None` where its first line has none.
+    /// The status of a reply, if its first line has one.
     pub(crate) fn status(&self) -> Option<u16> {
         str::from_utf8(self.word(1)?).ok()?.parse::<u16>().ok()
     }
 
-    /// A line that isn't empty passes.
+    /// Takes a line that isn't empty.
     pub(crate) fn add(&mut self, line: &[u8]) {
         if self.begun {
             self.add_field(line);
             return;
         }
         self.begun = true;
-        // Out of memory, the line isn't kept.
+        // Out of memory, the line is lost.
         let kept = self.first.extend_from_slice(line);
         drop(kept);
     }
 
-    // A line with a field. A field that says no number is passed over.
+    // Takes a line with a field. A field without a number is ignored.
     fn add_field(&mut self, line: &[u8]) {
         let Some((name, value)) = number_in(line) else {
             return;
@@ -79,7 +78,7 @@ impl Head {
     }
 }
 
-// The name and the number of a field that is a number.
+// The name and the number of a field, if it has a number.
 fn number_in(line: &[u8]) -> Option<(&str, u64)> {
     let (name, value) = str::from_utf8(line).ok()?.split_once(':')?;
     let value = value.trim().parse::<u64>().ok()?;

@@ -1,4 +1,4 @@
-//! A log of what a server is asked and answers: a listener whose streams watch the bytes that pass.
+//! A log of requests and replies: a listener whose streams watch the bytes that pass.
 #![tactic(auto)]
 
 mod counts;

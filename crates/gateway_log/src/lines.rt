@@ -2,33 +2,33 @@
 
 use std::alloc::Global;
 
-/// How many bytes of a line are kept.
+/// How many bytes of a line are stored.
 const MOST_KEPT: usize = 256;
 
-/// A line that passes in pieces: its first 256 bytes. Out of memory, fewer of them.
+/// A line that passes in pieces: its first 256 bytes, or fewer when out of memory.
 #[derive(Drop)]
 pub(crate) struct Line {
     kept: Vec<u8>,
 }
 
 impl Line {
-    /// Nothing of the line has passed.
+    /// An empty line.
     pub(crate) fn new(alloc: Global) -> Self {
         Line {
             kept: Vec::new(alloc),
         }
     }
 
-    /// The next piece of the line passes.
+    /// Takes the next piece of the line.
     pub(crate) fn add(&mut self, piece: &[u8]) {
         let room = MOST_KEPT.saturating_sub(self.kept.len());
         let prefix = &piece[..piece.len().min(room)];
-        // Out of memory, the piece isn't kept.
+        // Out of memory, the piece is lost.
         let kept = self.kept.extend_from_slice(prefix);
         drop(kept);
     }
 
-    /// What is kept, without a CR at its end.
+    /// The stored bytes, without a CR at the end.
     pub(crate) fn text(&self) -> &[u8] {
         match self.kept.as_slice() {
             [text @ .., b'\r'] => text,
@@ -36,13 +36,13 @@ impl Line {
         }
     }
 
-    /// Another line begins.
+    /// Begins another line.
     pub(crate) fn clear(&mut self) {
         self.kept.clear();
     }
 }
 
-/// The bytes before the first line feed, and those after it. `None` where there is none.
+/// The bytes before the first line feed and those after it, if there is one.
 pub(crate) fn cut_line(bytes: &[u8]) -> Option<(&[u8], &[u8])> {
     let at = bytes.iter().position(|byte| *byte == b'\n')?;
     Some((&bytes[..at], &bytes[at + 1..]))

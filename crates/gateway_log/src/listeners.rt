@@ -1,4 +1,4 @@
-//! A listener whose streams are watched.
+//! A listener whose streams are logged.
 
 use crate::streams::LoggedStream;
 use crate::writing::Log;
@@ -6,8 +6,8 @@ use std::io::{self, Write};
 use std::net::{OpenListener, SocketAddr};
 use std::time::Clock;
 
-/// A listener that accepts what the one inside does, and tells a log what passes over each stream. When it is asked for
-/// a stream, the log is written.
+/// A listener that accepts what the inner one does, and logs the bytes of each stream. The log is written when a stream
+/// is asked for.
 #[derive(Drop)]
 pub struct Logged<'a, L, T: Clock, W: Write + Drop> {
     listener: &'a L,

@@ -1,23 +1,23 @@
-//! Messages that pass in pieces: heads, and after each one its body.
+//! Messages that pass in pieces: heads, each followed by its body.
 
 use crate::heads::Head;
 use crate::lines::{Line, cut_line};
 use std::alloc::Global;
 use std::mem;
 
-/// The messages of one direction of a connection.
+/// The messages in one direction of a connection.
 #[derive(Drop)]
 pub(crate) struct Messages {
     alloc: Global,
     line: Line,
-    /// of the head under way
+    /// The current head.
     head: Head,
-    /// how many bytes of a body are to pass
+    /// How many bytes of the body are still to pass.
     body: u64,
 }
 
 impl Messages {
-    /// Nothing has passed.
+    /// No bytes have passed.
     pub(crate) fn new(alloc: Global) -> Self {
         Messages {
             alloc,
@@ -27,17 +27,17 @@ impl Messages {
         }
     }
 
-    /// Whether a body is under way.
+    /// Whether a body is passing.
     pub(crate) fn is_in_body(&self) -> bool {
         self.body > 0
     }
 
-    /// What of the head under way has passed. Another one begins.
+    /// Takes the current head, as far as it passed, and begins another.
     pub(crate) fn take_head(&mut self) -> Head {
         mem::replace(&mut self.head, Head::new(self.alloc))
     }
 
-    /// Bytes pass, at most to the end of a line or of a body: those that don't, and the head that ends with the line.
+    /// Takes bytes up to the end of a line or of a body. Returns the others, and the head if it ends here.
     pub(crate) fn pass<'b>(&mut self, bytes: &'b [u8]) -> (&'b [u8], Option<Head>) {
         if self.body > 0 {
             return (self.pass_body(bytes), None);
@@ -54,14 +54,14 @@ impl Messages {
         }
     }
 
-    // Bytes of a body pass: those after it.
+    // Takes bytes of a body, and returns those after it.
     fn pass_body<'b>(&mut self, bytes: &'b [u8]) -> &'b [u8] {
         let count = self.body.min(bytes.len() as u64);
         self.body -= count;
         &bytes[count as usize..]
     }
 
-    // A line ends: the head, where it does too. Empty lines before a head are passed over.
+    // Ends a line, and returns the head if it ends too. Empty lines before a head are ignored.
     fn end_line(&mut self) -> Option<Head> {
         let is_empty = self.line.text().is_empty();
         if !is_empty {

@@ -1,6 +1,6 @@
 //! The names of refusals.
 
-/// The name of a refusal, by the number that its reply gives as `X-Refusal`.
+/// The name of the refusal with this number, which its reply gives as `X-Refusal`.
 pub(crate) fn name_of(number: u64) -> Option<&'static str> {
     let name = match number {
         6 => "Unencodable",

@@ -1,4 +1,4 @@
-//! Lines of the log.
+//! The lines of the log.
 
 use crate::counts::Counts;
 use crate::heads::Head;
@@ -9,18 +9,18 @@ use std::io::{self, Write};
 use std::net::SocketAddr;
 use std::time::Duration;
 
-/// How many bytes a word of a client takes in a line.
+/// How many bytes a client's word has at most in a line.
 const MOST_SHOWN: usize = 200;
 
-/// Who a connection is with.
+/// The client of a connection.
 #[derive(Clone, Copy, Drop)]
 pub(crate) struct Client {
-    /// the connection's place in the order of accept, from 1
+    /// The number of the connection, in the order of acceptance, from 1 on.
     pub(crate) number: u64,
     pub(crate) address: SocketAddr,
 }
 
-/// Writes the line of an exchange that ended at a time: `TIME NUMBER CLIENT METHOD PATH offset=.. length=.. body=..
+/// Writes the line of an exchange that ended at this time: `TIME NUMBER CLIENT METHOD PATH offset=.. length=.. body=..
 /// status=.. refusal=.. in=.. out=.. ms=..`.
 pub(crate) fn write_exchange(
     out: &mut Vec<u8>,
@@ -37,7 +37,7 @@ pub(crate) fn write_exchange(
     writeln!(out, " in={} out={} ms={millis}", asked.bytes, told.bytes)
 }
 
-/// Writes the line of the counts of a minute.
+/// Writes the line of a minute's counts.
 pub(crate) fn write_counts(out: &mut Vec<u8>, time: Duration, counts: &Counts) -> io::Result<()> {
     write_time(out, time)?;
     writeln!(
@@ -53,7 +53,7 @@ pub(crate) fn write_counts(out: &mut Vec<u8>, time: Duration, counts: &Counts) -
     )
 }
 
-// Writes a time since 1970, in UTC: a dash where it is no time of the calendar.
+// Writes a time since 1970 in UTC, or a dash if the calendar doesn't have it.
 fn write_time(out: &mut Vec<u8>, time: Duration) -> io::Result<()> {
     let millis = i64::try_from(time.as_millis()).unwrap_or(i64::MAX);
     match Timestamp::from_millisecond(millis) {
@@ -62,7 +62,7 @@ fn write_time(out: &mut Vec<u8>, time: Duration) -> io::Result<()> {
     }
 }
 
-// Writes what a request asked: its method and path, and its numbers where it has them.
+// Writes the request: its method, its path, and its numbers if it has them.
 fn write_request(out: &mut Vec<u8>, head: &Head) -> io::Result<()> {
     write_word(out, head.word(0))?;
     write_word(out, head.word(1))?;
@@ -71,7 +71,7 @@ fn write_request(out: &mut Vec<u8>, head: &Head) -> io::Result<()> {
     write_number(out, "body", head.body)
 }
 
-// Writes what was answered.
+// Writes the reply.
 fn write_reply(out: &mut Vec<u8>, told: &Told) -> io::Result<()> {
     match told.status {
         Some(status) => write!(out, " status={status}")?,
@@ -87,7 +87,7 @@ fn write_reply(out: &mut Vec<u8>, told: &Told) -> io::Result<()> {
     }
 }
 
-// Writes a number and what it is of, where there is one.
+// Writes a number with its name, if there is one.
 fn write_number(out: &mut Vec<u8>, name: &str, number: Option<u64>) -> io::Result<()> {
     match number {
         Some(number) => write!(out, " {name}={number}"),
@@ -95,8 +95,8 @@ fn write_number(out: &mut Vec<u8>, name: &str, number: Option<u64>) -> io::Resul
     }
 }
 
-// Writes a blank and a client's word of at most 200 bytes: a dash where there is none. What isn't printable ASCII
-// stands there by its number, and so does a backslash.
+// Writes a blank and a client's word of at most 200 bytes, or a dash without one. Bytes other than printable ASCII are
+// written as `\xNN`, and so is a backslash.
 fn write_word(out: &mut Vec<u8>, word: Option<&[u8]>) -> io::Result<()> {
     out.push(b' ')?;
     let word = match word {

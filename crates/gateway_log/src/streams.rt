@@ -1,4 +1,4 @@
-//! Streams whose bytes are watched.
+//! Streams whose bytes are logged.
 
 use crate::shown::Client;
 use crate::talks::Talk;
@@ -7,7 +7,7 @@ use std::io::{self, Read, Write};
 use std::net::OpenStream;
 use std::time::{Clock, Duration};
 
-/// What passes over a connection, told to a log. Once it is dropped the connection is over.
+/// The bytes of a connection on their way to the log. Dropping it ends the connection.
 struct Watch<'a, T: Clock, W: Write + Drop> {
     log: &'a Log<'a, T, W>,
     client: Client,
@@ -16,13 +16,13 @@ struct Watch<'a, T: Clock, W: Write + Drop> {
 }
 
 impl<T: Clock, W: Write + Drop> Watch<'_, T, W> {
-    // Bytes came.
+    // Counts received bytes.
     fn came(&mut self, bytes: &[u8]) {
         let requests = self.talk.came(self.log.clock(), bytes);
         self.log.count_in(bytes.len(), requests);
     }
 
-    // Bytes went.
+    // Counts sent bytes, and logs the exchanges that they complete.
     fn went(&mut self, bytes: &[u8]) {
         self.log.count_out(bytes.len());
         let mut rest = bytes;
@@ -53,7 +53,7 @@ impl<T: Clock, W: Write + Drop> Drop for Watch<'_, T, W> {
     }
 }
 
-/// A stream that is read and written as the one inside, and told to a log.
+/// A stream that is read and written as the inner one, and logged.
 #[derive(Drop)]
 pub struct LoggedStream<'a, S, T: Clock, W: Write + Drop> {
     stream: S,
@@ -61,7 +61,7 @@ pub struct LoggedStream<'a, S, T: Clock, W: Write + Drop> {
 }
 
 impl<'a, S, T: Clock, W: Write + Drop> LoggedStream<'a, S, T, W> {
-    /// The stream of a client that was accepted now.
+    /// The stream of a client that was just accepted.
     pub(crate) fn new(stream: S, log: &'a Log<'a, T, W>, client: Client) -> Self {
         LoggedStream {
             stream,

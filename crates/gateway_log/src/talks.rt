@@ -1,4 +1,4 @@
-//! What is said over a connection: requests and their replies.
+//! The requests and replies of a connection.
 
 use crate::heads::Head;
 use crate::messages::Messages;
@@ -10,21 +10,21 @@ use std::time::{Clock, Duration};
 #[derive(Drop)]
 pub(crate) struct Asked {
     pub(crate) head: Head,
-    /// how many of its bytes came
+    /// How many of its bytes came.
     pub(crate) bytes: u64,
-    /// when the first one did
+    /// When the first byte came.
     pub(crate) since: Option<Duration>,
 }
 
-/// A reply, as far as it went.
+/// A reply, as far as it was sent.
 #[derive(Clone, Copy, Drop)]
 pub(crate) struct Told {
-    /// `None` where its head didn't go
+    /// `None` if its head wasn't sent.
     pub(crate) status: Option<u16>,
     pub(crate) refusal: Option<u64>,
-    /// how many of its bytes went
+    /// How many of its bytes were sent.
     pub(crate) bytes: u64,
-    /// whether all of it did
+    /// Whether all of it was sent.
     pub(crate) whole: bool,
 }
 
@@ -41,20 +41,20 @@ pub(crate) struct Talk {
     alloc: Global,
     asks: Messages,
     tells: Messages,
-    /// of the head under way: how many bytes came, and since when
+    /// Of the current head: how many bytes came, and since when.
     bytes: u64,
     since: Option<Duration>,
-    /// requests whose heads came, without a reply so far
+    /// Requests whose heads came and that have no reply yet.
     waiting: VecDeque<Asked>,
-    /// whether one was let go when out of memory: then no later one is kept
+    /// Whether a request was lost when out of memory. No later one is stored then.
     lost: bool,
-    /// the reply under way
+    /// The current reply.
     told: Told,
-    /// how many replies went
+    /// How many replies were sent.
     replies: u64,
 }
 
-/// No byte of a reply went.
+/// No byte of a reply was sent.
 const NOTHING: Told = Told {
     status: None,
     refusal: None,
@@ -63,7 +63,7 @@ const NOTHING: Told = Told {
 };
 
 impl Talk {
-    /// Nothing was said.
+    /// No requests and no replies.
     pub(crate) fn new(alloc: Global) -> Self {
         Talk {
             alloc,
@@ -78,7 +78,7 @@ impl Talk {
         }
     }
 
-    /// Bytes came: how many requests have their whole head with them.
+    /// Takes received bytes, and returns how many heads they complete.
     pub(crate) fn came<T: Clock>(&mut self, clock: &T, bytes: &[u8]) -> u64 {
         let mut heads = 0u64;
         let mut rest = bytes;
@@ -93,7 +93,7 @@ impl Talk {
         heads
     }
 
-    // Bytes come, at most to the end of a line or of a body: those that don't, and whether a head ends with them.
+    // Takes received bytes up to the end of a line or of a body. Returns the others, and whether they complete a head.
     fn ask<'b, T: Clock>(&mut self, clock: &T, bytes: &'b [u8]) -> (&'b [u8], bool) {
         if self.asks.is_in_body() {
             let (rest, _) = self.asks.pass(bytes);
@@ -112,20 +112,20 @@ impl Talk {
         (rest, true)
     }
 
-    // Bytes of a body came. Where its request has a reply already, they are no part of an exchange.
+    // Counts the bytes of a body. If its request has a reply already, they belong to no exchange.
     fn add_body(&mut self, count: usize) {
         if let Some(asked) = self.waiting.back_mut() {
             asked.bytes = plus(asked.bytes, count);
         }
     }
 
-    // A head is whole: its request waits for its reply.
+    // Adds a request with this head, which waits for its reply.
     fn add_request(&mut self, head: Head) {
         let asked = self.under_way(head);
         self.lost = self.lost || self.waiting.push_back(asked).is_err();
     }
 
-    // The request under way, with its head. Another one begins.
+    // The current request with this head; another one begins.
     fn under_way(&mut self, head: Head) -> Asked {
         let asked = Asked {
             head,
@@ -137,7 +137,8 @@ impl Talk {
         asked
     }
 
-    /// Bytes go, at most to the end of a line or of a body: those that don't, and the exchange that ends with them.
+    /// Takes sent bytes up to the end of a line or of a body. Returns the others, and the exchange if they complete
+    /// one.
     pub(crate) fn tell<'b>(&mut self, bytes: &'b [u8]) -> (&'b [u8], Option<Exchange>) {
         let (rest, head) = self.tells.pass(bytes);
         self.told.bytes = plus(self.told.bytes, bytes.len().saturating_sub(rest.len()));
@@ -152,7 +153,7 @@ impl Talk {
         (rest, Some(self.exchange()))
     }
 
-    // The head of a reply went. An interim one is none.
+    // Takes the head of a reply, unless the reply is an interim one.
     fn add_reply(&mut self, head: &Head) {
         let status = head.status();
         if status.is_some_and(|status| status >= 200) {
@@ -161,7 +162,7 @@ impl Talk {
         }
     }
 
-    // The oldest request that has no reply, and what went of its reply.
+    // The oldest request without a reply, and what was sent of its reply.
     fn exchange(&mut self) -> Exchange {
         let told = self.told;
         self.told = NOTHING;
@@ -172,7 +173,7 @@ impl Talk {
         Exchange { asked, told }
     }
 
-    // The request whose head is under way. Nothing is known of it where one was let go before.
+    // The request whose head is unfinished. Nothing is known of it if a request was lost before.
     fn unfinished(&mut self) -> Asked {
         let head = if self.lost {
             Head::new(self.alloc)
@@ -182,8 +183,8 @@ impl Talk {
         self.under_way(head)
     }
 
-    /// The connection ended: what it left without a whole reply. `None` where it left nothing so, and something had a
-    /// reply.
+    /// Ends the connection, and returns the exchange that it leaves without a complete reply. `None` if it leaves none
+    /// and had a reply before.
     pub(crate) fn end(&mut self) -> Option<Exchange> {
         let owed = self.told.bytes > 0 || self.bytes > 0 || !self.waiting.is_empty();
         if owed || self.replies == 0 {

@@ -9,17 +9,17 @@ use std::io::Write;
 use std::net::SocketAddr;
 use std::time::{Clock, Duration};
 
-/// The lines are written once they have so many bytes.
+/// Lines are written once they have this many bytes.
 const FULL: usize = 16_384;
 
-/// Where no connection may be accepted, lines are written with the first one after so many seconds.
+/// Lines are written with the next one after this many seconds, even if no connection can be accepted.
 const LATEST: u64 = 1;
 
-/// The counts are told after so many seconds.
+/// How many seconds pass between two lines of counts.
 const MINUTE: u64 = 60;
 
-/// A log, which a server's connections share. Its lines are gathered, and written when the server accepts. Out of
-/// memory a line is left out, and where the writer fails what was gathered is: nothing is said of it.
+/// A log, which the connections of a server share. Its lines are gathered, and written when the server accepts. Out of
+/// memory a line is lost, and if the writer fails, so is what was gathered; neither is reported.
 #[derive(Drop)]
 pub struct Log<'a, T: Clock, W: Write + Drop> {
     alloc: Global,
@@ -27,16 +27,16 @@ pub struct Log<'a, T: Clock, W: Write + Drop> {
     writer: RefCell<W>,
     lines: Cell<Vec<u8>>,
     counts: Cell<Counts>,
-    /// how many connections there were
+    /// How many connections there were.
     accepted: Cell<u64>,
-    /// when lines were last written, or there were none to write
+    /// When lines were last written, or there were none to write.
     written: Cell<Duration>,
-    /// when counts were told last
+    /// When counts were last gathered.
     counted: Cell<Duration>,
 }
 
 impl<'a, T: Clock, W: Write + Drop> Log<'a, T, W> {
-    /// A log without lines, whose times are those of a clock.
+    /// A log without lines, with the times of this clock.
     pub fn new(alloc: Global, clock: &'a T, writer: W) -> Self {
         let now = now_of(clock);
         Log {
@@ -51,23 +51,23 @@ impl<'a, T: Clock, W: Write + Drop> Log<'a, T, W> {
         }
     }
 
-    /// Writes what was gathered, and the counts since they were told.
+    /// Writes what was gathered, and the counts since the last line of counts.
     pub fn end(&self) {
         self.tell_counts();
         self.write();
     }
 
-    /// What memory is taken from.
+    /// The allocator.
     pub(crate) fn alloc(&self) -> Global {
         self.alloc
     }
 
-    /// What times are taken from.
+    /// The clock.
     pub(crate) fn clock(&self) -> &'a T {
         self.clock
     }
 
-    /// The client of the next connection.
+    /// Counts a connection, and returns its client.
     pub(crate) fn accept(&self, address: SocketAddr) -> Client {
         let mut counts = self.counts.get();
         counts.add_connection();
@@ -77,21 +77,21 @@ impl<'a, T: Clock, W: Write + Drop> Log<'a, T, W> {
         Client { number, address }
     }
 
-    /// So many bytes came, and with them the heads of so many requests.
+    /// Counts received bytes, and the requests whose heads they complete.
     pub(crate) fn count_in(&self, bytes: usize, requests: u64) {
         let mut counts = self.counts.get();
         counts.add_in(bytes, requests);
         self.counts.set(counts);
     }
 
-    /// So many bytes went.
+    /// Counts sent bytes.
     pub(crate) fn count_out(&self, bytes: usize) {
         let mut counts = self.counts.get();
         counts.add_out(bytes);
         self.counts.set(counts);
     }
 
-    /// A turn of the server: what was gathered is written, and each minute the counts.
+    /// Writes what was gathered, and each minute the counts.
     pub(crate) fn turn(&self) {
         let now = now_of(self.clock);
         if now.saturating_sub(self.counted.get()).as_secs() >= MINUTE {
@@ -102,7 +102,7 @@ impl<'a, T: Clock, W: Write + Drop> Log<'a, T, W> {
         self.write();
     }
 
-    /// An exchange is over, or its connection, which was opened at some time.
+    /// Logs an exchange that is over. `opened` is when its connection was accepted.
     pub(crate) fn tell(&self, client: Client, opened: Duration, exchange: &Exchange) {
         self.count_reply(exchange);
         let now = now_of(self.clock);
@@ -122,7 +122,7 @@ impl<'a, T: Clock, W: Write + Drop> Log<'a, T, W> {
         }
     }
 
-    // A whole reply is counted by its class.
+    // Counts a complete reply by its class.
     fn count_reply(&self, exchange: &Exchange) {
         if let Some(status) = exchange.told.status
             && exchange.told.whole
@@ -133,7 +133,7 @@ impl<'a, T: Clock, W: Write + Drop> Log<'a, T, W> {
         }
     }
 
-    // Gathers the counts, where something passed.
+    // Gathers the counts, if there was traffic.
     fn tell_counts(&self) {
         let counts = self.counts.replace(Counts::NONE);
         if counts.is_none() {
@@ -168,7 +168,7 @@ impl<'a, T: Clock, W: Write + Drop> Log<'a, T, W> {
     }
 }
 
-/// A clock's reading: its start where it has none.
+/// The clock's reading, or its start if it has none.
 pub(crate) fn now_of<T: Clock>(clock: &T) -> Duration {
     clock.monotonic().unwrap_or(Duration::ZERO)
 }

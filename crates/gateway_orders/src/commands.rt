@@ -1,15 +1,15 @@
-//! The commands of the program, as its help tells of them.
+//! The commands of the program, as its help describes them.
 
 use clap::{Arg, ArgAction, Command, value_parser};
 use std::alloc::{AllocError, Global};
 
-/// What `--version` says after the program's name.
+/// The version, which `--version` prints after the program's name.
 const VERSION: &str = "1.0.0, for spools of version 1 and 2";
 
-/// What `up` listens at where nothing else is said.
+/// The address that `up` listens at by default.
 const DOOR: &str = "127.0.0.1:8080";
 
-/// A command: its name, what help says of it, and its arguments.
+/// A command: its name, its description in the help, an example, and its arguments.
 struct Described {
     name: &'static str,
     about: &'static str,
@@ -17,26 +17,26 @@ struct Described {
     takes: &'static [Given],
 }
 
-/// An argument: its name, what comes with it, and what help says of it.
+/// An argument: its name, what comes with it, and its description in the help.
 struct Given {
     name: &'static str,
     with: With,
     help: &'static str,
 }
 
-/// What comes with an argument. Where it is no word by itself, it stands after `--` and its name; a value has to be
-/// given but for one that is there by default, and help calls it so.
+/// What comes with an argument. An argument that isn't a word by itself comes after `--` and its name. A value without
+/// a default is required; the text here is its name in the help.
 #[derive(Clone, Copy)]
 enum With {
-    /// It is a word by itself, which has to be given.
+    /// A word by itself, which is required.
     Word,
-    /// It is one number by itself, or more.
+    /// One or more numbers by themselves.
     Numbers,
-    /// Nothing: it is given or not.
+    /// Nothing: the argument is given or not.
     Nothing,
     /// A text.
     Text(&'static str),
-    /// A text, or this one.
+    /// A text, or this default.
     TextOr(&'static str, &'static str),
     /// A number below 2¹⁶.
     U16(&'static str),
@@ -46,7 +46,7 @@ enum With {
     U64(&'static str),
 }
 
-/// The path of a spool that is there.
+/// The path of an existing spool.
 const SPOOL: Given = Given {
     name: "SPOOL",
     with: With::Word,
@@ -264,7 +264,7 @@ fn argument<'a>(alloc: Global, given: &Given) -> Arg<'a> {
     }
 }
 
-// An argument that stands after `--` and this name, with a value that help calls so.
+// An argument after `--` and this name, with a value of this name in the help.
 fn option<'a>(arg: Arg<'a>, name: &'a str, value: &'a str) -> Arg<'a> {
     arg.long(name).action(ArgAction::Set).value_name(value)
 }

@@ -1,4 +1,4 @@
-//! What the program is asked for: its command line, read as an order.
+//! The command line of the program, read as an order. It relies on clap.
 #![tactic(auto)]
 
 mod commands;

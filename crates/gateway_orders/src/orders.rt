@@ -9,51 +9,51 @@ use std::net::SocketAddr;
 /// What a command line asks for.
 #[derive(Debug, Drop)]
 pub enum Order<'a> {
-    /// A new spool at this path, of so many text blocks, with the index files of this folder.
+    /// Makes a spool at this path with this many text blocks and the index files of this folder.
     Format {
         spool: &'a str,
         blocks: u32,
         indexes: &'a str,
     },
-    /// Standard input, run as a script over the spool at this path: `-` stands for a fresh one in memory.
+    /// Runs standard input as a script over the spool at this path, or over a fresh one in memory for `-`.
     Script {
         spool: &'a str,
     },
-    /// Connections over sockets to a spool.
+    /// Serves a spool over sockets, with an end.
     Serve(Service<'a>),
-    /// The same until the program is ended, at this address; where it is quiet nothing is printed of it. There is a log
-    /// on standard error where one is asked for.
+    /// Serves a spool at this address until the program is ended. `quiet` omits the line at the start; `log` writes a
+    /// log to standard error.
     Up {
         spool: &'a str,
         listen: SocketAddr,
         quiet: bool,
         log: bool,
     },
-    /// The uploads of the spool at this path, with their metadata or without.
+    /// Lists the uploads of the spool at this path, with their metadata or without.
     List {
         spool: &'a str,
         long: bool,
     },
-    /// The uploads of these numbers, deleted from the spool at this path.
+    /// Deletes the uploads with these numbers.
     Delete {
         spool: &'a str,
         numbers: Vec<u64>,
     },
-    /// The texts of the spool at this path, written into files of this folder: of the complete uploads, or of all.
+    /// Writes the texts of the complete uploads, or of all, into files in this folder.
     Export {
         spool: &'a str,
         folder: &'a str,
         all: bool,
     },
-    /// Standard input, written as an upload with these labels and this mode would be stored, with the index files of
-    /// this folder.
+    /// Writes standard input as an upload with these labels and this mode would be stored, with the index files of this
+    /// folder.
     Text {
         from: &'a str,
         to: &'a str,
         mode: &'a str,
         indexes: &'a str,
     },
-    /// The spool at this path, brought to version 2.
+    /// Upgrades the spool at this path to version 2.
     Upgrade {
         spool: &'a str,
     },
@@ -64,17 +64,17 @@ pub enum Order<'a> {
 pub struct Service<'a> {
     /// The path of the file.
     pub spool: &'a str,
-    /// The port: any where it is 0.
+    /// The port; 0 means any.
     pub port: u16,
-    /// It ends once so many connections were closed.
+    /// Serving ends once this many connections were closed.
     pub connections: u64,
-    /// It ends after so many turns.
+    /// Serving ends after this many turns.
     pub turns: u64,
 }
 
-/// Reads a command line, the program's own name first. A word that doesn't read, a word too many and one too few are
-/// usage faults, and so are calls for help and for the version. Which words ask for which order is only tested, and so
-/// is that `None` never comes: each command and each of its arguments are required, or have a default.
+/// Reads a command line, which begins with the program's name. Unknown, superfluous and missing words are usage faults,
+/// and so are requests for help and for the version. It is only tested which words give which order, and that `None`
+/// doesn't occur: each command and each of its arguments is required or has a default.
 pub fn read_order<'a>(alloc: Global, words: &'a [String]) -> Result<Option<Order<'a>>, Error> {
     let mut gateway = gateway(alloc)?;
     let matches = gateway.try_get_matches_from_mut(words)?;
@@ -86,7 +86,7 @@ pub fn read_order<'a>(alloc: Global, words: &'a [String]) -> Result<Option<Order
     }
 }
 
-// The order of a command whose words read whatever they are.
+// The order of a command whose words need no further parsing.
 fn order_of<'a>(name: &str, given: &ArgMatches<'a>) -> Option<Order<'a>> {
     match name {
         "format" => format_order(given),
@@ -123,7 +123,7 @@ fn serve_order<'a>(given: &ArgMatches<'a>) -> Option<Order<'a>> {
     }))
 }
 
-// An address that doesn't read is a usage fault.
+// An address that can't be parsed is a usage fault.
 fn up_order<'a>(
     gateway: &mut Command<'a>,
     alloc: Global,
@@ -143,7 +143,7 @@ fn up_order<'a>(
     }
 }
 
-// What is said where an address doesn't read.
+// The error for an address that can't be parsed.
 fn no_address<'a>(gateway: &mut Command<'a>, alloc: Global, address: &str) -> Result<Error, Error> {
     let message = format!(in alloc;
         "invalid value '{address}' for '--listen <ADDRESS:PORT>': write it as 127.0.0.1:8080 or [::1]:8080"
@@ -158,7 +158,7 @@ fn list_order<'a>(given: &ArgMatches<'a>) -> Option<Order<'a>> {
     })
 }
 
-// A number that doesn't read is refused before.
+// Numbers that can't be parsed were refused before.
 fn delete_order<'a>(
     alloc: Global,
     given: &ArgMatches<'a>,

@@ -1,4 +1,4 @@
-//! What the program says where its command line is no order.
+//! The messages for a command line that gives no order.
 ghost use Rattle.std.specs.Prelude.{◌≡◌, ◌≢◌, ◌⊎◌, IfOk};
 ghost use Rattle.clap.specs.Values.{kind_of};
 ghost use Rattle.clap.specs.declared.error.kind.ErrorKind.{ErrorKind};
@@ -6,11 +6,11 @@ ghost use Rattle.clap.specs.declared.error.kind.ErrorKind.{ErrorKind};
 use clap::Error;
 use std::io::{self, Write};
 
-/// The status that the program ends with where its command line is none.
+/// The exit status for a wrong command line.
 pub const USAGE: u8 = 1;
 
-/// Writes help to `out`, or to `err` what is wrong with the command line: the status that the program ends with, 0
-/// after help and `USAGE` else.
+/// Writes help to `out`, or the fault of the command line to `err`. Returns the exit status: 0 after help, otherwise
+/// `USAGE`.
 pub fn say_usage<O: Write, E: Write>(error: &Error, out: &mut O, err: &mut E) -> io::Result<u8>
     ensures help { (kind_of error.now ≡ ErrorKind.DisplayHelp) ⊎ (kind_of error.now ≡ ErrorKind.DisplayVersion)
         → IfOk result (λ status. status ≡ 0) }

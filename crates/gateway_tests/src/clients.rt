@@ -1,4 +1,4 @@
-//! Clients over sockets of the tests' own, and a clock of theirs.
+//! Scripted clients, and a clock that advances at each reading. No real socket or time is used.
 
 use crate::spools::opened;
 use crate::talks::fresh;
@@ -11,11 +11,11 @@ use std::process::Abort;
 use std::time::{Clock, Duration};
 use tus_session::MOST_OPEN;
 
-/// What a client says at first, and then at each second reading; how many bytes it takes, for how many writes it takes
-/// none after them, before it takes all.
+/// A client's behaviour: the bytes that it sends first, the bytes that it sends at every second read after them, how
+/// many bytes it accepts before it pauses, and for how many writes it pauses. After the pause it accepts everything.
 pub(crate) type Manner<'a> = (&'a [u8], &'a [u8], usize, u32);
 
-/// A client as the server's socket shows it. How many bytes it took is counted.
+/// A client as the server's socket shows it. `told` counts the bytes that it accepted.
 #[derive(Drop)]
 pub(crate) struct Client<'a> {
     says: &'a [u8],
@@ -65,8 +65,9 @@ impl OpenStream for Client<'_> {
     }
 }
 
-/// Clients that come one after the other, and how many are left of all: the first one, others, and the last one. Of the
-/// one that comes when so many are left is counted what it is told, and of the rest.
+/// Clients that connect one after the other: the first one, others, and the last one. `left` counts those that are
+/// still to come. Clients are numbered downwards: the first one is number `all`, and the last one is number 1. The
+/// bytes that the client `watched` accepts are counted in `told`, and those of all others in `rest`.
 #[derive(Drop)]
 pub(crate) struct Clients<'a> {
     pub(crate) left: Cell<usize>,
@@ -114,7 +115,7 @@ impl<'a> OpenListener for Clients<'a> {
     }
 }
 
-/// A clock that goes on by so many microseconds at each reading, and counts the rests and their time.
+/// A clock that advances by `step` microseconds at each reading, and counts the sleeps and their total time.
 #[derive(Drop)]
 pub(crate) struct Steps {
     step: u64,
@@ -133,7 +134,7 @@ impl Steps {
         }
     }
 
-    /// How often the server rested, and how long in all.
+    /// How often the server slept, and for how long in all.
     pub(crate) fn rests(&self) -> (u32, Duration) {
         (self.rests.get(), self.rested.get())
     }
@@ -156,8 +157,8 @@ impl Clock for Steps {
     }
 }
 
-/// Serves clients, of whom one may have to wait for a place, over a spool of so many blocks without uploads, in so many
-/// turns: how many connections were closed.
+/// Serves `clients` over a new spool of `blocks` blocks for `turns` turns, and returns how many connections were
+/// closed. No test reaches the limit of `MOST_OPEN + 2` connections.
 pub(crate) fn served(
     rt: &impl Abort,
     alloc: Global,

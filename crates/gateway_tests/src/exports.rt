@@ -1,4 +1,4 @@
-//! Texts of uploads, written into files.
+//! Exports of the texts of uploads to files.
 
 use crate::spools::ends;
 use crate::talks::Step::{Added, Deferred, Made, Open};
@@ -9,8 +9,8 @@ use std::alloc::Global;
 use std::fs;
 use std::process::Abort;
 
-/// Five uploads: one in part, three complete ones, of which two give the same name and one gives a name with a slash,
-/// and one of no known length.
+/// Five uploads: a partial one, three complete ones, and one of unknown length. Two of the complete ones have the same
+/// file name, and one has a name with a slash.
 const STEPS: &[Step] = &[
     Open(1),
     Made(1, 6, ""),
@@ -24,8 +24,8 @@ const STEPS: &[Step] = &[
     Deferred(5, "from dXRmLTg=, filename bGF0ZXI="),
 ];
 
-/// A folder, whether it has a file `4.txt`, whether all uploads are exported or only the complete ones, what is said of
-/// them, and files of the folder then.
+/// Each row: a folder, whether it already has a file `4.txt`, whether all uploads are exported or only the complete
+/// ones, the lines that are printed, and files that the folder has afterwards.
 static EXPORTS: [(&str, bool, bool, &[u8], &[(&str, &str)]); 3] = [
     (
         "gateway_export_test",

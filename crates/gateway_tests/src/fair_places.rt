@@ -1,4 +1,5 @@
-//! Clients that keep all places, and one more that waits for one.
+//! Tests that a client can't keep its place for ever while another one waits: when each kind of idle or slow client is
+//! closed.
 
 use crate::clients::{Clients, Steps, served};
 use std::alloc::Global;
@@ -10,22 +11,22 @@ const OPTIONS: &[u8] = b"OPTIONS /files HTTP/1.1\r\n\r\n";
 
 const HALF_A_HEAD: &[u8] = b"OPTIONS /files HTTP/1.1\r\n";
 
-/// Makes an upload, then begins to send it.
+/// Makes an upload, then starts a PATCH of 200,000 bytes.
 const BODY: &[u8] = b"POST /files HTTP/1.1\r\nTus-Resumable: 1.0.0\r\nUpload-Length: 200000\r\n\r\n\
 PATCH /files/1 HTTP/1.1\r\nTus-Resumable: 1.0.0\r\nContent-Type: application/offset+octet-stream\r\n\
 Upload-Offset: 0\r\nContent-Length: 200000\r\n\r\n";
 
-/// The same, and waits until it is told to go on.
+/// The same, but the PATCH expects `100 Continue` first.
 const EXPECTS: &[u8] =
     b"POST /files HTTP/1.1\r\nTus-Resumable: 1.0.0\r\nUpload-Length: 200000\r\n\r\n\
 PATCH /files/1 HTTP/1.1\r\nTus-Resumable: 1.0.0\r\nContent-Type: application/offset+octet-stream\r\n\
 Upload-Offset: 0\r\nContent-Length: 200000\r\nExpect: 100-continue\r\n\r\n";
 
-/// What the first client says, goes on to say and whether it reads.
+/// The first client: the bytes that it sends first, those that it sends later, and whether it reads its replies.
 type First<'a> = (&'a [u8], &'a [u8], bool);
 
-/// Whether the last client, who asks once, is told something in so many turns of so many microseconds, while the first
-/// one and others, who don't read their replies, have all places.
+/// Whether the last client, which sends one request, gets a reply within `turns` turns of `step` microseconds. All
+/// places are taken when it comes, by `first` and by others, which don't read their replies.
 fn is_told(rt: &impl Abort, alloc: Global, first: First, step: u64, turns: u64) -> bool {
     let told = Cell::new(0);
     let others = Cell::new(0);
@@ -46,33 +47,33 @@ fn is_told(rt: &impl Abort, alloc: Global, first: First, step: u64, turns: u64) 
 
 const MILLIS: u64 = 1000;
 
-/// How many clients come, one a turn.
+/// How many clients connect, one a turn.
 const COMERS: u64 = MOST_OPEN as u64 + 1;
 
-/// What the first client does, how many microseconds a turn takes, how many turns there are, and whether the last
-/// client is told something in them.
+/// Each row: the first client, how many microseconds a turn takes, how many turns there are, and whether the last
+/// client gets a reply within them.
 static KEEPERS: [(First, u64, u64, bool); 17] = [
-    // between requests
+    // It is idle between two requests: 20 milliseconds.
     ((OPTIONS, b"", true), 10 * MILLIS, COMERS, false),
     ((OPTIONS, b"", true), 10 * MILLIS, COMERS + 3, true),
-    // it asks again and again: ten seconds
+    // It sends one request after another: ten seconds.
     ((OPTIONS, OPTIONS, true), 10 * MILLIS, 1000, false),
     ((OPTIONS, OPTIONS, true), 10 * MILLIS, 1010, true),
-    // a head that isn't whole: ten seconds
+    // It doesn't finish a head: ten seconds.
     ((HALF_A_HEAD, b"", true), 100 * MILLIS, 100, false),
     ((HALF_A_HEAD, b"", true), 100 * MILLIS, 110, true),
     ((HALF_A_HEAD, b"a", true), 100 * MILLIS, 100, false),
     ((HALF_A_HEAD, b"a", true), 100 * MILLIS, 110, true),
-    // a body that brings nothing, a byte at a time, or nothing after it was told to go on: ten seconds
+    // It sends no bytes of a body, one byte at a time, or none after `100 Continue`: ten seconds.
     ((BODY, b"", true), 100 * MILLIS, 100, false),
     ((BODY, b"", true), 100 * MILLIS, 110, true),
     ((BODY, b"a", true), 100 * MILLIS, 100, false),
     ((BODY, b"a", true), 100 * MILLIS, 110, true),
     ((EXPECTS, b"", true), 100 * MILLIS, 100, false),
     ((EXPECTS, b"", true), 100 * MILLIS, 110, true),
-    // a body of 5,120 bytes a second: as long as it lasts
+    // It sends 5,120 bytes of a body a second: it keeps its place until the body ends.
     ((BODY, &[b'a'; 1024], true), 100 * MILLIS, 250, false),
-    // a reply that isn't read: a minute
+    // It doesn't read a reply: a minute.
     ((OPTIONS, b"", false), 100 * MILLIS, 600, false),
     ((OPTIONS, b"", false), 100 * MILLIS, 620, true),
 ];

@@ -1,4 +1,4 @@
-//! Scripts over disks of which a call fails, or all calls from one on.
+//! Scripts over disks that fail at one call, or at all calls from one on.
 
 use crate::spools::{calls_of_opening, ran};
 use crate::stories::{
@@ -14,13 +14,14 @@ use std::alloc::Global;
 use std::process::Abort;
 use upload_rules::Uploads;
 
-/// So many calls of an opening, the last ones, fail in each story: they read rows. Where each fails is one test.
+/// In each story only the last five calls of the opening fail, which read rows. Other tests let the calls before them
+/// fail.
 const LAST_CALLS: u64 = 5;
 
-/// More calls than a run makes after these.
+/// More calls than any run makes after these.
 const MOST: u64 = 700;
 
-/// A talk over a spool of so many blocks, with these index files.
+/// A talk over a new spool of `blocks` blocks with these index files.
 #[derive(Clone, Copy)]
 pub(crate) struct Story<'a> {
     pub(crate) alloc: Global,
@@ -34,13 +35,13 @@ impl Story<'_> {
         with_files(rt, self.alloc, self.blocks, self.files)
     }
 
-    /// The first call that fails here.
+    /// The first call that fails in the tests of this story.
     fn first(&self, rt: &impl Abort) -> u64 {
         calls_of_opening(rt, self.alloc, self.disk(rt)).saturating_sub(LAST_CALLS)
     }
 
-    /// What was written is a prefix of the output, and the uploads are those of all changes that it acknowledged, or
-    /// one more.
+    /// Checks that `written` is a prefix of the wanted output, and that the uploads on the disk are those after the
+    /// last change that it acknowledges, or those after the next one.
     pub(crate) fn check(&self, rt: &impl Abort, disk: MemoryDisk, written: &[u8]) {
         assert!(rt; self.talk.wanted.starts_with(written));
         let left = told(rt, self.alloc, disk);
@@ -56,8 +57,8 @@ impl Story<'_> {
         assert!(rt; fits);
     }
 
-    /// A call fails once, and leaves in place of what it was to write so many bytes of this value. Whether the run
-    /// came so far.
+    /// Runs the talk on a disk whose call number `call` fails. If that call is a write and `fill` is given, its range
+    /// is filled with this byte. Returns whether the run was refused.
     fn fails_at(&self, rt: &impl Abort, fill: Option<u8>, call: u64) -> bool {
         let disk = HiccupDisk::new(self.disk(rt), call, fill);
         let (disk, fault, written) = ran(self.alloc, self.talk, disk);
@@ -66,7 +67,7 @@ impl Story<'_> {
         is_device(rt, fault, call)
     }
 
-    /// Each call fails once.
+    /// Lets each call fail in turn, until the run ends before the failing call.
     fn fails_once(&self, rt: &impl Abort, fill: Option<u8>) {
         let first = self.first(rt);
         let mut whole = false;
@@ -79,8 +80,9 @@ impl Story<'_> {
         assert!(rt; whole, "the run makes too many calls");
     }
 
-    /// From a call on all fail, and a crash of this kind comes. So it does in an opening after it, at one of the
-    /// calls that bring an open journal home or those around them. Whether the run came so far.
+    /// Runs the talk on a disk that fails from the call number `call` on, and then crashes. The next opening also
+    /// stops, at one of its first 16 calls, where it would replay an open journal, and the disk crashes again. Returns
+    /// whether the run was refused.
     fn stays_failed_at(&self, rt: &impl Abort, kind: Crash, call: u64) -> bool {
         let disk = FuseDisk::new(self.disk(rt), call);
         let (disk, fault, written) = ran(self.alloc, self.talk, disk);
@@ -89,7 +91,7 @@ impl Story<'_> {
         is_device(rt, fault, call)
     }
 
-    /// From each call on all fail.
+    /// Lets the disk fail from each call on in turn, until the run ends before it.
     fn stays_failed(&self, rt: &impl Abort, kind: Crash) {
         let first = self.first(rt);
         let mut whole = false;
@@ -103,7 +105,7 @@ impl Story<'_> {
     }
 }
 
-/// The story `HELLO`.
+/// The story of a talk over 16 blocks, without index files.
 pub(crate) fn hello(alloc: Global, talk: &Talk) -> Story<'_> {
     Story {
         alloc,
@@ -113,7 +115,7 @@ pub(crate) fn hello(alloc: Global, talk: &Talk) -> Story<'_> {
     }
 }
 
-/// What an opening leaves that stops after so many calls.
+/// The disk after an opening that stops after `calls` calls.
 fn stopped(rt: &impl Abort, alloc: Global, disk: MemoryDisk, calls: u64) -> MemoryDisk {
     match Spool::open(alloc, FuseDisk::new(disk, calls)) {
         Ok(_spool) => panic!(rt; "opened with {calls} calls"),
@@ -124,7 +126,7 @@ fn stopped(rt: &impl Abort, alloc: Global, disk: MemoryDisk, calls: u64) -> Memo
     }
 }
 
-/// Whether a run was refused, which only the disk did.
+/// Whether a run was refused. Fails the test if it was refused for anything but a disk fault.
 fn is_device(rt: &impl Abort, fault: Option<RunFault>, call: u64) -> bool {
     match fault {
         Some(fault) => {
@@ -137,7 +139,7 @@ fn is_device(rt: &impl Abort, fault: Option<RunFault>, call: u64) -> bool {
     }
 }
 
-/// An upload of a spool comes after others, if it is there.
+/// Appends an upload of a spool to `to`, if the spool has it.
 fn put_upload_of(
     rt: &impl Abort,
     alloc: Global,
@@ -153,7 +155,7 @@ fn put_upload_of(
     }
 }
 
-/// The uploads on a disk by their numbers, of which the greatest is 2.
+/// The uploads on a disk in the form of `put_upload`, by their numbers. The greatest number is 2.
 pub(crate) fn told(rt: &impl Abort, alloc: Global, disk: MemoryDisk) -> Vec<u8> {
     match Spool::open(alloc, disk) {
         Ok(mut spool) => {
@@ -170,7 +172,7 @@ pub(crate) fn told(rt: &impl Abort, alloc: Global, disk: MemoryDisk) -> Vec<u8> 
 /// An index of one character.
 const JIS0208: Files = &[(Kind::Jis0208, b"283\t3042\n")];
 
-/// How many blocks a spool has, its index files, and steps.
+/// How many blocks a spool has, its index files, and the steps of the talk.
 type Row<'a> = (u32, Files<'a>, &'a [Step<'a>]);
 
 static STORIES: [Row; 8] = [
@@ -184,18 +186,18 @@ static STORIES: [Row; 8] = [
     (16, &[], PATCH_OF_A_DELETED),
 ];
 
-/// Reads of a text that is given in two pieces.
+/// A text that a GET returns in two pieces.
 static PIECES: [Row; 1] = [(32, &[], LONG_TEXT)];
 
-/// How a disk fails: each call once, leaving so many bytes of this value; or all calls from each one on, and a crash of
-/// this kind comes.
+/// How a disk fails: each call once, with a byte that fills the range of a failing write if one is given; or all calls
+/// from each one on, with a kind of crash.
 #[derive(Clone, Copy)]
 enum Failing {
     Once(Option<u8>),
     Stays(Crash),
 }
 
-/// In each story the disk fails so.
+/// Runs each story on disks that fail in this way.
 fn fail(rt: &impl Abort, alloc: Global, rows: &[Row], failing: Failing) {
     for &(blocks, files, steps) in rows {
         let talk = Talk::new(rt, alloc, steps);
@@ -212,7 +214,7 @@ fn fail(rt: &impl Abort, alloc: Global, rows: &[Row], failing: Failing) {
     }
 }
 
-/// The same in the stories over 16 blocks.
+/// The same for the stories over 16 blocks.
 fn fail_all(rt: &impl Abort, alloc: Global, failing: Failing) {
     fail(rt, alloc, &STORIES, failing);
 }
@@ -236,8 +238,8 @@ fn disks_that_stop_and_lose_keep_or_tear_bytes(rt: HostRuntime) {
     }
 }
 
-/// Each call of an opening fails once, and a write leaves zeros; or all fail from it on, and a crash of this kind
-/// comes.
+/// Lets each call of an opening fail once, where a failing write leaves zeros; or, if a kind of crash is given, all
+/// calls from each one on.
 fn openings_fail(rt: &impl Abort, alloc: Global, kind: Option<Crash>) {
     let talk = Talk::new(rt, alloc, HELLO);
     let story = hello(alloc, &talk);

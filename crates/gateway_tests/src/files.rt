@@ -1,4 +1,4 @@
-//! Spools in files.
+//! Spools in files: they are formatted, used, listed, upgraded and refused.
 
 use crate::spools::ran;
 use crate::talks::Step::{Added, Deferred, Made, Open};
@@ -20,14 +20,14 @@ const JIS0208: &str = "gateway_file_test/index-jis0208.txt";
 
 const JIS0212: &str = "gateway_file_test/index-jis0212.txt";
 
-/// What is printed, and said on standard error.
+/// The line on standard output and, after it, those on standard error.
 const FORMATTED: &[u8] = b"formatted 16 blocks, 557 pages\n\
     index files read: 2\nindex-jis0208.txt\nindex-jis0212.txt\n";
 
 const AGAIN: &str = "gateway_again_test";
 
-/// Three uploads: one in part, one from UTF-16LE in the mode `fatal`, whose text has half its bytes, and one of no
-/// known length.
+/// Three uploads: a partial one, a complete one from UTF-16LE in the mode `fatal`, whose text has half as many bytes,
+/// and one of unknown length.
 const STEPS: &[Step] = &[
     Open(1),
     Made(1, 6, ""),
@@ -41,7 +41,7 @@ const LISTED: &[u8] = b"1 5/6 5 UTF-8 UTF-8 html\n\
     2 4/4 2 UTF-16LE UTF-8 fatal from dXRmLTE2bGU=,mode ZmF0YWw=\n\
     3 0/? 0 UTF-8 UTF-8 html\n";
 
-/// The uploads on a disk are listed as they are to be, with their metadata.
+/// Checks that the listing of a disk, with metadata, is `LISTED`.
 fn lists(rt: &impl Abort, alloc: Global, disk: FileDisk) -> FileDisk {
     let mut lines = Vec::new(alloc);
     let (disk, listed) = list_on(alloc, &mut lines, disk, true);
@@ -50,9 +50,9 @@ fn lists(rt: &impl Abort, alloc: Global, disk: FileDisk) -> FileDisk {
     disk
 }
 
-/// Makes the spool of version 1 again: its state page's version, and the third record's unknown length.
+/// Rewrites the spool in version 1: the version on its state page, and the unknown length of its third record.
 fn make_old(rt: &impl Abort, disk: &mut FileDisk) {
-    // 16 text blocks have 258 journal pages, so the state page is page 283
+    // A spool of 16 text blocks has 258 journal pages, so its state page is page 283.
     let state_page = 4096 * 283u64;
     let third_record = state_page + 4096 + 2 * 2048;
     assert!(rt; disk.len() >= third_record + 2048);
@@ -99,7 +99,7 @@ fn spool_is_made_used_listed_and_upgraded(rt: HostRuntime) {
     fs::remove_dir_all(&rt, FOLDER).expect(&rt, "a folder");
 }
 
-/// The program fails with this status, and says this.
+/// Checks that a command fails with this status and this message.
 fn fails(rt: &impl Abort, alloc: Global, ended: Result<(), Failure>, status: u8, said: &str) {
     let failure = ended.expect_err(rt, said);
     let told = format!(in alloc; "{failure}").expect(rt, "memory for a line");

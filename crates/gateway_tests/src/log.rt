@@ -1,4 +1,4 @@
-//! Lines of a log, of bytes that pass over streams of the tests' own.
+//! The lines that a log writes for given bytes in and out, over scripted streams.
 
 use gateway_log::{Log, Logged};
 use std::alloc::Global;
@@ -8,7 +8,7 @@ use std::net::{Ipv4Addr, OpenListener, SocketAddr};
 use std::process::Abort;
 use std::time::{Clock, Duration};
 
-/// A stream that gives what lies in a cell, and takes everything.
+/// A stream that gives the bytes in a cell, and accepts everything.
 #[derive(Drop)]
 struct Wire<'a> {
     says: &'a Cell<&'static [u8]>,
@@ -33,7 +33,7 @@ impl Write for Wire<'_> {
     }
 }
 
-/// A listener at which such streams come from port 7.
+/// A listener whose connections all come from port 7.
 #[derive(Drop)]
 struct Door<'a> {
     says: &'a Cell<&'static [u8]>,
@@ -48,7 +48,7 @@ impl<'a> OpenListener for Door<'a> {
     }
 }
 
-/// A clock that goes on by a millisecond at each reading. The time of day stands.
+/// A clock that advances by a millisecond at each reading. The time of day doesn't change.
 #[derive(Drop)]
 struct Millis {
     now: Cell<u64>,
@@ -66,7 +66,7 @@ impl Clock for Millis {
     }
 }
 
-/// What is written on it lies in a cell.
+/// A writer that appends to the bytes in a cell.
 #[derive(Drop)]
 struct Paper<'a> {
     alloc: Global,
@@ -87,23 +87,23 @@ impl Write for Paper<'_> {
     }
 }
 
-/// Bytes that pass over a connection.
+/// Bytes that pass over a connection, from the client or to it.
 #[derive(Clone, Copy, Drop)]
 enum Passes {
     In(&'static [u8]),
     Out(&'static [u8]),
 }
 
-/// What passes until the connection ends, and what is logged of it, without the time at the start of each line. Where
-/// nothing else is said, a line's `ms` are the readings of the clock since the request's first byte.
+/// Each row: the bytes until the connection ends, and the log's lines without the time at their start. A line's `ms`
+/// counts the readings of the clock since the first byte of its request.
 const TALKS: [(&[Passes], &str); 7] = [
-    // nothing
+    // no bytes
     (
         &[],
         "1 127.0.0.1:7 - - status=none in=0 out=0 ms=1\n\
         minute connections=1 requests=0 2xx=0 4xx=0 5xx=0 in=0 out=0\n",
     ),
-    // a body, and fields in any case
+    // a body, and field names in any case
     (
         &[
             Passes::In(
@@ -114,7 +114,7 @@ const TALKS: [(&[Passes], &str); 7] = [
         "1 127.0.0.1:7 PATCH /files/1 offset=5 body=3 status=204 in=69 out=45 ms=1\n\
         minute connections=1 requests=1 2xx=1 4xx=0 5xx=0 in=69 out=45\n",
     ),
-    // a reply before the body, which is no part of the next request; lines that end in LF alone
+    // a reply before the request's body, which isn't part of the next request; lines that end in LF alone
     (
         &[
             Passes::In(b"PATCH /files/9 HTTP/1.1\r\nUpload-Offset: 0\r\nContent-Length: 3\r\n\r\n"),
@@ -126,7 +126,7 @@ const TALKS: [(&[Passes], &str); 7] = [
         1 127.0.0.1:7 GET /files/1 status=200 in=23 out=43 ms=1\n\
         minute connections=1 requests=2 2xx=1 4xx=1 5xx=0 in=90 out=102\n",
     ),
-    // two requests at once; an interim reply is none
+    // two requests at once; an interim reply doesn't count as a reply
     (
         &[
             Passes::In(
@@ -141,7 +141,7 @@ const TALKS: [(&[Passes], &str); 7] = [
         1 127.0.0.1:7 PATCH /files/1 offset=0 body=3 status=none in=64 out=25 ms=2\n\
         minute connections=1 requests=2 2xx=1 4xx=0 5xx=0 in=107 out=68\n",
     ),
-    // bytes that a terminal would obey
+    // bytes that a terminal would interpret
     (
         &[
             Passes::In(b"G\x1bT /a\\b\x07\xff HTTP/1.1\r\n\r\n"),
@@ -150,7 +150,7 @@ const TALKS: [(&[Passes], &str); 7] = [
         "1 127.0.0.1:7 G\\x1bT /a\\x5cb\\x07\\xff status=400 refusal=18:Malformed in=23 out=62 ms=1\n\
         minute connections=1 requests=1 2xx=0 4xx=1 5xx=0 in=23 out=62\n",
     ),
-    // a text that is cut, and a head that is
+    // a text that is cut, and a head that is cut
     (
         &[
             Passes::In(b"GET /files/1 HTTP/1.1\r\n\r\nHEAD "),
@@ -172,7 +172,7 @@ const TALKS: [(&[Passes], &str); 7] = [
     ),
 ];
 
-/// A client says this in pieces of so many bytes, and they are read.
+/// Reads what a client sends, in pieces of `size` bytes.
 fn reads<'s, R: Read>(
     rt: &impl Abort,
     says: &Cell<&'s [u8]>,
@@ -188,7 +188,7 @@ fn reads<'s, R: Read>(
     }
 }
 
-/// A client is told this in pieces of so many bytes.
+/// Writes bytes to a client in pieces of `size` bytes.
 fn writes<W: Write>(rt: &impl Abort, stream: &mut W, bytes: &[u8], size: usize) {
     for piece in bytes.chunks(size.max(1)) {
         let count = stream.write(piece).expect(rt, "a stream that takes bytes");
@@ -196,7 +196,7 @@ fn writes<W: Write>(rt: &impl Abort, stream: &mut W, bytes: &[u8], size: usize) 
     }
 }
 
-/// What is logged of a connection over which this passes, in pieces of so many bytes.
+/// The log of one connection over which `talk` passes in pieces of `size` bytes.
 fn logged(rt: &impl Abort, alloc: Global, talk: &[Passes], size: usize) -> Vec<u8> {
     let written = Cell::new(Vec::new(alloc));
     let says: Cell<&'static [u8]> = Cell::new(b"");
@@ -223,7 +223,7 @@ fn logged(rt: &impl Abort, alloc: Global, talk: &[Passes], size: usize) -> Vec<u
     written.replace(Vec::new(alloc))
 }
 
-/// These lines, each after the time.
+/// The lines, each with the time before it.
 fn timed(rt: &impl Abort, alloc: Global, lines: &str) -> Vec<u8> {
     let mut bytes = Vec::new(alloc);
     for line in lines.lines() {

@@ -1,4 +1,4 @@
-//! What the commands for those who run a spool do: deletions, and texts that are tried before an upload.
+//! Operators' commands: deletion, and the conversion of a text without an upload.
 
 use crate::spools::ran;
 use crate::talks::Step::{Added, Deferred, Made, Open};
@@ -10,7 +10,7 @@ use spool_disk::MemoryDisk;
 use std::alloc::Global;
 use std::process::Abort;
 
-/// Three uploads: one in part, a complete one, and one of no known length.
+/// Three uploads: a partial one, a complete one, and one of unknown length.
 const STEPS: &[Step] = &[
     Open(1),
     Made(1, 6, ""),
@@ -20,8 +20,8 @@ const STEPS: &[Step] = &[
     Deferred(3, ""),
 ];
 
-/// Numbers that are deleted from a spool one after the other, whether each had an upload, what is said of them, and the
-/// lines of the uploads that are left.
+/// Each row: the numbers that are deleted one after the other, whether each had an upload, the lines that are printed,
+/// and the listing afterwards.
 static DELETIONS: [(&[u64], bool, &[u8], &[u8]); 3] = [
     (
         &[],
@@ -64,7 +64,7 @@ fn uploads_are_deleted_by_their_numbers(rt: HostRuntime) {
     }
 }
 
-/// Labels and modes, and what they ask for.
+/// Each row: two labels, a mode, and the conversion that they name.
 static LABELS: [(&str, &str, &str, Option<Conversion>); 5] = [
     (
         " Latin1",
@@ -102,7 +102,7 @@ fn labels_ask_for_a_conversion(rt: HostRuntime) {
     }
 }
 
-/// A conversion, bytes so many times, and what an upload of them is stored as.
+/// A conversion, bytes that are repeated, and the text that an upload of them stores, which is repeated as often.
 struct Input {
     conversion: Conversion,
     bytes: &'static [u8],
@@ -110,8 +110,8 @@ struct Input {
     text: Result<&'static [u8], Fault>,
 }
 
-/// UTF-16LE after its mark, a fault of UTF-8, a character that the encoding written lacks in both modes, and characters
-/// of which one lies over the first 4,096 bytes.
+/// The inputs: UTF-16LE after its byte order mark, malformed UTF-8, an unmappable character in each mode, and a text of
+/// which one character crosses the end of the first 4,096 bytes.
 static INPUTS: [Input; 5] = [
     Input {
         conversion: Conversion {
@@ -165,7 +165,7 @@ static INPUTS: [Input; 5] = [
     },
 ];
 
-/// Bytes so many times.
+/// The bytes, repeated `times` times.
 fn repeated(rt: &impl Abort, alloc: Global, bytes: &[u8], times: usize) -> Vec<u8> {
     let mut all = Vec::new(alloc);
     for _ in 0..times {

@@ -1,11 +1,11 @@
-//! Command lines.
+//! The gateway's command lines.
 
 use gateway_orders::{USAGE, read_order, say_usage};
 use std::alloc::Global;
 use std::process::Abort;
 
-/// Command lines, and what is read of each: an order, a call for help, or none, by a word too few, one too many or one
-/// that doesn't read.
+/// Command lines, and what each one parses to: an order, a call for help, or a usage error. The errors have a word too
+/// few, a word too many, or one that isn't valid.
 static LINES: [(&str, &str); 35] = [
     (
         "gateway format new --blocks 16 --indexes idx",
@@ -99,7 +99,8 @@ fn words_of(rt: &impl Abort, alloc: Global, line: &str) -> Vec<String> {
     words
 }
 
-/// What is read of words, where help is said on one stream with status 0, and what is wrong on the other.
+/// The order that words parse to, or `help` or `usage`. Help goes to standard output with status 0, and errors go to
+/// standard error.
 fn read(rt: &impl Abort, alloc: Global, words: &[String]) -> String {
     let error = match read_order(alloc, words) {
         Ok(Some(order)) => return format!(in alloc; "{order:?}").expect(rt, "memory for an order"),

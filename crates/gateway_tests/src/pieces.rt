@@ -1,4 +1,4 @@
-//! Changes of an upload between two pieces of its text, which a connection is given.
+//! Uploads that change while a GET of them is between two pieces of the text.
 
 use crate::spools::{ends, opened};
 use crate::stories::{LONG_TEXT, TEN_THOUSAND};
@@ -10,10 +10,10 @@ use spool_image::Spool;
 use std::alloc::Global;
 use std::process::Abort;
 
-/// A call: the connection, the bytes that come on it, and how many it is answered.
+/// A call: the connection, the received bytes, and how many bytes are sent back.
 type Call<'a> = (usize, &'a [u8], usize);
 
-/// All these bytes are taken on a connection, which stays open: so many are given.
+/// Makes a call, which takes all its bytes, leaves the connection open and sends back as many bytes as given.
 fn gives(rt: &impl Abort, gateway: &mut Gateway<Spool<MemoryDisk>>, out: &mut Vec<u8>, call: Call) {
     let (conn, bytes, given) = call;
     out.clear();
@@ -25,7 +25,7 @@ fn gives(rt: &impl Abort, gateway: &mut Gateway<Spool<MemoryDisk>>, out: &mut Ve
 
 const GET: Call = (1, b"GET /files/1 HTTP/1.1\r\n\r\n", 65_666);
 
-/// The upload is deleted, and another one put on the same blocks: the text has 18, and the spool one more.
+/// The upload is deleted, and another one reuses its blocks: the text has 18, and the spool 19.
 const DELETED: [Call; 5] = [
     GET,
     (
@@ -47,7 +47,7 @@ const DELETED: [Call; 5] = [
     (2, &[b'b'; 70_000], 96),
 ];
 
-/// An upload of which ten bytes didn't come yet.
+/// An upload that still lacks ten bytes.
 const UNFINISHED: &[Step] = &[
     Open(1),
     Made(1, 70_010, ""),
@@ -62,7 +62,7 @@ const UNFINISHED: &[Step] = &[
     Patched(1, 70_000),
 ];
 
-/// They come.
+/// The ten bytes arrive between the two pieces.
 const PATCHED: [Call; 3] = [
     GET,
     (
@@ -74,8 +74,8 @@ const PATCHED: [Call; 3] = [
     (2, b"bbbbbbbbbb", 96),
 ];
 
-/// After these steps and calls, the last of which is answered 204, the text of the first one closes the connection, or
-/// it doesn't, and this is its rest.
+/// Checks the second piece of a GET. `steps` fill the spool, and `calls` follow: the first one is the GET, and the last
+/// one is answered 204. Then the text goes on with `rest`, and the connection closes if `closes` is true.
 fn rest_is(
     rt: &impl Abort,
     alloc: Global,
@@ -102,13 +102,13 @@ fn rest_is(
     drop(gateway.into_disk());
 }
 
-/// The text ends where its upload is deleted.
+/// The connection closes, because the rest of the text is gone.
 #[test]
 fn text_of_a_deleted_upload_ends(rt: HostRuntime) {
     rest_is(&rt, rt.alloc(), LONG_TEXT, &DELETED, true, b"");
 }
 
-/// The text is as long as its head says, which was before the last bytes came.
+/// The text has the length that its head gave, without the bytes that came later.
 #[test]
 fn text_of_a_patched_upload_is_as_it_began(rt: HostRuntime) {
     rest_is(&rt, rt.alloc(), UNFINISHED, &PATCHED, false, &[b'a'; 4464]);

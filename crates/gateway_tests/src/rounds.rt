@@ -1,4 +1,4 @@
-//! Lives of rounds, over disks that stop at each call.
+//! Disks that live through rounds and stop at each of their calls in turn.
 
 use crate::spools::{POWERS, calls_of_opening};
 use crate::talks::fresh;
@@ -13,7 +13,8 @@ use std::process::Abort;
 #[derive(Drop)]
 struct Deeds {
     script: &'static [u8],
-    /// What there is to be written in turn, and what a HEAD of the upload is given after it.
+    /// Each reply in turn, with what a HEAD of the upload gives after it. The first entry is the state before any
+    /// reply.
     stages: &'static [(&'static [u8], &'static [u8])],
 }
 
@@ -35,7 +36,7 @@ came 1 68656c6c6f
     stages: &[(b"", NONE), (MADE, EMPTY), (FILLED, FULL)],
 };
 
-/// Makes an upload of unknown length, which comes with its bytes, and deletes it.
+/// Makes an upload of unknown length, declares the length with its bytes, and deletes it.
 const DECLARES_AND_DELETES: Deeds = Deeds {
     script: b"open 1
 say 1 POST /files HTTP/1.1
@@ -72,10 +73,10 @@ const FILLED: &[u8] =
 const DELETED: &[u8] =
     b"< 1 74\nHTTP/1.1 204 No Content\r\nTus-Resumable: 1.0.0\r\nCache-Control: no-store\r\n\r\n\n";
 
-/// Asks for the upload.
+/// Asks for the upload with HEAD.
 const LOOKS: &[u8] = b"open 1\nsay 1 HEAD /files/1 HTTP/1.1\nsay 1 Tus-Resumable: 1.0.0\nsay 1\n";
 
-/// What that writes of no upload, of one without bytes, of one whose length isn't known either, and of a full one.
+/// The replies to that HEAD: no such upload, an empty one, one of unknown length, and a full one.
 const NONE: &[u8] =
     b"< 1 87\nHTTP/1.1 404 Not Found\r\nTus-Resumable: 1.0.0\r\nCache-Control: no-store\r\nX-Refusal: 8\r\n\r\n\n";
 
@@ -94,8 +95,8 @@ const FULL: &[u8] =
 /// More calls than a round makes.
 const NO_STOP: u64 = 100_000;
 
-/// After the first round's end the upload is as it was after all that was written, or after what was to be written
-/// next. Whether all was written.
+/// Checks that the upload is as after the last reply that was written, or as after the next one. Returns whether all
+/// replies were written.
 fn check(rt: &impl Abort, deeds: &Deeds, written: &[u8], shown: &[u8]) -> bool {
     let mut left = written;
     let mut right = false;
@@ -118,8 +119,8 @@ fn check(rt: &impl Abort, deeds: &Deeds, written: &[u8], shown: &[u8]) -> bool {
     whole
 }
 
-/// The first round does its deeds, up to the call at which the disk stops, and the second asks for the upload.
-/// Whether the first one ran to its end.
+/// Runs the deeds in a first round, up to the call at which the disk stops, and asks for the upload in a second one.
+/// Returns whether the first round ran to its end.
 fn lives(
     rt: &impl Abort,
     alloc: Global,
@@ -147,7 +148,7 @@ fn lives(
     }
 }
 
-/// A round with this work, and this kind of crash, if one comes.
+/// A round with this work. It ends in a crash if a kind of crash is given.
 fn round_of(work: Work, kind: Option<Crash>) -> Round<(Crash, u64)> {
     let end = match kind {
         Some(kind) => End::Crash((kind, NO_STOP)),
@@ -156,7 +157,7 @@ fn round_of(work: Work, kind: Option<Crash>) -> Round<(Crash, u64)> {
     Round { work, end }
 }
 
-/// A round that runs this script, and the kind of crash that comes.
+/// A round that runs a script and ends in a crash.
 fn run_of(rt: &impl Abort, alloc: Global, script: &[u8], kind: Crash) -> Round<(Crash, u64)> {
     let script = script.to_vec(alloc).expect(rt, "there is memory");
     round_of(Work::Run(Run::new(alloc, script)), Some(kind))
@@ -167,8 +168,8 @@ fn blank(rt: &impl Abort, alloc: Global) -> MemoryDisk {
     MemoryDisk::new(alloc, 557 * 4096).expect(rt, "there is memory")
 }
 
-/// The last call but one of the first round's opening: so many calls come before it, of which those of the formatting
-/// are one more than the most that aren't enough.
+/// How many calls come before the first stop, which is at the last call but one of the first round's opening. The calls
+/// of the formatting come before the opening. A binary search finds their number.
 fn first_stop(rt: &impl Abort, alloc: Global) -> u64 {
     let indexes = IndexSet::new(alloc).expect(rt, "there is memory");
     let mut few = 0u64;
@@ -182,7 +183,7 @@ fn first_stop(rt: &impl Abort, alloc: Global) -> u64 {
     few.saturating_add(opening).saturating_sub(1)
 }
 
-/// The disk stops at each of its calls in turn, and a crash of this kind comes.
+/// Lets the disk stop at each of its calls in turn and then crash.
 fn stop_at_each_call(rt: &impl Abort, alloc: Global, kind: Crash, deeds: &Deeds) {
     let first = first_stop(rt, alloc);
     for more in 0..300u64 {
@@ -195,7 +196,7 @@ fn stop_at_each_call(rt: &impl Abort, alloc: Global, kind: Crash, deeds: &Deeds)
     panic!(rt; "the round makes too many calls")
 }
 
-/// The crash loses bytes, keeps them, or opens gates.
+/// The crash loses the unsynced bytes, keeps them, or turns them into the byte of an open gate.
 #[test]
 fn stop_at_each_call_and_crash(rt: HostRuntime) {
     for kind in [Crash::Old, Crash::New, Crash::Torn(165)] {
@@ -209,13 +210,13 @@ fn spool_of_version_1(rt: &impl Abort, alloc: Global) -> MemoryDisk {
     let mut disk = MemoryDisk::new(alloc, 557 * 4096).expect(rt, "there is memory");
     let indexes = IndexSet::new(alloc).expect(rt, "there is memory");
     format(&mut disk, 16, &indexes).expect(rt, "the disk has room");
-    // the state page of 16 text blocks is page 283
+    // The state page of a spool of 16 text blocks is page 283.
     disk.write_at(283 * 4096, &1u32.to_be_bytes())
         .expect(rt, "the disk has this page");
     disk
 }
 
-/// A spool of version 1 is filled, brought to version 2, and looked at.
+/// A spool of version 1 is filled, upgraded to version 2 and read. A second upgrade is refused.
 #[test]
 fn upgrade_is_a_round(rt: HostRuntime) {
     let alloc = rt.alloc();

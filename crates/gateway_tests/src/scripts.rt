@@ -1,4 +1,4 @@
-//! Scripts whose output is known from outside.
+//! Scripts, and the output that each must write.
 
 use crate::spools::ends;
 use crate::stories::{BLOCK, FIFTEEN_BLOCKS, FREED, FULL_SPOOL, HELLO, LONG_TEXT, ONE_WINNER};
@@ -21,30 +21,30 @@ const MAX_AND_CLOSE: &str =
     "Tus-Version: 1.0.0\nTus-Extension: creation,creation-defer-length,termination\nTus-Max-Size: 1073741824\n\
     Connection: close";
 
-/// Into windows-1252, and fatal.
+/// Metadata that asks for windows-1252 in the mode `fatal`.
 const FATAL: &str = "to d2luZG93cy0xMjUy,mode ZmF0YWw=";
 
 /// An index of two characters.
 const WINDOWS_1252: Files = &[(Kind::Single(Encoding::Windows1252), b"0\t20AC\n105\t00E9\n")];
 
-/// Index files of three characters.
+/// Three index files of one character each.
 const JAPANESE: Files = &[
     (Kind::Jis0208, b"283\t3042\n"),
     (Kind::Jis0212, b"1410\t4E02\n"),
     (Kind::Katakana, b"0\t3002\n"),
 ];
 
-/// A PATCH that waits for 100.
+/// A PATCH that expects `100 Continue`.
 const WAITING: &str =
     "PATCH /files/1 HTTP/1.1\nTus-Resumable: 1.0.0\nContent-Type: application/offset+octet-stream\n\
     Upload-Offset: 0\nContent-Length: 2\nExpect: 100-continue";
 
-/// A PATCH with a body, and a HEAD.
+/// A PATCH with a body, and a HEAD after it.
 const TWO_REQUESTS: &[u8] =
     b"PATCH /files/1 HTTP/1.1\r\nTus-Resumable: 1.0.0\r\nContent-Type: text/plain\r\nUpload-Offset: 0\r\n\
     Content-Length: 3\r\n\r\nabcHEAD /files/1 HTTP/1.1\r\nTus-Resumable: 1.0.0\r\n\r\n";
 
-/// OPTIONS, and connections that close.
+/// OPTIONS, and requests that close their connection.
 const OPTIONS: &[Step] = &[
     Open(2),
     Say(1, "OPTIONS /files HTTP/1.1\nTus-Resumable: 0.2.2"),
@@ -63,7 +63,7 @@ const OPTIONS: &[Step] = &[
     Told("x 2"),
 ];
 
-/// Characters in UTF-8 that are cut.
+/// Characters in UTF-8 that are cut: between two requests, by the end of the text, and by another byte.
 const CHARACTERS: &[Step] = &[
     Open(1),
     Made(1, 3, ""),
@@ -76,7 +76,7 @@ const CHARACTERS: &[Step] = &[
     Text(2, "UTF-8", b"\xEF\xBF\xBD\xEF\xBF\xBDA"),
 ];
 
-/// Characters in UTF-16LE, EUC-JP and ISO-2022-JP that are cut, and such in ISO-2022-JP as the output.
+/// Characters in UTF-16LE, EUC-JP and ISO-2022-JP that are cut, and a text that is stored in ISO-2022-JP.
 const CUT_UNITS: &[Step] = &[
     Open(1),
     Made(1, 6, "from dXRmLTE2bGU="),
@@ -111,7 +111,7 @@ const CUT_UNITS: &[Step] = &[
     Text(4, "ISO-2022-JP", b"\x1B$B$\"$\"\x1B(B"),
 ];
 
-/// Texts that cannot be encoded.
+/// Texts in the mode `fatal`, two of them with an unmappable character.
 const NOT_ENCODED: &[Step] = &[
     Open(1),
     Made(1, 3, FATAL),
@@ -139,13 +139,13 @@ const NOT_ENCODED: &[Step] = &[
     ),
 ];
 
-/// After `ONE_WINNER`.
+/// The upload after `ONE_WINNER`.
 const WINNER_SHOWN: &[Step] = &[
     Shown(1, 1, "Upload-Offset: 2\nUpload-Length: 5"),
     Text(1, "UTF-8", b"xy"),
 ];
 
-/// A body that is cut is kept.
+/// The bytes of a cut body are stored up to the cut.
 const CUT_BODY: &[Step] = &[
     Open(2),
     Made(1, 10, ""),
@@ -191,7 +191,7 @@ const REFUSED: &[Step] = &[
     Made(1, 5, ""),
 ];
 
-/// The body of a refused request is passed over.
+/// The body of a refused request is skipped.
 const PASSED_OVER: &[Step] = &[
     Open(1),
     Made(1, 5, ""),
@@ -200,7 +200,7 @@ const PASSED_OVER: &[Step] = &[
     Reply(1, "200 OK", "Upload-Offset: 0\nUpload-Length: 5", b""),
 ];
 
-/// Metadata.
+/// Metadata that is refused, and metadata that is stored.
 const METADATA: &[Step] = &[
     Open(1),
     Post(5, "from a2xpbmdvbg=="),
@@ -215,7 +215,7 @@ const METADATA: &[Step] = &[
     ),
 ];
 
-/// Lengths.
+/// The least and the greatest length, and one byte more.
 const LENGTHS: &[Step] = &[
     Open(1),
     Made(1, 0, ""),
@@ -229,7 +229,7 @@ const LENGTHS: &[Step] = &[
     Refused(1, "413 Payload Too Large", 12),
 ];
 
-/// PATCHes that wait for 100.
+/// PATCHes that expect `100 Continue`: one is answered with it, and one is refused.
 const WAITERS: &[Step] = &[
     Open(1),
     Made(1, 5, ""),
@@ -247,10 +247,10 @@ const WAITERS: &[Step] = &[
     Told("x 1"),
 ];
 
-/// A connection that is open is not opened again.
+/// A connection that is open can't be opened again.
 const OPENED_TWICE: &[Step] = &[Line("open 3"), Line("open 3"), Told("! 3 29")];
 
-/// Heads that are none.
+/// A head that is too long, and one that isn't HTTP.
 const NO_HEADS: &[Step] = &[
     Open(2),
     Came(1, &[b'a'; 8192]),
@@ -272,7 +272,7 @@ const NO_HEADS: &[Step] = &[
     Told("x 2"),
 ];
 
-/// After `HELLO`: HEAD by another method.
+/// After `HELLO`: HEAD inside a POST, by `X-HTTP-Method-Override`.
 const OTHER_METHOD: &[Step] = &[
     Say(
         1,
@@ -287,7 +287,7 @@ const OTHER_METHOD: &[Step] = &[
     Bytes(121),
 ];
 
-/// PATCH by another method.
+/// PATCH inside a POST.
 const OTHER_METHOD_OF_PATCH: &[Step] = &[
     Open(1),
     Made(1, 5, ""),
@@ -302,7 +302,7 @@ const OTHER_METHOD_OF_PATCH: &[Step] = &[
     Text(1, "UTF-8", b"hello"),
 ];
 
-/// A first byte of three, which is U+FFFD at a declared end, cannot be encoded.
+/// The first byte of three becomes U+FFFD if the text ends after it, and windows-1252 has no code for that.
 const DECLARED_END: &[Step] = &[
     Open(1),
     Deferred(1, FATAL),
@@ -318,7 +318,7 @@ const DECLARED_END: &[Step] = &[
     Patched(1, 1),
 ];
 
-/// A length that another PATCH declares.
+/// A PATCH fails if another one declares a shorter length meanwhile.
 const OTHER_PATCH: &[Step] = &[
     Open(2),
     Deferred(1, ""),
@@ -353,7 +353,7 @@ const REFUSED_LENGTHS: &[Step] = &[
     Shown(2, 1, "Upload-Offset: 0\nUpload-Defer-Length: 1"),
 ];
 
-/// A PATCH of a deleted upload.
+/// A PATCH whose upload is deleted meanwhile.
 const DELETED_MEANWHILE: &[Step] = &[
     Open(2),
     Made(1, 5, ""),
@@ -366,14 +366,14 @@ const DELETED_MEANWHILE: &[Step] = &[
     Gone(1, 1),
 ];
 
-/// After `FULL_SPOOL`.
+/// The uploads after `FULL_SPOOL`.
 const FULL_SHOWN: &[Step] = &[
     Shown(1, 2, "Upload-Offset: 61440\nUpload-Length: 61441"),
     Text(1, "UTF-8", BLOCK),
     Text(2, "UTF-8", FIFTEEN_BLOCKS),
 ];
 
-// Of each script: what it shows, how many blocks its spool has, its index file, a story, and the steps after that.
+// Each row of these tables: a name, the spool's blocks, its index files, a story, and the steps after it.
 
 /// Texts.
 const TEXTS: &[(&str, u32, Files, &[Step], &[Step])] = &[
@@ -437,7 +437,7 @@ const HEADS: &[(&str, u32, Files, &[Step], &[Step])] = &[
     ),
 ];
 
-/// Requests that are refused.
+/// Refused requests.
 const REFUSALS: &[(&str, u32, Files, &[Step], &[Step])] = &[
     ("requests that are refused", 32, &[], &[], REFUSED),
     ("metadata", 32, &[], &[], METADATA),
@@ -452,7 +452,7 @@ const REFUSALS: &[(&str, u32, Files, &[Step], &[Step])] = &[
     ("lengths that are refused", 32, &[], &[], REFUSED_LENGTHS),
 ];
 
-/// Blocks of spools that have 16.
+/// Spools of 16 blocks.
 const BLOCKS: &[(&str, u32, Files, &[Step], &[Step])] = &[
     (
         "blocks of a deleted upload are used again",
@@ -471,7 +471,7 @@ const BLOCKS: &[(&str, u32, Files, &[Step], &[Step])] = &[
     ("all blocks are owned", 16, &[], FULL_SPOOL, FULL_SHOWN),
 ];
 
-/// Runs scripts: each writes what it is to write.
+/// Runs each script and compares its output.
 fn run_all(rt: &impl Abort, alloc: Global, rows: &[(&str, u32, Files, &[Step], &[Step])]) {
     for &(what, blocks, files, story, steps) in rows {
         let mut talk = Talk::new(rt, alloc, story);

@@ -1,4 +1,4 @@
-//! Clients over sockets, in one thread: each writes all that it has to say before it is served.
+//! Clients over real sockets, in one thread: each client sends all its bytes before the server runs.
 
 use crate::spools::{calls_of_opening, opened};
 use crate::talks::fresh;
@@ -45,12 +45,12 @@ const MALFORMED: &[u8] =
     b"HTTP/1.1 400 Bad Request\r\nTus-Resumable: 1.0.0\r\nCache-Control: no-store\r\n\
 X-Refusal: 18\r\nContent-Length: 0\r\nConnection: close\r\n\r\n";
 
-/// A listener at any port.
+/// A listener on any free port.
 fn listen<R: Abort + Net<Listener = TcpListener, Stream = TcpStream>>(rt: &R) -> TcpListener {
     TcpListener::bind(rt, (Ipv4Addr::LOCALHOST, 0)).expect(rt, "a port")
 }
 
-/// A client that connects, says this and stays.
+/// A client that connects, sends these bytes and keeps its socket open.
 fn stays<R: Abort + Net<Listener = TcpListener, Stream = TcpStream>>(
     rt: &R,
     listener: &TcpListener,
@@ -64,7 +64,7 @@ fn stays<R: Abort + Net<Listener = TcpListener, Stream = TcpStream>>(
     stream
 }
 
-/// A client that connects, says this and says no more.
+/// A client that connects, sends these bytes and closes its sending side.
 fn client<R: Abort + Net<Listener = TcpListener, Stream = TcpStream>>(
     rt: &R,
     listener: &TcpListener,
@@ -77,7 +77,7 @@ fn client<R: Abort + Net<Listener = TcpListener, Stream = TcpStream>>(
     stream
 }
 
-/// A client is told this, up to the socket's end.
+/// Checks that a client receives exactly these bytes before the end of its stream.
 fn is_told(rt: &impl Abort, alloc: Global, client: &mut TcpStream, wanted: &[u8]) {
     let mut bytes = Vec::new(alloc);
     client
@@ -86,8 +86,8 @@ fn is_told(rt: &impl Abort, alloc: Global, client: &mut TcpStream, wanted: &[u8]
     assert_eq!(rt; bytes.as_slice(), wanted);
 }
 
-/// Serves so many connections over the spool on a disk, in at most 1,000 turns. The disk after it, and whether it went
-/// well.
+/// Serves `connections` connections over the spool on a disk, in at most 1,000 turns. Returns the disk, and whether
+/// serving ended without an error.
 fn served<R: Abort + Clock, D: Disk + Drop>(
     rt: &R,
     alloc: Global,
@@ -105,7 +105,7 @@ fn served<R: Abort + Clock, D: Disk + Drop>(
     (gateway.into_disk(), served.is_ok())
 }
 
-/// Serves a connection over the spool on a disk.
+/// Serves one connection over the spool on a disk.
 fn serve<R: Abort + Clock>(
     rt: &R,
     alloc: Global,
@@ -145,7 +145,7 @@ fn cut_body_counts_up_to_the_cut_and_a_close_is_told(rt: HostRuntime) {
     is_told(&rt, alloc, &mut lost, MALFORMED);
 }
 
-/// A disk fails at the first call after the opening of its spool.
+/// The disk fails at the first call after the spool is open, and the client gets no reply.
 #[test]
 fn nothing_is_told_after_a_fault_of_the_device(rt: HostRuntime) {
     let alloc = rt.alloc();

@@ -1,4 +1,4 @@
-//! Clients that read late, over sockets of the tests' own.
+//! Clients that read late, over scripted sockets, and a server that has nothing to do.
 
 use crate::clients::{Clients, Steps, served};
 use std::alloc::Global;
@@ -21,7 +21,8 @@ Content-Length: 5\r\n\r\nhello";
 
 const SECOND: u64 = 1_000_000;
 
-/// So many clients: the first one says this and takes ten bytes, then none for so many writes; the others say this.
+/// `count` clients. The first one sends `says`, accepts ten bytes and then pauses for `pauses` writes. The others send
+/// `others`.
 fn comers<'a>(
     count: usize,
     says: &'a [u8],
@@ -42,8 +43,8 @@ fn comers<'a>(
     }
 }
 
-/// How many bytes the first client is told that pauses for so many writes, in at most 120 turns of a second, while
-/// others have all other places.
+/// How many bytes the first client gets if it pauses for `pauses` writes. There are at most 120 turns of a second each,
+/// and other clients have all other places.
 fn told(rt: &impl Abort, alloc: Global, pauses: u32) -> usize {
     let told = Cell::new(0);
     let others = Cell::new(0);
@@ -60,8 +61,8 @@ fn replies_under_way_are_kept_for_a_minute_where_all_places_are_taken(rt: HostRu
     assert_eq!(rt; told(&rt, alloc, 100), 10);
 }
 
-/// How many clients come, how many microseconds a turn takes, how many turns are taken, how often the server rests and
-/// for how many nanoseconds in all. A client that comes is something to do.
+/// Each row: how many clients connect, how many microseconds a turn takes, how many turns there are, how often the
+/// server sleeps, and for how many nanoseconds in all. It doesn't sleep in a turn in which a client connects.
 const IDLE: [(usize, u64, u64, u32, u64); 6] = [
     (0, SECOND, 20, 20, 200_000_000),
     (MOST_OPEN, SECOND, MOST_OPEN as u64, 0, 0),

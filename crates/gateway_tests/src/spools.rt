@@ -1,4 +1,4 @@
-//! Scripts over spools in memory, and openings of these.
+//! Runs of scripts over spools in memory, and openings of such spools.
 
 use crate::talks::Talk;
 use gateway_engine::{Gateway, RunFault, run};
@@ -7,10 +7,10 @@ use spool_image::{OpenFault, Spool};
 use std::alloc::Global;
 use std::process::Abort;
 
-/// The steps by which calls are counted, of which there are fewer than 4,096.
+/// The steps of a binary search for a number of calls below 4,096.
 pub(crate) const POWERS: [u64; 12] = [2048, 1024, 512, 256, 128, 64, 32, 16, 8, 4, 2, 1];
 
-/// A run of a script over a disk: the disk, how the run was refused, and what it wrote.
+/// Runs a script over a disk. Returns the disk, the fault if the run was refused, and what it wrote.
 pub(crate) fn ran<D: Disk>(alloc: Global, talk: &Talk, disk: D) -> (D, Option<RunFault>, Vec<u8>) {
     let mut writer = Vec::new(alloc);
     match run(alloc, &mut talk.script.as_slice(), &mut writer, disk) {
@@ -19,7 +19,7 @@ pub(crate) fn ran<D: Disk>(alloc: Global, talk: &Talk, disk: D) -> (D, Option<Ru
     }
 }
 
-/// A script is run over a disk and refused so, or not at all, and what is wanted is written. The disk after it.
+/// Runs a script, checks how it ended and what it wrote, and returns the disk.
 pub(crate) fn ends(
     rt: &impl Abort,
     alloc: Global,
@@ -34,7 +34,7 @@ pub(crate) fn ends(
     disk
 }
 
-/// A gateway over a disk.
+/// The gateway on a disk.
 pub(crate) fn opened<D: Disk>(rt: &impl Abort, alloc: Global, disk: D) -> Gateway<Spool<D>> {
     match Gateway::open(alloc, disk) {
         Ok(gateway) => gateway,
@@ -42,7 +42,8 @@ pub(crate) fn opened<D: Disk>(rt: &impl Abort, alloc: Global, disk: D) -> Gatewa
     }
 }
 
-/// How many calls an opening of the spool on a disk makes: one more than the most that aren't enough.
+/// How many calls an opening of the spool on a disk makes. A binary search finds the greatest number of calls after
+/// which it still fails.
 pub(crate) fn calls_of_opening(rt: &impl Abort, alloc: Global, disk: MemoryDisk) -> u64 {
     let mut few = 0u64;
     let mut disk = disk;

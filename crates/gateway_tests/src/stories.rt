@@ -1,4 +1,4 @@
-//! Stories: steps that more than one test takes.
+//! Steps that more than one test takes.
 
 use crate::talks::Step::{
     self, Added, Bytes, Came, Changed, Declare, Deferred, Deleted, Given, Gone, Line, Made, Open,
@@ -11,12 +11,12 @@ pub(crate) const BLOCK: &[u8] = &[b'a'; 4096];
 /// As many letters as 15 blocks hold.
 pub(crate) const FIFTEEN_BLOCKS: &[u8] = &[b'a'; 61_440];
 
-/// A sixth of them.
+/// A sixth of these.
 const PIECE: &[u8] = &[b'a'; 10_240];
 
 pub(crate) const TEN_THOUSAND: &[u8] = &[b'a'; 10_000];
 
-/// An upload of five bytes, filled and told of.
+/// An upload of five bytes, filled and read.
 pub(crate) const HELLO: &[Step] = &[
     Open(3),
     Made(1, 5, ""),
@@ -27,7 +27,7 @@ pub(crate) const HELLO: &[Step] = &[
     Text(1, "UTF-8", b"hello"),
 ];
 
-/// A text in Shift_JIS, with a cut within its first character.
+/// A text in Shift_JIS that is cut within its first character.
 pub(crate) const CUT_CHARACTER: &[Step] = &[
     Open(1),
     Made(1, 4, "from c2hpZnRfamlz"),
@@ -69,7 +69,7 @@ pub(crate) const DECLARED_AND_CUT: &[Step] = &[
     Changed(&[(1, 4, Some(5), b"abcd")]),
 ];
 
-/// Two connections that begin at one offset.
+/// Two connections append at the same offset, and the first one to finish wins.
 pub(crate) const ONE_WINNER: &[Step] = &[
     Open(2),
     Made(1, 5, ""),
@@ -86,7 +86,7 @@ pub(crate) const ONE_WINNER: &[Step] = &[
     Bytes(105),
 ];
 
-/// A spool of 16 blocks that are all owned.
+/// All blocks of a spool of 16 are in use.
 pub(crate) const FULL_SPOOL: &[Step] = &[
     Open(1),
     Made(1, 4096, ""),
@@ -112,7 +112,7 @@ pub(crate) const FULL_SPOOL: &[Step] = &[
     Refused(1, "507 Insufficient Storage", 17),
 ];
 
-/// An upload that is filled and deleted, and another.
+/// An upload that is filled and deleted, and another one after it.
 pub(crate) const DELETED: &[Step] = &[
     Open(1),
     Made(1, 5, ""),
@@ -130,7 +130,8 @@ pub(crate) const DELETED: &[Step] = &[
 
 const SIXTEENTH: &[u8] = &[b'b'; 16_384];
 
-/// A PATCH of an upload that ends within a block and is deleted, while another fills all blocks of a spool of 16.
+/// A PATCH of an upload that ends within a block and is deleted, while another upload fills all blocks of a spool of
+/// 16.
 pub(crate) const PATCH_OF_A_DELETED: &[Step] = &[
     Open(2),
     Made(1, 5001, ""),
@@ -154,7 +155,7 @@ pub(crate) const PATCH_OF_A_DELETED: &[Step] = &[
     Bytes(106),
 ];
 
-/// All blocks of a spool of 16 are owned, and are free again.
+/// All blocks of a spool of 16 are in use, and a deletion frees them.
 pub(crate) const FREED: &[Step] = &[
     Open(1),
     Made(1, 65_536, ""),
@@ -173,7 +174,7 @@ pub(crate) const FREED: &[Step] = &[
     Text(2, "UTF-8", b"a"),
 ];
 
-/// A text that is given in two pieces.
+/// A text that a GET returns in two pieces.
 pub(crate) const LONG_TEXT: &[Step] = &[
     Open(1),
     Made(1, 70_000, ""),

@@ -1,4 +1,4 @@
-//! Readers and writers of scripts that are slow or fail, and the uploads after them.
+//! Runs whose script reader or output writer is slow or fails, and the uploads after them.
 
 use crate::faults::{Story, hello, told};
 use crate::stories::HELLO;
@@ -10,7 +10,7 @@ use std::io;
 use std::io::{ErrorKind, Read, Write};
 use std::process::Abort;
 
-/// Takes so many bytes at a call, and fails after so many calls.
+/// A writer that accepts at most `step` bytes a call, and fails after `calls` calls.
 #[derive(Drop)]
 struct SlowWriter {
     bytes: Vec<u8>,
@@ -34,7 +34,7 @@ impl Write for SlowWriter {
     }
 }
 
-/// Gives so many bytes at a call, and fails after so many calls.
+/// A reader that gives at most `step` bytes a call, and fails after `calls` calls.
 #[derive(Drop)]
 struct SlowReader<'a> {
     rest: &'a [u8],
@@ -55,7 +55,7 @@ impl Read for SlowReader<'_> {
     }
 }
 
-/// A run by this reader and this writer: the disk after it, and how it was refused.
+/// Runs a script from a reader into a writer. Returns the disk, and the fault if the run was refused.
 fn ran<R: Read, W: Write>(
     alloc: Global,
     reader: &mut R,
@@ -68,8 +68,9 @@ fn ran<R: Read, W: Write>(
     }
 }
 
-/// A run writes into a writer that takes so many bytes at a call, and fails after so many calls. It is refused where
-/// these aren't enough; the uploads are those that were acknowledged, or one more. How many bytes were written.
+/// Runs a story into a writer of `step` bytes a call that fails after `calls` calls, and returns how many bytes were
+/// written. The run is refused if they aren't all, and the uploads are those that were acknowledged, or one change
+/// more.
 fn writes(rt: &impl Abort, story: &Story<'_>, step: usize, calls: usize) -> usize {
     let talk = story.talk;
     let mut writer = SlowWriter {
@@ -90,7 +91,7 @@ fn writes(rt: &impl Abort, story: &Story<'_>, step: usize, calls: usize) -> usiz
 fn writers_that_fail(rt: HostRuntime) {
     let talk = Talk::new(&rt, rt.alloc(), HELLO);
     let story = hello(rt.alloc(), &talk);
-    // a byte at a call, and each byte in turn isn't taken; then writers that take more, or none
+    // Each byte fails in turn at one byte a call. Then come writers that accept more a call, or nothing.
     let all = talk.wanted.len();
     for count in 0..all {
         assert_eq!(rt; writes(&rt, &story, 1, count), count);
@@ -102,7 +103,8 @@ fn writers_that_fail(rt: HostRuntime) {
     assert!(rt; writes(&rt, &story, 1000, 3) < all);
 }
 
-/// A run reads at most 7 bytes at a call, and fails after so many calls: then nothing was done. Whether it came so far.
+/// Runs a story from a reader of 7 bytes a call that fails after `calls` calls. A refused run changes nothing. Returns
+/// whether the run was refused.
 fn read_fails(rt: &impl Abort, story: &Story<'_>, calls: usize) -> bool {
     let mut reader = SlowReader {
         rest: &story.talk.script,
@@ -122,7 +124,7 @@ fn read_fails(rt: &impl Abort, story: &Story<'_>, calls: usize) -> bool {
     true
 }
 
-/// Each of the reads of 7 bytes fails in turn, and that of the end.
+/// Each read of 7 bytes fails in turn.
 #[test]
 fn readers_that_fail(rt: HostRuntime) {
     let talk = Talk::new(&rt, rt.alloc(), HELLO);

@@ -1,4 +1,4 @@
-//! What the program says, and the statuses that it ends with.
+//! The program's messages and exit statuses.
 
 use enc_index::ReadError;
 use gateway_files::{Failure, Fault, Noted, ended};
@@ -6,7 +6,7 @@ use std::alloc::Global;
 use std::io::{self, ErrorKind, Read, Write};
 use std::process::Abort;
 
-/// A failure is told so, and the program ends with this status.
+/// Checks the message and the exit status of a failure.
 fn tells(rt: &impl Abort, alloc: Global, failure: Failure, status: u8, said: &str) {
     let mut told = Vec::new(alloc);
     assert_eq!(rt; ended(&mut told, Err(failure)), status);

@@ -1,4 +1,4 @@
-//! Talks: scripts, and what their runs are to write.
+//! Talks: scripts together with the output that their runs must write.
 
 use enc_index::{Index, IndexSet, Kind};
 use spool_disk::MemoryDisk;
@@ -6,82 +6,82 @@ use spool_image::format;
 use std::alloc::Global;
 use std::process::Abort;
 
-/// A step of a talk: lines of its script, or what is to be written.
+/// A step of a talk: lines of its script, wanted output, or both.
 #[derive(Clone, Copy)]
 pub(crate) enum Step<'a> {
-    /// Connections are opened: 1 up to this one.
+    /// Opens the connections from 1 up to this one.
     Open(u32),
     /// A line of the script.
     Line(&'a str),
     /// The lines of a head on a connection.
     Say(u32, &'a str),
-    /// Bytes that come on a connection.
+    /// Bytes that are received on a connection.
     Came(u32, &'a [u8]),
-    /// A line that is to be written.
+    /// A wanted line of the output.
     Told(&'a str),
-    /// Bytes that are to be written to a connection.
+    /// Bytes that must be sent on a connection.
     Given(u32, &'a [u8]),
-    /// A reply to a connection: its status, its own lines and its body.
+    /// A reply on a connection: its status, its own lines and its body.
     Reply(u32, &'a str, &'a str, &'a [u8]),
-    /// A reply to a connection that refuses: its status and its number.
+    /// A refusal on a connection: its status and its number.
     Refused(u32, &'a str, u8),
-    /// The latest reply has so many bytes.
+    /// The latest reply has this many bytes.
     Bytes(usize),
-    /// A POST on connection 1 of this length and metadata.
+    /// A POST on connection 1 with this length and metadata.
     Post(u64, &'a str),
-    /// A POST on connection 1 that makes this upload, of this length and metadata.
+    /// A POST on connection 1 that makes this upload, with this length and metadata.
     Made(u64, u64, &'a str),
-    /// A POST on connection 1 that makes this upload, of this metadata, and defers its length.
+    /// A POST on connection 1 that makes this upload with a deferred length and this metadata.
     Deferred(u64, &'a str),
-    /// The head of a PATCH on a connection: the upload, the offset and how many bytes are to come.
+    /// The head of a PATCH on a connection: the upload, the offset and the length of the body.
     Patch(u32, u64, u64, usize),
-    /// The head of a PATCH on a connection that declares a length: the upload, the offset, the length and how many
-    /// bytes are to come.
+    /// The head of a PATCH on a connection that declares a length: the upload, the offset, the declared length and the
+    /// length of the body.
     Declare(u32, u64, u64, u64, usize),
-    /// What a PATCH whose bytes were taken is answered, up to an offset.
+    /// The reply to a PATCH that reached this offset.
     Patched(u32, u64),
-    /// A PATCH of an upload on connection 1, from an offset, whose bytes are taken up to an offset.
+    /// A PATCH on connection 1 and its reply: the upload, the offset, the bytes and the offset that is reached.
     Added(u64, u64, &'a [u8], u64),
-    /// A DELETE of an upload on a connection, by which it is gone.
+    /// A DELETE of an upload on a connection, which succeeds.
     Deleted(u32, u64),
     /// A HEAD of an upload that is gone, on a connection.
     Gone(u32, u64),
-    /// A HEAD of an upload on a connection, and the lines that it is answered.
+    /// A HEAD of an upload on a connection, and the lines of its reply.
     Shown(u32, u64, &'a str),
-    /// A GET of an upload on connection 1, and the character set and text that it is answered.
+    /// A GET of an upload on connection 1, with the character set and the text of its reply.
     Text(u64, &'a str, &'a [u8]),
-    /// The latest reply acknowledged a change. The uploads by it: the number, how many bytes were accepted, how many
-    /// were declared, and the text.
+    /// The latest reply acknowledged a change. The uploads after it: the number, the accepted bytes, the declared
+    /// length and the text.
     Changed(&'a [(u64, u64, Option<u64>, &'a [u8])]),
 }
 
-/// The uploads after a change, and how much was written when it was acknowledged.
+/// The uploads after a change, and how many bytes of the output were written when it was acknowledged.
 #[derive(Drop)]
 pub(crate) struct Stage {
     pub(crate) written: usize,
-    /// As `put_upload` shows them, by their numbers.
+    /// The uploads in the form of `put_upload`, by their numbers.
     pub(crate) uploads: Vec<u8>,
 }
 
-/// A script, what its run is to write, and what becomes of the uploads by it.
+/// A script, its wanted output, and the uploads after each change.
 #[derive(Drop)]
 pub(crate) struct Talk {
     alloc: Global,
     pub(crate) script: Vec<u8>,
     pub(crate) wanted: Vec<u8>,
     pub(crate) stages: Vec<Stage>,
-    // how many bytes the latest reply has
+    // The length of the latest reply in bytes.
     latest: usize,
 }
 
 const MEMORY: &str = "memory for a talk";
 
-/// These bytes come after the others.
+/// Appends bytes.
 fn put(rt: &impl Abort, to: &mut Vec<u8>, bytes: &[u8]) {
     to.extend_from_slice(bytes).expect(rt, MEMORY);
 }
 
-/// An upload comes after others: its number, how many bytes were accepted, how many were declared, and the text.
+/// Appends a line with an upload's number, accepted bytes, declared length and text length, and then the text.
 pub(crate) fn put_upload(
     rt: &impl Abort,
     alloc: Global,
@@ -114,7 +114,7 @@ impl Talk {
         talk
     }
 
-    /// These steps come after the others.
+    /// Appends steps.
     pub(crate) fn go_on(&mut self, rt: &impl Abort, steps: &[Step]) {
         for step in steps.iter() {
             self.take(rt, *step);
@@ -328,7 +328,7 @@ impl Talk {
 /// Index files: their kinds and lines.
 pub(crate) type Files<'a> = &'a [(Kind, &'a [u8])];
 
-/// A spool of so many blocks on a disk of its size, without uploads, with this index file if there is one.
+/// A new spool of `blocks` blocks on a disk of its size, with this index file if one is given.
 pub(crate) fn fresh(
     rt: &impl Abort,
     alloc: Global,
@@ -338,7 +338,7 @@ pub(crate) fn fresh(
     with_files(rt, alloc, blocks, file.as_slice())
 }
 
-/// A spool of so many blocks on a disk of its size, without uploads, with these index files.
+/// A new spool of `blocks` blocks on a disk of its size, with these index files.
 pub(crate) fn with_files(rt: &impl Abort, alloc: Global, blocks: u32, files: Files) -> MemoryDisk {
     let mut indexes = IndexSet::new(alloc).expect(rt, "memory for a set");
     for (kind, lines) in files {

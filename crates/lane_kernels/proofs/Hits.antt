@@ -1,4 +1,4 @@
--- What a bitmask says of the lanes that were tested.
+-- The bitmask of a test, and the lanes that passed it.
 use Rattle.std.proofs.Common.{◌≡◌, ℕ, ◌-◌, ◌%◌, ◌^◌, ◌≤◌, Bool, true, false, not, ◌||◌, cond, List, [], ◌∷◌, map}
 use Rattle.std.proofs.Common.{length, replicate, refl, ap, ap₂, sym, ◌∙◌, ◌&&◌, arith, bit_or, bit_and}
 use Rattle.std.proofs.lemmas.Simd.{mask_l-mod, first_set_mask_l, zip2_splat, zip2_splat_left, zip2_of_maps}

@@ -8,7 +8,7 @@ use Rattle.lane_kernels.specs.Classes.{is_plain_2022}
 use Rattle.lane_kernels.specs.Units.{ArePaired, is_lead, is_trail, last_lead, left_over, units_of}
 use Rattle.lane_kernels.specs.Steps.{scalars_of}
 
--- the front ends at 80, and before an escape
+-- the prefix ends at 80, and before an escape
 ends_at_80 : prefix_len is_ascii (0x41 ∷ 0x1B ∷ 0x7F ∷ 0x80 ∷ 0x41 ∷ []) ≡ 3
 ends_at_80 = refl
 

@@ -1,4 +1,4 @@
--- A list whose front was written over by that of another.
+-- A list whose prefix was overwritten with that of another.
 use Rattle.std.proofs.Common.{◌≡◌, ℕ, suc, ◌+◌, ◌<◌, ◌≤◌, List, [], ◌∷◌, ◌++◌, length, length-append, length-drop, take}
 use Rattle.std.proofs.Common.{drop, get_or, set, ap, sym, ◌∙◌, arith, append_assoc, drop-cons}
 use Rattle.std.proofs.lemmas.List.{length-take-le, take-append-drop, take-take, drop-take, drop-drop, take_at, drop_at}

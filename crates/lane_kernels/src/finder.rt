@@ -1,4 +1,4 @@
-//! Looks at lanes for decoders that store them whole.
+//! Finding ASCII for decoders that store whole vectors.
 
 ghost use Rattle.std.specs.Prelude.{◌≤◌, length};
 
@@ -7,14 +7,14 @@ use crate::lanes::LANES;
 use enc_model::AsciiFinder;
 use std::simd::prelude::*;
 
-/// From how many lanes of 80 or more on each is better looked up alone.
+/// From this many bytes of 80 or more on, looking up each byte is faster.
 const DENSE: u32 = 8;
 
-/// Finds ASCII by lanes.
+/// Finds ASCII with vectors.
 #[derive(Clone, Copy)]
 pub struct AsciiLanes;
 
-/// Whether many of the first lanes are 80 or more. Either answer is right: it chooses the quicker way.
+/// Whether many of the first 32 bytes are 80 or more. Either answer is correct; it only chooses the faster way.
 #[inline(always)]
 fn are_dense(bytes: &[u8]) -> bool
     requires { LANES ≤ length bytes.now }

@@ -1,4 +1,4 @@
-//! The longest prefix of bytes of a class.
+//! The longest prefix of bytes in a class.
 
 ghost use Rattle.std.specs.Prelude.{◌≡◌, ◌≤◌, ◌+◌, length, drop, take};
 ghost use Rattle.std.specs.List.{prefix_len};
@@ -11,7 +11,7 @@ use crate::lanes::{
     wide_ascii,
 };
 
-/// The front of the bytes, one byte at a time.
+/// The prefix's length, byte by byte.
 fn front_by_bytes<C: Class>(class: &C, bytes: &[u8]) -> usize
     ensures { result ≡ prefix_len (C.has class.now) bytes.now }
 {
@@ -22,7 +22,7 @@ fn front_by_bytes<C: Class>(class: &C, bytes: &[u8]) -> usize
     at
 }
 
-/// The front of the bytes, a load at a time.
+/// The prefix's length, vector by vector.
 fn front<C: Class>(class: &C, bytes: &[u8]) -> usize
     ensures { result ≡ prefix_len (C.has class.now) bytes.now }
 {
@@ -37,7 +37,7 @@ fn front<C: Class>(class: &C, bytes: &[u8]) -> usize
     at + front_by_bytes(class, &bytes[at..])
 }
 
-/// How many bytes are below 80 as far as many lanes at a time show it.
+/// The length of leading ASCII in whole blocks of 64 bytes.
 #[inline(always)]
 fn skip_ascii(bytes: &[u8]) -> usize
     ensures within { result ≤ length bytes.now }
@@ -50,7 +50,7 @@ fn skip_ascii(bytes: &[u8]) -> usize
     at
 }
 
-/// The same as far as still more lanes at a time show it.
+/// The length of leading ASCII in whole blocks of 256 bytes.
 #[inline(always)]
 fn skip_runs(bytes: &[u8]) -> usize
     ensures within { result ≤ length bytes.now }
@@ -63,7 +63,7 @@ fn skip_runs(bytes: &[u8]) -> usize
     at
 }
 
-/// The same by two runs at a time.
+/// The length of leading ASCII in whole blocks of 512 bytes.
 #[inline(always)]
 fn skip_pairs_of_runs(bytes: &[u8]) -> usize
     ensures within { result ≤ length bytes.now }
@@ -76,7 +76,8 @@ fn skip_pairs_of_runs(bytes: &[u8]) -> usize
     at
 }
 
-/// The same where a run is at the start, and else nothing: two runs are looked at together only past a first.
+/// The length of leading ASCII in whole blocks, or 0 if the first 256 bytes aren't ASCII. Blocks of 512 bytes are tried
+/// only after a first one of 256.
 #[inline(always)]
 fn skip_long_ascii(bytes: &[u8]) -> usize
     ensures within { result ≤ length bytes.now }
@@ -89,7 +90,7 @@ fn skip_long_ascii(bytes: &[u8]) -> usize
     skipped + skip_runs(&bytes[skipped..])
 }
 
-/// How many bytes are below 80 before the first that isn't, where no long run begins.
+/// The length of leading ASCII if no long run begins here.
 #[inline(always)]
 fn short_ascii_front(bytes: &[u8]) -> usize
     ensures { result ≡ prefix_len is_ascii bytes.now }
@@ -98,7 +99,7 @@ fn short_ascii_front(bytes: &[u8]) -> usize
     skipped + front(&Ascii, &bytes[skipped..])
 }
 
-/// How many bytes are below 80 before the first that isn't.
+/// The length of leading ASCII.
 pub fn ascii_front(bytes: &[u8]) -> usize
     ensures { result ≡ prefix_len is_ascii bytes.now }
 {
@@ -106,7 +107,7 @@ pub fn ascii_front(bytes: &[u8]) -> usize
     skipped + short_ascii_front(&bytes[skipped..])
 }
 
-/// How many of the first 32 bytes are below 80 before the first that isn't.
+/// The length of leading ASCII among the first 32 bytes.
 #[inline(always)]
 pub fn ascii_lanes(bytes: &[u8]) -> usize
     requires { LANES ≤ length bytes.now }
@@ -115,21 +116,21 @@ pub fn ascii_lanes(bytes: &[u8]) -> usize
     Ascii.run(bytes, 0)
 }
 
-/// How many bytes are below 80 and none of 0E, 0F and 1B before the first that isn't so.
+/// The length of the prefix of ASCII without 0E, 0F and 1B.
 pub fn plain_front_2022(bytes: &[u8]) -> usize
     ensures { result ≡ prefix_len is_plain_2022 bytes.now }
 {
     front(&Plain2022, bytes)
 }
 
-/// How many bytes are from `lo` to `hi`, both included, before the first that isn't: none where `hi` is below `lo`.
+/// The length of the prefix of bytes from `lo` to `hi`, both included. It is 0 if `hi` is below `lo`.
 pub fn range_front(bytes: &[u8], lo: u8, hi: u8) -> usize
     ensures { result ≡ prefix_len (within lo hi) bytes.now }
 {
     front(&Range { lo, hi }, bytes)
 }
 
-/// How many of 32 bytes are below 80 before the first that isn't.
+/// The length of leading ASCII among these 32 bytes.
 #[inline(always)]
 pub fn ascii_chunk(lanes: &[u8; 32]) -> usize
     ensures { result ≡ prefix_len is_ascii lanes.now }
@@ -137,7 +138,7 @@ pub fn ascii_chunk(lanes: &[u8; 32]) -> usize
     Ascii.run(lanes, 0)
 }
 
-/// How many of 32 bytes are below 80 and none of 0E, 0F and 1B before the first that isn't so.
+/// The length of the prefix of ASCII without 0E, 0F and 1B among these 32 bytes.
 #[inline(always)]
 pub fn plain_chunk_2022(lanes: &[u8; 32]) -> usize
     ensures { result ≡ prefix_len is_plain_2022 lanes.now }

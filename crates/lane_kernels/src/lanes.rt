@@ -1,4 +1,4 @@
-//! How many lanes of one load, from the first, are of a class of bytes.
+//! Classes of bytes, tested a vector at a time.
 
 ghost use Rattle.std.specs.Prelude.{◌≡◌, ℕ, Bool, ◌+◌, ◌≤◌, length, drop};
 ghost use Rattle.std.specs.Bool.{OnTrue};
@@ -11,16 +11,16 @@ ghost use Rattle.lane_kernels.specs.Classes.{is_plain_2022, first_set};
 pub(crate) use enc_model::LANES;
 use std::simd::prelude::*;
 
-/// How many bytes are loaded at a time where ASCII is skipped.
+/// How many bytes are loaded at once to skip ASCII.
 pub(crate) const WIDE: usize = 64;
 
-/// How many bytes are looked at in one go where a long run of ASCII is skipped.
+/// How many bytes are tested at once in a long run of ASCII.
 pub(crate) const WIDEST: usize = 4 * WIDE;
 
-/// How many are looked at in one go past such a run.
+/// How many bytes are tested at once further on in such a run.
 pub(crate) const LONGEST: usize = 2 * WIDEST;
 
-/// The place of the lowest bit that is set, or that of the last lane's end where none is.
+/// The index of the lowest set bit, or `lanes` if none is set.
 #[inline(always)]
 pub(crate) fn first_set(mask: u64, lanes: usize) -> usize
     ensures { result ≡ first_set mask lanes }
@@ -34,14 +34,14 @@ pub(crate) fn first_set(mask: u64, lanes: usize) -> usize
 
 /// A class of bytes.
 pub(crate) trait Class {
-    // the bytes that are of the class
+    // The bytes of the class.
     ghost has: { Self → ℕ → Bool };
 
-    /// Whether a byte is of the class.
+    /// Whether the byte is of the class.
     fn has(&self, byte: u8) -> bool
         ensures { result ≡ has self.now byte };
 
-    /// How many of the lanes at a place are of the class before the first that isn't.
+    /// How many of the 32 bytes from `at` on are of the class before the first other one.
     fn run(&self, bytes: &[u8], at: usize) -> usize
         requires { at + LANES ≤ length bytes.now }
         ensures { result ≡ prefix_len (has self.now) (chunk at LANES bytes.now) };
@@ -65,7 +65,7 @@ impl Class for Ascii {
     }
 }
 
-/// How many of many lanes at a place are below 80 before the first that isn't.
+/// How many of the 64 bytes from `at` on are below 80 before the first other one.
 #[inline(always)]
 pub(crate) fn wide_ascii(bytes: &[u8], at: usize) -> usize
     requires { at + WIDE ≤ length bytes.now }
@@ -75,7 +75,7 @@ pub(crate) fn wide_ascii(bytes: &[u8], at: usize) -> usize
     first_set(lanes.simd_ge(u8x64::splat(0x80)).to_bitmask(), WIDE)
 }
 
-/// The many lanes at a place.
+/// The 64 bytes from `at` on.
 #[inline(always)]
 fn wide_lanes(bytes: &[u8], at: usize) -> u8x64
     requires { at + WIDE ≤ length bytes.now }
@@ -84,7 +84,7 @@ fn wide_lanes(bytes: &[u8], at: usize) -> u8x64
     u8x64::from_slice(&bytes[at..])
 }
 
-/// Whether the lanes of four loads after one another, from a place on, are all below 80.
+/// Whether the 256 bytes from `at` on are all below 80.
 #[inline(always)]
 pub(crate) fn are_ascii(bytes: &[u8], at: usize) -> bool
     requires { at + WIDEST ≤ length bytes.now }
@@ -99,7 +99,7 @@ pub(crate) fn are_ascii(bytes: &[u8], at: usize) -> bool
     ((first | second) | (third | fourth)).to_bitmask() == 0
 }
 
-/// Whether the lanes of twice as many loads are all below 80.
+/// Whether the 512 bytes from `at` on are all below 80.
 #[inline(always)]
 pub(crate) fn are_long_ascii(bytes: &[u8], at: usize) -> bool
     requires { at + LONGEST ≤ length bytes.now }
@@ -109,7 +109,7 @@ pub(crate) fn are_long_ascii(bytes: &[u8], at: usize) -> bool
     are_ascii(bytes, at) & are_ascii(bytes, at + WIDEST)
 }
 
-/// The bytes below 80 but for 0E, 0F and 1B.
+/// The bytes below 80 except 0E, 0F and 1B.
 #[derive(Clone, Copy)]
 pub(crate) struct Plain2022;
 

@@ -1,4 +1,4 @@
-//! What paired units mean, as the contract of a function that does nothing.
+//! The meaning of paired units. The function does nothing; its contract is the law.
 
 ghost use Rattle.std.specs.Prelude.{◌≡◌, ℕ, ◌<◌, Bool, false, List, length};
 ghost use Rattle.enc_model.specs.Stream.{steps};
@@ -6,8 +6,8 @@ ghost use Rattle.enc_model.specs.Utf16.{Utf16, utf16};
 ghost use Rattle.lane_kernels.specs.Units.{ArePaired, last_lead, left_over, units_of, with_carried};
 ghost use Rattle.lane_kernels.specs.Steps.{scalars_of};
 
-/// Bytes whose units are paired are decoded without a fault to the scalars of the units, and what is left over and a
-/// last lead are carried.
+/// Bytes whose units are paired decode without a fault to the scalars of the units. An odd last byte and a last lead
+/// surrogate are carried on.
 pub fn paired_units_decode()
     ensures { (big : Bool) (s : Utf16) (bytes : List ℕ) →
         ArePaired s.lead (units_of big (with_carried s.byte bytes)) → 0 < length

@@ -1,4 +1,5 @@
-//! Runs of bytes and UTF-16 units, found many at a time, each the same as a plain definition. No memory is taken.
+//! Vector code for runs of bytes and of UTF-16 units. Each function has a plain definition as its contract, and none
+//! allocates.
 #![tactic(auto)]
 
 mod finder;

@@ -8,7 +8,7 @@ ghost use Rattle.std.specs.Char.{is_ascii};
 use crate::lanes::{LANES, first_set};
 use std::simd::prelude::*;
 
-/// How many of the lanes are below 80 before the first that isn't.
+/// How many of the units are below 80 before the first other one.
 #[inline(always)]
 fn ascii_lanes(lanes: u16x32) -> usize
     ensures { result ≡ prefix_len is_ascii lanes }
@@ -16,7 +16,7 @@ fn ascii_lanes(lanes: u16x32) -> usize
     first_set(lanes.simd_ge(u16x32::splat(0x80)).to_bitmask(), LANES)
 }
 
-/// How many of the lanes at a place are below 80 before the first that isn't.
+/// How many of the 32 units from `at` on are below 80 before the first other one.
 #[inline(always)]
 fn narrow_run(units: &[u16], at: usize) -> usize
     requires { at + LANES ≤ length units.now }
@@ -25,7 +25,7 @@ fn narrow_run(units: &[u16], at: usize) -> usize
     ascii_lanes(u16x32::from_slice(&units[at..]))
 }
 
-/// Writes the lanes at a place, which are all below 80, as bytes at the same place.
+/// Writes the 32 units from `at` on, all below 80, as bytes at the same place.
 #[inline(always)]
 fn write_lanes(units: &[u16], out: &mut [u8], at: usize)
     requires units { at + LANES ≤ length units.now }
@@ -37,9 +37,11 @@ fn write_lanes(units: &[u16], out: &mut [u8], at: usize)
     lanes.cast::<u8>().copy_to_slice(&mut out[at..]);
 }
 
-/// Writes units below 80 from a place on, one at a time, up to the first that isn't or the end of the output.
+/// Writes units below 80 from `at` on, one by one, up to the first other one or the end of the output. Returns where it
+/// ended.
 ///
-/// Never inlined: a caller that has the units in lanes would take each out of them first, also where all go by lanes.
+/// Never inlined: a caller that has the units in lanes would otherwise take each of them out first, even if all go by
+/// lanes.
 #[inline(never)]
 fn narrow_by_units(units: &[u16], out: &mut [u8], at: usize) -> usize
     requires front { at ≤ prefix_len is_ascii units.now }
@@ -56,7 +58,7 @@ fn narrow_by_units(units: &[u16], out: &mut [u8], at: usize) -> usize
     end
 }
 
-/// Writes the longest prefix of units below 80 that fits as bytes, and says how many. The rest of the output is
+/// Writes leading units below 80 as bytes, as many as fit, and returns their count. The rest of the output is
 /// unchanged.
 #[inline(always)]
 pub fn narrow(units: &[u16], out: &mut [u8]) -> usize

@@ -1,10 +1,10 @@
-//! The order of the bytes of a unit.
+//! The byte order of UTF-16.
 
 /// Which byte of a unit comes first.
 #[derive(Clone, Copy, Debug, PartialEq, Eq)]
 pub enum Order {
-    /// the higher byte, as in UTF-16BE
+    /// The higher byte, as in UTF-16BE.
     Big,
-    /// the lower byte, as in UTF-16LE
+    /// The lower byte, as in UTF-16LE.
     Little,
 }

@@ -1,4 +1,4 @@
-//! UTF-16 across pieces.
+//! UTF-16 in blocks of 32 units, across pieces.
 
 ghost use Rattle.std.specs.Prelude.{◌≡◌, ◌↔◌, ◌-◌, ◌*◌, [], ◌∷◌, IsTrue, true, false, Some, None};
 ghost use Rattle.std.specs.Bool.{OnTrue, OnFalse};
@@ -15,16 +15,16 @@ use crate::units::{are_paired, lead_in, left_after, paired, unit_in, units_after
 use std::marker::Model;
 use std::simd::prelude::*;
 
-/// What one byte makes of UTF-16.
+/// The result of one byte.
 #[derive(Clone, Copy, Debug, PartialEq, Eq)]
 pub struct Step {
-    /// Whether a surrogate was found without its other half. It comes before the scalar.
+    /// Whether an unpaired surrogate was found. It precedes the scalar.
     pub fault: bool,
     /// The character that the byte completes.
     pub scalar: Option<char>,
 }
 
-/// What is carried of UTF-16 from one piece to the next: the first byte of a unit, and a lead surrogate.
+/// The state between pieces: the first byte of a unit, and a lead surrogate.
 #[derive(Drop)]
 pub struct Pairing {
     odd: Option<u8>,
@@ -50,7 +50,7 @@ impl Pairing {
         }
     }
 
-    /// This is carried: the first byte of a unit, and a lead surrogate.
+    /// The state with this first byte of a unit and this lead surrogate.
     pub fn carrying(odd: Option<u8>, lead: Option<u16>) -> Self
         requires { IsCarried lead }
         ensures { result ≡ record { byte = odd; lead = lead } }
@@ -58,14 +58,14 @@ impl Pairing {
         Pairing { odd, lead }
     }
 
-    /// The byte that is carried, the first of a unit.
+    /// The carried byte, the first of a unit.
     pub fn odd(&self) -> Option<u8>
         ensures { result ≡ self.now.byte }
     {
         self.odd
     }
 
-    /// The lead surrogate that is carried.
+    /// The carried lead surrogate.
     pub fn lead(&self) -> Option<u16>
         ensures value { result ≡ self.now.lead }
         ensures surrogate { IsCarried result }
@@ -73,9 +73,9 @@ impl Pairing {
         self.lead
     }
 
-    /// Makes 32 units of the carried byte, where there is one, and the 64 bytes, and says whether they are paired
-    /// after the carried lead. Where they are, a byte left over and a last lead are carried on; where they aren't,
-    /// what is carried stays. The units are written in either case.
+    /// Makes 32 units of the carried byte, if there is one, and the 64 bytes. Returns whether they are paired, given
+    /// the carried lead. If so, an odd last byte and a last lead are carried on; otherwise the state is unchanged. The
+    /// units are written in both cases.
     pub fn block(&mut self, order: Order, bytes: &[u8; 64], units: &mut [u16; 32]) -> bool
         ensures units { units.new ≡ units_of (is_big order) (with_carried self.old.byte bytes.now) }
         ensures paired { IsTrue result ↔ ArePaired self.old.lead
@@ -98,7 +98,7 @@ impl Pairing {
         true
     }
 
-    /// Takes a unit after what is carried as a lead.
+    /// Reads a unit after the carried lead.
     fn unit(&mut self, unit: u16) -> Step
         requires { self.old.byte ≡ None }
         ensures fault { result.fault ≡ unit_fault self.old.lead unit }
@@ -127,7 +127,7 @@ impl Pairing {
         }
     }
 
-    /// Takes one byte by the rule of the decoder, restored bytes read again.
+    /// Reads one byte as the decoder does, with restored bytes read again.
     pub fn tail(&mut self, order: Order, byte: u8) -> Step
         ensures fault { IsTrue result.fault ↔ (utf16 (is_big order) self.old (Some byte)).answer ≡ Error }
         ensures text { step_text result ≡ (steps (utf16 (is_big order)) false self.old (byte ∷ [])).text }

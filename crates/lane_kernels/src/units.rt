@@ -24,7 +24,7 @@ pub fn unit_in(order: Order, first: u8, second: u8) -> u16
     }
 }
 
-/// The character of a pair of surrogates.
+/// The character of a surrogate pair.
 #[inline(always)]
 pub fn paired(lead: u16, trail: u16) -> char
     requires lead { is_lead lead ≡ true }
@@ -37,8 +37,8 @@ pub fn paired(lead: u16, trail: u16) -> char
     }
 }
 
-/// The first 64 of a byte and those after it. It is rarely called, and kept apart so that its moves aren't mixed with
-/// plain loads.
+/// The first 64 bytes of this byte and those after it. It is rarely called, and not inlined so that its moves aren't
+/// mixed with plain loads.
 #[inline(never)]
 fn joined(first: u8, bytes: &[u8; 64]) -> [u8; 64]
     ensures { result ≡ take 64 (first ∷ bytes.now) }
@@ -48,7 +48,7 @@ fn joined(first: u8, bytes: &[u8; 64]) -> [u8; 64]
     joined
 }
 
-/// The byte that is left over of those after what is carried.
+/// The byte that is left over after the units.
 pub(crate) fn left_after(odd: Option<u8>, bytes: &[u8; 64]) -> Option<u8>
     ensures { result ≡ left_over (with_carried odd bytes.now) }
 {
@@ -58,7 +58,7 @@ pub(crate) fn left_after(odd: Option<u8>, bytes: &[u8; 64]) -> Option<u8>
     }
 }
 
-/// The unit, if it is a lead.
+/// The unit, if it is a lead surrogate.
 #[inline(always)]
 pub fn lead_in(unit: u16) -> Option<u16>
     ensures value { result ≡ lead_of unit }
@@ -70,7 +70,7 @@ pub fn lead_in(unit: u16) -> Option<u16>
     }
 }
 
-/// The units of 64 bytes, of which the lower comes first.
+/// The units of 64 bytes in little-endian order.
 #[inline(always)]
 fn low_first(bytes: u8x64) -> u16x32
     ensures { result ≡ units_of false bytes }
@@ -78,7 +78,7 @@ fn low_first(bytes: u8x64) -> u16x32
     u16x32::from_le_bytes(bytes)
 }
 
-/// Each unit with its two bytes changed round.
+/// The units with their bytes swapped.
 #[inline(always)]
 fn turned_round(units: u16x32) -> u16x32
     ensures { result ≡ map (λ unit. unit % 256 * 256 + unit / 256) units }
@@ -98,7 +98,7 @@ fn units_in(order: Order, bytes: u8x64) -> u16x32
     }
 }
 
-/// The units of the first 64 of the bytes after what is carried.
+/// The units of the first 64 bytes, with the carried byte before them.
 #[inline(always)]
 pub(crate) fn units_after(order: Order, odd: Option<u8>, bytes: &[u8; 64]) -> u16x32
     ensures { result ≡ units_of (is_big order) (take 64 (with_carried odd bytes.now)) }
@@ -109,7 +109,7 @@ pub(crate) fn units_after(order: Order, odd: Option<u8>, bytes: &[u8; 64]) -> u1
     }
 }
 
-/// A bit for each unit, set where the unit is from the lowest to the highest.
+/// A bit for each unit from the lowest to the highest.
 #[inline(always)]
 fn mask_within(units: u16x32, lowest: u16, highest: u16) -> u64
     ensures { result ≡ mask_l (map (within lowest highest) units) }
@@ -117,7 +117,7 @@ fn mask_within(units: u16x32, lowest: u16, highest: u16) -> u64
     (units.simd_ge(u16x32::splat(lowest)) & units.simd_le(u16x32::splat(highest))).to_bitmask()
 }
 
-/// How many units are scalars of their own before the first that is a surrogate.
+/// How many units precede the first surrogate.
 #[inline(always)]
 pub fn scalar_front(units: &[u16; 32]) -> usize
     ensures { result ≡ prefix_len is_scalar_unit units.now }
@@ -128,7 +128,7 @@ pub fn scalar_front(units: &[u16; 32]) -> usize
     )
 }
 
-/// Whether the units are paired, after a carried lead or none: the trails are the places right after leads.
+/// Whether the units are paired, given a carried lead or none: the trails are exactly the places after leads.
 #[inline(never)]
 fn surrogates_are_paired(carried: Option<u16>, units: u16x32) -> bool
     ensures { IsTrue result ↔ ArePaired carried units }
@@ -139,7 +139,7 @@ fn surrogates_are_paired(carried: Option<u16>, units: u16x32) -> bool
     trails == after_leads % (1 << 32)
 }
 
-/// Whether the units are paired, after a carried lead or none, seen at once where none is a surrogate.
+/// The same. Units without surrogates are recognized at once.
 #[inline(always)]
 pub(crate) fn are_paired(carried: Option<u16>, units: u16x32) -> bool
     ensures { IsTrue result ↔ ArePaired carried units }

@@ -1,4 +1,4 @@
-//! Each slot's blocks, linked from the highest down.
+//! The blocks of each slot, linked from the highest ordinal down.
 ghost use Rattle.std.specs.Prelude.{◌≡◌, ◌≤◌, ◌<◌, ◌+◌, ℕ, List, Option, None, Some, IsNone, length, get_or, slice_set};
 ghost use Rattle.std.specs.Prelude.{replicate, IfOk, IfSome};
 ghost use Rattle.spool_blocks.specs.Blocks.{Row, slot_count, IsWhole};
@@ -9,8 +9,8 @@ use crate::{BlockNo, Row, SLOTS};
 use std::alloc::{AllocError, Global};
 use std::marker::Model;
 
-/// Which blocks the slots own. From each block a link leads to the slot's next lower one, so that the highest of a slot
-/// are reached at once.
+/// The rows, with a link from each owned block to the slot's next lower one, so that the highest block of a slot is
+/// found at once.
 #[derive(Drop)]
 pub(crate) struct Chains {
     rows: Vec<Row>,
@@ -53,7 +53,7 @@ impl Chains {
         &self.rows
     }
 
-    /// Puts a block that nobody owns on top of the slot's blocks.
+    /// Puts a free block above the slot's blocks.
     pub(crate) fn push(&mut self, block: BlockNo, slot: u32, ordinal: u32)
         requires below { block < length self.old }
         requires free { get_or self.old block None ≡ None }
@@ -68,7 +68,7 @@ impl Chains {
         self.rows[block as usize] = Some((slot, ordinal));
     }
 
-    /// Takes the slot's highest block out if its ordinal is `first` or more.
+    /// Takes out the slot's highest block if its ordinal is `first` or more.
     pub(crate) fn pop(&mut self, slot: u32, first: u32) -> Option<BlockNo>
         requires { slot < 512 }
         ensures same { IsNone result → self.new ≡ self.old }
@@ -87,7 +87,7 @@ impl Chains {
         Some(block)
     }
 
-    /// The slot's blocks by ordinal, of a slot whose n blocks have the ordinals below n, each once. One step for each.
+    /// The slot's blocks by ordinal, if its n blocks have the ordinals 0 to n - 1. One step for each block.
     pub(crate) fn list_of(&self, alloc: Global, slot: u32) -> Result<Vec<BlockNo>, AllocError>
         requires { slot < 512 }
         ensures size { IfOk result (λ list. length list.items ≡ slot_count slot self.now) }

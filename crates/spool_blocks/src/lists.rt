@@ -1,11 +1,11 @@
-//! The list of a slot's blocks is filled along the links.
+//! Filling the list of a slot's blocks along their links.
 ghost use Rattle.std.specs.Prelude.{◌≡◌, ◌≤◌, ◌<◌, ℕ, Some, length, get_or};
 ghost use Rattle.spool_blocks.specs.Blocks.{IsWhole};
 ghost use Rattle.spool_blocks.specs.Chains.{Owns, Links, ListedFrom};
 
 use crate::{BlockNo, Row};
 
-/// Puts each of the slot's blocks, from the highest down, at its ordinal.
+/// Stores each of the slot's blocks at its ordinal, from the highest down.
 pub(crate) fn fill(
     rows: &[Row],
     below: &[Option<BlockNo>],
@@ -28,7 +28,7 @@ pub(crate) fn fill(
     }
 }
 
-// Puts a block at the ordinal of its row, where the list has a place for it.
+// Stores a block at the ordinal of its row, if the list is long enough.
 fn place(list: &mut [BlockNo], row: Row, block: BlockNo)
     ensures size { length list.new ≡ length list.old }
     ensures placed { (slot i : ℕ) → row ≡ Some (slot, i) → i < length list.old → get_or list.new i 0 ≡ block }

@@ -68,7 +68,7 @@ counts_on {G = G} {a = a} {b = b} {c = c} first not second =
 pub not_err : {T E : Type 0} (t : T) (r : Result T E) → r ≡ Ok t → IsErr r → ⊥
 not_err {T = T} {E = E} t r e h = let f : IsErr {T = T} {E = E} (Ok t) = subst (IsErr {T = T} {E = E}) e h in cc
 
--- the same failure, told by another result
+-- the failure count of one failure is that of another
 pub counts_as : {F G : Type 0} {a b : ℕ} → Counts F a b → F → G → Counts G a b
 counts_as counts f g = record {
   later = counts.later;

@@ -1,4 +1,4 @@
--- What a disk over a file stands for.
+-- The parts of a disk over a file.
 use Rattle.std.specs.Prelude.{ℕ, Option, List}
 use Rattle.std.specs.declared.io.Error.{Error}
 use Rattle.spool_disk.specs.Positioned.{Made}
@@ -7,21 +7,22 @@ use Rattle.spool_disk.specs.declared.file.PositionedDisk.{PositionedDisk}
 use Rattle.spool_disk.specs.declared.system_file.SystemFile.{SystemFile}
 
 module _ {F : Type 0} where
+  -- The file.
   abbrev pub file_of : PositionedDisk F → F
   file_of disk = disk.file
 
-  -- the number of its bytes
+  -- The number of its bytes.
   abbrev pub length_of : PositionedDisk F → ℕ
   length_of disk = disk.len
 
-  -- how many calls failed
+  -- How many calls failed.
   abbrev pub failed_in : PositionedDisk F → ℕ
   failed_in disk = disk.failed
 
-  -- why the latest call that failed did
+  -- The error of the latest failed call.
   abbrev pub latest_error : PositionedDisk F → Option Error
   latest_error disk = disk.error
 
--- the calls that were made of a file of the operating system
+-- The calls that were made of a file of the operating system.
 abbrev pub calls_in : PositionedDisk SystemFile → List Made
 calls_in disk = calls_of disk.file

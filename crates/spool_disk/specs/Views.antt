@@ -1,18 +1,18 @@
--- What is known of a disk, whatever crash may come.
+-- Properties of a disk under crashes.
 use Rattle.std.specs.Prelude.{◌⊎◌, ℕ, ◌≤◌, List}
 use Rattle.spool_disk.specs.Disk.{Firm, Reads}
 use Rattle.spool_disk.specs.declared.disk.Disk.{Ghosts}
 
--- in each image, and to a read, these bytes stand from the place on
+-- A read gives these bytes from the place on, and so does every crash image.
 abbrev pub Has : {D : Type 0} (disk : Ghosts D) → D → ℕ → List ℕ → Type 0
 Has disk d at bytes = Firm (disk.current d) (disk.unsynced d) at bytes
 
--- from old to new, a crash at any moment leaves an image with P
+-- Every crash image between old and new is one of before, or has P.
 pub record Lasts {D : Type 0} (disk : Ghosts D) (old new : D) (P : (ℕ → ℕ) → Type 0) : Type 0 where
   pub later : disk.moment old ≤ disk.moment new
   pub nothing_else : (t : ℕ) (image : ℕ → ℕ) → t ≤ disk.moment old → disk.left_since new t image
       → disk.left_since old t image ⊎ P image
 
--- a read gives these bytes from the place on
+-- A read gives these bytes from the place on.
 abbrev pub Gives : {D : Type 0} (disk : Ghosts D) → D → ℕ → List ℕ → Type 0
 Gives disk d at bytes = Reads (disk.current d) at bytes

@@ -1,29 +1,29 @@
-//! What a crash makes of bytes that were written and not synced, and disks that go on after one.
+//! What a crash makes of unsynced bytes, and disks that go on after one.
 ghost use Rattle.std.specs.Prelude.{◌≡◌, ◌↔◌, ℕ};
 ghost use Rattle.spool_disk.specs.Disk.{IsImage};
 
 use crate::Disk;
 
-/// What a crash of a disk in memory makes of the bytes that were written since its last sync.
+/// What a crash makes of the bytes that were written since the last sync.
 #[derive(Clone, Copy, Debug, PartialEq, Eq)]
 pub enum Crash {
-    /// They have again the values of the last sync.
+    /// They go back to the values of the last sync.
     Old,
-    /// They have the values that were written.
+    /// They keep the written values.
     New,
-    /// They all have this value.
+    /// They all get this value.
     Torn(u8),
 }
 
-/// A disk that can crash: it goes on with one of the images of this moment, all of it synced.
+/// A disk that can crash. It goes on with one of its crash images, all of it synced.
 pub trait CrashDisk: Disk {
-    /// What is chosen of a crash.
+    /// The choice of a crash image.
     type How;
 
-    /// What the choice says, from the disk before the crash to the disk after it.
+    /// The relation of a choice, the disk before the crash, and the disk after it.
     ghost chosen: { Self.How → Self → Self → Type 0 };
 
-    /// The disk after a crash. A crash is no call that fails.
+    /// The disk after a crash. A crash doesn't count as a disk fault.
     fn restart(self, how: &Self::How) -> Self
         ensures size { Self.size result ≡ Self.size self }
         ensures honest { Self.honest self ↔ Self.honest result }

@@ -1,11 +1,11 @@
-//! A disk: what a read gives, and which places a crash may leave with any byte.
+//! The trait of disks.
 ghost use Rattle.std.specs.Prelude.{◌≡◌, ◌≤◌, ◌+◌, ◌↔◌, ℕ, length, IsErr, IsOk};
 ghost use Rattle.spool_disk.specs.Disk.{span, IsImage, Elapses, Writes, Syncs, Keeps, Counts};
 
 use std::error::Error;
 use std::fmt;
 
-/// The disk failed in this call.
+/// A disk fault: the call failed.
 #[derive(Clone, Copy, Debug, PartialEq, Eq)]
 pub struct DiskFault;
 
@@ -17,38 +17,39 @@ impl fmt::Display for DiskFault {
 
 impl Error for DiskFault {}
 
-/// A disk of bytes: what a read gives, and which images a crash may leave. An image gives the byte at each place.
-/// Every call may fail. A call that failed changes no place outside its range.
+/// A disk of bytes. Every call may fail; a call that failed changes nothing outside its range.
 pub trait Disk {
-    /// The number of bytes, which no call changes.
+    /// The number of bytes. No call changes it.
     ghost size: { Self → ℕ };
 
-    /// The clauses on bytes stand where the disk is honest, which no call changes.
+    /// The disk is honest: the clauses about bytes hold only then. No call changes it.
     ghost honest: { Self → Type 0 };
 
     /// What a read gives at each place.
     ghost current: { Self → ℕ → ℕ };
 
-    /// The places where a crash may leave any byte.
+    /// The unsynced places: a crash may leave any byte there.
     ghost unsynced: { Self → ℕ → Type 0 };
 
-    /// The moment that is now. No call goes back in time.
+    /// The current moment. It never decreases.
     ghost moment: { Self → ℕ };
 
-    /// The images that a crash at some moment from that one on might have left.
+    /// The crash images of all moments since that one.
     ghost left_since: { Self → ℕ → (ℕ → ℕ) → Type 0 };
 
-    /// How many calls failed, or 2^64 - 1 where they were more.
+    /// The number of failed calls, up to 2^64 - 1.
     ghost failures: { Self → ℕ };
 
-    /// Which calls fail, as far as this kind of disk tells: whether one did, the disk before it and the disk after it.
+    /// Which calls fail, as far as this kind of disk specifies it: whether the call failed, the disk before it and
+    /// after it.
     ghost tells: { Type 0 → Self → Self → Type 0 };
 
     /// The number of bytes.
     fn len(&self) -> u64
         ensures { result ≡ size self.now };
 
-    /// Fills the buffer with the bytes from a place on. The range lies within the disk's bytes.
+    /// Fills the buffer with the bytes from `at` on. The range has to lie within the disk. If the call fails, the
+    /// buffer may hold anything.
     fn read(&mut self, at: u64, buf: &mut [u8]) -> Result<(), DiskFault>
         requires { at + length buf.old ≤ size self.old }
         ensures size { size self.new ≡ size self.old }
@@ -62,8 +63,8 @@ pub trait Disk {
         ensures counts { Counts (IsErr result) (failures self.old) (failures self.new) }
         ensures tells { tells (IsErr result) self.old self.new };
 
-    /// Writes the bytes from a place on. The range lies within the disk's bytes. Until a sync succeeds,
-    /// and also where it fails, a crash may leave any bytes in it.
+    /// Writes the bytes from `at` on. The range has to lie within the disk. Until a sync succeeds, and also if this
+    /// call fails, a crash may leave any bytes there.
     fn write_at(&mut self, at: u64, bytes: &[u8]) -> Result<(), DiskFault>
         requires { at + length bytes.now ≤ size self.old }
         ensures size { size self.new ≡ size self.old }
@@ -76,7 +77,8 @@ pub trait Disk {
         ensures counts { Counts (IsErr result) (failures self.old) (failures self.new) }
         ensures tells { tells (IsErr result) self.old self.new };
 
-    /// After a sync that succeeds, the only image that a crash may leave is what a read gives.
+    /// Makes all writes so far durable: after a sync that succeeds, the only crash image is what a read gives. After
+    /// one that fails, a read may give any of the crash images.
     fn sync(&mut self) -> Result<(), DiskFault>
         ensures size { size self.new ≡ size self.old }
         ensures honest { honest self.old ↔ honest self.new }
@@ -88,12 +90,12 @@ pub trait Disk {
         ensures counts { Counts (IsErr result) (failures self.old) (failures self.new) }
         ensures tells { tells (IsErr result) self.old self.new };
 
-    /// This moment is one of those since an earlier one.
+    /// The current crash images are among those since any earlier moment.
     ghost counts_now: { (disk : Self) (t : ℕ) (image : ℕ → ℕ) → t ≤ moment disk
         → IsImage (current disk) (unsynced disk) image
         → left_since disk t image };
 
-    /// Since this moment there is no other.
+    /// Since the current moment there are no others.
     ghost only_now: { (disk : Self) (image : ℕ → ℕ) → left_since disk (moment disk) image
         → IsImage (current disk) (unsynced disk) image };
 }

@@ -1,4 +1,4 @@
-//! A disk over a file.
+//! A file as a disk.
 ghost use Rattle.std.specs.Prelude.{◌≡◌, ◌↔◌, ◌++◌, ℕ, [], ◌∷◌, true, is_ok, IfOk, IfErr, IsErr, OnOk, Some};
 ghost use Rattle.spool_disk.specs.Disk.{Counts, IsImage};
 ghost use Rattle.spool_disk.specs.Positioned.{made, lengthened, created};
@@ -7,34 +7,35 @@ use crate::{Disk, DiskFault, FileCall, Positioned, SystemFile};
 use std::fs::{File, Files};
 use std::io;
 
-/// A file as a disk. Its length is that of the moment at which it was opened, and does not change.
+/// A file as a disk. Its length is the one that it had when it was opened.
 ///
-/// No contract says what a file gives or keeps, so no file is proved to be honest: that a file behaves as a disk is a
-/// premise of whoever relies on it, and of its bytes and images the clauses claim nothing. What is proved of every file
-/// is which call of it each call of the disk makes (`made`): one, at this place, with these bytes, and a sync that
-/// syncs; that the length stays, and that each failed call is counted.
+/// No contract states what a file gives or stores, so no file is proved to be honest: that it behaves as a disk is a
+/// premise of its users. The contracts state which calls of the file each call of the disk makes (`made`), that the
+/// length stays, and that each failed call is counted.
 #[derive(Drop)]
 pub struct PositionedDisk<F> {
     file: F,
     len: u64,
     failed: u64,
-    /// why the latest call that failed did
+    /// The system's reason for the latest failed call.
     error: Option<io::Error>,
 }
 
 /// A file of the operating system as a disk.
 ///
-/// It holds the file's exclusive lock (`flock`) until it is dropped, so that no other `FileDisk` of this or another
-/// process is over the same file meanwhile. The lock is advisory: whoever doesn't ask for it can still write to the
-/// file.
+/// It has the file's exclusive lock (`flock`) until it is dropped, so that no other `FileDisk` of any process uses the
+/// file meanwhile. The lock is advisory: other programs can still write to the file.
 pub type FileDisk = PositionedDisk<SystemFile>;
 
 impl PositionedDisk<SystemFile> {
     ghost use Rattle.spool_disk.specs.File.{length_of, failed_in, calls_in};
 
-    /// Opens the file at the path, and makes it where there is none. What it holds stays, and one that is shorter than
-    /// `len` is made `len` long with zeros. `DiskFault` for every fault of the file system, and where another disk is
-    /// over the file.
+    /// Opens the file at the path, or creates it. Its contents stay; if it is shorter than `len`, it is filled with
+    /// zeros up to that.
+    ///
+    /// # Errors
+    ///
+    /// `DiskFault` for any error of the file system, and if another disk has the file's lock.
     pub fn create<R: Files<File = File>>(rt: &R, path: &str, len: u64) -> Result<Self, DiskFault>
         ensures len { IfOk result (λ disk. length_of disk ≡ len) }
         ensures none { IfOk result (λ disk. failed_in disk ≡ 0) }
@@ -43,8 +44,11 @@ impl PositionedDisk<SystemFile> {
         FileDisk::try_create(rt, path, len).map_err(DiskFault::from)
     }
 
-    /// Opens the file at the path, which is as long as it is then. `DiskFault` for every fault of the file system, and
-    /// where another disk is over the file.
+    /// Opens the file at the path with its current length.
+    ///
+    /// # Errors
+    ///
+    /// `DiskFault` for any error of the file system, and if another disk has the file's lock.
     pub fn open<R: Files<File = File>>(rt: &R, path: &str) -> Result<Self, DiskFault>
         ensures none { IfOk result (λ disk. failed_in disk ≡ 0) }
         ensures made { IfOk result (λ disk. calls_in disk ≡ made (FileCall.Len (length_of disk)) [] true ∷ []) }
@@ -52,7 +56,7 @@ impl PositionedDisk<SystemFile> {
         FileDisk::try_open(rt, path).map_err(DiskFault::from)
     }
 
-    /// As `create`, with the system's reason where it fails: `ResourceBusy` where another disk is over the file.
+    /// As `create`, with the system's error: `ResourceBusy` if another disk has the file's lock.
     pub fn try_create<R: Files<File = File>>(rt: &R, path: &str, len: u64) -> io::Result<Self>
         ensures len { IfOk result (λ disk. length_of disk ≡ len) }
         ensures none { IfOk result (λ disk. failed_in disk ≡ 0) }
@@ -64,7 +68,7 @@ impl PositionedDisk<SystemFile> {
         Ok(PositionedDisk::new(file, len))
     }
 
-    /// As `open`, with the system's reason where it fails: `ResourceBusy` where another disk is over the file.
+    /// As `open`, with the system's error: `ResourceBusy` if another disk has the file's lock.
     pub fn try_open<R: Files<File = File>>(rt: &R, path: &str) -> io::Result<Self>
         ensures none { IfOk result (λ disk. failed_in disk ≡ 0) }
         ensures made { IfOk result (λ disk. calls_in disk ≡ made (FileCall.Len (length_of disk)) [] true ∷ []) }
@@ -78,7 +82,7 @@ impl PositionedDisk<SystemFile> {
 impl<F> PositionedDisk<F> {
     ghost use Rattle.spool_disk.specs.File.{file_of, length_of, failed_in, latest_error};
 
-    /// A disk of so many bytes over a file that is at least so long. No call of it failed.
+    /// A disk over a file that has at least `len` bytes.
     pub fn new(file: F, len: u64) -> Self
         ensures file { file_of result ≡ file }
         ensures len { length_of result ≡ len }
@@ -92,14 +96,14 @@ impl<F> PositionedDisk<F> {
         }
     }
 
-    /// Why the latest call that failed did. `None` where none failed.
+    /// The system's error of the latest failed call, if any failed.
     pub fn error(&self) -> Option<io::Error>
         ensures { result ≡ latest_error self.now }
     {
         self.error
     }
 
-    // Counts a call that failed, and keeps why.
+    // Counts a failed call and stores its error.
     fn note(&mut self, outcome: io::Result<()>) -> Result<(), DiskFault>
         ensures file { file_of self.new ≡ file_of self.old }
         ensures len { length_of self.new ≡ length_of self.old }
@@ -124,7 +128,7 @@ impl From<io::Error> for DiskFault {
     }
 }
 
-// Makes the file so long where it is shorter, and syncs all of it.
+// Makes the file at least `len` bytes long, and syncs all of it.
 fn lengthen<F: Positioned>(file: &mut F, len: u64) -> io::Result<()>
     ensures { OnOk result ((found : ℕ) × (F.calls file.new ≡ lengthened found len ++ F.calls file.old)) }
 {
@@ -139,12 +143,12 @@ impl<F: Positioned> Disk for PositionedDisk<F> {
 
     ghost size = { length_of };
 
-    // of no file it is known
+    // No file is known to be honest.
     ghost honest = { λ d. ⊥ };
 
     ghost current = { λ d p. 0 };
 
-    // and so a crash may leave anything
+    // A crash may leave any bytes.
     ghost unsynced = { λ d p. Unit {0} };
 
     ghost moment = { λ d. 0 };
@@ -163,7 +167,7 @@ impl<F: Positioned> Disk for PositionedDisk<F> {
         self.len
     }
 
-    /// Makes one read of the file, of this range, and gives what came.
+    /// Makes one read of the file, of this range.
     fn read(&mut self, at: u64, buf: &mut [u8]) -> Result<(), DiskFault>
         ensures size { length_of self.new ≡ length_of self.old }
         ensures counts { Counts (IsErr result) (failed_in self.old) (failed_in self.new) }
@@ -185,7 +189,7 @@ impl<F: Positioned> Disk for PositionedDisk<F> {
         self.note(outcome)
     }
 
-    /// Makes one sync of the file's bytes. Its length is as it was made and synced before.
+    /// Makes one sync of the file's bytes. The file's length was synced when it was opened.
     fn sync(&mut self) -> Result<(), DiskFault>
         ensures size { length_of self.new ≡ length_of self.old }
         ensures counts { Counts (IsErr result) (failed_in self.old) (failed_in self.new) }

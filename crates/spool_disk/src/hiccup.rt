@@ -1,4 +1,4 @@
-//! A disk of which one call fails.
+//! A disk with a single failing call.
 ghost use Rattle.std.specs.Prelude.{◌≡◌, ◌≤◌, ◌+◌, ◌↔◌, Some, None, IsErr, OnOk, OnErr, ℕ, length};
 ghost use Rattle.spool_disk.specs.Disk.{Counts, Elapses, Writes};
 
@@ -7,12 +7,12 @@ use crate::{CrashDisk, Disk, DiskFault};
 /// The most bytes that a failing write fills.
 const FILLED: usize = 65536;
 
-/// One call fails and the others pass to the disk within. `len` is no such call. Where a byte is given, a write that
-/// fails fills its range with it, or the first 65,536 bytes of a longer one.
+/// A disk with one failing call; all others pass to the inner disk. `len` doesn't count as a call. If a byte is given,
+/// a failing write fills its range with that byte, or the first 65,536 bytes of a longer range.
 #[derive(Drop)]
 pub struct HiccupDisk<D> {
     inner: D,
-    // how many calls pass before the one that fails, None after it
+    // How many calls pass before the failing one; None after it.
     wait: Option<u64>,
     fill: Option<u8>,
     missed: u64,
@@ -21,7 +21,7 @@ pub struct HiccupDisk<D> {
 impl<D> HiccupDisk<D> {
     ghost use Rattle.spool_disk.specs.Hiccup.{within_of, wait_of, fill_of, missed_of};
 
-    /// The call of this number fails, counted from 0.
+    /// The call with this number fails, counted from 0.
     pub fn new(inner: D, call: u64, fill: Option<u8>) -> Self
         ensures inner { within_of result ≡ inner }
         ensures wait { wait_of result ≡ Some call }
@@ -36,7 +36,7 @@ impl<D> HiccupDisk<D> {
         }
     }
 
-    /// The disk within.
+    /// The inner disk.
     pub fn into_inner(self) -> D
         ensures { result ≡ within_of self }
     {
@@ -49,7 +49,7 @@ impl<D> HiccupDisk<D> {
         inner
     }
 
-    // Whether this call passes.
+    // Counts a call: whether it passes.
     fn pass(&mut self) -> Result<(), DiskFault>
         ensures inner { within_of self.new ≡ within_of self.old }
         ensures fill { fill_of self.new ≡ fill_of self.old }
@@ -75,7 +75,7 @@ impl<D> HiccupDisk<D> {
     }
 }
 
-// Writes as much of the filler as a range has bytes. Whether that fails is not told.
+// Fills the range of a failing write. Whether the inner disk fails here isn't reported.
 fn scrawl<D: Disk>(disk: &mut D, at: u64, bytes: &[u8], filler: &[u8])
     requires { at + length bytes.now ≤ D.size disk.old }
     ensures size { D.size disk.new ≡ D.size disk.old }
@@ -145,7 +145,7 @@ impl<D: Disk> Disk for HiccupDisk<D> {
 impl<D: CrashDisk> CrashDisk for HiccupDisk<D> {
     ghost use Rattle.spool_disk.specs.Hiccup.{within_of, wait_of, fill_of};
 
-    /// What is chosen of a crash of the disk within, and the call that fails after it.
+    /// The choice of the inner disk's crash, and the number of the failing call after it.
     type How = (D::How, u64);
 
     ghost chosen = { λ how old new. D.chosen how.0 (within_of old)

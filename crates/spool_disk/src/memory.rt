@@ -6,12 +6,12 @@ ghost use Rattle.spool_disk.specs.Disk.{In, IsImage};
 use crate::{Crash, CrashDisk, Disk, DiskFault};
 use std::alloc::{AllocError, Global};
 
-/// A disk in memory, which never fails, and of which a crash is made by a call.
+/// A disk in memory. It never fails, and `crash` makes it crash.
 #[derive(Drop)]
 pub struct MemoryDisk {
     synced: Vec<u8>,
     written: Vec<u8>,
-    // where a byte was written since the last sync
+    // The places that were written since the last sync.
     unsynced: Vec<bool>,
     ghost same: { length synced.items ≡ length written.items },
     ghost marked: { length unsynced.items ≡ length written.items },
@@ -22,7 +22,11 @@ pub struct MemoryDisk {
 impl MemoryDisk {
     ghost use Rattle.spool_disk.specs.Memory.{size_of, bytes_of, synced_of, unsynced_of};
 
-    /// So many zeros, all of them synced. Its calls take no memory later.
+    /// A disk of zeros, all synced. Later calls need no memory.
+    ///
+    /// # Errors
+    ///
+    /// `AllocError`.
     pub fn new(alloc: Global, len: usize) -> Result<Self, AllocError>
         ensures size { IfOk result (λ disk. size_of disk ≡ len) }
         ensures zeros { IfOk result (λ disk. (p : ℕ) → bytes_of disk p ≡ 0) }
@@ -39,7 +43,7 @@ impl MemoryDisk {
         })
     }
 
-    /// What a crash of this kind leaves: one of the disk's images, with all of it synced.
+    /// The disk after a crash of this kind: one of its crash images, all synced.
     pub fn crash(self, kind: Crash) -> Self
         ensures size { size_of result ≡ size_of self }
         ensures image { IsImage (bytes_of self) (unsynced_of self) (bytes_of result) }
@@ -65,7 +69,7 @@ impl MemoryDisk {
     }
 }
 
-// The marked bytes become what the crash makes of them.
+// Replaces the marked bytes by what the crash makes of them.
 fn tear(written: &mut [u8], synced: &[u8], unsynced: &[bool], kind: Crash)
     requires same { length synced.now ≡ length written.old }
     requires marked { length unsynced.now ≡ length written.old }
@@ -85,7 +89,7 @@ fn tear(written: &mut [u8], synced: &[u8], unsynced: &[bool], kind: Crash)
     }
 }
 
-// No place is marked any more.
+// Removes all marks.
 fn wipe(marks: &mut [bool])
     ensures { (p : ℕ) → get_or marks.new p false ≡ false }
 {
@@ -94,7 +98,7 @@ fn wipe(marks: &mut [bool])
     }
 }
 
-// Puts these bytes at a place.
+// Copies bytes to a place.
 fn put(into: &mut [u8], at: usize, bytes: &[u8])
     requires { at + length bytes.now ≤ length into.old }
     ensures outside { (p : ℕ) → (In at (length bytes.now) p → ⊥) → get_or into.new p 0 ≡ get_or into.old p 0 }
@@ -105,7 +109,7 @@ fn put(into: &mut [u8], at: usize, bytes: &[u8])
     }
 }
 
-// Marks n places from one on.
+// Marks n places from `at` on.
 fn mark(marks: &mut [bool], at: usize, n: usize)
     requires { at + n ≤ length marks.old }
     ensures outside { (p : ℕ) → (In at n p → ⊥) → get_or marks.new p false ≡ get_or marks.old p false }

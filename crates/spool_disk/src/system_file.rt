@@ -1,5 +1,5 @@
-//! A file of the operating system. That each call here is the one that its clause names is read, and not proved: no
-//! contract of the kit says what a file does.
+//! Files of the operating system. That each call here is the one that its clause names is trusted and not proved, since
+//! no contract of the kit states what a file does.
 ghost use Rattle.std.specs.Prelude.{◌≡◌, [], ◌∷◌, is_ok, IfOk};
 ghost use Rattle.spool_disk.specs.Positioned.{made};
 
@@ -10,7 +10,7 @@ use std::io;
 use std::os::unix::fs::FileExt;
 use std::path::Path;
 
-/// A file of the operating system, with its exclusive lock (`flock`), which it keeps until it is dropped.
+/// A file of the operating system with its exclusive lock (`flock`), until it is dropped.
 #[derive(Drop)]
 pub struct SystemFile {
     file: File,
@@ -20,7 +20,11 @@ pub struct SystemFile {
 impl SystemFile {
     ghost use Rattle.spool_disk.specs.SystemFile.{calls_of};
 
-    /// Opens the file at the path, and makes it where there is none. `ResourceBusy` where it is locked.
+    /// Opens the file at the path, or creates it.
+    ///
+    /// # Errors
+    ///
+    /// `ResourceBusy` if it is locked.
     pub fn create<R: Files<File = File>>(rt: &R, path: &str) -> io::Result<Self>
         ensures { IfOk result (λ file. calls_of file ≡ []) }
     {
@@ -32,7 +36,11 @@ impl SystemFile {
         SystemFile::lock(file)
     }
 
-    /// Opens the file at the path. `ResourceBusy` where it is locked.
+    /// Opens the file at the path.
+    ///
+    /// # Errors
+    ///
+    /// `ResourceBusy` if it is locked.
     pub fn open<R: Files<File = File>>(rt: &R, path: &str) -> io::Result<Self>
         ensures { IfOk result (λ file. calls_of file ≡ []) }
     {
@@ -40,7 +48,7 @@ impl SystemFile {
         SystemFile::lock(file)
     }
 
-    // The file with its exclusive lock.
+    // Takes the file's exclusive lock.
     fn lock(file: File) -> io::Result<Self>
         ensures { IfOk result (λ file. calls_of file ≡ []) }
     {
@@ -56,7 +64,7 @@ impl SystemFile {
         }
     }
 
-    /// Syncs the folder of the path that it was opened at, so that its name lasts.
+    /// Syncs the folder of the path at which the file was opened, so that the file's name is durable.
     pub fn sync_folder<R: Files<File = File>>(&mut self, rt: &R, path: &str) -> io::Result<()>
         ensures { calls_of self.new ≡ made FileCall.SyncFolder [] (is_ok result) ∷ calls_of self.old }
     {

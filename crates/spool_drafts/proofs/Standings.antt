@@ -1,4 +1,4 @@
--- Where transcoding stands over an upload's bytes, told from after them.
+-- The state of transcoding after an upload's bytes.
 use Rattle.std.proofs.Common.{◌≡◌, ℕ, Bool, false, List, [], ◌++◌, None, Ok, Err, Result, refl, sym, ◌∙◌}
 use Rattle.std.proofs.Common.{ap, subst, append_assoc, append-nil, Vec, Global}
 use Rattle.enc_model.specs.Indexes.{IndexSet, tables}
@@ -110,7 +110,7 @@ module _ (x : IndexSet) (u : Upload) (bytes : List ℕ) where
   finishes done (Err (Refused refusals.Full)) ended = absurd ended
   finishes done (Err (Refused refusals.LengthSet)) ended = absurd ended
 
--- a text whose transcoder stands has a value
+-- a text without an unmappable character has no fault
 pub value_of : (x : IndexSet) (u : Upload) (bytes : List ℕ) (f : NewText) → is_complete u ≡ false
     → (f ≡ Unencodable → ⊥) → StandsAt x u bytes f → (text_with x u bytes false).fault ≡ None
 value_of x u bytes (Growing t text) still other here = without_fault x u bytes t here.0

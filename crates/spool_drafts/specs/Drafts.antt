@@ -1,4 +1,4 @@
--- What an open draft on a disk stands for.
+-- Open drafts, and the patches that they represent.
 use Rattle.std.specs.Prelude.{◌≡◌, ◌⊎◌, ◌≤◌, ◌<◌, ◌*◌, ◌+◌, ◌/◌, ◌^◌, ◌++◌, ℕ, Bool, true, false, List, Option, None}
 use Rattle.std.specs.Prelude.{Some, length, drop, Result, Ok, Err}
 use Rattle.enc_model.specs.Indexes.{IndexSet}
@@ -22,70 +22,70 @@ use Rattle.spool_drafts.specs.Growth.{list_on, tail_list, bytes_on, IsTailed, Ho
 use Rattle.spool_drafts.specs.declared.draft.DraftEnd.{DraftEnd}
 use Rattle.spool_drafts.specs.declared.draft.SpoolDraft.{SpoolDraft}
 
--- the upload's number
+-- The upload's number.
 abbrev pub number_of : SpoolDraft → ℕ
 number_of d = d.number
 
--- how many bytes were accepted when it began, and how many came since
+-- The upload's offset when the draft began.
 abbrev pub offset_of : SpoolDraft → ℕ
 offset_of d = d.offset
 
+-- How many bytes were appended since.
 abbrev pub came_of : SpoolDraft → ℕ
 came_of d = d.came
 
--- the length that it declares
+-- The length that the draft declares.
 abbrev pub declare_of : SpoolDraft → Option ℕ
 declare_of d = d.declare
 
--- its reserved blocks, by ordinal from that of the committed text's last unfinished block on
+-- The reserved blocks. The first has the ordinal of the committed text's unfinished block.
 abbrev pub list_of : SpoolDraft → List ℕ
 list_of d = list_on d.growth.on
 
--- the block that the committed text's last bytes are on, where it isn't full: none once the draft forgot it
+-- The block with the committed text's last bytes, if it isn't full. None once the draft forgot it.
 abbrev pub tail_of : SpoolDraft → List ℕ
 tail_of d = tail_list d.growth.tail
 
--- the length of the committed text
+-- The length of the committed text.
 abbrev pub committed_len_of : SpoolDraft → ℕ
 committed_len_of d = d.growth.text_len
 
--- where transcoding stands
+-- The state of transcoding.
 abbrev pub fresh_of : SpoolDraft → NewText
 fresh_of d = d.fresh
 
--- WHATEVER THE DISK SAID
+-- Properties that hold whatever the disk answers.
 
--- the committed text's last block, if there is an unfinished one, is one of so many
+-- The committed text's unfinished block, if there is one, is one of this many.
 abbrev pub IsPlaced : ℕ → SpoolDraft → Type 0
 IsPlaced blocks d = IsTailed blocks d.growth
 
--- It began after a text of this length, at these state bytes: where bytes may come, the encodings and the mode are
--- still those, and there are greater offsets.
+-- The draft began after a text of this length with these state bytes. If bytes may still come, the encodings and the
+-- mode are unchanged, and the offset isn't the greatest number.
 pub record IsAfter (len : ℕ) (state : List ℕ) (d : SpoolDraft) : Type 0 where
   pub committed : committed_len_of d ≡ len
   pub goes_on : GoesOn state (fresh_of d)
   pub room : IsGrowing (fresh_of d) → offset_of d + 1 < 2 ^ 64
 
--- what its text ends in goes after that text: on these blocks, or without any where nothing was added, and with the
--- same encodings
+-- The end extends that text: on these blocks, or without blocks if nothing was added, and with the same encodings.
 pub record EndsAfter (len : ℕ) (state list : List ℕ) (e : DraftEnd) : Type 0 where
   pub same : SameEncodings state e.state
   pub nothing : length list ≡ 0 → e.text_len ≡ len
   pub blocks : 0 < length list → blocks_of e.text_len ≡ len / 4096 + length list
 
--- THE DRAFT OF A PATCH
+-- The draft of a patch.
 
--- the patch's text after the full blocks of the committed one
+-- The patch's text after the full blocks of the committed one.
 abbrev pub open_text : IndexSet → Patch → Bool → List ℕ
 open_text x p done = drop (4096 * (length (text_of x p.began) / 4096)) (patch_text x p done).bytes
 
--- its text is kept: there is room, it has a value, and bytes may come
+-- The draft's text is stored: there is room, no character is unmappable, and bytes may come.
 pub record IsKept (x : IndexSet) (p : Patch) (d : SpoolDraft) : Type 0 where
   pub roomy : d.growth.short ≡ false
   pub encodable : (patch_text x p false).fault ≡ None
   pub incomplete : is_complete p.began ≡ false
 
--- the draft is that of the patch, whatever the disk
+-- The draft represents the patch, whatever the disk has.
 pub record Holds (x : IndexSet) (p : Patch) (d : SpoolDraft) : Type 0 where
   pub number : number_of d ≡ p.number
   pub offset : offset_of d ≡ length p.began.accepted
@@ -101,28 +101,30 @@ pub record Holds (x : IndexSet) (p : Patch) (d : SpoolDraft) : Type 0 where
   pub needs : length (list_of d) ≡ need x p false
   pub kept : IsKept x p d → HoldsLen d.growth (length (open_text x p false))
 
--- and its bytes are the patch's: after the full blocks of the committed text
+-- The disk has the patch's text after the full blocks of the committed one.
 abbrev pub Carries : IndexSet → (ℕ → ℕ) → ℕ → Patch → SpoolDraft → Type 0
 Carries x current first p d = IsKept x p d → bytes_on current first d.growth d.growth.on ≡ open_text x p false
 
--- a draft of the upload as it is, or the rules' refusal
+-- A draft of the upload as it is, or the refusal of the rules.
 abbrev pub IsBegun : IndexSet → ℕ → ℕ → ℕ → Option ℕ → Upload → Result SpoolDraft UploadRefusal → Type 0
 IsBegun x n offset count declare u (Ok d) =
     (begin_refusal_at offset count declare (Some u) ≡ None) × Holds x (first_patch n count declare u) d
 IsBegun x n offset count declare u (Err e) = begin_refusal_at offset count declare (Some u) ≡ Some e
 
+-- The patch with another piece.
 abbrev pub with_piece : Patch → List ℕ → Patch
 with_piece p piece = record p { body = p.body ++ piece }
 
+-- The patch, short of room.
 abbrev pub shortened : Patch → Patch
 shortened p = record p { short = true }
 
--- the draft is that of the longer patch, or ran short of blocks for it
+-- The draft represents the longer patch, or it ran short of blocks for it.
 abbrev pub IsLonger : IndexSet → Patch → SpoolDraft → SpoolDraft → Held → Held → Type 0
 IsLonger x q old new blocks blocks' =
     Holds x q new ⊎ (Holds x (shortened q) new × RunsShort blocks blocks' (list_of old) (wants x q false))
 
--- the whole text is the draft's, after the full blocks of the committed text
+-- The draft has the whole text after the full blocks of the committed one.
 pub record IsWhole (x : IndexSet) (p : Patch) (done : Bool) (d : SpoolDraft) (e : DraftEnd) : Type 0 where
   pub state_is : e.state ≡ state_with x p.began p.body done
   pub valid : IsValid (transcoder_with x p.began p.body done)
@@ -131,7 +133,7 @@ pub record IsWhole (x : IndexSet) (p : Patch) (done : Bool) (d : SpoolDraft) (e 
   pub listed : length (list_of d) ≡ wants x p done
   pub len : e.text_len ≡ length (patch_text x p done).bytes
 
--- how the text ends, after an upload that wasn't complete
+-- The result of a text's end, for an upload that wasn't complete.
 abbrev pub EndsAs : IndexSet → Patch → Bool → SpoolDraft → SpoolDraft → Held → Held → Result DraftEnd UploadError
     → Type 0
 EndsAs x p done old new blocks blocks' (Ok e) = IsWhole x p done new e

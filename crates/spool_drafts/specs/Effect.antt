@@ -1,4 +1,4 @@
--- What a call on one draft does to the blocks and to the disk.
+-- The effect of a call on one draft on the blocks and the disk.
 use Rattle.std.specs.Prelude.{◌≡◌, ◌⊎◌, ◌<◌, ◌*◌, ◌+◌, ℕ, List, [], length}
 use Rattle.spool_blocks.specs.Blocks.{Held, IsFree}
 use Rattle.spool_disk.specs.Disk.{IsImage}
@@ -9,14 +9,14 @@ use Rattle.spool_texts.specs.Drafts.{IsReserved, Takes, GivesBack}
 use Rattle.spool_texts.specs.Written.{WritesIn, aside_blocks}
 use Rattle.spool_journal.specs.Image.{area_end}
 
--- The draft reserved free blocks after its list. It holds them all then, or gave them all back.
+-- The draft reserved free blocks after its list. It has them all then, or it gave them all back.
 pub record Regrasps (old new : Held) (list list' own : List ℕ) : Type 0 where
   pub held : Held
   pub takes : Takes old held list own
   pub reserved : IsReserved held own
   pub holds : ((held ≡ new) × (list' ≡ own)) ⊎ (GivesBack held new own × (list' ≡ []))
 
--- Nothing is written but these blocks, and every image is one from before but for them.
+-- Only these blocks are written; apart from them, every crash image is one of before.
 pub record OnlyWrites {D : Type 0} (disk : Ghosts D) (pages : ℕ) (own : List ℕ) (old new : D) : Type 0 where
   pub writes : WritesIn (area_end pages) own (disk.current old) (disk.current new) (disk.unsynced old)
       (disk.unsynced new)
@@ -27,15 +27,15 @@ pub record OnlyWrites {D : Type 0} (disk : Ghosts D) (pages : ℕ) (own : List �
       (λ image. IsImage (disk.current old) (disk.unsynced old) (aside_blocks (area_end pages) own
       (disk.current old) image))
 
--- what a call does, whatever the disk: it writes only the draft's own blocks, those of its list and free ones that it
--- reserved
+-- The effect of a call on any disk: it writes only blocks of the draft, those of its list and free ones that it
+-- reserved.
 pub record Effect {D : Type 0} (disk : Ghosts D) (pages : ℕ) (list list' : List ℕ) (old new : D)
     (blocks blocks' : Held) : Type 0 where
   pub own : List ℕ
   pub grasp : Regrasps blocks blocks' list list' own
   pub writes : disk.honest old → OnlyWrites disk pages own old new
 
--- it needed so many blocks and more were not free; then it gave all back
+-- The draft needed this many blocks, no more were free, and it gave all back.
 pub record RunsShort (old new : Held) (list : List ℕ) (wanted : ℕ) : Type 0 where
   pub held : Held
   pub own : List ℕ

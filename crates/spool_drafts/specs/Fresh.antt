@@ -1,4 +1,4 @@
--- Where transcoding stands over an upload's bytes, and what a piece adds.
+-- The state of transcoding over an upload's bytes, and what a piece adds.
 use Rattle.std.specs.Prelude.{◌≡◌, ℕ, Bool, true, false, List, [], ◌++◌, None, Result, Ok, Err, Vec}
 use Rattle.std.specs.declared.alloc.Global.{Global}
 use Rattle.enc_stream.specs.StateBytes.{IsValid}
@@ -13,37 +13,39 @@ use Rattle.upload_rules.specs.World.{is_there}
 use Rattle.upload_rules.specs.declared.new_text.NewText.{NewText}
 use Rattle.upload_rules.specs.declared.new_text.NewText.TheVariants.{Growing, Unencodable, Complete}
 
--- transcoding stands after the accepted bytes and these, and no text is kept
+-- The state after the accepted bytes and these, without text.
 abbrev pub StandsAt : IndexSet → Upload → List ℕ → NewText → Type 0
 StandsAt x u bytes (Growing t text) = IsReading x u bytes t × (text.items ≡ [])
 StandsAt x u bytes Unencodable = is_there (text_with x u bytes false).fault ≡ true
 StandsAt x u bytes Complete = is_complete u ≡ true
 
--- a piece after these bytes adds this to the text, where that has a value
+-- The text that a piece after these bytes adds, unless a character is unmappable.
 abbrev pub Adds : IndexSet → Upload → List ℕ → List ℕ → NewText → List ℕ → Type 0
 Adds x u bytes piece (Growing t scratch) text =
     (text_with x u bytes false).bytes ++ text ≡ (text_with x u (bytes ++ piece) false).bytes
 Adds x u bytes piece _ text = Unit {0}
 
+-- The text beside a state.
 abbrev pub text_in : NewText → List ℕ
 text_in (Growing t text) = text.items
 text_in Unencodable = []
 text_in Complete = []
 
--- the same without text
+-- The same state without text.
 abbrev pub IsEmptied : NewText → NewText → Type 0
 IsEmptied (Growing t text) (Growing t' text') = (t' ≡ t) × (text'.items ≡ [])
 IsEmptied Unencodable Unencodable = Unit {0}
 IsEmptied Complete Complete = Unit {0}
 IsEmptied _ _ = ⊥
 
--- how the text over these bytes ends: its state, and what the end adds
+-- The end of the text over these bytes: its state, and what the end adds.
 pub record IsFinished (x : IndexSet) (u : Upload) (bytes : List ℕ) (done : Bool) (state text : List ℕ) : Type 0 where
   pub state_is : state ≡ state_with x u bytes done
   pub valid : IsValid (transcoder_with x u bytes done)
   pub encodable : (text_with x u bytes done).fault ≡ None
   pub adds : (text_with x u bytes false).bytes ++ text ≡ (text_with x u bytes done).bytes
 
+-- The result of the end.
 abbrev pub FinishesAs : IndexSet → Upload → List ℕ → Bool → Result (List ℕ × Vec ℕ Global) UploadError → Type 0
 FinishesAs x u bytes done (Ok parts) = IsFinished x u bytes done parts.0 parts.1.items
 FinishesAs x u bytes done (Err NoMemory) = Unit {0}

@@ -1,4 +1,4 @@
-//! An append under way on a disk.
+//! The draft of an append.
 ghost use Rattle.std.specs.Prelude.{◌≡◌, ◌⊎◌, get_or, ◌≤◌, ◌*◌, ◌+◌, ◌<◌, ◌/◌, ◌-◌, ◌↔◌, ◌^◌, ℕ, List, []};
 ghost use Rattle.std.specs.Prelude.{false, min, length, IsOk, IsErrOf, OnOk, IfOk};
 ghost use Rattle.enc_model.specs.Indexes.{IndexSet as Indexes};
@@ -30,35 +30,38 @@ use spool_texts::DraftText;
 use std::alloc::Global;
 use upload_rules::{NewText, Record, UploadError, UploadRefusal};
 
-/// An append under way on a disk: what it adds to its upload's text, on blocks that it reserved. Dropped without
-/// `give_back` or `into_list`, its blocks stay reserved.
+/// A draft: what an append adds to its upload's text, on blocks that it reserved. If it is dropped without `give_back`
+/// or `into_list`, its blocks stay reserved.
 #[derive(Drop)]
 pub struct SpoolDraft {
     number: u64,
     offset: u64,
     came: u64,
     declare: Option<u64>,
-    // where transcoding stands, without text
+    // The state of transcoding, without text.
     fresh: NewText,
     growth: Growth,
     spare: Spare,
 }
 
-/// What the end of a draft's text comes to.
+/// The end of a draft's text.
 #[derive(Drop)]
 pub struct DraftEnd {
-    /// Where transcoding stands, as `Transcoder::pack` writes it.
+    /// The state of transcoding, as `Transcoder::pack` encodes it.
     pub state: [u8; 32],
-    /// The length in bytes of the text with what the draft added.
+    /// The length in bytes of the text, with what the draft added.
     pub text_len: u64,
-    /// The bytes that are still to be written to the draft's last blocks.
+    /// The bytes that have yet to be written to the draft's last blocks.
     pub last: Vec<u8>,
 }
 
 impl SpoolDraft {
-    /// A draft of `count` bytes at an offset, which may declare the upload's length, after the text that lies on the
-    /// listed blocks, by ordinal: refused with `Offset`, `TooLarge`, `LengthSet`, `TooLong`. It takes no memory and no
-    /// block.
+    /// A draft of `count` bytes at `offset`, which may declare the upload's length. The upload's text is on the listed
+    /// blocks, by ordinal. It takes neither memory nor a block.
+    ///
+    /// # Errors
+    ///
+    /// `Offset`, `TooLarge`, `LengthSet`, `TooLong`.
     pub fn begin(
         alloc: Global,
         upload: &Record,
@@ -99,21 +102,21 @@ impl SpoolDraft {
         })
     }
 
-    /// The number of the upload.
+    /// The upload's number.
     pub fn number(&self) -> u64
         ensures { result ≡ number_of self.now }
     {
         self.number
     }
 
-    /// How many bytes were accepted when it began.
+    /// The upload's offset when the draft began.
     pub fn offset(&self) -> u64
         ensures { result ≡ offset_of self.now }
     {
         self.offset
     }
 
-    /// How many bytes came since.
+    /// How many bytes were appended since.
     pub fn came(&self) -> u64
         ensures { result ≡ came_of self.now }
     {
@@ -127,15 +130,15 @@ impl SpoolDraft {
         self.declare
     }
 
-    /// The length in bytes of the committed text when it began. The ordinal of the draft's first block is its 4,096th
-    /// part.
+    /// The length in bytes of the committed text when the draft began. Divided by 4,096, it is the ordinal of the
+    /// draft's first block.
     pub fn committed_len(&self) -> u64
         ensures { result ≡ committed_len_of self.now }
     {
         self.growth.text_len
     }
 
-    /// The reserved blocks, by ordinal from that of the committed text's last unfinished block on.
+    /// The reserved blocks. The first has the ordinal of the committed text's unfinished block.
     pub fn list(&self) -> &[BlockNo]
         ensures blocks { result.now ≡ list_of self.now }
         ensures few { length (list_of self.now) ≤ 65536 }
@@ -143,9 +146,12 @@ impl SpoolDraft {
         self.growth.list()
     }
 
-    /// Adds bytes to the body: refused with `NoMemory`, after which it is as before, and `DiskFault`, after which it
-    /// may only be spent. Where a character has no code or no block is free, it gives its blocks back and reserves none
-    /// any more; `end` answers why. No sync is made.
+    /// Appends bytes to the body, without a sync. If a character is unmappable or no block is free, the draft gives its
+    /// blocks back and reserves no more; `end` then reports the reason.
+    ///
+    /// # Errors
+    ///
+    /// `NoMemory`, with the draft unchanged; `DiskFault`, after which it can only be dropped.
     pub fn append<D: Disk>(
         &mut self,
         alloc: Global,
@@ -166,7 +172,7 @@ impl SpoolDraft {
         ensures nothing { length piece.now ≡ 0
             → (self.new ≡ self.old) × (disk.new ≡ disk.old) × (blocks.new ≡ blocks.old) × IsOk result }
 
-        // What it holds, and what it leaves of the blocks and the disk, whatever the answer.
+        // The draft's fields, blocks and writes, whatever the result.
         ensures same { (number_of self.new ≡ number_of self.old) × (offset_of self.new ≡ offset_of self.old)
             × (declare_of self.new ≡ declare_of self.old) × (committed_len_of self.new ≡ committed_len_of self.old)
             × (tail_of self.new ≡ tail_of self.old) }
@@ -177,7 +183,7 @@ impl SpoolDraft {
         ensures effect { Effect D.Disk (journal_pages layout.now) (list_of self.old) (list_of self.new) disk.old
             disk.new blocks.old blocks.new }
 
-        // The body is longer, or it is as it was.
+        // The body is longer, or nothing changed.
         ensures answer { (p : Patch) → Holds indexes.now p self.old → length p.body + length piece.now ≤ p.count
             → OnOk result (IsLonger indexes.now (with_piece p piece.now) self.old self.new blocks.old blocks.new) }
         ensures content { (p : Patch) → D.honest disk.old → Holds indexes.now p self.old
@@ -211,10 +217,13 @@ impl SpoolDraft {
         Ok(())
     }
 
-    /// Ends the text in memory, with the bytes of the end where the patch completes the upload: refused with
-    /// `Unencodable`, `Full`, `NoMemory`, `DiskFault`, after which it may only be spent. Nothing is written:
-    /// `write_last` writes what is still to be written. Where no byte was added to the text it has no blocks, and the
-    /// committed ones stay.
+    /// Ends the text in memory. If the patch completes the upload, the text includes what the decoder and the encoder
+    /// emit at their end. Nothing is written here; `write_last` writes the last bytes. If the text didn't grow, the
+    /// draft has no blocks, and the committed ones stay.
+    ///
+    /// # Errors
+    ///
+    /// `Unencodable`, `Full`, `NoMemory`, `DiskFault`; the draft can then only be dropped.
     pub fn end<D: Disk>(
         &mut self,
         alloc: Global,
@@ -231,7 +240,7 @@ impl SpoolDraft {
         ensures honest { D.honest disk.old ↔ D.honest disk.new }
         ensures counts { Counts (IsErrOf result UploadError.DiskFault) (D.failures disk.old) (D.failures disk.new) }
 
-        // What it holds, and what it leaves of the blocks and the disk, whatever the answer.
+        // The draft's fields, blocks and writes, whatever the result.
         ensures same { (number_of self.new ≡ number_of self.old) × (offset_of self.new ≡ offset_of self.old)
             × (came_of self.new ≡ came_of self.old) × (declare_of self.new ≡ declare_of self.old)
             × (committed_len_of self.new ≡ committed_len_of self.old) × (tail_of self.new ≡ tail_of self.old) }
@@ -240,7 +249,7 @@ impl SpoolDraft {
         ensures effect { Effect D.Disk (journal_pages layout.now) (list_of self.old) (list_of self.new) disk.old
             disk.new blocks.old blocks.new }
 
-        // What it ends in goes after the text that it began after, whatever the disk said.
+        // The result extends the text that the draft began with, whatever the disk answered.
         ensures after { (len : ℕ) (state : List ℕ) → IsState state → IsAfter len state self.old
             → IfOk result (EndsAfter len state (list_of self.new)) }
         ensures room { (len : ℕ) (state : List ℕ) → IsAfter len state self.old → IsOk result
@@ -248,15 +257,15 @@ impl SpoolDraft {
         ensures refusal { (e : Refusal) → IsErrOf result (UploadError.Refused e)
             → (e ≡ UploadRefusal.Unencodable) ⊎ (e ≡ UploadRefusal.Full) }
 
-        // Nothing is written, and nothing is read where the committed text has no unfinished block.
+        // Nothing is written. Nothing is read either if the committed text has no unfinished block.
         ensures unread { tail_of self.old ≡ [] → disk.new ≡ disk.old }
         ensures keeps { D.honest disk.old
             → OnlyRead (D.current disk.old) (D.current disk.new) (D.unsynced disk.old) (D.unsynced disk.new) }
         ensures lasts { D.honest disk.old
             → Lasts D.Disk disk.old disk.new (IsImage (D.current disk.old) (D.unsynced disk.old)) }
 
-        // After an upload that wasn't complete: the text's end, and the bytes on the blocks, with those that are still
-        // to be written.
+        // For an upload that wasn't complete: the end of its text, and the bytes on the blocks with those yet to be
+        // written.
         ensures answer { (p : Patch) → Holds indexes.now p self.old → is_complete p.began ≡ false
             → EndsAs indexes.now p completes self.old self.new blocks.old blocks.new result }
         ensures fits { IfOk result
@@ -277,7 +286,7 @@ impl SpoolDraft {
         })
     }
 
-    // So many bytes more came.
+    // Counts the bytes of a piece.
     fn go_on(&mut self, fresh: NewText, count: usize)
         ensures { self.new ≡ record self.old { fresh = fresh; came = min (self.old.came + count) (2 ^ 64 - 1) } }
     {
@@ -285,8 +294,8 @@ impl SpoolDraft {
         self.came = self.came.saturating_add(count as u64);
     }
 
-    /// Forgets the block with the upload's last bytes, since the upload was deleted: where the new text isn't begun,
-    /// zeros stand for them. The draft keeps its blocks, and goes on. It takes no memory.
+    /// Forgets the block with the upload's last bytes, since the upload was deleted. If the new text hasn't begun,
+    /// zeros take their place. The draft keeps its blocks and can go on. It allocates nothing.
     pub fn forget_tail(&mut self)
         ensures tail { tail_of self.new ≡ [] }
         ensures same { (number_of self.new ≡ number_of self.old) × (offset_of self.new ≡ offset_of self.old)
@@ -297,7 +306,7 @@ impl SpoolDraft {
         ensures after { (len : ℕ) (state : List ℕ) → IsAfter len state self.old → IsAfter len state self.new }
         ensures holds { (x : Indexes) (p : Patch) → Holds x p self.old → Holds x p self.new }
 
-        // Where it has blocks, it carries what it carried.
+        // A draft with blocks has the same bytes as before.
         ensures content { (x : Indexes) (current : ℕ → ℕ) (first : ℕ) (p : Patch)
             → 1 ≤ length (list_of self.old)
             → Carries x current first p self.old → Carries x current first p self.new }
@@ -305,7 +314,7 @@ impl SpoolDraft {
         self.growth.tail = None;
     }
 
-    /// Gives the reserved blocks back, without memory and without the disk.
+    /// Gives the reserved blocks back. It uses neither memory nor the disk.
     pub fn give_back(self, blocks: &mut Blocks)
         requires { IsReserved blocks.old (list_of self) }
         ensures { GivesBack blocks.old blocks.new (list_of self) }
@@ -315,7 +324,7 @@ impl SpoolDraft {
         }
     }
 
-    /// Gives up the memory, and hands over the reserved blocks.
+    /// The reserved blocks, which the caller has to own or give back.
     pub fn into_list(self, alloc: Global) -> Vec<BlockNo>
         ensures { result.items ≡ list_of self }
     {

@@ -1,4 +1,4 @@
-//! Where transcoding stands.
+//! The state of transcoding in a draft.
 ghost use Rattle.std.specs.Prelude.{◌≡◌, ◌++◌, ℕ, false, List, [], IfOk, IsErrOf, IsOk};
 ghost use Rattle.upload_rules.specs.Store.{Upload, is_complete};
 ghost use Rattle.upload_rules.specs.States.{IsState, SameEncodings};
@@ -10,7 +10,7 @@ use enc_index::IndexSet;
 use std::alloc::{AllocError, Global};
 use upload_rules::{NewText, UploadError, UploadRefusal};
 
-/// Where transcoding stands after a piece more, and what the piece adds to the text, in the memory that is given.
+/// The state after another piece, and what the piece adds to the text. `room` is memory for that text.
 pub(crate) fn read_on(
     alloc: Global,
     room: Vec<u8>,
@@ -31,7 +31,7 @@ pub(crate) fn read_on(
     Ok(split(alloc, next))
 }
 
-/// The state bytes after the body, and what the end adds to the text where the patch completes the upload.
+/// The state bytes after the body. If the patch completes the upload, also what the end adds to the text.
 pub(crate) fn finished(
     alloc: Global,
     fresh: &NewText,
@@ -49,7 +49,7 @@ pub(crate) fn finished(
     without_text(Vec::new(alloc), fresh).ended(indexes, completes)
 }
 
-// The same without text, with memory for one.
+// The state without text, and with memory for one.
 fn without_text(room: Vec<u8>, fresh: &NewText) -> NewText
     requires { room.items ≡ [] }
     ensures { IsEmptied fresh.now result }
@@ -67,7 +67,7 @@ fn without_text(room: Vec<u8>, fresh: &NewText) -> NewText
     }
 }
 
-// The text is taken out.
+// Separates the state from the text.
 fn split(alloc: Global, fresh: NewText) -> (NewText, Vec<u8>)
     ensures same { IsEmptied fresh result.0 }
     ensures text { result.1.items ≡ text_in fresh }

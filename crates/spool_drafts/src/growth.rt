@@ -18,17 +18,17 @@ use spool_texts::{DraftError, DraftText};
 use std::alloc::Global;
 use upload_rules::{UploadError, UploadRefusal};
 
-/// The new text of a draft after the committed one of its upload.
+/// The new text of a draft, which follows its upload's committed text.
 #[derive(Drop)]
 pub(crate) struct Growth {
     /// The length of the committed text in bytes.
     pub(crate) text_len: u64,
-    /// The block that its last bytes are on, where it isn't full. None too once these are nobody's: then zeros stand
-    /// for them.
+    /// The block with the committed text's last bytes, if it isn't full. None also after the upload was deleted; zeros
+    /// take the place of these bytes then.
     pub(crate) tail: Option<BlockNo>,
-    /// The new text, from those bytes on: none before the first new byte.
+    /// The new text, from those bytes on. None before the first new byte.
     pub(crate) on: Option<DraftText>,
-    /// No block was free: no bytes are kept any more.
+    /// Whether no block was free: no bytes are stored any more.
     pub(crate) short: bool,
 }
 
@@ -72,7 +72,7 @@ impl Growth {
         }
     }
 
-    /// The length of the text that ended, of which the last bytes are still to be written.
+    /// The length of the whole text, whose last bytes have yet to be written.
     pub(crate) fn len_with(&self, last: &[u8]) -> u64
         requires few { self.now.text_len ≤ 4096 * 65536 }
         requires fits { 1 ≤ length (list_on self.now.on)
@@ -100,8 +100,8 @@ impl Growth {
         }
     }
 
-    /// Puts bytes after, unless it is short of blocks. It runs short where no block is free for them, and gives all
-    /// back.
+    /// Appends bytes, unless the draft is short of blocks. If none is free for them, it becomes short and gives all its
+    /// blocks back.
     pub(crate) fn put<D: Disk>(
         &mut self,
         alloc: Global,
@@ -129,7 +129,7 @@ impl Growth {
             → bytes_on (D.current disk.new) (text_page layout.now) self.new self.new.on
             ≡ bytes_on (D.current disk.old) (text_page layout.now) self.old self.old.on ++ bytes.now) }
 
-        // Where memory is short, it holds what it held.
+        // Out of memory, the text is unchanged.
         ensures memory { IsErrOf result UploadError.NoMemory
             → (list_on self.new.on ≡ list_on self.old.on) × (blocks.new ≡ blocks.old)
             × (self.new.short ≡ self.old.short) }
@@ -145,8 +145,11 @@ impl Growth {
         self.put_more(disk, layout, blocks, bytes)
     }
 
-    /// Ends the text with these bytes, in memory: the bytes that are still to be written to its last blocks. Refused
-    /// with `Full` where it is short of blocks.
+    /// Ends the text with these bytes, in memory. Returns the bytes that have yet to be written to its last blocks.
+    ///
+    /// # Errors
+    ///
+    /// `Full` if the draft is short of blocks; `NoMemory`; `DiskFault`.
     pub(crate) fn end<D: Disk>(
         &mut self,
         alloc: Global,
@@ -174,7 +177,7 @@ impl Growth {
             → bytes_with (D.current disk.new) (text_page layout.now) (list_on self.new.on) last.items
             ≡ bytes_on (D.current disk.old) (text_page layout.now) self.old self.old.on ++ bytes.now) }
 
-        // Nothing is written, and nothing is read where the committed text has no unfinished block.
+        // Nothing is written. Nothing is read either if the committed text has no unfinished block.
         ensures unread { tail_list self.old.tail ≡ [] → disk.new ≡ disk.old }
         ensures keeps { D.honest disk.old
             → Keeps (D.current disk.old) (D.current disk.new) (D.unsynced disk.old) (D.unsynced disk.new) }
@@ -191,7 +194,7 @@ impl Growth {
         self.end_begun(alloc, blocks, bytes)
     }
 
-    // Ends the text, which is begun where bytes come.
+    // Ends the text. It has begun if there are bytes.
     fn end_begun(
         &mut self,
         alloc: Global,
@@ -225,12 +228,12 @@ impl Growth {
                 self.give_back(blocks);
                 Err(UploadError::Refused(UploadRefusal::Full))
             }
-            // It makes no call of the disk.
+            // `DraftText::end` makes no call of the disk and answers no `DiskFault`.
             Err(DraftError::NoMemory | DraftError::DiskFault) => Err(UploadError::NoMemory),
         }
     }
 
-    // Begins the new text with the committed text's last bytes, where it isn't begun.
+    // Begins the new text with the committed text's last bytes, unless it has begun.
     fn open<D: Disk>(
         &mut self,
         alloc: Global,
@@ -264,7 +267,8 @@ impl Growth {
         Ok(())
     }
 
-    // Puts bytes after the begun text. It runs short where no block is free for them, and gives all back.
+    // Appends bytes to the begun text. If no block is free for them, the draft becomes short and gives all its blocks
+    // back.
     fn put_more<D: Disk>(
         &mut self,
         disk: &mut D,
@@ -309,7 +313,8 @@ impl Growth {
     }
 }
 
-// The new text after the committed one: the bytes on its last block are read, and without one zeros stand for them.
+// The beginning of a new text: the bytes on the committed text's last block are read; without that block, zeros take
+// their place.
 fn begun<D: Disk>(
     alloc: Global,
     disk: &mut D,
@@ -342,7 +347,7 @@ fn begun<D: Disk>(
     match begun {
         Ok(text) => Ok(text),
         Err(DraftError::DiskFault) => Err(UploadError::DiskFault),
-        // No block is reserved here.
+        // No block is reserved here, so `Full` doesn't occur.
         Err(DraftError::NoMemory | DraftError::Full) => Err(UploadError::NoMemory),
     }
 }

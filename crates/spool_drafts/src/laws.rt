@@ -1,4 +1,4 @@
-//! A law of open drafts, as the contract of a function that does nothing.
+//! A law about open drafts. The function does nothing; its contract is the law.
 ghost use Rattle.std.specs.Prelude.{ℕ, List};
 ghost use Rattle.enc_model.specs.Indexes.{IndexSet};
 ghost use Rattle.spool_texts.specs.Written.{NoneOf, SameOutside};
@@ -6,8 +6,8 @@ ghost use Rattle.upload_rules.specs.World.{Patch};
 ghost use Rattle.spool_drafts.specs.Drafts.{Carries, list_of, tail_of};
 ghost use Rattle.spool_drafts.specs.declared.draft.SpoolDraft.{SpoolDraft};
 
-/// A draft carries what it carried where only other blocks are written: none that it reserved, and not the one that its
-/// upload's last bytes are on.
+/// A draft still represents its patch after writes to other blocks: neither those that it reserved nor the one with its
+/// upload's last bytes.
 pub fn kept_drafts()
     ensures { (x : IndexSet) (current current' : ℕ → ℕ) (first : ℕ) (blocks : List ℕ) (p : Patch) (d : SpoolDraft)
         → SameOutside first blocks current current' → NoneOf (list_of d) blocks → NoneOf (tail_of d) blocks

@@ -1,7 +1,7 @@
 //! The open drafts of a store on a disk.
 //!
-//! A draft is one append under way: where transcoding stands, and the new text on blocks that the draft reserved. Its
-//! body is not kept.
+//! A draft is an append under way: the state of transcoding, and the new text on blocks that the draft reserved. Its
+//! body isn't stored.
 #![tactic(auto)]
 
 mod draft;

@@ -6,7 +6,7 @@ use std::alloc::Global;
 use std::marker::Model;
 use std::mem;
 
-/// Memory for what the next piece adds to a text, which is no part of a draft's value.
+/// Memory for the text of the next piece, so that not every piece allocates. It isn't part of the draft's value.
 #[derive(Drop)]
 pub(crate) struct Spare {
     bytes: Vec<u8>,
@@ -19,14 +19,14 @@ impl Model for Spare {
 }
 
 impl Spare {
-    /// None yet.
+    /// No memory yet.
     pub(crate) fn new(alloc: Global) -> Self {
         Spare {
             bytes: Vec::new(alloc),
         }
     }
 
-    /// Takes it, without bytes.
+    /// Takes the memory, emptied.
     pub(crate) fn take(&mut self, alloc: Global) -> Vec<u8>
         ensures { result.items ≡ [] }
     {
@@ -35,7 +35,7 @@ impl Spare {
         bytes
     }
 
-    /// Gives it back.
+    /// Puts the memory back.
     pub(crate) fn give_back(&mut self, bytes: Vec<u8>) {
         self.bytes = bytes;
     }

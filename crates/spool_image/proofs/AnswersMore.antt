@@ -1,4 +1,4 @@
--- An answer, with other words for what it says.
+-- An answer, with its claims replaced by some that follow from them.
 use Rattle.std.proofs.Common.{Result, Ok, Err, Option}
 use Rattle.upload_rules.specs.Answers.{Answers}
 use Rattle.upload_rules.specs.declared.errors.UploadError.{UploadError}
@@ -13,7 +13,7 @@ answers_more refusal (Err NoMemory) ok err a = (a.0, err a.1)
 answers_more refusal (Err DiskFault) ok err a = a
 answers_more refusal (Err (Refused e)) ok err a = (a.0, err a.1)
 
--- the same, where more is said of what was done under a premise
+-- the same, with more claims about what was done under a premise
 pub answers_known : {T K : Type 0} (refusal : Option UploadRefusal) (r : Result T UploadError)
     {done more done' : T → Type 0} {same same' : Type 0} → ((t : T) → done t → (K → more t) → done' t) → (same → same')
     → Answers refusal r done same → (K → Answers refusal r more (Unit {0})) → Answers refusal r done' same'

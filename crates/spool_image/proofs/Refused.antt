@@ -16,7 +16,7 @@ use Rattle.spool_image.specs.declared.error.UpgradeError.TheVariants.{Open, Alre
 use Rattle.spool_load.proofs.Opens.{view_says_blocks}
 use Rattle.spool_load.proofs.Refused.{known_stands, says_one, version_one, version_stands}
 
--- told with this fault, where each other reason would be this one, or for memory or by the disk
+-- the error is this fault, `NoMemory` or `DiskFault`, if each other error would be this fault
 told_as : (e fault : OpenFault) → (e ≡ NotASpool → e ≡ fault) → (e ≡ Version → e ≡ fault) → (e ≡ Damaged → e ≡ fault)
     → (e ≡ fault) ⊎ (e ≡ NoMemory) ⊎ (e ≡ DiskFault)
 told_as NotASpool fault no_spool version damaged = inl (no_spool refl)
@@ -70,7 +70,7 @@ module _ (size : ℕ) (current : ℕ → ℕ) where
         damaged.no_view opened.view opened.valid opened.is
         (says_one size current opened.view.blocks damaged.blocks opened_says damaged.says)
 
-  -- told with this fault, the reason is its own
+  -- the reason for an error that is this fault is the fault's
   given : (e fault : OpenFault) → RefusedFor size current e → e ≡ fault → RefusedFor size current fault
   given e fault reason is = subst (RefusedFor size current) is reason
 

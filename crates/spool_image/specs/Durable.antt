@@ -15,7 +15,7 @@ use Rattle.spool_image.specs.LeftOnly.{SpoolLeft}
 use Rattle.spool_kept.specs.Shows.{ImageShows}
 use Rattle.spool_kept.specs.Stored.{Stored}
 
--- each image of a spool that stands for a store shows it
+-- Every crash image of a spool that is known to stand for a store shows it.
 pub stored_shows : {D : Type 0} (disk : Ghosts D) (d : D) (h : Holding) (m : Store) (image : ℕ → ℕ)
     → Stored true disk d h m → IsImage (disk.current d) (disk.unsynced d) image → ImageShows h.layout image m
 stored_shows disk d h m image stored is = record {
@@ -25,6 +25,7 @@ stored_shows disk d h m image stored is = record {
   shows = stored.shows;
 }
 
+-- So crash images from now on are limited to lists with that store.
 pub durable_left : {D : Type 0} {disk : Ghosts D} (d : D) (h : Holding) (drafts : List (Option SpoolDraft)) (w : World)
     (ms : List Store) → 4096 * all_pages h.layout ≤ disk.size d
     → ((image : ℕ → ℕ) → disk.left_since d (disk.moment d) image → IsImage (disk.current d) (disk.unsynced d) image)

@@ -1,4 +1,4 @@
--- What `format` refuses, and what a crash during it may leave.
+-- The refusals of `format`, and the crash images during it.
 use Rattle.std.specs.Prelude.{◌≡◌, ◌⊎◌, ℕ, ◌*◌, ◌<◌, ◌≤◌, Result, Ok, Err}
 use Rattle.enc_model.specs.Indexes.{IndexSet}
 use Rattle.spool_disk.specs.Disk.{span}
@@ -10,37 +10,37 @@ use Rattle.spool_pages.specs.declared.version.Version.TheVariants.{Two}
 use Rattle.spool_image.specs.declared.error.FormatError.{FormatError}
 use Rattle.spool_image.specs.declared.error.FormatError.TheVariants.{AlreadySpool, Size, DiskFault}
 
--- a disk of this size begins with the first bytes of a spool
+-- A disk of this size begins as a spool.
 pub record HasMagic (size : ℕ) (current : ℕ → ℕ) : Type 0 where
   pub room : 8 ≤ size
   pub prefix : span current 0 8 ≡ magic
 
--- there are so many text blocks, and the disk has room for all pages
+-- The number of text blocks is in range, and the disk has room for all pages.
 pub record FitsSpool (blocks size : ℕ) : Type 0 where
   pub least : 16 ≤ blocks
   pub most : blocks ≤ 65536
   pub room : 4096 * all_pages blocks ≤ size
 
--- what its page 0 holds is as a crash might have left it before
+-- Page 0 is one that a crash could have left before.
 pub record PrefixStays (current : ℕ → ℕ) (unsynced : ℕ → Type 0) (image : ℕ → ℕ) : Type 0 where
   pub same : (p : ℕ) → p < 4096 → (unsynced p → ⊥) → image p ≡ current p
 
--- where its page 0 is whole, it shows no uploads, these indexes and so many text blocks
+-- If page 0 of the image is complete, it shows no uploads, these indexes and n text blocks.
 pub record FormatsTo (n : ℕ) (x : IndexSet) (image : ℕ → ℕ) : Type 0 where
   pub shows : ((p : ℕ) → p < 4096 → image p ≡ byte_of (first_page n) p) → ImageShows n image (no_uploads x)
 
--- read plainly, the image is a valid spool of version 2
+-- The plain reading of the image is a valid spool of version 2.
 pub record IsNewest (image : ℕ → ℕ) : Type 0 where
   pub view : View
   pub valid : IsValid view
   pub new : view.version ≡ Two
   pub is : IsViewOf image view
 
--- What a crash may leave while a spool is made: page 0 as before, or a torn one, or the spool without uploads
+-- The crash images while a spool is made: page 0 as before, or torn, or the complete spool.
 abbrev pub LeftByFormat : ℕ → IndexSet → (ℕ → ℕ) → (ℕ → Type 0) → (ℕ → ℕ) → Type 0
 LeftByFormat n x current unsynced image = PrefixStays current unsynced image ⊎ FormatsTo n x image
 
--- nothing was written
+-- Nothing was written.
 abbrev pub IsRefusal : {T : Type 0} → Result T FormatError → Type 0
 IsRefusal (Err AlreadySpool) = Unit {0}
 IsRefusal (Err Size) = Unit {0}

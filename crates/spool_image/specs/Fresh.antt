@@ -1,4 +1,4 @@
--- A spool without uploads, of version 2, byte by byte.
+-- A spool of version 2 without uploads, byte by byte.
 use Rattle.std.specs.Prelude.{◌≡◌, ℕ, ◌-◌, ◌*◌, ◌<◌, ◌≤◌, nat_lt, if◌then◌else◌}
 use Rattle.enc_model.specs.Indexes.{IndexSet}
 use Rattle.enc_index.specs.Area.{area_byte}
@@ -6,23 +6,23 @@ use Rattle.spool_journal.specs.Image.{byte_of, all_pages}
 use Rattle.spool_pages.specs.View.{index_place, state_place, first_page, state_page}
 use Rattle.spool_pages.specs.declared.version.Version.TheVariants.{Two}
 
--- its bytes after page 0: zeros, the index area, and the state page with zeros after it
+-- Its bytes after page 0: zeros, the index area, and the state page with zeros after it.
 unfoldable pub fresh_byte : ℕ → IndexSet → ℕ → ℕ
 fresh_byte n x p =
     if nat_lt p (index_place n) then 0
     else if nat_lt p (state_place n) then area_byte x (p - index_place n)
     else byte_of (state_page Two 1) (p - state_place n)
 
--- so stand all its pages but page 0, below a place
+-- All its pages except page 0 have these bytes, below `end`.
 pub record IsFreshTo (n : ℕ) (x : IndexSet) (end : ℕ) (image : ℕ → ℕ) : Type 0 where
   pub each : (p : ℕ) → 4096 ≤ p → p < end → image p ≡ fresh_byte n x p
 
--- what page 0 holds is as before, or is synced and was unsynced
+-- Page 0 is as before; some of it may have been synced.
 pub record KeepsPrefix (current current' : ℕ → ℕ) (unsynced unsynced' : ℕ → Type 0) : Type 0 where
   pub same : (p : ℕ) → p < 4096 → (unsynced p → ⊥) → current' p ≡ current p
   pub unsyncs : (p : ℕ) → p < 4096 → unsynced' p → unsynced p
 
--- and all of its pages
+-- All its pages have these bytes.
 pub record IsFresh (n : ℕ) (x : IndexSet) (image : ℕ → ℕ) : Type 0 where
   pub prefix : (i : ℕ) → i < 4096 → image i ≡ byte_of (first_page n) i
   pub after : IsFreshTo n x (4096 * all_pages n) image

@@ -1,4 +1,4 @@
--- The numbers of a spool's uploads are below the next one.
+-- Every number of a spool's uploads is below the next one.
 use Rattle.std.specs.Prelude.{◌≡◌, ◌<◌, ℕ, Bool, List, Option, Some}
 use Rattle.std.proofs.Common.{arith}
 use Rattle.spool_disk.specs.declared.disk.Disk.{Ghosts}
@@ -8,6 +8,7 @@ use Rattle.spool_kept.specs.Holding.{Holding}
 use Rattle.upload_rules.specs.Store.{Upload, upload_of}
 use Rattle.upload_rules.specs.World.{World}
 
+-- The number of each upload is below the next one.
 pub upload_below : {D : Type 0} {disk : Ghosts D} {sure : Bool} (d : D) (h : Holding)
     (drafts : List (Option SpoolDraft)) (w : World) (number : ℕ) (u : Upload) → StandsFor sure disk d h drafts w
     → upload_of w.store number ≡ Some u → number < w.store.next

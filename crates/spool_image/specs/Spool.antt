@@ -1,4 +1,4 @@
--- What an opened spool stands for.
+-- An opened spool, and what it stands for.
 use Rattle.std.specs.Prelude.{◌≡◌, ◌⊎◌, ℕ, Bool, Result, Ok, Err}
 use Rattle.spool_disk.specs.declared.disk.Disk.{Ghosts}
 use Rattle.spool_kept.specs.declared.error.OpenFault.{OpenFault}
@@ -11,41 +11,42 @@ use Rattle.spool_kept.specs.Loads.{LoadsAs}
 use Rattle.spool_kept.specs.Drafting.{StandsFor}
 use Rattle.upload_rules.specs.World.{World}
 
+-- The disk.
 abbrev pub disk_of : {D : Type 0} {disk : Ghosts D} → Spool D disk → D
 disk_of s = s.disk
 
--- the number of its text blocks
+-- The number of its text blocks.
 abbrev pub size_of : {D : Type 0} {disk : Ghosts D} → Spool D disk → ℕ
 size_of s = s.kept.layout
 
--- it keeps in memory what the view says, with no block reserved
+-- Its memory has this view, with no block reserved.
 abbrev pub Keeps : {D : Type 0} {disk : Ghosts D} → Spool D disk → View → Type 0
 Keeps s v = KeepsAlone s.kept v
 
--- what it keeps is a valid view, which a read of a disk of this size gave
+-- Its memory has a valid view, the one that a read of a disk of this size gave.
 abbrev pub OpensFrom : {D : Type 0} {disk : Ghosts D} → ℕ → (ℕ → ℕ) → Spool D disk → Type 0
 OpensFrom size current s = OpenedFrom size current s.kept
 
--- what it keeps of the disk and the drafts stand for the world, and where that is sure, the disk does too
+-- Its memory and its drafts stand for the world. If that is sure, the disk does too.
 abbrev pub SpoolStands : {D : Type 0} {disk : Ghosts D} → Spool D disk → Bool → World → Type 0
 SpoolStands {disk = disk} s sure w = StandsFor sure disk s.disk s.kept s.drafts.items w
 
--- the disk, opened or handed back
+-- The disk, opened or returned.
 abbrev pub disk_after : {D : Type 0} {disk : Ghosts D} → Result (Spool D disk) (D × OpenFault) → D
 disk_after (Ok s) = s.disk
 disk_after (Err e) = e.0
 
--- refused by the disk
+-- There was a disk fault.
 abbrev pub IsFault : {D S : Type 0} → Result S (D × OpenFault) → Type 0
 IsFault (Ok s) = ⊥
 IsFault (Err e) = e.1 ≡ DiskFault
 
--- opened, or refused by the disk or out of memory
+-- It is opened, or refused when out of memory or at a disk fault.
 abbrev pub OpensAs : {D S : Type 0} → Result S (D × OpenFault) → (S → Type 0) → Type 0
 OpensAs (Ok s) done = done s
 OpensAs {S = S} (Err e) done = LoadsAs {T = S} (Err e.1) done
 
--- refused with this fault, or for memory or by the disk
+-- It is refused with this error, or when out of memory, or at a disk fault.
 abbrev pub RefusesAs : {D S : Type 0} → Result S (D × OpenFault) → OpenFault → Type 0
 RefusesAs (Ok s) fault = ⊥
 RefusesAs (Err e) fault = (e.1 ≡ fault) ⊎ (e.1 ≡ NoMemory) ⊎ (e.1 ≡ DiskFault)

@@ -1,10 +1,11 @@
--- The text of an upload, as an image has it.
+-- The text of an upload in an image.
 use Rattle.std.specs.Prelude.{◌≡◌, ℕ, [], None, Some, length}
 use Rattle.enc_model.specs.Indexes.{IndexSet}
 use Rattle.upload_rules.specs.Store.{Upload, is_complete, text_of, text_with}
 use Rattle.spool_pages.specs.View.{SlotRecord, View, slot_at, IsViewOf}
 
--- a slot of the image has the upload's number and its text: all accepted bytes, decoded and encoded without a fault
+-- A slot of the image has the upload's number and its text: the encoding of the decoding of its accepted bytes, without
+-- an unmappable character.
 pub record HasText (image : ℕ → ℕ) (x : IndexSet) (k : ℕ) (u : Upload) : Type 0 where
   pub view : View
   pub is : IsViewOf image view

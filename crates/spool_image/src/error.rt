@@ -1,4 +1,4 @@
-//! Why a spool is not made, or not brought to version 2.
+//! The errors of formatting and upgrading.
 ghost use Rattle.std.specs.Prelude.{◌≡◌};
 
 use spool_disk::DiskFault;
@@ -11,11 +11,11 @@ use std::fmt;
 /// Why `format` makes no spool.
 #[derive(Clone, Copy, Debug, PartialEq, Eq)]
 pub enum FormatError {
-    /// The disk begins with the first bytes of a spool.
+    /// The disk begins as a spool.
     AlreadySpool,
-    /// The text blocks are not 16 to 65,536, or the disk is too short for them.
+    /// The number of text blocks isn't 16 to 65,536, or the disk is too short for it.
     Size,
-    /// The disk failed in this call.
+    /// A disk fault.
     DiskFault,
 }
 
@@ -41,12 +41,12 @@ impl fmt::Display for FormatError {
 
 impl Error for FormatError {}
 
-/// Why `upgrade` brings no spool to version 2.
+/// Why `upgrade` fails.
 #[derive(Clone, Copy, Debug, PartialEq, Eq)]
 pub enum UpgradeError {
-    /// It can't be opened, or memory or the disk refuses it.
+    /// The spool can't be opened.
     Open(OpenFault),
-    /// The spool is of version 2 already.
+    /// The spool has version 2 already.
     AlreadyNew,
 }
 

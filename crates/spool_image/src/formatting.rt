@@ -1,4 +1,4 @@
-//! A spool without uploads is made.
+//! Making a spool without uploads.
 ghost use Rattle.std.specs.Prelude.{◌≡◌, ◌≤◌, ◌<◌, ◌*◌, ◌+◌, ◌↔◌, ℕ, true, false, IsErr, IsOk, IfOk, OnOk, Err, get_or};
 ghost use Rattle.enc_model.specs.Indexes.{IndexSet as Indexes};
 ghost use Rattle.enc_index.specs.Sets.{IsIndexSet};
@@ -17,7 +17,7 @@ use spool_disk::{Disk, DiskFault};
 use spool_journal::{Layout, PAGE};
 use spool_pages::{MAGIC, Version, blank_page, first_page, state_page};
 
-// A page after page 0 of a spool without uploads.
+// A page of a spool without uploads, other than page 0.
 fn fresh_page(layout: &Layout, indexes: &IndexSet, page: u32) -> [u8; PAGE]
     ensures bytes { (i : ℕ) → i < 4096 → get_or result i 0 ≡ fresh_byte layout.now indexes.now (4096 * page + i) }
     ensures valid { index_place layout.now ≤ 4096 * page → 4096 * page < state_place layout.now
@@ -37,7 +37,7 @@ fn fresh_page(layout: &Layout, indexes: &IndexSet, page: u32) -> [u8; PAGE]
     blank_page()
 }
 
-// Writes all pages after page 0.
+// Writes all pages except page 0.
 fn write_pages<D: Disk>(disk: &mut D, layout: &Layout, indexes: &IndexSet) -> Result<(), DiskFault>
     requires { 4096 * all_pages layout.now ≤ D.size disk.old }
     ensures size { D.size disk.new ≡ D.size disk.old }
@@ -57,7 +57,7 @@ fn write_pages<D: Disk>(disk: &mut D, layout: &Layout, indexes: &IndexSet) -> Re
     Ok(())
 }
 
-// Writes page 0 after the others, which are synced before.
+// Syncs the other pages, then writes page 0 and syncs: only then is the disk a spool.
 fn write_first<D: Disk>(disk: &mut D, layout: &Layout) -> Result<(), DiskFault>
     requires { 4096 * all_pages layout.now ≤ D.size disk.old }
     ensures size { D.size disk.new ≡ D.size disk.old }
@@ -79,7 +79,7 @@ fn write_first<D: Disk>(disk: &mut D, layout: &Layout) -> Result<(), DiskFault>
     disk.sync()
 }
 
-// Whether the disk begins with the first bytes of a spool.
+// Whether the disk begins as a spool.
 fn is_spool<D: Disk>(disk: &mut D) -> Result<bool, DiskFault>
     ensures size { D.size disk.new ≡ D.size disk.old }
     ensures honest { D.honest disk.old ↔ D.honest disk.new }
@@ -100,10 +100,13 @@ fn is_spool<D: Disk>(disk: &mut D) -> Result<bool, DiskFault>
     Ok(prefix == MAGIC)
 }
 
-/// Makes a spool of version 2 without uploads, of so many text blocks. It writes all pages but page 0 and syncs, and
-/// then page 0 and syncs. `AlreadySpool` where the disk begins with the first bytes of a spool; `Size` where the text
-/// blocks are not 16 to 65,536 or the disk is shorter than all pages; these in this order, and then nothing was
-/// written. `DiskFault` where the disk failed. It takes no memory.
+/// Makes a spool of version 2 with this many text blocks and no uploads. All pages but page 0 are written and synced,
+/// then page 0 is. It allocates nothing.
+///
+/// # Errors
+///
+/// `AlreadySpool` if the disk begins as a spool; then `Size` if the number of text blocks isn't 16 to 65,536 or the
+/// disk is too short: these two write nothing. `DiskFault` at a disk fault.
 pub fn format<D: Disk>(disk: &mut D, blocks: u32, indexes: &IndexSet) -> Result<(), FormatError>
     ensures size { D.size disk.new ≡ D.size disk.old }
     ensures honest { D.honest disk.old ↔ D.honest disk.new }
@@ -117,17 +120,17 @@ pub fn format<D: Disk>(disk: &mut D, blocks: u32, indexes: &IndexSet) -> Result<
     ensures fits { IsOk result → FitsSpool blocks (D.size disk.old) }
     ensures too_long { result ≡ Err FormatError.Size → FitsSpool blocks (D.size disk.old) → ⊥ }
 
-    // Then every image is one from before.
+    // After a refusal every crash image is one of before.
     ensures same { D.honest disk.old → IsRefusal result
         → Keeps (D.current disk.old) (D.current disk.new) (D.unsynced disk.old) (D.unsynced disk.new) }
     ensures lasts { D.honest disk.old → IsRefusal result
         → Lasts D.Disk disk.old disk.new (IsImage (D.current disk.old) (D.unsynced disk.old)) }
 
-    // A crash at any moment of it leaves page 0 as it might have been before, or torn, or a whole spool.
+    // A crash at any moment leaves page 0 as it could be before, or torn, or a complete spool.
     ensures crash { D.honest disk.old → Lasts D.Disk disk.old disk.new
         (LeftByFormat blocks indexes.now (D.current disk.old) (D.unsynced disk.old)) }
 
-    // Else every image shows no uploads, these indexes and so many blocks, in version 2.
+    // Otherwise every crash image shows no uploads, these indexes and this many blocks, in version 2.
     ensures shows { D.honest disk.old → OnOk result (AllShow D.Disk disk.new blocks (no_uploads indexes.now)) }
     ensures newest { D.honest disk.old → OnOk result
         ((image : ℕ → ℕ) → IsImage (D.current disk.new) (D.unsynced disk.new) image → IsNewest image) }

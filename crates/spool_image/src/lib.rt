@@ -1,4 +1,4 @@
-//! The uploads on a spool: how a spool without uploads is made, how one is opened, and brought to version 2.
+//! A spool as a store of uploads: formatting, opening and upgrading one, and all calls on its uploads.
 #![tactic(auto)]
 
 mod error;

@@ -1,4 +1,4 @@
-//! The uploads on a disk, and appends to them that are under way.
+//! The store of uploads on a disk.
 ghost use Rattle.std.specs.Prelude.{◌≡◌, ◌≤◌, ◌*◌, ◌↔◌, ℕ, false, true, Some, IfOk, IfErr};
 ghost use Rattle.spool_disk.specs.Disk.{Counts};
 ghost use Rattle.spool_disk.specs.Views.{Lasts};
@@ -22,19 +22,19 @@ use spool_load::load;
 use std::alloc::Global;
 use upload_rules::{New, Record, UploadError, Uploads};
 
-/// The uploads on a disk, and the appends to them that are under way. After a `DiskFault` it stands for no uploads any
-/// more: drafts may be dropped, and the disk taken back and opened again.
+/// The uploads on a disk, with the appends that are under way. After a `DiskFault` it stands for no uploads any more:
+/// drafts can be dropped, and the disk can be taken back and opened again.
 pub struct Spool<D: Disk> {
     alloc: Global,
     disk: D,
     kept: Kept,
-    /// by their numbers
+    /// By their numbers.
     drafts: Vec<Option<SpoolDraft>>,
     ghost room: { 4096 * all_pages kept.layout ≤ D.size disk },
     ghost fits: { DraftsFit kept drafts.items } by { fits_prop kept drafts.items },
 }
 
-/// A draft of a spool: the append of its number.
+/// A draft of a spool: the number of its append.
 pub struct SpoolAppend {
     number: usize,
 }
@@ -43,31 +43,31 @@ impl<D: Disk> Spool<D> {
     ghost use Rattle.spool_image.specs.Spool.{disk_of, size_of, disk_after, Keeps, SpoolStands};
     ghost use Rattle.spool_image.specs.Spool.{IsFault, OpensAs, OpensFrom, RefusesAs};
 
-    /// Opens what a crash may have left. It may crash too, and be called again.
+    /// Opens a spool, and recovers it if a crash interrupted a commit. A crash during it does no harm: it may be called
+    /// again.
     ///
     /// # Errors
     ///
-    /// The disk comes back with each. `NotASpool` where the first 12 bytes say none or the disk is shorter than its
-    /// layout, then as `recover`, then `Version` where the state page says no version that is known, then `Damaged`
-    /// where a byte that is to be 0 isn't, the index area is no set's, the next number is out of its range, a number
-    /// comes twice or isn't below the next one, a length is out of its range, a state is none of a transcoder or its
-    /// phase doesn't fit the counts, metadata isn't printable ASCII, a row's slot is free, or a slot's ordinals are not
-    /// those of its text, each once; `NoMemory` when out of memory, and `DiskFault` where the disk failed.
+    /// The disk is returned with each. `NotASpool` if the first 12 bytes aren't a spool's or the disk is shorter than
+    /// its layout; then those of `recover`; then `Version` if the version is unknown; then `Damaged` if the spool is
+    /// invalid: a byte that has to be 0 isn't, the index area isn't that of a set, the next number is out of range, a
+    /// number occurs twice or isn't below the next one, a length is out of range, state bytes are invalid or don't fit
+    /// the counts, metadata isn't printable ASCII, a row's slot is free, or a slot's ordinals aren't those of its text.
+    /// `NoMemory` when out of memory, and `DiskFault` at a disk fault.
     pub fn open(alloc: Global, disk: D) -> Result<Spool<D>, (D, OpenFault)>
         ensures size { D.size (disk_after result) ≡ D.size disk }
         ensures honest { D.honest disk ↔ D.honest (disk_after result) }
         ensures counts { Counts (IsFault result) (D.failures disk) (D.failures (disk_after result)) }
 
-        // A disk of which a read shows uploads is opened, and what a read shows is kept, or memory or the disk
-        // refuses it.
+        // If a read gives a valid spool, that one is opened, unless memory or the disk refuses.
         ensures opened { D.honest disk → (v : View) → IsValid v → IsViewOf (D.current disk) v
             → 4096 * all_pages v.blocks ≤ D.size disk → OpensAs result (λ s. Keeps s v) }
 
-        // What is opened is a valid spool, and it is what a read shows. Each refusal has its reason.
+        // What is opened is a valid spool, and it is what a read gives. Each error has its reason.
         ensures valid { D.honest disk → IfOk result (OpensFrom (D.size disk) (D.current disk)) }
         ensures refused { D.honest disk → IfErr result (λ e. RefusedFor (D.size disk) (D.current disk) e.1) }
 
-        // And each reason is answered so, unless memory or the disk refuses it: no two hold, and none of a valid
+        // Each reason leads to its error, unless memory or the disk refuses. No two reasons hold, and none of a valid
         // spool.
         ensures not_a_spool { D.honest disk → IsNoSpool (D.size disk) (D.current disk)
             → RefusesAs result OpenFault.NotASpool }
@@ -76,28 +76,28 @@ impl<D: Disk> Spool<D> {
         ensures damaged { D.honest disk → IsDamaged (D.size disk) (D.current disk)
             → RefusesAs result OpenFault.Damaged }
 
-        // Where no journal is to be replayed it writes nothing: every image is one from before, and so is what a read
-        // gives.
+        // Without a journal to replay nothing is written: every crash image is one of before, and a read gives the
+        // same.
         ensures unwritten { D.honest disk → Unwritten D.Disk disk (disk_after result) }
         ensures same { D.honest disk → ReadsSame D.Disk disk (disk_after result) (IsFault result) }
 
-        // And so a commit may be made.
+        // A commit may follow.
         ensures idle { D.honest disk → IfOk result
             (λ s. Idle (journal_pages (size_of s)) (D.current (disk_of s)) (D.unsynced (disk_of s))) }
 
-        // A crash during it leaves what it might have left before, or what shows the same uploads and so many blocks.
+        // A crash leaves an image of before, or one that shows the same uploads and block count.
         ensures lasts { (n : ℕ) (m : Store) → IsSpool D.Disk disk n m
             → Lasts D.Disk disk (disk_after result) (LeftOrShows D.Disk disk n m) }
 
-        // And once it is opened, every image shows them.
+        // Once it is opened, every crash image shows them.
         ensures shows { (n : ℕ) (m : Store) → IsSpool D.Disk disk n m
             → IfOk result (λ s. AllShow D.Disk (disk_of s) n m) }
 
-        // It stands for them, with no append under way.
+        // It stands for these uploads, with no append under way.
         ensures stands { (n : ℕ) (m : Store) → IsSpool D.Disk disk n m
             → IfOk result (λ s. SpoolStands s true (at_rest m (Some n))) }
 
-        // And whatever the disk, for the uploads that are shown by what it keeps.
+        // On any disk it stands for the uploads that its memory shows.
         ensures kept { (v : View) (m : Store) → Shows v m
             → IfOk result (λ s. Keeps s v → SpoolStands s false (at_rest m (Some v.blocks))) }
     {

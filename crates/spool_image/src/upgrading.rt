@@ -1,4 +1,4 @@
-//! A spool is brought to version 2.
+//! Upgrading a spool to version 2.
 ghost use Rattle.std.specs.Prelude.{◌≡◌, ◌⊎◌, ◌≤◌, ◌*◌, ◌↔◌, ℕ, Err, IfOk, IfErr, OnOk};
 ghost use Rattle.spool_disk.specs.Disk.{Counts, IsImage, Keeps};
 ghost use Rattle.spool_disk.specs.Views.{Lasts};
@@ -26,7 +26,7 @@ use spool_load::{find, read};
 use spool_pages::{Version, change};
 use std::alloc::Global;
 
-// A spool of version 1, made whole and read.
+// Finds, recovers and reads a spool of version 1.
 fn load_old<D: Disk>(alloc: Global, disk: &mut D) -> Result<Kept, UpgradeError>
     ensures size { D.size disk.new ≡ D.size disk.old }
     ensures honest { D.honest disk.old ↔ D.honest disk.new }
@@ -65,7 +65,7 @@ fn load_old<D: Disk>(alloc: Global, disk: &mut D) -> Result<Kept, UpgradeError>
     Ok(kept)
 }
 
-// Brings a spool at rest to version 2.
+// Upgrades a spool at rest.
 fn rewrite<D: Disk>(alloc: Global, disk: &mut D, kept: &Kept) -> Result<(), UpgradeError>
     requires { 4096 * all_pages kept.now.layout ≤ D.size disk.old }
     ensures size { D.size disk.new ≡ D.size disk.old }
@@ -89,30 +89,30 @@ fn rewrite<D: Disk>(alloc: Global, disk: &mut D, kept: &Kept) -> Result<(), Upgr
     Ok(())
 }
 
-/// Brings a spool to version 2, by one commit of its state page and its 256 pages of records. There is no way back. It
-/// may crash too, and be called again, or the spool be opened.
+/// Upgrades a spool to version 2, by one commit of its state page and its 256 pages of records. There is no way back. A
+/// crash during it does no harm: it may be called again, or the spool opened.
 ///
 /// # Errors
 ///
-/// As `Spool::open`: `Open(NotASpool)`, then as `recover`, then `Open(Version)`; then `AlreadyNew` where the spool is
-/// of version 2; then `Open(Damaged)`. `Open(NoMemory)` when out of memory, and `Open(DiskFault)` where the
-/// disk failed. Unless the disk failed, nothing was changed then but by the recovery.
+/// `Open(NotASpool)`; then those of `recover`; then `Open(Version)`; then `AlreadyNew` if the spool has version 2; then
+/// `Open(Damaged)`: each as in `Spool::open`. `Open(NoMemory)` when out of memory, and `Open(DiskFault)` at a disk
+/// fault. Without a disk fault an error changes nothing except by the recovery.
 pub fn upgrade<D: Disk>(alloc: Global, disk: &mut D) -> Result<(), UpgradeError>
     ensures size { D.size disk.new ≡ D.size disk.old }
     ensures honest { D.honest disk.old ↔ D.honest disk.new }
     ensures counts { Counts (result ≡ Err (UpgradeError.Open Fault.DiskFault)) (D.failures disk.old)
         (D.failures disk.new) }
 
-    // A spool that a read shows is brought to version 2 where it is of version 1, or memory or the disk refuses it.
+    // If a read gives a valid spool of version 1, it is upgraded, unless memory or the disk refuses.
     ensures upgraded { D.honest disk.old → (v : View) → IsValid v → IsViewOf (D.current disk.old) v
         → 4096 * all_pages v.blocks ≤ D.size disk.old → UpgradesOf v.version result }
 
-    // What was brought to version 2 was a valid spool of version 1, and each image now says the same in version 2: by
-    // one commit of 257 pages, which changed nothing else that a plain reading gives.
+    // It was a valid spool of version 1, and each crash image now has the same view in version 2. One commit of 257
+    // pages did this; nothing else changed in the plain reading.
     ensures valid { D.honest disk.old
         → OnOk result (UpgradedFrom (D.size disk.old) (D.current disk.old) (D.current disk.new) (D.unsynced disk.new)) }
 
-    // Each refusal has its reason, and each reason is answered so, unless memory or the disk refuses it.
+    // Each error has its reason, and each reason leads to its error, unless memory or the disk refuses.
     ensures refused { D.honest disk.old → IfErr result (UpgradeRefusedFor (D.size disk.old) (D.current disk.old)) }
     ensures not_a_spool { D.honest disk.old → IsNoSpool (D.size disk.old) (D.current disk.old)
         → RefusesUpgradeAs result (UpgradeError.Open Fault.NotASpool) }
@@ -123,13 +123,13 @@ pub fn upgrade<D: Disk>(alloc: Global, disk: &mut D) -> Result<(), UpgradeError>
     ensures damaged { D.honest disk.old → IsOldDamaged (D.size disk.old) (D.current disk.old)
         → RefusesUpgradeAs result (UpgradeError.Open Fault.Damaged) }
 
-    // A refusal leaves what a read shows, in the version that it was.
+    // An error leaves what a read gives, in the old version.
     ensures stays { D.honest disk.old → (v : View) → IsValid v → IsViewOf (D.current disk.old) v
         → 4096 * all_pages v.blocks ≤ D.size disk.old
         → IfErr result (λ e. (e ≡ UpgradeError.Open Fault.DiskFault → ⊥)
         → Rests v (D.current disk.new) (D.unsynced disk.new)) }
 
-    // A refusal of a spool of which no journal is to be replayed has written nothing, whatever is on the disk.
+    // An error writes nothing if no journal has to be replayed, whatever is on the disk.
     ensures unwritten { D.honest disk.old → (NeedsReplay (D.size disk.old) (D.current disk.old) → ⊥)
         → IfErr result (λ e. (e ≡ UpgradeError.Open Fault.DiskFault → ⊥)
         → Lasts D.Disk disk.old disk.new (IsImage (D.current disk.old) (D.unsynced disk.old))) }
@@ -137,16 +137,16 @@ pub fn upgrade<D: Disk>(alloc: Global, disk: &mut D) -> Result<(), UpgradeError>
         → IfErr result (λ e. (e ≡ UpgradeError.Open Fault.DiskFault → ⊥)
         → Keeps (D.current disk.old) (D.current disk.new) (D.unsynced disk.old) (D.unsynced disk.new)) }
 
-    // A crash during it leaves what it might have left before, or the same in the old version or in version 2.
+    // A crash leaves an image of before, or the same view in the old version or in version 2.
     ensures lasts { D.honest disk.old → (v : View) → IsValid v → IsViewOf (D.current disk.old) v
         → 4096 * all_pages v.blocks ≤ D.size disk.old → Lasts D.Disk disk.old disk.new (λ image.
         IsImage (D.current disk.old) (D.unsynced disk.old) image ⊎ IsViewOf image v ⊎ IsViewOf image (upgraded v)) }
 
-    // And so it leaves what it might have left before, or what shows the same uploads and so many blocks.
+    // So each crash image is one possible before, or shows the same uploads and block count.
     ensures crash { (n : ℕ) (m : Store) → IsSpool D.Disk disk.old n m
         → Lasts D.Disk disk.old disk.new (LeftOrShows D.Disk disk.old n m) }
 
-    // And after it every image shows them, unless the disk failed.
+    // Afterwards every crash image shows them, unless there was a disk fault.
     ensures shows { (n : ℕ) (m : Store) → IsSpool D.Disk disk.old n m
         → (result ≡ Err (UpgradeError.Open Fault.DiskFault) → ⊥) → AllShow D.Disk disk.new n m }
 {

@@ -77,7 +77,7 @@ pub still_upto : (bytes current : ℕ → ℕ) {unsynced : ℕ → Type 0} → S
 unfolding over
 still_upto bytes current still p = still.reads p
 
--- what the head says is what the disk says
+-- the count and the numbers in a head that was read are those on the disk
 pub head_count : (bytes : ℕ → ℕ) (head : List ℕ) → HeadOf bytes head → word (byte_of head) 0 ≡ count bytes
 head_count bytes head here =
     word_same (byte_of head) bytes 0 8192

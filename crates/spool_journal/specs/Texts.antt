@@ -1,43 +1,43 @@
--- The texts that an image shows.
+-- The texts in an image.
 use Rattle.std.specs.Prelude.{◌≡◌, ℕ, zero, suc, ◌+◌, ◌*◌, ◌/◌, ◌==◌, ◌&&◌, ◌++◌, if◌then◌else◌, List, [], ◌∷◌, Bool}
 use Rattle.std.specs.Prelude.{false, Option, None, Some, get_or, take}
 use Rattle.spool_disk.specs.Disk.{span}
 use Rattle.spool_journal.specs.Image.{InForm, count, number, overlaid}
 
--- the row says that the slot owns the block at this ordinal
+-- By its row, the slot owns the block at this ordinal.
 unfoldable pub owns : ℕ → ℕ → Option (ℕ × ℕ) → Bool
 owns slot ordinal None = false
 owns slot ordinal (Some (s, o)) = (s == slot) && (o == ordinal)
 
--- the first block from b on that is the slot's at this ordinal
+-- The first block from b on that the slot owns at this ordinal.
 unfoldable pub block_at : ℕ → ℕ → List (Option (ℕ × ℕ)) → ℕ → Option ℕ
 block_at slot ordinal [] b = None
 block_at slot ordinal (row ∷ rows) b = if owns slot ordinal row then Some b else block_at slot ordinal rows (b + 1)
 
--- its bytes; the text blocks begin at a page
+-- The block's bytes. The text blocks begin at page `first`.
 unfoldable pub block_bytes : (ℕ → ℕ) → ℕ → Option ℕ → List ℕ
 block_bytes image first None = []
 block_bytes image first (Some b) = span image (4096 * (first + b)) 4096
 
--- the slot's next n blocks, joined by ordinal
+-- The slot's next n blocks, joined by ordinal.
 unfoldable pub joined : (ℕ → ℕ) → ℕ → List (Option (ℕ × ℕ)) → ℕ → ℕ → ℕ → List ℕ
 joined image first rows slot ordinal zero = []
 joined image first rows slot ordinal (suc n) =
     block_bytes image first (block_at slot ordinal rows 0) ++ joined image first rows slot (ordinal + 1) n
 
--- the slot's text of this length
+-- The slot's text of this length.
 abbrev pub text_shown : (ℕ → ℕ) → ℕ → List (Option (ℕ × ℕ)) → ℕ → ℕ → List ℕ
 text_shown image first rows slot len = take len (joined image first rows slot 0 ((len + 4095) / 4096))
 
--- the image, with a page as it was
+-- The image with one page as it was.
 abbrev pub aside : ℕ → (ℕ → ℕ) → (ℕ → ℕ) → ℕ → ℕ
 aside page was image p = if page == p / 4096 then was p else image p
 
--- two images that agree but for a page
+-- The two images agree outside the page.
 abbrev pub SameBut : ℕ → (ℕ → ℕ) → (ℕ → ℕ) → Type 0
 SameBut page a b = (p : ℕ) → (page ≡ p / 4096 → ⊥) → a p ≡ b p
 
--- a page of text that no row owns changes no text, and no page of text changes what is read outside it
+-- A page of text that no row owns is part of no text, and no page of text affects what is read elsewhere.
 pub record Frame (j first block : ℕ) (a b : ℕ → ℕ) : Type 0 where
   pub texts : (rows : List (Option (ℕ × ℕ))) (slot len : ℕ) → get_or rows block None ≡ None
       → text_shown a first rows slot len ≡ text_shown b first rows slot len

@@ -1,4 +1,4 @@
-//! A commit: all given pages or none.
+//! Commits: all of the given pages change, or none.
 ghost use Rattle.std.specs.Prelude.{◌≡◌, ◌⊎◌, ◌≤◌, ◌<◌, ◌*◌, ◌+◌, ◌↔◌, ℕ, length, IsErr, IsOk, OnOk};
 ghost use Rattle.spool_disk.specs.Disk.{Counts};
 ghost use Rattle.spool_disk.specs.Views.{Lasts};
@@ -11,7 +11,7 @@ use crate::syncs::sync_places;
 use crate::{Layout, PAGE, Pages};
 use spool_disk::{Disk, DiskFault};
 
-// Puts the journal's pages into their places, and closes the gate.
+// Writes the pages to their places, and closes the gate.
 fn finish<D: Disk>(disk: &mut D, items: &[(u32, [u8; PAGE])]) -> Result<(), DiskFault>
     requires gate { 8192 ≤ D.size disk.old }
     requires room { (k : ℕ) → k < length items.now → 4096 * (page_number items.now k + 1) ≤ D.size disk.old }
@@ -30,7 +30,7 @@ fn finish<D: Disk>(disk: &mut D, items: &[(u32, [u8; PAGE])]) -> Result<(), Disk
     close_gate(disk)
 }
 
-// Changes these pages, at least one.
+// Changes these pages, of which there is at least one.
 fn commit_items<D: Disk>(
     disk: &mut D,
     journal: u32,
@@ -59,9 +59,13 @@ fn commit_items<D: Disk>(
     finish(disk, items)
 }
 
-/// Changes the given pages, all or none, and syncs what was written before. The gate is closed, and the metadata is
-/// synced, as Ok of `recover` and of `commit` leave it. Of no pages it makes no call of the disk, and so makes nothing
-/// durable. It takes no memory.
+/// Changes the given pages, all or none, and makes all earlier writes durable, in four syncs. The gate has to be closed
+/// and the metadata synced, as after an `Ok` of `recover` or `commit`. Without pages it makes no call of the disk, so
+/// nothing becomes durable. It allocates nothing.
+///
+/// # Errors
+///
+/// `DiskFault`.
 pub fn commit<D: Disk>(disk: &mut D, layout: &Layout, pages: &Pages) -> Result<(), DiskFault>
     requires room { 4096 * all_pages layout.now ≤ D.size disk.old }
     requires area { InArea (journal_pages layout.now) pages.now }
@@ -71,17 +75,17 @@ pub fn commit<D: Disk>(disk: &mut D, layout: &Layout, pages: &Pages) -> Result<(
     ensures nothing { length pages.now ≡ 0 → (disk.new ≡ disk.old) × IsOk result }
     ensures ascends { Ascends pages.now }
 
-    // Outside gate and journal every image then has exactly these pages changed, and all that a read gave.
+    // Every crash image then has exactly these pages changed, except for the gate and the journal.
     ensures done { D.honest disk.old → Idle (journal_pages layout.now) (D.current disk.old) (D.unsynced disk.old)
         → 1 ≤ length pages.now → OnOk result
         (Settled (journal_pages layout.now) (laid pages.now (D.current disk.old)) (D.current disk.new)
         (D.unsynced disk.new)) }
 
-    // And so it may be called again.
+    // The next commit may follow.
     ensures idle { D.honest disk.old → Idle (journal_pages layout.now) (D.current disk.old) (D.unsynced disk.old)
         → OnOk result (Idle (journal_pages layout.now) (D.current disk.new) (D.unsynced disk.new)) }
 
-    // A crash during it leaves all old pages, or all new ones with all that a read gave.
+    // A crash during the commit leaves all old pages, or all new ones with everything that a read gave.
     ensures lasts { D.honest disk.old → Idle (journal_pages layout.now) (D.current disk.old) (D.unsynced disk.old)
         → Lasts D.Disk disk.old disk.new
         (λ image. IsBefore (journal_pages layout.now) (D.current disk.old) (D.unsynced disk.old) image ⊎ ReadsAs

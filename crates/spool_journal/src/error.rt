@@ -1,16 +1,16 @@
-//! Why a disk was not made whole.
+//! The errors of a recovery.
 ghost use Rattle.std.specs.Prelude.{◌≡◌};
 
 use spool_disk::DiskFault;
 use std::error::Error;
 use std::fmt;
 
-/// Why `recover` did not make a disk whole.
+/// Why `recover` failed.
 #[derive(Clone, Copy, Debug, PartialEq, Eq)]
 pub enum RecoverError {
-    /// The disk failed in this call.
+    /// A disk fault.
     DiskFault,
-    /// The gate is open, and the journal head is out of form.
+    /// The gate is open and the journal's head is invalid.
     Damaged,
 }
 

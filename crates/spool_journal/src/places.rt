@@ -1,4 +1,4 @@
-//! The gate opens, the pages go to their places, and the gate closes.
+//! The second half of a commit: the gate opens, the pages are written to their places, and the gate closes.
 ghost use Rattle.std.specs.Prelude.{◌≡◌, ◌⊎◌, ◌≤◌, ◌<◌, ◌*◌, ◌+◌, ◌↔◌, ℕ, List, length, IsErr, OnOk};
 ghost use Rattle.spool_disk.specs.Disk.{Counts};
 ghost use Rattle.spool_disk.specs.Views.{Lasts};
@@ -8,7 +8,7 @@ ghost use Rattle.spool_journal.specs.Phases.{IsBefore, ReadsAs, Ready, Opened, M
 use crate::PAGE;
 use spool_disk::{Disk, DiskFault};
 
-/// Opens the gate, and syncs.
+/// Opens the gate and syncs. From here on the commit is durable.
 pub(crate) fn open_gate<D: Disk>(disk: &mut D) -> Result<(), DiskFault>
     requires { 8192 ≤ D.size disk.old }
     ensures size { D.size disk.new ≡ D.size disk.old }
@@ -68,7 +68,7 @@ pub(crate) fn place_pages<D: Disk>(
     Ok(())
 }
 
-/// Closes the gate, and syncs.
+/// Closes the gate and syncs.
 pub(crate) fn close_gate<D: Disk>(disk: &mut D) -> Result<(), DiskFault>
     requires { 8192 ≤ D.size disk.old }
     ensures size { D.size disk.new ≡ D.size disk.old }

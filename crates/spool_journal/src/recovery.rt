@@ -1,4 +1,4 @@
-//! What a crash left is made whole again. A recovery may crash too.
+//! Recovery after a crash. It may crash too and be done again.
 ghost use Rattle.std.specs.Prelude.{◌≡◌, ◌⊎◌, ◌≤◌, ◌<◌, ◌*◌, ◌+◌, ◌↔◌, ℕ, IsErr, IfOk, OnOk, ◌==◌, true, false};
 ghost use Rattle.std.specs.Prelude.{Err};
 ghost use Rattle.spool_disk.specs.Disk.{IsImage, Counts};
@@ -13,7 +13,7 @@ use crate::syncs::sync_places;
 use crate::{Layout, PAGE, RecoverError};
 use spool_disk::{Disk, DiskFault};
 
-// What a read gives stands synced after it.
+// Syncs, so that what a read gives can't change any more.
 fn settle<D: Disk>(disk: &mut D) -> Result<(), DiskFault>
     ensures size { D.size disk.new ≡ D.size disk.old }
     ensures honest { D.honest disk.old ↔ D.honest disk.new }
@@ -44,7 +44,7 @@ fn is_open<D: Disk>(disk: &mut D) -> Result<bool, DiskFault>
     Ok(gate[0] == 165)
 }
 
-// Reads the journal head.
+// Reads the journal's head.
 fn read_head<D: Disk>(disk: &mut D, head: &mut [u8; PAGE]) -> Result<(), DiskFault>
     requires { 12288 ≤ D.size disk.old }
     ensures size { D.size disk.new ≡ D.size disk.old }
@@ -60,7 +60,7 @@ fn read_head<D: Disk>(disk: &mut D, head: &mut [u8; PAGE]) -> Result<(), DiskFau
     disk.read(8192, head)
 }
 
-// The number in four bytes.
+// The number in four bytes, the highest first.
 #[tactic(auto, unfolding(crate::specs::Image::word))]
 fn get_word(head: &[u8; PAGE], at: usize) -> u32
     requires { at + 4 ≤ 4096 }
@@ -72,7 +72,7 @@ fn get_word(head: &[u8; PAGE], at: usize) -> u32
         + head[at + 3] as u32
 }
 
-// Whether the head of a journal is in form.
+// Whether the journal's head is valid.
 fn is_in_form(head: &[u8; PAGE], journal: u32) -> bool
     requires { journal ≤ 385 }
     ensures yes { result ≡ true
@@ -145,7 +145,7 @@ fn replay<D: Disk>(disk: &mut D, head: &[u8; PAGE], journal: u32) -> Result<(), 
     Ok(())
 }
 
-// Replays the journal after the open gate, and closes it.
+// Copies the journal's pages to their places, and closes the gate.
 fn replay_all<D: Disk>(disk: &mut D, head: &[u8; PAGE], journal: u32) -> Result<(), DiskFault>
     requires few { journal ≤ 385 }
     requires form { InForm journal (word (byte_of head.now) 0) (λ k. word (byte_of head.now) (4 + 4 * k)) }
@@ -165,7 +165,7 @@ fn replay_all<D: Disk>(disk: &mut D, head: &[u8; PAGE], journal: u32) -> Result<
     close_gate(disk)
 }
 
-// Replays the journal that an open gate shows.
+// Replays the journal of an open gate.
 fn mend<D: Disk>(disk: &mut D, journal: u32) -> Result<(), RecoverError>
     requires few { journal ≤ 385 }
     requires room { 4096 * area_end journal ≤ D.size disk.old }
@@ -192,26 +192,29 @@ fn mend<D: Disk>(disk: &mut D, journal: u32) -> Result<(), RecoverError>
     Ok(())
 }
 
-/// Makes whole what a crash left: where the gate is open, it puts the journal's pages into their places, syncs, and
-/// closes the gate. `Damaged` where the gate is open and the journal head has a count that is not 1 to J, or page
-/// numbers that do not ascend or lie outside the metadata; then no byte was written. It takes no memory, and may be
-/// tried again after a fault.
+/// Recovers a disk after a crash: if the gate is open, the journal's pages are written to their places and synced, and
+/// the gate is closed. It allocates nothing and may be tried again after a fault.
+///
+/// # Errors
+///
+/// `DiskFault`. `Damaged` if the gate is open and the journal's head has a count other than 1 to J, or page numbers
+/// that don't ascend or lie outside the metadata; no byte was written then.
 pub fn recover<D: Disk>(disk: &mut D, layout: &Layout) -> Result<(), RecoverError>
     requires { 4096 * all_pages layout.now ≤ D.size disk.old }
     ensures size { D.size disk.new ≡ D.size disk.old }
     ensures honest { D.honest disk.old ↔ D.honest disk.new }
     ensures counts { Counts (result ≡ Err RecoverError.DiskFault) (D.failures disk.old) (D.failures disk.new) }
 
-    // Every image then is, outside gate and journal, what a plain reading gave.
+    // Every crash image then is what a plain reading gave, except for the gate and the journal.
     ensures settled { D.honest disk.old → OnOk result
         (Settled (journal_pages layout.now) (overlaid (D.current disk.old)) (D.current disk.new)
         (D.unsynced disk.new)) }
 
-    // And so a commit may be made.
+    // A commit may follow.
     ensures idle { D.honest disk.old → OnOk result
         (Idle (journal_pages layout.now) (D.current disk.new) (D.unsynced disk.new)) }
 
-    // It refuses exactly a journal head after an open gate that is out of form.
+    // `Damaged` is answered exactly for an open gate with an invalid head.
     ensures form { D.honest disk.old → OnOk result
         (D.current disk.old 4096 ≡ 165 → InForm (journal_pages layout.now) (count (D.current disk.old))
         (number (D.current disk.old))) }
@@ -219,12 +222,12 @@ pub fn recover<D: Disk>(disk: &mut D, layout: &Layout) -> Result<(), RecoverErro
         → (D.current disk.old 4096 ≡ 165) × (InForm (journal_pages layout.now) (count (D.current disk.old))
         (number (D.current disk.old)) → ⊥) }
 
-    // A crash during it leaves what it might have left before, or what reads the same.
+    // A crash during the recovery leaves an image of before, or one that reads the same.
     ensures lasts { D.honest disk.old → Lasts D.Disk disk.old disk.new
         (λ image. IsImage (D.current disk.old) (D.unsynced disk.old) image ⊎ ReadsAs (journal_pages layout.now) image
         (overlaid (D.current disk.old))) }
 
-    // Where the gate is closed it writes nothing: every image is one from before, and so is what a read gives.
+    // With a closed gate nothing is written: every crash image is one of before, and a read gives the same.
     ensures unwritten { D.honest disk.old → (D.current disk.old 4096 ≡ 165 → ⊥)
         → Lasts D.Disk disk.old disk.new (IsImage (D.current disk.old) (D.unsynced disk.old)) }
     ensures same { D.honest disk.old → (D.current disk.old 4096 ≡ 165 → ⊥) → (result ≡ Err RecoverError.DiskFault → ⊥)

@@ -1,4 +1,4 @@
-//! The journal is written while the gate is closed.
+//! The first half of a commit: the journal is written while the gate is closed.
 ghost use Rattle.std.specs.Prelude.{◌≡◌, ◌≤◌, ◌<◌, ◌*◌, ◌+◌, ◌↔◌, ℕ, length, IsErr, OnOk};
 ghost use Rattle.spool_disk.specs.Disk.{Counts, Apart};
 ghost use Rattle.spool_disk.specs.Views.{Lasts};
@@ -8,7 +8,7 @@ ghost use Rattle.spool_journal.specs.Phases.{Idle, IsBefore, Staging, Copied, Re
 use crate::PAGE;
 use spool_disk::{Disk, DiskFault};
 
-// Writes each page's bytes to its journal page.
+// Writes each page to its journal page.
 fn stage_pages<D: Disk>(disk: &mut D, items: &[(u32, [u8; PAGE])]) -> Result<(), DiskFault>
     requires few { length items.now ≤ 385 }
     requires room { 4096 * (3 + length items.now) ≤ D.size disk.old }
@@ -28,7 +28,7 @@ fn stage_pages<D: Disk>(disk: &mut D, items: &[(u32, [u8; PAGE])]) -> Result<(),
     Ok(())
 }
 
-// Puts a number in four bytes.
+// Stores a number in four bytes, the highest first.
 #[tactic(auto, unfolding(crate::specs::Image::word))]
 fn put_word(head: &mut [u8; PAGE], at: usize, value: u32)
     requires { at + 4 ≤ 4096 }
@@ -41,7 +41,7 @@ fn put_word(head: &mut [u8; PAGE], at: usize, value: u32)
     head[at + 3] = (value % 256) as u8;
 }
 
-// The journal head for these pages.
+// The journal's head for these pages.
 fn head_of(items: &[(u32, [u8; PAGE])]) -> [u8; PAGE]
     requires { length items.now ≤ 385 }
     ensures count { word (byte_of result) 0 ≡ length items.now }
@@ -55,7 +55,7 @@ fn head_of(items: &[(u32, [u8; PAGE])]) -> [u8; PAGE]
     head
 }
 
-// Writes the journal head, and syncs.
+// Writes the journal's head, and syncs.
 fn write_head<D: Disk>(disk: &mut D, head: &[u8; PAGE]) -> Result<(), DiskFault>
     requires { 12288 ≤ D.size disk.old }
     ensures size { D.size disk.new ≡ D.size disk.old }
@@ -74,7 +74,7 @@ fn write_head<D: Disk>(disk: &mut D, head: &[u8; PAGE]) -> Result<(), DiskFault>
     disk.sync()
 }
 
-/// Writes the pages and the head of the journal, and syncs.
+/// Writes the journal's pages and its head, and syncs.
 pub(crate) fn stage<D: Disk>(disk: &mut D, items: &[(u32, [u8; PAGE])]) -> Result<(), DiskFault>
     requires some { 1 ≤ length items.now }
     requires few { length items.now ≤ 385 }

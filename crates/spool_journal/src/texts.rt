@@ -1,4 +1,4 @@
-//! A block's bytes are written.
+//! Writing text blocks.
 ghost use Rattle.std.specs.Prelude.{◌≡◌, ◌≤◌, ◌*◌, ◌+◌, ◌↔◌, ℕ, length, IsErr, IsOk};
 ghost use Rattle.spool_disk.specs.Disk.{Counts, IsImage, Writes};
 ghost use Rattle.spool_disk.specs.Views.{Lasts};
@@ -9,7 +9,11 @@ ghost use Rattle.spool_journal.specs.Texts.{aside, Frame};
 use crate::Layout;
 use spool_disk::{Disk, DiskFault};
 
-/// Writes bytes into a text block, from an offset on, and does not sync.
+/// Writes bytes into a text block, from `offset` on, without a sync.
+///
+/// # Errors
+///
+/// `DiskFault`.
 pub fn write_block<D: Disk>(
     disk: &mut D,
     layout: &Layout,
@@ -28,7 +32,7 @@ pub fn write_block<D: Disk>(
     ensures idle { D.honest disk.old → Idle (journal_pages layout.now) (D.current disk.old) (D.unsynced disk.old)
         → Idle (journal_pages layout.now) (D.current disk.new) (D.unsynced disk.new) }
 
-    // But for the block, every image is one from before.
+    // Every crash image is one of before, except for the block.
     ensures image { D.honest disk.old → (image : ℕ → ℕ) → IsImage (D.current disk.new) (D.unsynced disk.new) image
         → IsImage (D.current disk.old) (D.unsynced disk.old)
         (aside (text_page layout.now + block) (D.current disk.old) image) }
@@ -36,7 +40,7 @@ pub fn write_block<D: Disk>(
         (λ image. IsImage (D.current disk.old) (D.unsynced disk.old)
         (aside (text_page layout.now + block) (D.current disk.old) image)) }
 
-    // And where no row owns the block, the two show the same.
+    // If no row owns the block, both images show the same texts.
     ensures frame { (image was : ℕ → ℕ) → Frame (journal_pages layout.now) (text_page layout.now) block
         image (aside (text_page layout.now + block) was image) }
 {

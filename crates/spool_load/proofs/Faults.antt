@@ -1,4 +1,4 @@
--- A refusal to read a spool, told as one to open it.
+-- The error of reading a spool as an error of opening it.
 use Rattle.std.proofs.Common.{◌≡◌, ℕ, Err, ap, refl}
 use Rattle.std.specs.Prelude.{IsErrOf}
 use Rattle.spool_disk.specs.Disk.{Counts}

@@ -112,7 +112,7 @@ keeps_image keeps is = record { same = λ p is_synced. is.same p (λ l. is_synce
 
 -- A READ AFTER A RECOVERY
 
--- what was recovered says the view that was on the disk
+-- the bytes after a recovery encode the view that was on the disk
 pub recovered_says : {was current : ℕ → ℕ} {unsynced : ℕ → Type 0} (n : ℕ) (v : View) → n ≡ v.blocks
     → Settled (journal_pages n) (overlaid was) current unsynced → IsViewOf was v → Says current v
 recovered_says {was = was} {current = current} {unsynced = unsynced} n v same settled is =

@@ -49,7 +49,7 @@ number_stands size current n says =
     } in
     stands_beyond magic (to_be_bytes w32 n) 8 4 refl (omega arith) whole
 
--- a disk says one number of blocks
+-- a disk encodes at most one number of blocks
 pub says_one : (size : ℕ) (current : ℕ → ℕ) (n m : ℕ) → SaysBlocks size current n → SaysBlocks size current m → n ≡ m
 says_one size current n m a b =
     number_one current 8 n m (omega (arith, a.most)) (omega (arith, b.most)) (number_stands size current n a)
@@ -66,7 +66,7 @@ pub known_stands : (f : ℕ → ℕ) (at size : ℕ) (version : Known) (next : �
 known_stands f at size version next room stands =
     record { version = version; said = version_stands f at size version next room stands }
 
--- a place says one version
+-- a place encodes at most one version
 pub version_one : (f : ℕ → ℕ) (at : ℕ) (a b : Known) → SaysVersion f at a → SaysVersion f at b
     → version_number a ≡ version_number b
 version_one f at a b = number_one f at (version_number a) (version_number b) (small a) (small b)
@@ -125,7 +125,7 @@ module _ (n : ℕ) (old current : ℕ → ℕ) (unsynced : ℕ
       → Stands current (state_place n) size xs
   state_back size xs stands = record { each = λ i lt. state_same i ∙ stands.each i lt }
 
-  -- a state page that says no version that is known is refused
+  -- a state page without a known version is refused
   pub unrestored : (said : Option Found) → MatchOption said (SaysKnownVersion current (state_place n) → ⊥)
       (StandsFound current) → IfErr (ok_or said Version) (RefusedAt n old)
   unrestored (Some found) told = tt
@@ -200,7 +200,7 @@ found_back size found old current unsynced settled is =
       rest = (λ blank. back 4096 (is.state.rest.0 blank), λ there. is.state.rest.1 (on 4096 there));
     }
 
--- what the state page said, where a version that isn't known is refused
+-- what was found on the state page; an unknown version is refused
 pub restored_layout : (n : ℕ) (said : Option Found) → IfSome said (λ found. found.layout ≡ n)
     → IfOk (ok_or said Version) (λ found. found.layout ≡ n)
 restored_layout n (Some found) same = same

@@ -1,4 +1,4 @@
--- Why a spool that was found is not read.
+-- The errors of reading a spool.
 use Rattle.std.specs.Prelude.{◌≡◌, Result, Ok, Err}
 use Rattle.spool_kept.specs.declared.error.CheckError.TheVariants.{Damaged, NoMemory}
 use Rattle.spool_kept.specs.declared.error.OpenFault.{OpenFault}
@@ -6,18 +6,18 @@ use Rattle.spool_kept.specs.declared.error.OpenFault.TheVariants as opens
 use Rattle.spool_load.specs.declared.error.LoadError.{LoadError}
 use Rattle.spool_load.specs.declared.error.LoadError.TheVariants.{DiskFault, Check}
 
--- as a refusal to open it
+-- The error of an opening.
 abbrev pub load_fault : LoadError → OpenFault
 load_fault DiskFault = opens.DiskFault
 load_fault (Check Damaged) = opens.Damaged
 load_fault (Check NoMemory) = opens.NoMemory
 
--- for memory or by the disk, whatever is on the disk
+-- An error that doesn't depend on the disk's bytes.
 abbrev pub TellsNothing : LoadError → Type 0
 TellsNothing DiskFault = Unit {0}
 TellsNothing (Check e) = e ≡ NoMemory
 
--- it is read, or refused by the disk or out of memory
+-- The result: it is read, or refused when out of memory or at a disk fault.
 abbrev pub Loads : {T : Type 0} → Result T LoadError → (T → Type 0) → Type 0
 Loads (Ok t) done = done t
 Loads (Err e) done = TellsNothing e

@@ -1,4 +1,4 @@
--- What is kept of a spool is a valid view that its bytes say.
+-- What was read is a valid view of the bytes.
 use Rattle.std.specs.Prelude.{◌≡◌, ◌↔◌, ℕ, ◌*◌, ◌≤◌, IsTrue}
 use Rattle.spool_journal.specs.Image.{all_pages, overlaid}
 use Rattle.spool_kept.specs.Holding.{Holding}
@@ -10,30 +10,30 @@ use Rattle.spool_load.specs.Reads.{SaysBlocks}
 use Rattle.spool_load.specs.Refusals.{HasJournal}
 use Rattle.spool_load.specs.declared.finding.Found.{Found}
 
--- the state page says this version and this next number, and whether its rest is zeros
+-- The fields of the state page, and whether its rest is zeros.
 pub record StandsFound (bytes : ℕ → ℕ) (found : Found) : Type 0 where
   pub fields : Stands bytes (state_place found.layout) 12 (state_page found.version found.next)
   pub rest : IsTrue found.is_rest_blank ↔ Stands bytes (state_place found.layout) 4096
       (state_page found.version found.next)
 
--- the disk begins as a spool of so many blocks does, its journal is in form, and the state page is read plainly
+-- The disk begins as a spool of this layout, its journal is valid, and the state page was read plainly.
 pub record FoundOn (size : ℕ) (current : ℕ → ℕ) (found : Found) : Type 0 where
   pub says : SaysBlocks size current found.layout
   pub journal : HasJournal found.layout current
   pub state : StandsFound (overlaid current) found
 
--- this version and this next number were found, and zeros after them
+-- This version and this next number were found, with zeros after them.
 pub record SaysState (said : Version) (number : ℕ) (found : Found) : Type 0 where
   pub version : found.version ≡ said
   pub next : found.next ≡ number
   pub rest : IsTrue found.is_rest_blank
 
--- a spool of this view was found
+-- A spool of this view was found.
 pub record IsFoundOf (v : View) (found : Found) : Type 0 where
   pub blocks : found.layout ≡ v.blocks
   pub state : SaysState v.version v.next found
 
--- the bytes say it, of so many blocks
+-- What is in memory is a valid view of these bytes, with n blocks.
 pub record LoadedFrom (bytes : ℕ → ℕ) (n : ℕ) (kept : Holding) : Type 0 where
   pub view : View
   pub valid : IsValid view
@@ -41,7 +41,7 @@ pub record LoadedFrom (bytes : ℕ → ℕ) (n : ℕ) (kept : Holding) : Type 0 
   pub says : Says bytes view
   pub keeps : KeepsAlone kept view
 
--- a plain reading gives it, and the disk has room for its blocks
+-- What is in memory is a valid view by the plain reading, and the disk has room for its blocks.
 pub record OpenedFrom (size : ℕ) (current : ℕ → ℕ) (kept : Holding) : Type 0 where
   pub view : View
   pub valid : IsValid view

@@ -1,4 +1,4 @@
--- Calls that read and write nothing.
+-- Calls that only read, and what they read.
 use Rattle.std.specs.Prelude.{◌≡◌, ℕ, ◌+◌, ◌*◌, ◌<◌, ◌≤◌, List, Option, None, length, get_or}
 use Rattle.spool_disk.specs.Views.{Lasts}
 use Rattle.spool_disk.specs.declared.disk.Disk.{Ghosts}
@@ -12,7 +12,7 @@ use Rattle.spool_pages.specs.View.{SlotRecord, Stands, first_page, slot_bytes, r
 use Rattle.spool_pages.specs.View.{index_place, slot_place, row_place}
 use Rattle.spool_pages.specs.declared.version.Version.{Version}
 
--- a disk that held these bytes, all synced, still does, and so does each image of a crash in between
+-- A disk with these bytes, all synced, still has them, and so has every crash image in between.
 pub record OnlyReads {D : Type 0} (disk : Ghosts D) (old new : D) : Type 0 where
   pub size : disk.size new ≡ disk.size old
   pub honest : disk.honest old → disk.honest new
@@ -22,50 +22,50 @@ pub record OnlyReads {D : Type 0} (disk : Ghosts D) (old new : D) : Type 0 where
   pub lasts : disk.honest old → (bytes : ℕ → ℕ) → Still bytes (disk.current old) (disk.unsynced old)
       → Lasts disk old new (λ image. (p : ℕ) → image p ≡ bytes p)
 
--- the disk begins as a spool of so many text blocks does, and has room for it
+-- The disk begins as a spool of this many text blocks, and has room for it.
 pub record SaysBlocks (size : ℕ) (current : ℕ → ℕ) (blocks : ℕ) : Type 0 where
   pub least : 16 ≤ blocks
   pub most : blocks ≤ 65536
   pub room : 4096 * all_pages blocks ≤ size
   pub prefix : (i : ℕ) → i < 12 → current i ≡ get_or (first_page blocks) i 0
 
--- and after it the gate is open: a journal is to be replayed
+-- Its gate is open, so a journal has to be replayed.
 pub record NeedsReplay (size : ℕ) (current : ℕ → ℕ) : Type 0 where
   pub blocks : ℕ
   pub says : SaysBlocks size current blocks
   pub gate : current 4096 ≡ 165
 
--- the buffer holds the bytes from a place on
+-- The buffer has the bytes from the place on.
 pub record IsReadAt (bytes : ℕ → ℕ) (place : ℕ) (buf : List ℕ) : Type 0 where
   pub each : (i : ℕ) → i < length buf → get_or buf i 0 ≡ bytes (place + i)
 
--- the list is the prefix of another
+-- The list is a prefix of another.
 pub record IsPrefixOf {A : Type 0} (whole prefix : List (Option A)) : Type 0 where
   pub few : length prefix ≤ length whole
   pub each : (k : ℕ) → k < length prefix → get_or prefix k None ≡ get_or whole k None
 
--- two lists agree below a place
+-- The two lists agree below `end`.
 pub record IsSameTo {A : Type 0} (end : ℕ) (whole list : List (Option A)) : Type 0 where
   pub each : (k : ℕ) → k < end → get_or list k None ≡ get_or whole k None
 
--- WHAT STANDS ON A SPOOL OF n BLOCKS
+-- The parts of a spool of n blocks.
 
--- the index area is that of the set
+-- The index area is that of the set.
 pub record StandsArea (bytes : ℕ → ℕ) (n : ℕ) (x : IndexSet) : Type 0 where
   pub valid : IsIndexSet x
   pub each : (i : ℕ) → i < 90112 → bytes (index_place n + i) ≡ area_byte x i
 
--- page 0 is that of a spool, and the index area is that of the set
+-- Page 0 is that of a spool, and the index area is that of the set.
 pub record StandFields (bytes : ℕ → ℕ) (n : ℕ) (x : IndexSet) : Type 0 where
   pub first : Stands bytes 0 4096 (first_page n)
   pub area : StandsArea bytes n x
 
--- the first of the slots stand by this version, each free or with a record that fits it
+-- The first slots have these records, or are free, in this version.
 pub record StandSlots (bytes : ℕ → ℕ) (n : ℕ) (version : Version) (slots : List (Option SlotRecord)) : Type 0 where
   pub each : (s : ℕ) → s < length slots → Stands bytes (slot_place n s) 2048
       (slot_bytes version (get_or slots s None))
   pub fit : (s : ℕ) → FitsSlotOf (get_or slots s None)
 
--- the rows of the blocks below the end stand, and zeros after the last one
+-- The blocks below `end` have these rows, with zeros after the last one.
 pub record StandRows (bytes : ℕ → ℕ) (n end : ℕ) (rows : List (Option (ℕ × ℕ))) : Type 0 where
   pub each : (b : ℕ) → b < end → Stands bytes (row_place n b) 8 (row_bytes (get_or rows b None))

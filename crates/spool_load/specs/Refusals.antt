@@ -1,5 +1,5 @@
--- Why a disk is not opened: it is no spool, a spool of a version that isn't known, or a damaged one. No two of these
--- hold, and none of a disk of which a plain reading gives a valid view.
+-- The reasons why a disk can't be opened: it isn't a spool, its version is unknown, or it is damaged. No two of these
+-- hold, and none holds if the plain reading gives a valid view.
 use Rattle.std.specs.Prelude.{◌≡◌, ℕ}
 use Rattle.std.specs.Int.{to_be_bytes, w32}
 use Rattle.spool_journal.specs.Image.{journal_pages, InForm, count, number, overlaid}
@@ -10,52 +10,52 @@ use Rattle.spool_pages.specs.View.{View, Stands, IsViewOf, state_place, version_
 use Rattle.spool_pages.specs.declared.version.Version.{Version as Known}
 use Rattle.spool_load.specs.Reads.{SaysBlocks}
 
--- where the gate is open, the journal's head is in form
+-- If the gate is open, the journal's head is valid.
 abbrev pub HasJournal : ℕ → (ℕ → ℕ) → Type 0
 HasJournal n current = current 4096 ≡ 165 → InForm (journal_pages n) (count current) (number current)
 
--- from the place on the number of this version stands
+-- The number of this version is at the place.
 abbrev pub SaysVersion : (ℕ → ℕ) → ℕ → Known → Type 0
 SaysVersion bytes place version = Stands bytes place 4 (to_be_bytes w32 (version_number version))
 
--- that of a version that is known
+-- The number of a known version is there.
 pub record SaysKnownVersion (bytes : ℕ → ℕ) (place : ℕ) : Type 0 where
   pub version : Known
   pub said : SaysVersion bytes place version
 
--- the state page of a spool of n blocks says this version
+-- The state page of a spool of n blocks has this version.
 abbrev pub NamesVersion : ℕ → (ℕ → ℕ) → Known → Type 0
 NamesVersion n bytes version = SaysVersion bytes (state_place n) version
 
--- it says a version that is known
+-- It has a known version.
 abbrev pub HasKnownVersion : ℕ → (ℕ → ℕ) → Type 0
 HasKnownVersion n bytes = SaysKnownVersion bytes (state_place n)
 
--- the disk begins as no spool does, or is too short for what it says
+-- The disk doesn't begin as a spool, or is too short for it.
 abbrev pub IsNoSpool : ℕ → (ℕ → ℕ) → Type 0
 IsNoSpool size current = (n : ℕ) → SaysBlocks size current n → ⊥
 
--- a spool whose journal is in form, and whose state page, read plainly, says no version that is known
+-- A spool whose journal is valid and whose version is unknown.
 pub record HasOtherVersion (size : ℕ) (current : ℕ → ℕ) : Type 0 where
   pub blocks : ℕ
   pub says : SaysBlocks size current blocks
   pub journal : HasJournal blocks current
   pub other : HasKnownVersion blocks (overlaid current) → ⊥
 
--- a spool of a known version unless its journal is out of form, of which a plain reading gives no valid view
+-- A spool without a valid view. Its version is known, unless its journal is invalid.
 pub record IsDamaged (size : ℕ) (current : ℕ → ℕ) : Type 0 where
   pub blocks : ℕ
   pub says : SaysBlocks size current blocks
   pub version : HasJournal blocks current → HasKnownVersion blocks (overlaid current)
   pub no_view : (v : View) → IsValid v → IsViewOf current v → v.blocks ≡ blocks → ⊥
 
--- a spool whose journal is out of form
+-- A spool whose journal is invalid.
 pub record HasBadJournal (size : ℕ) (current : ℕ → ℕ) : Type 0 where
   pub blocks : ℕ
   pub says : SaysBlocks size current blocks
   pub bad : HasJournal blocks current → ⊥
 
--- what a refusal to find it says of a disk that begins as a spool of n blocks
+-- The reason for an error, on a disk that begins as a spool of n blocks.
 abbrev pub RefusedAt : ℕ → (ℕ → ℕ) → OpenFault → Type 0
 RefusedAt n current NotASpool = ⊥
 RefusedAt n current Version = HasJournal n current × (HasKnownVersion n (overlaid current) → ⊥)
@@ -63,7 +63,7 @@ RefusedAt n current Damaged = HasJournal n current → ⊥
 RefusedAt n current NoMemory = ⊥
 RefusedAt n current DiskFault = Unit {0}
 
--- what a refusal to find a spool says of the disk
+-- The reason for an error of `find`.
 abbrev pub NotFoundFor : ℕ → (ℕ → ℕ) → OpenFault → Type 0
 NotFoundFor size current NotASpool = IsNoSpool size current
 NotFoundFor size current Version = HasOtherVersion size current
@@ -71,7 +71,7 @@ NotFoundFor size current Damaged = HasBadJournal size current
 NotFoundFor size current NoMemory = ⊥
 NotFoundFor size current DiskFault = Unit {0}
 
--- what a refusal says of the disk
+-- The reason for an error of `load`.
 abbrev pub RefusedFor : ℕ → (ℕ → ℕ) → OpenFault → Type 0
 RefusedFor size current NotASpool = IsNoSpool size current
 RefusedFor size current Version = HasOtherVersion size current

@@ -1,4 +1,4 @@
-//! What is read is checked: only what a spool may say passes.
+//! Checks of what was read from a spool.
 ghost use Rattle.std.specs.Prelude.{◌≡◌, ◌<◌, ◌↔◌};
 ghost use Rattle.std.specs.Prelude.{ℕ, IsTrue, true, false, Some, None, length, get_or};
 ghost use Rattle.enc_model.specs.Transcode.{Phase};
@@ -15,8 +15,8 @@ use spool_blocks::Row;
 use spool_kept::{KeptRecord, blocks_of, record_at};
 use upload_rules::{LENGTH_LIMIT, NUMBERS_END, Record, is_length};
 
-// Whether a transcoder may have come so far after so many bytes: it has ended exactly where the length is known and
-// all its bytes were accepted, and before a byte order mark is decided all accepted bytes are held.
+// Whether a transcoder may be in this state after so many accepted bytes. It is past the end exactly if the upload is
+// complete, and holds all accepted bytes until a byte order mark is decided.
 fn fits_progress(progress: Progress, accepted: u64, declared: Option<u64>) -> bool
     ensures { (p : Phase) → progress_of p ≡ progress → IsTrue result ↔ FitsPhase p accepted declared }
 {
@@ -27,7 +27,7 @@ fn fits_progress(progress: Progress, accepted: u64, declared: Option<u64>) -> bo
     }
 }
 
-// Whether the state is that of a transcoder that may stand after so many bytes.
+// Whether the state bytes are those of a transcoder after this many bytes.
 fn is_state_valid(record: &Record) -> bool
     ensures { IsTrue result ↔ HasState (said_of «record».now) }
 {
@@ -39,7 +39,7 @@ fn is_state_valid(record: &Record) -> bool
     }
 }
 
-// Whether a record's numbers and its state may be there.
+// Whether a record's numbers and state are valid.
 fn is_record_valid(record: &Record, next: u64) -> bool
     ensures { IsTrue result ↔ RecordPasses next (said_of «record».now) }
 {
@@ -50,7 +50,7 @@ fn is_record_valid(record: &Record, next: u64) -> bool
         && is_state_valid(record)
 }
 
-// Whether a slot is free, or its record is one that may be there.
+// Whether a slot is free or its record valid.
 fn is_valid_at(slots: &[Option<KeptRecord>], slot: usize, next: u64) -> bool
     requires { slot < length slots.now }
     ensures { IsTrue result ↔ ((r : SlotRecord) → get_or slots.now slot None ≡ Some r → RecordPasses next r) }
@@ -61,9 +61,9 @@ fn is_valid_at(slots: &[Option<KeptRecord>], slot: usize, next: u64) -> bool
     }
 }
 
-/// Whether the next number and all records may be there: numbers are below the next number, which is 1 to 10^18, the
-/// accepted bytes are no more than the declared length, which is at most 1,073,741,824, and no more than this where the
-/// length is unknown, and the state is that of a transcoder that has come so far.
+/// Whether the next number and all records are valid. The next number is 1 to 10^18, and all numbers are below it. An
+/// upload has at most its declared length of bytes, or 1,073,741,824 if that is unknown, and no length is above this.
+/// The state bytes are those of a transcoder after this many bytes.
 pub(crate) fn are_valid(slots: &[Option<KeptRecord>], next: u64) -> bool
     ensures { IsTrue result ↔ RecordsPass next slots.now }
 {
@@ -78,7 +78,7 @@ pub(crate) fn are_valid(slots: &[Option<KeptRecord>], next: u64) -> bool
     true
 }
 
-// Whether a row's slot is in use, and its ordinal below the number of blocks of the text.
+// Whether the row's slot is in use, and its ordinal below the number of the text's blocks.
 fn is_row_valid(slots: &[Option<KeptRecord>], row: Row) -> bool
     ensures valid { IsTrue result
         ↔ ((slot ordinal : ℕ) → row ≡ Some (slot, ordinal) → RowPasses slots.now slot ordinal) }
@@ -94,7 +94,7 @@ fn is_row_valid(slots: &[Option<KeptRecord>], row: Row) -> bool
     }
 }
 
-/// Whether each row's slot is in use, and its ordinal below the number of blocks of the text.
+/// Whether each row's slot is in use, and its ordinal below the number of the text's blocks.
 pub(crate) fn are_rows_valid(slots: &[Option<KeptRecord>], rows: &[Row]) -> bool
     requires { length slots.now ≡ 512 }
     ensures valid { IsTrue result ↔ RowsPass slots.now rows.now }

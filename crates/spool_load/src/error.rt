@@ -1,4 +1,4 @@
-//! Why a spool that was found is not read.
+//! The errors of reading a spool.
 ghost use Rattle.std.specs.Prelude.{◌≡◌};
 
 use spool_disk::DiskFault;
@@ -8,12 +8,12 @@ use std::alloc::AllocError;
 use std::error::Error;
 use std::fmt;
 
-/// Why a spool that was found is not read.
+/// Why a spool that was found can't be read.
 #[derive(Clone, Copy, Debug, PartialEq, Eq)]
 pub enum LoadError {
-    /// The disk failed in this call.
+    /// A disk fault.
     DiskFault,
-    /// What was read is not kept.
+    /// What was read fails a check, or there is no memory for it.
     Check(CheckError),
 }
 

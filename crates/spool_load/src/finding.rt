@@ -1,4 +1,4 @@
-//! A spool is found on a disk and made whole.
+//! Finding a spool on a disk, and recovering it.
 ghost use Rattle.std.specs.Prelude.{◌≡◌, ◌⊎◌, ◌≤◌, ◌<◌, ◌*◌, ◌^◌, ◌↔◌};
 ghost use Rattle.std.specs.Prelude.{ℕ, Err, IsErr, IfOk, IfErr, IfSome, IsNone, IsSomeAnd, IsTrue, MatchOption, get_or};
 ghost use Rattle.spool_disk.specs.Disk.{IsImage, Counts, Keeps};
@@ -20,12 +20,12 @@ use spool_journal::{Layout, PAGE, recover};
 use spool_kept::OpenFault;
 use spool_pages::{Version, blocks_said, is_blank_after_fields, state_place, version_and_next};
 
-/// A spool that was found on a disk and made whole.
+/// A spool that was found on a disk and recovered.
 #[derive(Drop)]
 pub struct Found {
-    /// How many text blocks it has, and where its pages are.
+    /// The layout, which the number of its text blocks gives.
     pub layout: Layout,
-    /// The version of its layout.
+    /// The version of its format.
     pub version: Version,
     /// The number of the next upload.
     pub next: u64,
@@ -51,7 +51,7 @@ fn read_prefix<D: Disk>(disk: &mut D) -> Result<[u8; 12], DiskFault>
     Ok(prefix)
 }
 
-// The layout that page 0 says, none where the disk is no spool.
+// The layout that page 0 gives; None if the disk isn't a spool.
 fn find_layout<D: Disk>(disk: &mut D) -> Result<Option<Layout>, DiskFault>
     ensures size { D.size disk.new ≡ D.size disk.old }
     ensures honest { D.honest disk.old ↔ D.honest disk.new }
@@ -80,7 +80,7 @@ fn find_layout<D: Disk>(disk: &mut D) -> Result<Option<Layout>, DiskFault>
     Ok(Some(layout))
 }
 
-// What the state page says, none where it says no version that is known.
+// What the state page gives; None if its version is unknown.
 fn found_in(layout: Layout, page: &[u8; PAGE]) -> Option<Found>
     ensures layout { IfSome result (λ found. found.layout ≡ layout) }
     ensures said { (version : Known) (next : ℕ) → next < 2 ^ 64 → IsPadded page.now (state_page version next)
@@ -99,7 +99,7 @@ fn found_in(layout: Layout, page: &[u8; PAGE]) -> Option<Found>
     })
 }
 
-// Reads the state page. None where it says no version that is known.
+// Reads the state page. None if its version is unknown.
 fn load_state<D: Disk>(disk: &mut D, layout: Layout) -> Result<Option<Found>, DiskFault>
     requires { 4096 * all_pages layout ≤ D.size disk.old }
     ensures reads { OnlyReads D.Disk disk.old disk.new }
@@ -117,7 +117,7 @@ fn load_state<D: Disk>(disk: &mut D, layout: Layout) -> Result<Option<Found>, Di
     Ok(found_in(layout, &page))
 }
 
-// Makes a spool whole, and looks at its version.
+// Recovers a spool and reads its version.
 fn restore<D: Disk>(disk: &mut D, layout: Layout) -> Result<Found, OpenFault>
     requires { 4096 * all_pages layout ≤ D.size disk.old }
     ensures size { D.size disk.new ≡ D.size disk.old }
@@ -144,39 +144,38 @@ fn restore<D: Disk>(disk: &mut D, layout: Layout) -> Result<Found, OpenFault>
     load_state(disk, layout)?.ok_or(OpenFault::Version)
 }
 
-/// Finds a spool and makes it whole. It may crash too, and be called again. It takes no memory.
+/// Finds a spool and recovers it. A crash during it does no harm: it may be called again. It allocates nothing.
 ///
 /// # Errors
 ///
-/// `NotASpool` where the first 12 bytes say none or the disk is shorter than its layout, then as `recover`, then
-/// `Version` where the state page says no version that is known; `DiskFault` where the disk failed.
+/// `NotASpool` if the first 12 bytes aren't a spool's or the disk is shorter than its layout; then those of `recover`;
+/// then `Version` if the version is unknown. `DiskFault` at a disk fault.
 pub fn find<D: Disk>(disk: &mut D) -> Result<Found, OpenFault>
     ensures size { D.size disk.new ≡ D.size disk.old }
     ensures honest { D.honest disk.old ↔ D.honest disk.new }
     ensures counts { Counts (result ≡ Err OpenFault.DiskFault) (D.failures disk.old) (D.failures disk.new) }
     ensures room { IfOk result (λ found. 4096 * all_pages found.layout ≤ D.size disk.old) }
 
-    // What a read shows is found, or the disk refuses it.
+    // If a read gives a valid spool, that one is found, unless there is a disk fault.
     ensures said { D.honest disk.old → (v : View) → IsValid v → IsViewOf (D.current disk.old) v
         → 4096 * all_pages v.blocks ≤ D.size disk.old → LoadsAs result (IsFoundOf v) }
 
-    // What is found is what a read shows, and each refusal has its reason.
+    // What is found is what a read gives, and each error has its reason.
     ensures found { D.honest disk.old → IfOk result (FoundOn (D.size disk.old) (D.current disk.old)) }
     ensures refused { D.honest disk.old → IfErr result (NotFoundFor (D.size disk.old) (D.current disk.old)) }
 
-    // And it stands on the disk, all of it synced, behind a closed gate.
+    // All of the disk is synced then, and the gate is closed.
     ensures settled { D.honest disk.old → IfOk result (λ found.
         Settled (journal_pages found.layout) (overlaid (D.current disk.old)) (D.current disk.new)
         (D.unsynced disk.new)) }
 
-    // A crash during it leaves what it might have left before, or what reads the same.
+    // A crash leaves an image of before, or one that reads the same.
     ensures lasts { D.honest disk.old → (v : View) → IsValid v → IsViewOf (D.current disk.old) v
         → 4096 * all_pages v.blocks ≤ D.size disk.old → Lasts D.Disk disk.old disk.new (λ image.
         IsImage (D.current disk.old) (D.unsynced disk.old) image
         ⊎ ReadsAs (journal_pages v.blocks) image (overlaid (D.current disk.old))) }
 
-    // Where no journal is to be replayed it writes nothing: every image is one from before, and so is what a read
-    // gives.
+    // Without a journal to replay nothing is written: every crash image is one of before, and a read gives the same.
     ensures unwritten { D.honest disk.old → (NeedsReplay (D.size disk.old) (D.current disk.old) → ⊥)
         → Lasts D.Disk disk.old disk.new (IsImage (D.current disk.old) (D.unsynced disk.old)) }
     ensures same { D.honest disk.old → (NeedsReplay (D.size disk.old) (D.current disk.old) → ⊥)

@@ -1,4 +1,4 @@
-//! How a spool is found on a disk, made whole and read: only what a spool may say passes.
+//! Opening a spool: it is found on a disk, recovered, read and checked. Only valid spools pass.
 #![tactic(auto)]
 
 mod checks;

@@ -1,4 +1,4 @@
-//! What is kept of a spool is read.
+//! Reading a spool into memory.
 ghost use Rattle.std.specs.Prelude.{◌≡◌, ◌≤◌, ◌<◌, ◌*◌, ◌-◌};
 ghost use Rattle.std.specs.Prelude.{ℕ, None, false, replicate, length, get_or, IfOk, IsErrOf};
 ghost use Rattle.spool_disk.specs.Disk.{Counts};
@@ -26,7 +26,7 @@ use spool_kept::{Kept, KeptRecord};
 use spool_pages::Damaged;
 use std::alloc::Global;
 
-// The rest of page 0, and the index files.
+// Checks the rest of page 0, and reads the index files.
 fn load_fields<D: Disk>(alloc: Global, disk: &mut D, layout: &Layout) -> Result<IndexSet, LoadError>
     requires { 4096 * all_pages layout.now ≤ D.size disk.old }
     ensures reads { OnlyReads D.Disk disk.old disk.new }
@@ -42,7 +42,7 @@ fn load_fields<D: Disk>(alloc: Global, disk: &mut D, layout: &Layout) -> Result<
     load_indexes(alloc, disk, layout)
 }
 
-// The blocks.
+// Reads the rows, and checks them against the records.
 fn load_blocks<D: Disk>(
     alloc: Global,
     disk: &mut D,
@@ -72,12 +72,11 @@ fn load_blocks<D: Disk>(
     Ok(blocks)
 }
 
-/// Reads a spool that was found, whose bytes are all synced.
+/// Reads a spool that was found; all its bytes are synced.
 ///
 /// # Errors
 ///
-/// `Check(Damaged)` where what is read is not what a spool may say; `Check(NoMemory)` when out of memory, and
-/// `DiskFault` where the disk failed.
+/// `Check(Damaged)` if the spool is invalid; `Check(NoMemory)` when out of memory; `DiskFault` at a disk fault.
 pub fn read<D: Disk>(alloc: Global, disk: &mut D, found: Found) -> Result<Kept, LoadError>
     requires { 4096 * all_pages found.layout ≤ D.size disk.old }
     ensures reads { OnlyReads D.Disk disk.old disk.new }
@@ -85,11 +84,11 @@ pub fn read<D: Disk>(alloc: Global, disk: &mut D, found: Found) -> Result<Kept, 
     ensures layout { IfOk result (λ kept. kept.layout ≡ found.layout) }
     ensures version { IfOk result (λ kept. kept.version ≡ found.version) }
 
-    // A valid spool is read, or memory or the disk refuses it.
+    // A valid spool is read, unless memory or the disk refuses.
     ensures said { D.honest disk.old → (bytes : ℕ → ℕ) → Still bytes (D.current disk.old) (D.unsynced disk.old)
         → (v : View) → IsValid v → IsFoundOf v found → Says bytes v → Loads result (λ kept. KeepsAlone kept v) }
 
-    // What is read is valid, and stands there.
+    // What is read is valid, and is what the bytes encode.
     ensures valid { D.honest disk.old → (bytes : ℕ → ℕ) → Still bytes (D.current disk.old) (D.unsynced disk.old)
         → SaysBlocks (D.size disk.old) bytes found.layout
         → StandsFound bytes found

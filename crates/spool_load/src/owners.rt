@@ -1,4 +1,4 @@
-//! The rows of the text blocks are read.
+//! Reading the rows of the text blocks.
 ghost use Rattle.std.specs.Prelude.{◌≡◌, ◌≢◌, ◌≤◌, ◌<◌, ◌*◌, ◌+◌, ◌-◌};
 ghost use Rattle.std.specs.Prelude.{ℕ, List, Option, None, length, get_or, IsErrOf, IsOkAnd, IfOk, OnOk, OnErr};
 ghost use Rattle.spool_disk.specs.Disk.{Counts};
@@ -17,7 +17,7 @@ use spool_journal::{Layout, PAGE};
 use spool_pages::{Damaged, ROWS, row_at, row_pages, rows_place};
 use std::alloc::Global;
 
-// Puts a row into its place. `Damaged` where there is no such place, and the row isn't free.
+// Stores a row at its place. `Damaged` if there is no such place and the row isn't free.
 fn put_row(rows: &mut [Row], block: usize, row: Row) -> Result<(), Damaged>
     ensures put { OnOk result (get_or rows.new block None ≡ row) }
     ensures others { (b : ℕ) → b ≢ block → get_or rows.new b None ≡ get_or rows.old b None }
@@ -32,8 +32,8 @@ fn put_row(rows: &mut [Row], block: usize, row: Row) -> Result<(), Damaged>
     Ok(())
 }
 
-// Puts the rows of a page into their places, from one on. `Damaged` where an ordinal stands with no slot, or a row
-// isn't free after the last place.
+// Stores the rows of a page from `first` on. `Damaged` if a row has an ordinal without a slot, or isn't free after the
+// last place.
 fn fill(rows: &mut [Row], page: &[u8; PAGE], first: usize) -> Result<(), Damaged>
     requires { first ≤ 65536 }
     ensures said { (all : List (Option (ℕ × ℕ))) → length all ≡ length rows.old
@@ -96,7 +96,7 @@ fn load_pages<D: Disk>(disk: &mut D, layout: &Layout, rows: &mut [Row]) -> Resul
     Ok(())
 }
 
-/// All rows.
+/// Reads all rows.
 pub(crate) fn load_rows<D: Disk>(
     alloc: Global,
     disk: &mut D,

@@ -1,4 +1,4 @@
-//! A spool whose bytes are all synced is read.
+//! Reading page 0 and the index area of a spool whose bytes are all synced.
 ghost use Rattle.std.specs.Prelude.{◌≡◌, ◌≤◌, ◌<◌, ◌*◌, ◌+◌};
 ghost use Rattle.std.specs.Prelude.{ℕ, length, get_or, IsErr, IsErrOf, OnOk, IfOk};
 ghost use Rattle.enc_model.specs.Indexes.{IndexSet as Indexes};
@@ -30,7 +30,7 @@ pub(crate) fn read_at<D: Disk>(disk: &mut D, place: u64, buf: &mut [u8]) -> Resu
     disk.read(place, buf)
 }
 
-/// Looks at what stands after the fields of page 0.
+/// Checks that zeros follow the fields of page 0.
 pub(crate) fn check_prefix<D: Disk>(disk: &mut D, layout: &Layout) -> Result<(), LoadError>
     requires { 4096 * all_pages layout.now ≤ D.size disk.old }
     ensures reads { OnlyReads D.Disk disk.old disk.new }
@@ -50,7 +50,7 @@ pub(crate) fn check_prefix<D: Disk>(disk: &mut D, layout: &Layout) -> Result<(),
     }
 }
 
-// A page of the index area after the ones before it.
+// Appends a page of the index area to those before it.
 fn push_area_page<D: Disk>(
     disk: &mut D,
     layout: &Layout,
@@ -72,7 +72,7 @@ fn push_area_page<D: Disk>(
     Ok(())
 }
 
-// The index area.
+// Reads the index area.
 fn load_area<D: Disk>(alloc: Global, disk: &mut D, layout: &Layout) -> Result<Vec<u8>, LoadError>
     requires { 4096 * all_pages layout.now ≤ D.size disk.old }
     ensures reads { OnlyReads D.Disk disk.old disk.new }
@@ -88,7 +88,7 @@ fn load_area<D: Disk>(alloc: Global, disk: &mut D, layout: &Layout) -> Result<Ve
     Ok(area)
 }
 
-/// The index files.
+/// Reads the index files.
 pub(crate) fn load_indexes<D: Disk>(
     alloc: Global,
     disk: &mut D,

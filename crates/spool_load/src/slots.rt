@@ -1,4 +1,4 @@
-//! The slots are read.
+//! Reading the slots.
 ghost use Rattle.std.specs.Prelude.{◌≡◌, ◌≤◌, ◌<◌, ◌*◌, ◌+◌, ◌-◌};
 ghost use Rattle.std.specs.Prelude.{ℕ, List, Option, None, length, get_or, IfOk, IsErrOf, MatchResult, OnOk};
 ghost use Rattle.spool_disk.specs.Disk.{Counts};
@@ -20,7 +20,7 @@ use spool_kept::{CheckError, KeptRecord};
 use spool_pages::{RECORD, SlotRecord, Version, slot_place};
 use std::alloc::Global;
 
-// The record in a slot's bytes, kept.
+// The record in the bytes of a slot, with memory of its own.
 fn kept_of(
     alloc: Global,
     version: Version,
@@ -40,7 +40,7 @@ fn kept_of(
     }
 }
 
-// The record of a slot.
+// Reads the record of a slot.
 fn load_slot<D: Disk>(
     alloc: Global,
     disk: &mut D,
@@ -65,7 +65,7 @@ fn load_slot<D: Disk>(
     Ok(kept_of(alloc, version, &bytes)?)
 }
 
-// The record of the next slot, after those before it.
+// Appends the record of the next slot.
 fn push_slot<D: Disk>(
     alloc: Global,
     disk: &mut D,
@@ -95,7 +95,7 @@ fn push_slot<D: Disk>(
     }
 }
 
-/// All slots.
+/// Reads all slots.
 pub(crate) fn load_slots<D: Disk>(
     alloc: Global,
     disk: &mut D,

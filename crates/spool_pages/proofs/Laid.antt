@@ -116,7 +116,7 @@ module _ (pages : List (ℕ × List ℕ)) (base : ℕ → ℕ) where
       over_none (page_number pages) (page_byte pages) base (length pages) p
       (λ k lt e. away (subst (InMeta j) e (inside k lt)))
 
-  -- what a page says, or what stood there
+  -- the bytes of a page that is laid over, or those that were there
   pub stands_said : {A : Type 0} (bytes_of : A → List ℕ) (old new : A) (page at size place : ℕ) → Ascends pages
       → at + size ≤ 4096 → place ≡ 4096 * page + at
       → Said (page_in page pages) (λ bytes x. Stands (byte_of bytes) at size (bytes_of x)) old new

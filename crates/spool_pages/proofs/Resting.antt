@@ -186,7 +186,7 @@ module _ {v : View} {current : ℕ → ℕ} {unsynced : ℕ → Type 0} where
       (λ p outside taken. before.same p (subst (λ (m : ℕ). Outside (journal_pages m) p) size outside)
       (λ l. taken (rests.is_synced p l)))
 
--- read plainly, the image says what the bytes say
+-- the plain reading of the image encodes what the bytes encode
 pub reads_is : {n : ℕ} (image bytes : ℕ → ℕ) (v : View) → v.blocks ≡ n → ReadsAs (journal_pages n) image bytes
     → Says bytes v → IsViewOf image v
 reads_is image bytes v size reads says = record {

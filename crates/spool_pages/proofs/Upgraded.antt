@@ -9,7 +9,7 @@ use Rattle.spool_pages.specs.View.{SlotRecord, View, Stands, slot_at, slot_bytes
 use Rattle.spool_pages.specs.declared.version.Version.TheVariants.{Two}
 use Rattle.spool_pages.proofs.PageIn.{in_put, in_put_else}
 
--- the slot's page is among them, and says this in version 2
+-- the slot's page is among them, and encodes this slot in version 2
 pub record SaysAt (n : ℕ) (pages : List (ℕ × List ℕ)) (s : ℕ) (slot : Option SlotRecord) : Type 0 where
   pub bytes : List ℕ
   pub there : page_in (record_number n s) pages ≡ Some bytes

@@ -1,4 +1,4 @@
--- What changed pages make of a view.
+-- The effect of changed pages on a view.
 use Rattle.std.specs.Prelude.{◌≡◌, ℕ, ◌+◌, ◌-◌, ◌*◌, ◌/◌, ◌%◌, ◌<◌, ◌==◌, if◌then◌else◌, List, [], ◌∷◌, Option, Some}
 use Rattle.std.specs.Prelude.{None, length, get_or, slice_set}
 use Rattle.spool_blocks.specs.Blocks.{Row}
@@ -7,43 +7,47 @@ use Rattle.spool_pages.specs.View.{SlotRecord, View, Stands, slot_at, state_page
 use Rattle.spool_pages.specs.declared.version.Version.{Version}
 use Rattle.spool_pages.specs.declared.version.Version.TheVariants.{Two}
 
--- the bytes of the page of this number, if it is among them
+-- The bytes of the page with this number, if it is among them.
 unfoldable pub page_in : ℕ → List (ℕ × List ℕ) → Option (List ℕ)
 page_in page [] = None
 page_in page (entry ∷ pages) = if entry.0 == page then Some entry.1 else page_in page pages
 
--- a changed page says the new value; where it isn't changed, the new value is the old one
+-- A changed page encodes the new value. A value whose page isn't changed stays.
 abbrev pub Said : {A : Type 0} → Option (List ℕ) → (List ℕ → A → Type 0) → A → A → Type 0
 Said None says old new = new ≡ old
 Said (Some bytes) says old new = says bytes new
 
--- THE PAGES OF A SPOOL OF n BLOCKS
+-- The page numbers of a spool of n blocks.
 
+-- The state page.
 abbrev pub state_number : ℕ → ℕ
 state_number n = 25 + journal_pages n
 
+-- The page of a slot's record.
 abbrev pub record_number : ℕ → ℕ → ℕ
 record_number n slot = 26 + journal_pages n + slot / 2
 
+-- The page of a block's row.
 abbrev pub row_number : ℕ → ℕ → ℕ
 row_number n block = 282 + journal_pages n + block / 512
 
--- WHAT ONE SAYS
+-- What the pages encode.
 
--- the version and the next number
+-- The version and the next number.
 abbrev pub SaysState : List ℕ → Version × ℕ → Type 0
 SaysState bytes state = Stands (byte_of bytes) 0 4096 (state_page state.0 state.1)
 
--- a slot, by a version
+-- A slot, in a version.
 abbrev pub SaysSlot : ℕ → List ℕ → Version × Option SlotRecord → Type 0
 SaysSlot slot bytes kept = Stands (byte_of bytes) (2048 * (slot % 2)) 2048 (slot_bytes kept.0 kept.1)
 
+-- A row.
 abbrev pub SaysRow : ℕ → List ℕ → Row → Type 0
 SaysRow block bytes row = Stands (byte_of bytes) (8 * (block % 512)) 8 (row_bytes row)
 
--- THE CHANGE: the size and the index files stay, and the version where not all pages that tell by it are changed
+-- A change leaves the size and the index files. The version only changes if all pages that depend on it do.
 
--- all of it but for the rows on changed pages
+-- The pages are changed to those of view v', except that changed rows aren't given yet.
 pub record ChangesButRows (pages : List (ℕ × List ℕ)) (v v' : View) : Type 0 where
   pub blocks : v'.blocks ≡ v.blocks
   pub indexes : v'.indexes ≡ v.indexes
@@ -53,30 +57,31 @@ pub record ChangesButRows (pages : List (ℕ × List ℕ)) (v v' : View) : Type 
   pub rows : (b : ℕ) → b < 512 * (journal_pages v.blocks - 257) → page_in (row_number v.blocks b) pages ≡ None
       → get_or v'.rows b None ≡ get_or v.rows b None
 
+-- The pages are changed to those of view v'.
 pub record Changes (pages : List (ℕ × List ℕ)) (v v' : View) : Type 0 where
   pub others : ChangesButRows pages v v'
   pub rows : (b : ℕ) → b < 512 * (journal_pages v.blocks - 257) → Said (page_in (row_number v.blocks b) pages)
       (SaysRow b) (get_or v.rows b None) (get_or v'.rows b None)
 
--- WHAT IS TO BE CHANGED
+-- The new view.
 
--- the slot has another record, or becomes free
+-- The view with another record in the slot, or with the slot free.
 abbrev pub with_slot : View → ℕ → Option SlotRecord → View
 with_slot v slot kept = record v { slots = slice_set v.slots slot kept }
 
--- another record in a slot
+-- The view with another record in the slot.
 abbrev pub with_record : View → ℕ → SlotRecord → View
 with_record v slot r = with_slot v slot (Some r)
 
--- the same in version 2
+-- The view in version 2.
 abbrev pub upgraded : View → View
 upgraded v = record v { version = Two }
 
--- the slot whose record is on the same page
+-- The other slot of the same page.
 abbrev pub neighbour : ℕ → ℕ
 neighbour slot = if slot % 2 == 0 then slot + 1 else slot - 1
 
--- the rows differ only where one of these blocks is
+-- Only the rows of these blocks differ.
 abbrev pub SameRowsBut : List ℕ → List Row → List Row → Type 0
 SameRowsBut blocks old new =
     (b : ℕ) → ((i : ℕ) → i < length blocks → get_or blocks i 0 ≡ b → ⊥) → get_or new b None ≡ get_or old b None

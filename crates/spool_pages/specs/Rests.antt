@@ -1,27 +1,27 @@
--- A spool at rest: what it says stands in every image.
+-- Spools at rest: every crash image has the same view.
 use Rattle.std.specs.Prelude.{◌≡◌, ℕ, ◌+◌, ◌/◌, ◌<◌, List, None, Some, length, get_or}
 use Rattle.spool_blocks.specs.Blocks.{Row}
 use Rattle.spool_journal.specs.Texts.{text_shown}
 use Rattle.spool_journal.specs.Image.{text_page}
 use Rattle.spool_pages.specs.View.{SlotRecord, View, slot_at, IsViewOf}
 
--- the place is in a text block that no row owns
+-- The place is in a text block that no row owns.
 pub record OnFree (v : View) (p : ℕ) : Type 0 where
   pub block : ℕ
   pub here : text_page v.blocks + block ≡ p / 4096
   pub free : get_or v.rows block None ≡ None
 
--- the gate is closed, and a crash may leave other bytes only in blocks that no row owns
+-- The spool is at rest: the gate is closed, and only blocks that no row owns may be unsynced.
 pub record Rests (v : View) (current : ℕ → ℕ) (unsynced : ℕ → Type 0) : Type 0 where
   pub closed : current 4096 ≡ 165 → ⊥
   pub is_synced : (p : ℕ) → unsynced p → OnFree v p
   pub is : IsViewOf current v
 
--- no row owns one of these blocks
+-- No row owns one of these blocks.
 abbrev pub Unowned : List Row → List ℕ → Type 0
 Unowned rows blocks = (i : ℕ) → i < length blocks → get_or rows (get_or blocks i 0) None ≡ None
 
--- the view's texts are those that its rows show there
+-- The view's texts are those on the blocks of its rows.
 abbrev pub HasTexts : (ℕ → ℕ) → View → Type 0
 HasTexts current v = (s : ℕ) (r : SlotRecord) → slot_at v s ≡ Some r
     → v.texts s ≡ text_shown current (text_page v.blocks)

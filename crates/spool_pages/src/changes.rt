@@ -15,8 +15,12 @@ use spool_blocks::{BlockNo, Row};
 use spool_journal::{Layout, Pages};
 use std::alloc::{AllocError, Global};
 
-/// The pages that a new record and the next number make on a spool of this version. `beside` is the record that the
-/// other slot on the same page has, none where it is free. Err only where memory runs out.
+/// The pages of a new record and a new next number. `beside` is the record in the other slot of the same page; None if
+/// that is free.
+///
+/// # Errors
+///
+/// `AllocError`.
 pub fn pages_of_new(
     alloc: Global,
     layout: &Layout,
@@ -44,7 +48,7 @@ pub fn pages_of_new(
     Ok(pages)
 }
 
-// Whether a page of this number is among them.
+// Whether the page with this number is among them.
 fn is_there(pages: &Pages, page: u32) -> bool
     ensures { IsTrue result ↔ IsSome (page_in page pages.now) }
 {
@@ -56,7 +60,7 @@ fn is_there(pages: &Pages, page: u32) -> bool
     false
 }
 
-// Puts a blank page of this number, unless it is there.
+// Adds a blank page with this number, unless it is there.
 fn make_room(pages: &mut Pages, page: u32) -> Result<(), AllocError>
     ensures there { OnOk result (IsSome (page_in page pages.new)) }
     ensures others { (other : ℕ) → page ≢ other → page_in other pages.new ≡ page_in other pages.old }
@@ -68,10 +72,13 @@ fn make_room(pages: &mut Pages, page: u32) -> Result<(), AllocError>
     Ok(())
 }
 
-/// The pages that a slot with this record, or free, and other rows of these blocks make: the slot's page, and each page
-/// that has one of the rows, blank until `fill_rows` gives it its bytes. `beside` is the record that the other slot on
-/// the same page has, none where it is free. It costs a look at these few pages for each of the blocks. Err only where
-/// memory runs out.
+/// The pages of a slot that gets this record or becomes free, and of blocks whose rows change: the slot's page, and
+/// each page that has one of the rows. The pages of rows are blank until `fill_rows` fills them. `beside` is the record
+/// in the other slot of the same page; None if that is free. Each block costs a look at all of these few pages.
+///
+/// # Errors
+///
+/// `AllocError`.
 pub fn pages_of_change(
     alloc: Global,
     layout: &Layout,
@@ -104,7 +111,7 @@ pub fn pages_of_change(
     Ok(pages)
 }
 
-/// Gives each page of rows among these its bytes, from all rows of the spool as they are to be. It takes no memory.
+/// Fills the pages of rows among these from the rows that all blocks are to have. It allocates nothing.
 pub fn fill_rows(pages: &mut Pages, layout: &Layout, rows: &[Row])
     requires fits { (b : ℕ) → FitsRow (get_or rows.now b None) }
     requires area { InArea (journal_pages layout.now) pages.old }

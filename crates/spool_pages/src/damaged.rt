@@ -1,8 +1,8 @@
-//! Bytes that nothing writes.
+//! Bytes that no spool writes.
 use std::error::Error;
 use std::fmt;
 
-/// A slot's bytes, or a row's, are none that are ever written.
+/// The bytes of a slot or a row are invalid: no spool ever writes them.
 #[derive(Clone, Copy, Debug, PartialEq, Eq, Drop)]
 pub struct Damaged;
 

@@ -1,4 +1,4 @@
-//! Bytes and numbers in a page.
+//! Bytes and numbers in a page. Numbers are big-endian.
 ghost use Rattle.std.specs.Prelude.{◌≡◌, ◌≤◌, ◌<◌, ◌+◌, ◌^◌, ◌++◌, ℕ, List, length, get_or};
 ghost use Rattle.std.specs.Int.{to_be_bytes, w16, w32, w64};
 ghost use Rattle.spool_disk.specs.Disk.{In};
@@ -6,7 +6,7 @@ ghost use Rattle.spool_journal.specs.Image.{byte_of};
 ghost use Rattle.spool_pages.specs.Bytes.{IsPadded};
 ghost use Rattle.spool_pages.specs.View.{Stands};
 
-/// Puts bytes after those that stand in a page.
+/// Copies bytes into a page.
 pub(crate) fn put(page: &mut [u8], at: usize, bytes: &[u8])
     requires { at + length bytes.now ≤ length page.old }
     ensures outside { (p : ℕ) → (In at (length bytes.now) p → ⊥) → get_or page.new p 0 ≡ get_or page.old p 0 }

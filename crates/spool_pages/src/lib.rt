@@ -1,4 +1,4 @@
-//! The pages of a spool: what its bytes say, and its records, rows and other pages as bytes.
+//! The pages of a spool as bytes: what they encode, and how they are changed by one commit.
 #![tactic(auto)]
 
 mod changes;

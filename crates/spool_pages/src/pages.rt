@@ -1,4 +1,4 @@
-//! The pages of a spool that are neither records nor rows.
+//! The pages of a spool other than records and rows.
 ghost use Rattle.std.specs.Prelude.{◌≡◌, ◌<◌, ◌^◌, ◌↔◌};
 ghost use Rattle.std.specs.Prelude.{ℕ, [], None, Some, IfSome, IsTrue, get_or};
 ghost use Rattle.std.specs.Int.{to_be_bytes, w32};
@@ -21,7 +21,7 @@ pub fn blank_page() -> [u8; PAGE]
     [0; PAGE]
 }
 
-/// Page 0 of a spool of so many text blocks.
+/// Page 0 of a spool with this many text blocks.
 pub fn first_page(blocks: u32) -> [u8; PAGE]
     ensures { IsPadded result (first_page blocks) }
 {
@@ -48,7 +48,7 @@ pub fn is_blank(bytes: &[u8]) -> bool
     bytes.iter().all(|byte| *byte == 0)
 }
 
-/// What a state page says: the version and the next number, or none where there is no such version.
+/// The version and the next number on a state page; None if the version is unknown.
 pub fn version_and_next(page: &[u8; PAGE]) -> Option<(Version, u64)>
     ensures said { (version : Known) (next : ℕ) → next < 2 ^ 64 → IsPadded page.now (state_page version next)
         → result ≡ Some (version, next) }
@@ -62,7 +62,7 @@ pub fn version_and_next(page: &[u8; PAGE]) -> Option<(Version, u64)>
     }
 }
 
-/// Whether there are only zeros after the fields of page 0 or of the state page, its first 12 bytes.
+/// Whether only zeros follow the 12 bytes of fields on page 0 or on the state page.
 pub fn is_blank_after_fields(page: &[u8; PAGE]) -> bool
     ensures first { (blocks : ℕ) → Stands (byte_of page.now) 0 12 (first_page blocks)
         → (IsTrue result ↔ Stands (byte_of page.now) 0 4096 (first_page blocks)) }
@@ -72,7 +72,7 @@ pub fn is_blank_after_fields(page: &[u8; PAGE]) -> bool
     is_blank(&page[12..])
 }
 
-/// The number of text blocks that the prefix of page 0 says, or none where it is not a spool's.
+/// The number of text blocks on page 0, of which the first 12 bytes are given; None if they aren't a spool's.
 pub fn blocks_said(prefix: &[u8; 12]) -> Option<u32>
     ensures said { (blocks : ℕ) → blocks < 2 ^ 32
         → ((i : ℕ) → i < 12 → get_or prefix.now i 0 ≡ get_or (first_page blocks) i 0) → result ≡ Some blocks }

@@ -1,4 +1,4 @@
-//! Where the parts of the metadata and of the index area lie: the state, 256 pages of two records each, and the rows.
+//! The places of the index area and of the metadata: the state page, 256 pages of two records each, and the rows.
 ghost use Rattle.std.specs.Prelude.{◌≡◌, ◌+◌, ◌*◌, ◌≤◌, ◌<◌};
 ghost use Rattle.spool_journal.specs.Image.{journal_pages, InMeta};
 ghost use Rattle.spool_pages.specs.Changes.{state_number, record_number, row_number};
@@ -43,7 +43,7 @@ pub fn rows_place(layout: &Layout, page: u32) -> u64
     state_place(layout) + PAGE as u64 * (FIRST_ROW_PAGE as u64 + page as u64)
 }
 
-/// How many pages the rows of all blocks have.
+/// How many pages the rows of all blocks take.
 pub fn row_pages(layout: &Layout) -> u32
     ensures pages { result + 257 ≡ journal_pages layout.now }
     ensures few { result ≤ 128 }
@@ -51,7 +51,7 @@ pub fn row_pages(layout: &Layout) -> u32
     layout.journal() - FIRST_ROW_PAGE
 }
 
-/// The state page, the first one of the metadata.
+/// The number of the state page, which is the first of the metadata.
 pub(crate) fn state_number(layout: &Layout) -> u32
     ensures number { result ≡ state_number layout.now }
     ensures inside { InMeta (journal_pages layout.now) result }
@@ -62,7 +62,7 @@ pub(crate) fn state_number(layout: &Layout) -> u32
     layout.metadata_page()
 }
 
-/// The page of a slot's record.
+/// The number of the page of a slot's record.
 pub(crate) fn record_number(layout: &Layout, slot: u32) -> u32
     requires { slot < 512 }
     ensures number { result ≡ record_number layout.now slot }
@@ -71,7 +71,7 @@ pub(crate) fn record_number(layout: &Layout, slot: u32) -> u32
     state_number(layout) + 1 + slot / 2
 }
 
-/// The first page of the rows.
+/// The number of the first page of rows.
 pub(crate) fn first_row_number(layout: &Layout) -> u32
     ensures number { result ≡ 282 + journal_pages layout.now }
     ensures few { journal_pages layout.now ≤ 385 }
@@ -79,7 +79,7 @@ pub(crate) fn first_row_number(layout: &Layout) -> u32
     state_number(layout) + FIRST_ROW_PAGE
 }
 
-/// The page of a block's row.
+/// The number of the page of a block's row.
 #[tactic(auto, unfolding(spool_journal::specs::Image::journal_pages))]
 pub(crate) fn row_number(layout: &Layout, block: BlockNo) -> u32
     requires { block < layout.now }

@@ -1,4 +1,4 @@
-//! The record of an upload as its slot keeps it.
+//! The record of an upload as the bytes of its slot.
 ghost use Rattle.std.specs.Prelude.{◌≡◌, ◌≤◌, ℕ, Option, [], length, Ok, Some, None, IfOk, IfSome};
 ghost use Rattle.std.specs.Int.{to_be_bytes};
 ghost use Rattle.spool_pages.specs.Bytes.{IsPadded};
@@ -9,19 +9,19 @@ use crate::fields::{get_u16, get_u64, put};
 use crate::{Damaged, Version, is_blank};
 use std::marker::Model;
 
-/// How many bytes a slot has.
+/// The length of a slot in bytes.
 pub const RECORD: usize = 2048;
 
-/// How many bytes of metadata a slot has room for.
+/// The most bytes of metadata in a slot.
 pub const METADATA: usize = 1536;
 
-// Where a slot has the tag of its length.
+// The offset of the length's tag in a slot.
 const TAG: usize = 66 + METADATA;
 
-// Stands for an unknown length in version 1. In version 2 it's no length.
+// The number of an unknown length in version 1. Version 2 doesn't use it.
 const UNKNOWN: u64 = u64::MAX;
 
-// The number and the tag of a length that may be unknown.
+// The number and the tag that encode a length.
 fn length_fields(version: Version, declared: Option<u64>) -> (u64, u8)
     ensures { result ≡ (length_number version declared, length_tag version declared) }
 {
@@ -32,7 +32,7 @@ fn length_fields(version: Version, declared: Option<u64>) -> (u64, u8)
     }
 }
 
-// The length that a number and a tag tell.
+// The length that a number and a tag encode.
 fn declared_in(version: Version, number: u64, tag: u8) -> Result<Option<u64>, Damaged>
     ensures is { (declared : Option ℕ) → FitsLength declared → number ≡ length_number version declared
         → tag ≡ length_tag version declared → result ≡ Ok declared }
@@ -50,20 +50,20 @@ fn declared_in(version: Version, number: u64, tag: u8) -> Result<Option<u64>, Da
     Ok(Some(number))
 }
 
-/// The record of an upload as its slot's bytes say it.
+/// The record of an upload in its slot.
 #[derive(Drop)]
 pub struct SlotRecord<'a> {
     /// The upload's number, from 1 on.
     pub number: u64,
-    /// The declared length, where it is known.
+    /// The length, if it is known.
     pub declared: Option<u64>,
     /// How many bytes were accepted.
     pub accepted: u64,
-    /// The length of the text.
+    /// The length of the text in bytes.
     pub text_len: u64,
-    /// The transcoder's state after the accepted bytes.
+    /// The state of transcoding after the accepted bytes.
     pub state: [u8; 32],
-    /// The metadata as it was given.
+    /// The metadata as given.
     pub metadata: &'a [u8],
 }
 
@@ -81,7 +81,7 @@ impl<'a> Model for SlotRecord<'a> {
 }
 
 impl<'a> SlotRecord<'a> {
-    /// The slot's bytes on a spool of this version.
+    /// The slot's bytes in a spool of this version.
     pub fn to_bytes(&self, version: Version) -> [u8; RECORD]
         requires { length self.now.metadata ≤ 1536 }
         ensures { IsPadded result (record_bytes version self.now) }
@@ -99,11 +99,11 @@ impl<'a> SlotRecord<'a> {
         bytes
     }
 
-    /// The record in a slot's bytes on a spool of this version, or none where the slot is free.
+    /// The record in a slot of a spool of this version; None if the slot is free.
     ///
     /// # Errors
     ///
-    /// `Damaged` where the bytes are neither all 0 nor those of a record with zeros in each place that it leaves.
+    /// `Damaged` if the bytes are neither all 0 nor a record with zeros in the space that it leaves.
     pub fn from_bytes(
         version: Version,
         bytes: &'a [u8; RECORD],

@@ -1,4 +1,4 @@
-//! Laws of a spool at rest, as contracts of functions that do nothing.
+//! Laws about spools at rest. The functions do nothing; their contracts are the laws.
 ghost use Rattle.std.specs.Prelude.{◌≡◌, ℕ, List};
 ghost use Rattle.spool_disk.specs.Disk.{IsImage, Keeps};
 ghost use Rattle.spool_journal.specs.Image.{journal_pages, text_page};
@@ -9,15 +9,15 @@ ghost use Rattle.spool_pages.specs.View.{View, Says, IsViewOf};
 
 use spool_disk::Disk;
 
-/// Of a spool at rest every image says the same: what its bytes say as they stand.
+/// Every crash image of a spool at rest has the same view, which is the one of its bytes.
 pub fn resting_images<D: Disk>()
     ensures says { (v : View) (disk : D) → Rests v (D.current disk) (D.unsynced disk) → Says (D.current disk) v }
     ensures images { (v : View) (disk : D) (image : ℕ → ℕ) → Rests v (D.current disk) (D.unsynced disk)
         → IsImage (D.current disk) (D.unsynced disk) image → IsViewOf image v }
 {}
 
-/// Reads, and writes into blocks that no row owns, leave a spool at rest. And an image that is one of its own but for
-/// such blocks says the same.
+/// Reads, and writes to blocks that no row owns, leave a spool at rest. An image that differs from a crash image in
+/// such blocks only has the same view.
 pub fn resting_writes<D: Disk>()
     ensures reads { (v : View) (old new : D) → Rests v (D.current old) (D.unsynced old)
         → Keeps (D.current old) (D.current new) (D.unsynced old) (D.unsynced new)
@@ -36,7 +36,7 @@ pub fn resting_writes<D: Disk>()
         (D.unsynced disk) image → IsViewOf image v }
 {}
 
-/// What a recovery or a commit leaves is at rest, and of a spool at rest a commit may be made.
+/// A recovery or a commit leaves a spool at rest, and a commit may be made of a spool at rest.
 pub fn settled_rests<D: Disk>()
     ensures rests { (v : View) (n : ℕ) (bytes : ℕ → ℕ) (disk : D) → v.blocks ≡ n
         → Settled (journal_pages n) bytes (D.current disk) (D.unsynced disk) → Says bytes v

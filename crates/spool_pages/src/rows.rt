@@ -1,4 +1,4 @@
-//! The rows of the text blocks: who owns each.
+//! The rows: which slot owns a text block, and at which ordinal.
 ghost use Rattle.std.specs.Prelude.{◌≡◌, ◌≤◌, ◌<◌, ◌+◌, ◌*◌, ◌^◌};
 ghost use Rattle.std.specs.Prelude.{ℕ, Option, None, Some, Ok, IfOk, length, get_or};
 ghost use Rattle.spool_journal.specs.Image.{byte_of};
@@ -14,7 +14,7 @@ use spool_journal::PAGE;
 /// How many rows a page has.
 pub const ROWS: usize = 512;
 
-// The bytes of a row that a slot owns.
+// The bytes of a row whose block is owned.
 fn owned_bytes(slot: u32, ordinal: u32) -> [u8; 8]
     requires { slot + 1 < 2 ^ 32 }
     ensures { IsPadded result (row_bytes (Some (slot, ordinal))) }
@@ -36,7 +36,7 @@ fn bytes_of(row: Row) -> [u8; 8]
     }
 }
 
-// The row of a block, none after the last one.
+// The row of a block; None after the last one.
 fn row_of(rows: &[Row], block: usize) -> Row
     ensures { result ≡ get_or rows.now block None }
 {
@@ -47,11 +47,11 @@ fn row_of(rows: &[Row], block: usize) -> Row
     }
 }
 
-/// The row at a place of a page.
+/// The row at an offset in a page.
 ///
 /// # Errors
 ///
-/// `Damaged` where an ordinal stands there and no slot.
+/// `Damaged` if there is an ordinal without a slot.
 pub fn row_at(page: &[u8], at: usize) -> Result<Row, Damaged>
     requires { at + 8 ≤ length page.now }
     ensures said { (row : Option (ℕ × ℕ)) → FitsRow row → Stands (byte_of page.now) at 8 (row_bytes row)
@@ -70,7 +70,7 @@ pub fn row_at(page: &[u8], at: usize) -> Result<Row, Damaged>
     Ok(None)
 }
 
-/// A page of rows: 512 of them, with free ones after the last.
+/// A page of 512 rows. Those after the last row are free.
 pub fn row_page(rows: &[Row], page: usize) -> [u8; PAGE]
     requires page { page < 128 }
     requires fits { (b : ℕ) → FitsRow (get_or rows.now b None) }

@@ -9,7 +9,7 @@ use crate::fields::put;
 use crate::{RECORD, SlotRecord, Version};
 use spool_journal::PAGE;
 
-// The bytes of a slot: zeros where it is free.
+// The bytes of a slot: zeros if it is free.
 fn bytes_of(version: Version, slot: Option<&SlotRecord<'_>>) -> [u8; RECORD]
     requires { IfSome slot (λ r. length r.now.metadata ≤ 1536) }
     ensures { IsPadded result (slot_bytes version (option_copied slot.entry)) }
@@ -37,7 +37,7 @@ pub(crate) fn record_page(
     page
 }
 
-/// The page of a slot with this record, or free, and beside it what the slot on the same page has.
+/// The page of a slot that has this record or is free, with the record of the other slot of the same page.
 pub(crate) fn page_with(
     version: Version,
     slot: u32,

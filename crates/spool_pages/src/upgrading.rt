@@ -1,4 +1,4 @@
-//! The pages that bring a spool to version 2.
+//! The pages of the upgrade to version 2.
 ghost use Rattle.std.specs.Prelude.{◌≡◌, ◌≤◌, ◌<◌, ◌+◌, ℕ, None, IfOk, IfSome, length, get_or};
 ghost use Rattle.spool_journal.specs.Image.{byte_of, journal_pages, InArea};
 ghost use Rattle.spool_pages.specs.Changes.{Changes, upgraded};
@@ -12,7 +12,7 @@ use spool_blocks::SLOTS;
 use spool_journal::{Layout, PAGE, Pages};
 use std::alloc::{AllocError, Global};
 
-// The page of a slot and the one after it, in version 2.
+// The page of a slot and the next one, in version 2.
 fn pair_page(slots: &[Option<SlotRecord<'_>>], slot: usize) -> [u8; PAGE]
     requires within { slot + 1 < length slots.now }
     requires metadata { (s : ℕ) → IfSome (get_or slots.now s None) (λ r. length r.metadata ≤ 1536) }
@@ -22,8 +22,12 @@ fn pair_page(slots: &[Option<SlotRecord<'_>>], slot: usize) -> [u8; PAGE]
     record_page(Version::Two, slots[slot].as_ref(), slots[slot + 1].as_ref())
 }
 
-/// The 257 pages that bring a spool with this next number and these records to version 2: the state page, and each page
-/// of records. Err only where memory runs out.
+/// The 257 pages that upgrade a spool with this next number and these records to version 2: the state page and all
+/// pages of records.
+///
+/// # Errors
+///
+/// `AllocError`.
 pub fn pages_of_upgrade(
     alloc: Global,
     layout: &Layout,

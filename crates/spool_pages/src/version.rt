@@ -1,19 +1,19 @@
-//! The versions of a spool's layout.
+//! The versions of a spool's format.
 ghost use Rattle.std.specs.Prelude.{◌≡◌, Some, IfSome};
 ghost use Rattle.spool_pages.specs.View.{version_number};
 ghost use Rattle.spool_pages.specs.declared.version.Version.{Version as Known};
 
-/// How the records of a spool say an unknown length.
+/// The version of a spool. The versions differ in how records encode an unknown length.
 #[derive(Clone, Copy, Debug, PartialEq, Eq, Drop)]
 pub enum Version {
     /// By eight bytes FF.
     One,
-    /// By a byte after the metadata's room, and zeros in the length's place.
+    /// By a tag after the space for metadata, with zeros as the length.
     Two,
 }
 
 impl Version {
-    /// The version of this number, or none where there is no such version.
+    /// The version of this number, if there is one.
     pub fn of(number: u32) -> Option<Version>
         ensures known { (version : Known) → number ≡ version_number version → result ≡ Some version }
         ensures only { IfSome result (λ version. version_number version ≡ number) }
@@ -25,7 +25,7 @@ impl Version {
         }
     }
 
-    /// The number that the state page says.
+    /// The number on the state page.
     pub fn number(self) -> u32
         ensures { result ≡ version_number self }
     {

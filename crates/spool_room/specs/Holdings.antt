@@ -1,4 +1,4 @@
--- What the uploads own of the blocks, and what the open patches reserve.
+-- The blocks that uploads own and open patches reserve.
 use Rattle.std.specs.Prelude.{◌≡◌, ◌≢◌, ℕ, ◌+◌, ◌-◌, ◌<◌, ◌≤◌, List, [], Bool, true, false, Some, None, length, get_or}
 use Rattle.enc_model.specs.Indexes.{IndexSet}
 use Rattle.spool_blocks.specs.Blocks.{Row, Held, IsFree}
@@ -10,14 +10,14 @@ use Rattle.upload_rules.specs.World.{Patch, World, patch_text}
 use Rattle.upload_rules.specs.Apart.{IsApart}
 use Rattle.upload_rules.specs.Room.{blocks_of, used, need, needs_but, wants, is_short}
 
--- the slot is that of an upload
+-- The slot is that of an upload.
 pub record IsInUse (uploads : List (ℕ × Upload)) (slots : ℕ → ℕ) (slot : ℕ) : Type 0 where
   pub number : ℕ
   pub upload : Upload
   pub there : find number uploads ≡ Some upload
   pub is : slots number ≡ slot
 
--- each upload has a slot of its own, which owns the blocks of its text, one at each ordinal; no other slot owns any
+-- Each upload has a slot of its own. It owns the blocks of the text, one at each ordinal, and no other slot owns any.
 pub record OwnsTexts (x : IndexSet) (uploads : List (ℕ × Upload)) (slots : ℕ → ℕ) (rows : List Row) : Type 0 where
   pub apart : IsApart uploads
   pub texts : (n : ℕ) (u : Upload) → find n uploads ≡ Some u → OwnsOneEach rows (slots n)
@@ -26,15 +26,15 @@ pub record OwnsTexts (x : IndexSet) (uploads : List (ℕ × Upload)) (slots : �
       → m ≡ n
   pub owners : (b slot ordinal : ℕ) → Owns rows b slot ordinal → IsInUse uploads slots slot
 
--- the block is in one of the lists
+-- The block is in one of the lists.
 pub record IsInSome (lists : ℕ → List ℕ) (b : ℕ) : Type 0 where
   pub list : ℕ
   pub at : ℕ
   pub below : at < length (lists list)
   pub here : get_or (lists list) at 0 ≡ b
 
--- each draft number has a list of blocks of its own, and these are the reserved blocks. But for the draft d, which is
--- at work, a list is as long as the need of its patch, and empty where there is no patch
+-- Each draft number has a list of blocks of its own, and together they are the reserved blocks. Except for draft d,
+-- which is under way, a list is as long as the need of its patch, and empty without a patch.
 pub record Reserves (x : IndexSet) (patches : List (ℕ × Patch)) (lists : ℕ → List ℕ) (d : ℕ) (h : Held) : Type 0 where
   pub apart : IsApart patches
   pub reserved : (e : ℕ) → IsReserved h (lists e)
@@ -43,21 +43,21 @@ pub record Reserves (x : IndexSet) (patches : List (ℕ × Patch)) (lists : ℕ 
   pub needs : (e : ℕ) (p : Patch) → e ≢ d → find e patches ≡ Some p → length (lists e) ≡ need x p false
   pub none : (e : ℕ) → e ≢ d → find e patches ≡ None → lists e ≡ []
 
--- the blocks are those of a world: owned by its uploads, reserved by its patches
+-- The blocks are those of a world: its uploads own them, and its patches reserve them.
 pub record IsHeldBy (w : World) (slots : ℕ → ℕ) (lists : ℕ → List ℕ) (d : ℕ) (h : Held) : Type 0 where
   pub texts : OwnsTexts w.store.indexes w.store.uploads slots h.rows
   pub drafts : Reserves w.store.indexes w.patches lists d h
   pub limit : w.blocks ≡ Some (length h.rows)
 
--- no block is free
+-- No block is free.
 abbrev pub IsFull : Held → Type 0
 IsFull h = (b : ℕ) → IsFree h b → ⊥
 
--- the blocks of the texts, of the other patches and of the draft d
+-- The blocks of the texts, of the other patches and of draft d.
 abbrev pub taken : World → ℕ → List ℕ → ℕ
 taken w d list = used w.store.indexes w.store.uploads + needs_but d w.store.indexes w.patches + length list
 
--- the rule of room, by the draft's list and the free blocks
+-- The rule of room, by the draft's list and the free blocks.
 pub record RuleHolds (w : World) (d : ℕ) (list : List ℕ) (h : Held) : Type 0 where
   pub fits : taken w d list ≤ length h.rows
   pub full : IsFull h → taken w d list ≡ length h.rows
@@ -67,6 +67,6 @@ pub record RuleHolds (w : World) (d : ℕ) (list : List ℕ) (h : Held) : Type 0
       → is_short w d p done ≡ true
   pub stays : (p : Patch) (done : Bool) → p.short ≡ true → is_short w d p done ≡ true
 
--- how many bytes the patch adds to the text
+-- How many bytes the patch adds to the text.
 abbrev pub added : IndexSet → Patch → Bool → ℕ
 added x p done = length (patch_text x p done).bytes - length (text_of x p.began)

@@ -1,4 +1,4 @@
-// Each law as the contract of a function that does nothing.
+//! Laws about room. The functions do nothing; their contracts are the laws.
 ghost use Rattle.std.specs.Prelude.{◌≡◌, ◌≤◌, ◌<◌, ◌+◌, ◌/◌, ◌%◌, ℕ, List, Bool, Some, None, length, map};
 ghost use Rattle.enc_model.specs.Indexes.{IndexSet};
 ghost use Rattle.spool_blocks.specs.Blocks.{Row, Held, CountLaw, IsWhole, owned_count, reserved_count, slot_count};
@@ -18,7 +18,7 @@ pub fn slot_counts()
     ensures whole { (rows : List Row) (slot n : ℕ) → OwnsOneEach rows slot n → IsWhole slot rows }
 {}
 
-/// Numbers that rise differ.
+/// Rising numbers differ.
 pub fn rising_numbers()
     ensures { (uploads : List (ℕ × Upload)) → IsRising (map (λ entry. entry.0) uploads) → IsApart uploads }
 {}
@@ -29,27 +29,26 @@ pub fn used_blocks()
         → OwnsTexts x uploads slots rows → owned_count rows ≡ used x uploads }
 {}
 
-/// As many blocks are reserved as the other patches need and the draft at work lists.
+/// As many blocks are reserved as the other patches need and the current draft has.
 pub fn reserved_blocks()
     ensures { (x : IndexSet) (patches : List (ℕ × Patch)) (lists : ℕ → List ℕ) (d : ℕ) (h : Held)
         → Reserves x patches lists d h
         → reserved_count h.rows h.reserved ≡ needs_but d x patches + length (lists d) }
 {}
 
-/// The law of the counts, of any blocks: the free, the reserved and the owned blocks add up to all, and the owned ones
-/// to the slots' lists.
+/// The free, the reserved and the owned blocks are all blocks, and the owned ones are those in the slots' lists.
 pub fn block_counts()
     ensures { (h : Held) → length h.reserved ≡ length h.rows
         → ((b slot ordinal : ℕ) → Owns h.rows b slot ordinal → slot < 512) → CountLaw h.rows h.reserved }
 {}
 
-/// The rule of room, at any blocks with a flag for each.
+/// The rule of room, for an allocation with a flag for each block.
 pub fn held_room()
     ensures { (w : World) (slots : ℕ → ℕ) (lists : ℕ → List ℕ) (d : ℕ) (h : Held) → length h.reserved ≡ length h.rows
         → IsHeldBy w slots lists d h → RuleHolds w d (lists d) h }
 {}
 
-/// The rule of room, at these blocks.
+/// The rule of room, for these blocks.
 pub fn room(blocks: &Blocks)
     ensures { (w : World) (slots : ℕ → ℕ) (lists : ℕ → List ℕ) (d : ℕ) → IsHeldBy w slots lists d blocks.now
         → RuleHolds w d (lists d) blocks.now }
@@ -57,8 +56,8 @@ pub fn room(blocks: &Blocks)
     let _rows = blocks.rows();
 }
 
-/// What a patch wants, in numbers: the blocks of its new text from the committed tail on, and none where nothing is
-/// added or the text has no value.
+/// The number of blocks that a patch wants: those of its new text from the committed text's unfinished block on, or
+/// none if nothing is added or a character is unmappable.
 pub fn draft_needs()
     ensures some { (x : IndexSet) (p : Patch) (done : Bool) → (patch_text x p done).fault ≡ None → 1 ≤ added x p done
         → wants x p done ≡ (length (text_of x p.began) % 4096 + added x p done + 4095) / 4096 }

@@ -1,9 +1,9 @@
-//! The law of room, as contracts of functions that do nothing.
+//! The rule of room, as laws: functions that do nothing and whose contracts are the laws.
 //!
-//! Blocks are counted: free, reserved, owned. The rules of uploads speak of texts and needs: a patch is short of room
-//! where its need is more than the other texts and patches leave free. Here the counts are shown to be the rule's
-//! numbers. So a draft that reserves block after block comes to have all that it needs, or finds no block free before,
-//! and the second only where its patch is short of room.
+//! The upload rules state room in texts and needs: a patch is short of room if it needs more blocks than the other
+//! texts and patches leave free. A spool counts free, reserved and owned blocks. These laws show that both are the same
+//! numbers. So a draft that reserves block after block gets all that it needs, or finds no free block only if its patch
+//! is short of room.
 #![tactic(auto)]
 
 mod laws;

@@ -1,4 +1,4 @@
-//! Each kind of disk.
+//! Tests of each kind of disk.
 
 ghost use Rattle.std.specs.Prelude.{◌≡◌, ◌≤◌};
 
@@ -42,18 +42,18 @@ fn crash_leaves_old_new_or_torn_bytes(rt: HostRuntime) {
     }
 }
 
-/// A file is so long and begins with these bytes.
+/// Checks the length of a file and its first four bytes.
 fn begins(rt: &impl Abort, mut disk: FileDisk, length: u64, bytes: [u8; 4]) {
     assert!(rt; disk.len() == length && length >= 4);
     assert_eq!(rt; prefix(&mut disk), Ok(bytes));
 }
 
-/// Whether there is no disk.
+/// Whether no disk was opened.
 fn is_refused(answer: Result<FileDisk, DiskFault>) -> bool {
     matches!(answer, Err(DiskFault))
 }
 
-/// How long the file at a path is.
+/// The length of the file at a path in bytes.
 fn length_of<R: Abort + Files>(rt: &R, path: &str) -> u64 {
     fs::metadata(rt, path).expect(rt, "a file").len()
 }

@@ -1,4 +1,4 @@
-//! The bytes of a spool without uploads and of one with uploads, and what is refused.
+//! The bytes of a spool without uploads and of one with uploads, and the damaged bytes that are refused.
 
 use crate::uploads::{fresh, opened};
 use enc_index::{Index, IndexSet, Kind};
@@ -11,12 +11,12 @@ use std::alloc::Global;
 use std::process::Abort;
 use upload_rules::{UploadError, UploadRefusal, Uploads};
 
-/// A disk of 557 pages, as many as a spool of 16 blocks has.
+/// A disk of 557 pages, the size of a spool of 16 blocks.
 fn small_disk(rt: &impl Abort, alloc: Global) -> MemoryDisk {
     MemoryDisk::new(alloc, 557 * 4096).expect(rt, "memory for a disk")
 }
 
-/// A byte of a disk.
+/// The byte of a disk at an address.
 pub(crate) fn byte_at(rt: &impl Abort, disk: &mut MemoryDisk, at: u64) -> u8 {
     assert!(rt; at < disk.len());
     let mut byte = [0];
@@ -24,7 +24,7 @@ pub(crate) fn byte_at(rt: &impl Abort, disk: &mut MemoryDisk, at: u64) -> u8 {
     byte[0]
 }
 
-/// Writes bytes.
+/// Writes bytes at an address.
 pub(crate) fn put(rt: &impl Abort, disk: &mut MemoryDisk, at: u64, bytes: &[u8]) {
     let size = disk.len();
     let count = bytes.len() as u64;
@@ -32,8 +32,8 @@ pub(crate) fn put(rt: &impl Abort, disk: &mut MemoryDisk, at: u64, bytes: &[u8])
     disk.write_at(at, bytes).expect(rt, "a write");
 }
 
-/// A spool with the uploads 7 in slot 0, 3, of which a byte was accepted, in slot 4, and 2, of unknown length and with
-/// as many accepted bytes as there may be, in slot 6. The text of upload 7 has 4,097 bytes, on the blocks 3 and 9.
+/// Writes three uploads: 7 in slot 0; 3 in slot 4, with one accepted byte; and 2 in slot 6, of unknown length and with
+/// as many accepted bytes as are allowed. The text of upload 7 has 4,097 bytes, in the blocks 3 and 9.
 fn write_uploads(rt: &impl Abort, disk: &mut MemoryDisk) {
     let transcoder = Transcoder::new(Encoding::Utf8, Encoding::ShiftJis, Mode::Fatal);
     let mut record = SlotRecord {
@@ -48,7 +48,7 @@ fn write_uploads(rt: &impl Abort, disk: &mut MemoryDisk) {
     record.number = 3;
     record.accepted = 1;
     record.text_len = 0;
-    // decoding
+    // The phase is decoding.
     record.state[3] = 1;
     put(rt, disk, 286 * 4096, &record.to_bytes(Version::Two));
     record.number = 2;
@@ -78,8 +78,8 @@ fn pages_of_the_least_and_the_greatest_spool(rt: HostRuntime) {
 fn record_lies_as_the_format_says(rt: HostRuntime) {
     let mut disk = small_disk(&rt, rt.alloc());
     write_uploads(&rt, &mut disk);
-    // of upload 7 the number, the length of 5,000, the text's of 4,097, the state and the metadata with its length; of
-    // upload 3 a byte that was accepted; and of upload 2 the tag of a length that isn't known
+    // Upload 7: the number, the length of 5,000, the text length of 4,097, the metadata with its length, and the tag of
+    // a known length. Upload 3: an accepted byte. Upload 2: the accepted bytes, and the tag of an unknown length.
     for (at, want) in [
         (284 * 4096 + 7, 7),
         (284 * 4096 + 14, 0x13),
@@ -106,7 +106,7 @@ fn spool_is_not_formatted_again(rt: HostRuntime) {
     indexes.set(index);
     let mut disk = small_disk(&rt, rt.alloc());
     assert_eq!(rt; format(&mut disk, 16, &indexes), Ok(()));
-    // the first page, the gate, the index area's flag and first code point, and the state page
+    // The first page, the gate, the index area's flag and first code points, the state page, and the first record.
     for (at, want) in [
         (0, b'T'),
         (7, b'L'),
@@ -134,7 +134,7 @@ fn spool_is_not_formatted_again(rt: HostRuntime) {
     );
 }
 
-/// What opening a disk answers where it is refused, and the disk.
+/// The disk after an opening, and the fault if it was refused.
 pub(crate) fn refused(alloc: Global, disk: MemoryDisk) -> (MemoryDisk, Option<OpenFault>) {
     match Spool::open(alloc, disk) {
         Ok(spool) => (spool.into_disk(), None),
@@ -142,7 +142,8 @@ pub(crate) fn refused(alloc: Global, disk: MemoryDisk) -> (MemoryDisk, Option<Op
     }
 }
 
-/// Changes a byte in each row, and looks how the spool is refused when it is opened; then it is opened as it was.
+/// Changes a byte in each row, checks how the opening refuses the spool, and changes it back. At the end the spool
+/// opens again.
 fn refuse_all(rt: &impl Abort, alloc: Global, disk: MemoryDisk, rows: &[(u64, u8, OpenFault)]) {
     let mut disk = disk;
     for &(at, byte, want) in rows {
@@ -158,8 +159,8 @@ fn refuse_all(rt: &impl Abort, alloc: Global, disk: MemoryDisk, rows: &[(u64, u8
 }
 
 /// Bytes that damage a spool without uploads: an open gate with a count of 0, another version, a next number of 0,
-/// flags of the index area, a byte after them, an entry of each of four files that aren't there and a byte after the
-/// last, a record without a number below the next, a block of a free slot, and no spool.
+/// flags of the index area, a byte after them, an entry of each of four files that aren't there, bytes after the last
+/// entry, a number that isn't below the next number, a block of a free slot, and another first byte.
 const DAMAGED_EMPTY: [(u64, u8, OpenFault); 15] = [
     (4096, 0xA5, OpenFault::Damaged),
     (283 * 4096 + 3, 9, OpenFault::Version),
@@ -185,12 +186,12 @@ fn with_uploads(rt: &impl Abort, alloc: Global) -> MemoryDisk {
     disk
 }
 
-/// The output and the length of an upload.
+/// The output encoding and the declared length of an upload.
 fn told(spool: &Spool<MemoryDisk>, number: u64) -> Option<(Encoding, Option<u64>)> {
     spool.record(number).map(|it| (it.to, it.declared))
 }
 
-/// The number of the first upload after one.
+/// The number of the upload that follows.
 fn after_it(spool: &Spool<MemoryDisk>, number: u64) -> Option<u64> {
     spool.record_after(number).map(|it| it.number)
 }
@@ -227,32 +228,34 @@ fn uploads_are_told_of_and_read(rt: HostRuntime) {
 
 /// Bytes that damage the spool with the three uploads.
 const DAMAGED: [(u64, u8, OpenFault); 31] = [
-    // the gate opened; a byte after the fields of page 0 and of the state page, and after the index area's tables
+    // an open gate; a byte after the fields of page 0, after those of the state page, and after the index area's tables
     (4096, 0xA5, OpenFault::Damaged),
     (12, 1, OpenFault::Damaged),
     (283 * 4096 + 12, 1, OpenFault::Damaged),
     (261 * 4096 + 88428, 1, OpenFault::Damaged),
-    // a number that comes twice, and one that isn't below the next
+    // a number that is used twice, and one that isn't below the next number
     (286 * 4096 + 7, 7, OpenFault::Damaged),
     (284 * 4096 + 7, 8, OpenFault::Damaged),
-    // more accepted than declared, and too much declared
+    // more bytes accepted than declared, and a declared length above the limit
     (286 * 4096 + 21, 1, OpenFault::Damaged),
     (286 * 4096 + 11, 1, OpenFault::Damaged),
-    // more accepted of an unknown length than there may be, and the end after it
+    // more accepted bytes of an unknown length than are allowed, and the phase after the end with an unknown length
     (287 * 4096 + 23, 1, OpenFault::Damaged),
     (287 * 4096 + 35, 2, OpenFault::Damaged),
-    // a state without a transcoder, one decoding before the first byte, one after the end, and one of no phase
+    // a source that is no encoding; a phase of decoding before the first byte, one after the end, and one that doesn't
+    // exist
     (284 * 4096 + 32, 21, OpenFault::Damaged),
     (284 * 4096 + 35, 1, OpenFault::Damaged),
     (284 * 4096 + 35, 2, OpenFault::Damaged),
     (284 * 4096 + 35, 3, OpenFault::Damaged),
-    // no number; the tag of an unknown length with a length, no tag, and an unknown length with a byte of one
+    // no number; an unknown length with a known length's bytes, a tag that doesn't exist, and an unknown length with
+    // one byte of a length
     (284 * 4096 + 7, 0, OpenFault::Damaged),
     (284 * 4096 + 1602, 1, OpenFault::Damaged),
     (287 * 4096 + 1602, 2, OpenFault::Damaged),
     (287 * 4096 + 15, 1, OpenFault::Damaged),
-    // metadata that is too long, that is no text, and with a line's end; bytes after it and after the tag, and one in a
-    // free slot
+    // metadata that is too long, that isn't UTF-8, and that has a line feed; bytes after the metadata and after the
+    // tag; and a byte in a free slot
     (284 * 4096 + 64, 7, OpenFault::Damaged),
     (284 * 4096 + 66, 0xFF, OpenFault::Damaged),
     (284 * 4096 + 66, 0x0A, OpenFault::Damaged),
@@ -260,11 +263,11 @@ const DAMAGED: [(u64, u8, OpenFault); 31] = [
     (284 * 4096 + 1603, 1, OpenFault::Damaged),
     (284 * 4096 + 2047, 1, OpenFault::Damaged),
     (284 * 4096 + 2048 + 100, 1, OpenFault::Damaged),
-    // an ordinal twice, one after the text, and one that is missing
+    // an ordinal that is used twice, one after the text, and one that is missing
     (540 * 4096 + 8 * 9 + 7, 0, OpenFault::Damaged),
     (540 * 4096 + 8 * 9 + 7, 2, OpenFault::Damaged),
     (540 * 4096 + 8 * 3 + 3, 0, OpenFault::Damaged),
-    // a free row with an ordinal, a row of a free slot, and one after the last
+    // a free row with an ordinal, a row of a free slot, and a row after the last block
     (540 * 4096 + 8 * 5 + 7, 1, OpenFault::Damaged),
     (540 * 4096 + 8 * 5 + 3, 2, OpenFault::Damaged),
     (540 * 4096 + 8 * 16 + 3, 1, OpenFault::Damaged),
@@ -276,7 +279,7 @@ fn damaged_spools_are_refused(rt: HostRuntime) {
     assert_eq!(rt; fault, Some(OpenFault::NotASpool));
     refuse_all(&rt, rt.alloc(), fresh(&rt, rt.alloc()), &DAMAGED_EMPTY);
     let mut disk = with_uploads(&rt, rt.alloc());
-    // after the closed gate a head with a page more than the journal has
+    // The journal's head counts one page more than the journal has, which is damage only while the gate is open.
     put(&rt, &mut disk, 8192, &[0, 0, 1, 3]);
     refuse_all(&rt, rt.alloc(), disk, &DAMAGED);
 }

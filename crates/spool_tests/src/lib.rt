@@ -1,5 +1,5 @@
-//! Tests of stores of uploads by their public calls: a table, and a spool on disks that stop and crash; and of each
-//! kind of disk.
+//! Tests of the stores of uploads by their public calls: the table in memory, and the spool on disks that stop and
+//! crash. Each kind of disk has tests as well.
 #![tactic(auto)]
 
 #[cfg(test)]

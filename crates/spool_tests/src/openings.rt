@@ -1,4 +1,4 @@
-//! Openings of a spool whose gate is open: they fail, are begun again, and bring the change home.
+//! Openings of a spool with an open gate: they fail at any call, they are tried again, and the change is recovered.
 
 use crate::images::{byte_at, put};
 use crate::resumes::stops;
@@ -9,13 +9,13 @@ use std::alloc::Global;
 use std::process::Abort;
 use upload_rules::Uploads;
 
-/// Where the gate's byte stands.
+/// The address of the gate.
 const GATE: u64 = 4096;
 
-/// How many bytes the disk has.
+/// The size of the disk in bytes.
 const SIZE: usize = 557 * 4096;
 
-/// Unsynced bytes are lost, kept, zeros, or that of an open gate.
+/// A crash loses the unsynced bytes, keeps them, makes them zeros, or makes them the byte of an open gate.
 const KINDS: [Crash; 4] = [Crash::Old, Crash::New, Crash::Torn(0), Crash::Torn(0xA5)];
 
 /// The bytes of a disk.
@@ -35,8 +35,8 @@ fn disk_of(rt: &impl Abort, alloc: Global, bytes: &[u8]) -> MemoryDisk {
     disk
 }
 
-/// The bytes of a disk on which the five bytes of the upload 1 stand by the journal alone: the gate was opened, and no
-/// page is home.
+/// The bytes of a disk whose gate is open. The five bytes of upload 1 are in the journal alone: no page was copied to
+/// its place.
 fn with_open_gate(rt: &impl Abort, alloc: Global) -> Vec<u8> {
     let opening = calls_of_opening(rt, alloc, fresh(rt, alloc));
     for more in 0..100u64 {
@@ -52,15 +52,15 @@ fn with_open_gate(rt: &impl Abort, alloc: Global) -> Vec<u8> {
     panic!(rt; "the gate isn't opened")
 }
 
-/// How many calls an opening makes until the change is home.
+/// How many calls an opening makes until the recovery is done.
 fn calls_of_recovery(rt: &impl Abort, alloc: Global, bytes: &[u8]) -> u64 {
     let all = calls_of_opening(rt, alloc, disk_of(rt, alloc, bytes));
     let closed = calls_of_opening(rt, alloc, fresh(rt, alloc));
-    // the prefix, a sync and the gate come before
+    // Three calls come before the recovery: a read of page 0, a sync, and a read of the gate.
     all.saturating_sub(closed).saturating_add(3)
 }
 
-/// What an opening leaves that the disk refuses.
+/// The disk after an opening that it refuses.
 fn refused<D: Disk>(rt: &impl Abort, alloc: Global, disk: D) -> D {
     match Spool::open(alloc, disk) {
         Ok(_spool) => panic!(rt; "it is opened"),
@@ -71,7 +71,7 @@ fn refused<D: Disk>(rt: &impl Abort, alloc: Global, disk: D) -> D {
     }
 }
 
-/// The upload has its five bytes, and the gate is closed.
+/// Checks that the upload has its five bytes, and that the gate is closed.
 fn is_home(rt: &impl Abort, alloc: Global, disk: MemoryDisk) {
     let mut spool = opened(rt, alloc, disk);
     assert_eq!(rt; spool.record(1).map(|it| it.accepted), Some(5));
@@ -80,7 +80,7 @@ fn is_home(rt: &impl Abort, alloc: Global, disk: MemoryDisk) {
     assert_eq!(rt; byte_at(rt, &mut disk, GATE), 0);
 }
 
-/// A call of an opening fails once, and a write that fails leaves nothing, zeros or the byte of an open gate.
+/// Lets a call of an opening fail once. A failing write leaves nothing, zeros or the byte of an open gate.
 fn fail_once(rt: &impl Abort, alloc: Global, bytes: &[u8], call: u64, kind: Crash) {
     for fill in [None, Some(0), Some(0xA5)] {
         let disk = HiccupDisk::new(disk_of(rt, alloc, bytes), call, fill);
@@ -99,7 +99,7 @@ fn each_call_of_a_recovery_fails_once(rt: HostRuntime) {
     }
 }
 
-/// What an opening leaves that stops after so many calls, once the disk crashed.
+/// The disk after an opening that stops after `calls` calls, and a crash.
 fn stopped(
     rt: &impl Abort,
     alloc: Global,
@@ -115,7 +115,8 @@ fn stopped(
 /// How many calls lie between two stops of a second opening.
 const STRIDE: u64 = 8;
 
-/// A recovery that stops anywhere and one after it that does, with a crash after each, in turn of each kind.
+/// Two recoveries in a row stop, with a crash after each, and a third one ends. The first one stops at each call, and
+/// the second one at about every eighth.
 #[test]
 fn three_openings_in_a_row(rt: HostRuntime) {
     let bytes = with_open_gate(&rt, rt.alloc());

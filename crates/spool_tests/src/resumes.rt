@@ -1,5 +1,5 @@
-//! Going on after a crash: an upload is cut inside a character, its next append stops at any call of the disk, a crash
-//! comes, and what an opening finds goes on to the end as one uncut decoding does.
+//! An upload that is cut inside a character goes on after a crash. Its next append stops at any call of the disk, a
+//! crash follows, and after the next opening the upload goes on to the same text and state as an uncut one.
 
 use crate::uploads::{calls_of_opening, has_text, opened, patched};
 use enc_index::{Index, IndexSet, Kind};
@@ -10,10 +10,11 @@ use std::alloc::Global;
 use std::process::Abort;
 use upload_rules::{New, Uploads};
 
-/// A piece of an upload, the text after it, and the state bytes after it: those that aren't written out are zeros.
+/// A piece of an upload, the text after it, and the state bytes after it. State bytes that aren't written out are
+/// zeros.
 type Bar<'a> = (&'a [u8], &'a [u8], &'a [u8]);
 
-/// An upload in pieces, which are all its bytes.
+/// An upload in pieces.
 #[derive(Clone, Copy)]
 struct Row<'a> {
     from: Encoding,
@@ -21,8 +22,8 @@ struct Row<'a> {
     bars: &'a [Bar<'a>],
 }
 
-/// The state bytes were worked out by hand from the format of a spool: the source, the output, the mode, the phase, the
-/// encoding in effect and its decoder's state; at 16 the encoder's.
+/// The uploads. The state bytes were worked out by hand from FORMAT.md: the source, the output, the mode, the phase,
+/// the encoding in effect and its decoder's state; at 16 the encoder's state.
 const ROWS: [Row; 6] = [
     // a byte order mark in three pieces
     Row {
@@ -34,7 +35,7 @@ const ROWS: [Row; 6] = [
             (b"\xbfA", b"A", &[0, 0, 0, 2]),
         ],
     },
-    // U+1F600, cut after its lead surrogate and inside its trail
+    // U+1F600, cut after its lead surrogate and inside its trail surrogate
     Row {
         from: Encoding::Utf16Le,
         to: Encoding::Utf8,
@@ -64,7 +65,7 @@ const ROWS: [Row; 6] = [
             (b"\xa1", b"\xe4\xb8\x82", &[4, 0, 0, 2]),
         ],
     },
-    // an escape in three pieces, U+3042, two escapes in a row
+    // an escape sequence in three pieces, U+3042, two escape sequences in a row
     Row {
         from: Encoding::Iso2022Jp,
         to: Encoding::Utf8,
@@ -79,7 +80,7 @@ const ROWS: [Row; 6] = [
             ),
         ],
     },
-    // U+3042 by an escape, then a character without a code, back in ASCII
+    // U+3042 after an escape sequence, then an unmappable character, with which the output returns to ASCII
     Row {
         from: Encoding::Utf8,
         to: Encoding::Iso2022Jp,
@@ -98,10 +99,10 @@ const ROWS: [Row; 6] = [
     },
 ];
 
-/// So many calls of an opening, the last ones, meet a stop: they read rows.
+/// The disk also stops at the last four calls of the opening, which read rows.
 const LAST_CALLS: u64 = 4;
 
-/// More calls than an append makes after these.
+/// More calls than those four and an append make.
 const MOST: u64 = 64;
 
 /// A spool of 16 blocks without uploads, with the index files that the rows need.
@@ -119,7 +120,7 @@ fn with_files(rt: &impl Abort, alloc: Global) -> MemoryDisk {
     disk
 }
 
-/// 32 state bytes: these, and zeros after them.
+/// 32 state bytes: `prefix`, then zeros.
 fn with_zeros(prefix: &[u8]) -> [u8; 32] {
     let mut state = [0; 32];
     for (place, byte) in state.iter_mut().zip(prefix.iter()) {
@@ -129,12 +130,12 @@ fn with_zeros(prefix: &[u8]) -> [u8; 32] {
 }
 
 impl<'a> Row<'a> {
-    /// The bar of this number.
+    /// The bar with this number.
     fn bar(&self, rt: &impl Abort, bar: usize) -> Bar<'a> {
         *self.bars.get(bar).expect(rt, "a bar")
     }
 
-    /// How many bytes the pieces before this bar have.
+    /// How many bytes the pieces before `bar` have.
     fn offset(&self, bar: usize) -> u64 {
         let mut offset = 0u64;
         for (piece, _, _) in self.bars.iter().take(bar) {
@@ -159,7 +160,7 @@ impl<'a> Row<'a> {
         assert_eq!(rt; spool.create(new), Ok(1));
     }
 
-    /// After so many pieces all is as the row says.
+    /// Checks the upload after `came` pieces against the row.
     fn check(&self, rt: &impl Abort, spool: &mut Spool<MemoryDisk>, came: usize) {
         let record = spool.record(1).expect(rt, "the upload");
         let (accepted, state) = (record.accepted, record.state);
@@ -171,7 +172,7 @@ impl<'a> Row<'a> {
         }
     }
 
-    /// The pieces between two bars come, and after each all is as the row says.
+    /// Appends the pieces `from..to`, and checks the upload after each.
     fn go_on(&self, rt: &impl Abort, spool: &mut Spool<MemoryDisk>, from: usize, to: usize) {
         for bar in from..to {
             let (piece, _, _) = self.bar(rt, bar);
@@ -181,8 +182,9 @@ impl<'a> Row<'a> {
         }
     }
 
-    /// The piece at a bar comes on a disk that stops after so many calls, and then a crash; what an opening finds is
-    /// before the piece or after it, and goes on to the end. Whether the piece was answered.
+    /// Appends the piece `bar` on a disk that stops after `calls` calls, and lets the disk crash. The next opening
+    /// finds the upload before this piece or after it, and the remaining pieces follow. Returns whether the piece was
+    /// answered.
     fn resumes(&self, rt: &impl Abort, alloc: Global, bar: usize, calls: u64, kind: Crash) -> bool {
         let mut spool = opened(rt, alloc, with_files(rt, alloc));
         self.make(rt, alloc, &mut spool);
@@ -199,7 +201,7 @@ impl<'a> Row<'a> {
         answered
     }
 
-    /// The piece at a bar meets a stop at each call, until it is answered.
+    /// Lets the append of a piece stop at each call in turn, until it is answered.
     fn resumes_at(&self, rt: &impl Abort, alloc: Global, bar: usize, kind: Crash) {
         let opening = calls_of_opening(rt, alloc, with_files(rt, alloc));
         let first = opening.saturating_sub(LAST_CALLS);
@@ -214,8 +216,8 @@ impl<'a> Row<'a> {
     }
 }
 
-/// Bytes come to the upload 1 from an offset on, on a disk that stops after so many calls: the disk, and whether they
-/// were answered.
+/// Appends bytes to upload 1 on a disk that stops after `calls` calls. Returns the disk, and whether the append was
+/// answered.
 pub(crate) fn stops(
     alloc: Global,
     disk: MemoryDisk,
@@ -232,7 +234,7 @@ pub(crate) fn stops(
     }
 }
 
-/// A stop at each call of each piece of each row, and a crash of this kind.
+/// Lets the append of each piece of each row stop at each call, and the disk crash.
 fn resume_all(rt: &impl Abort, alloc: Global, kind: Crash) {
     for row in ROWS {
         for bar in 0..row.bars.len() {

@@ -1,4 +1,4 @@
-//! A table in use.
+//! The table in memory in use.
 
 use crate::uploads::{patched, plain};
 use enc_index::IndexSet;
@@ -6,7 +6,7 @@ use std::alloc::Global;
 use std::process::Abort;
 use upload_rules::{Table, Uploads};
 
-/// A table with an upload of this length, of which no byte came.
+/// A table with an empty upload of this length.
 fn with_one(rt: &impl Abort, alloc: Global, length: u64) -> Table {
     let indexes = IndexSet::new(alloc).expect(rt, "memory for a set");
     let mut table = Table::new(alloc, indexes);

@@ -10,32 +10,32 @@ use std::alloc::Global;
 use std::process::Abort;
 use upload_rules::Uploads;
 
-/// Where the state page of a spool of 16 blocks begins.
+/// The address of the state page in a spool of 16 blocks.
 const STATE: u64 = 283 * 4096;
 
-/// Where the record of its second slot begins.
+/// The address of its second record.
 const SECOND: u64 = 284 * 4096 + 2048;
 
-/// Version 1, and the bytes and the tag of the second record's length, which isn't known.
+/// Version 1: the version, the length of the second record, which is unknown, and its tag.
 const OLD: (u8, [u8; 8], u8) = (1, [0xFF; 8], 0);
 
 /// The same in version 2.
 const NEW: (u8, [u8; 8], u8) = (2, [0; 8], 1);
 
-/// Makes the state page say this version.
+/// Sets the version on the state page.
 fn set_version(rt: &impl Abort, disk: &mut MemoryDisk, version: u8) {
     put(rt, disk, STATE, &[0, 0, 0, version]);
     disk.sync().expect(rt, "a sync");
 }
 
-/// Makes the spool with the three uploads one of version 1 again.
+/// Rewrites the spool with the three uploads in version 1.
 fn make_old(rt: &impl Abort, disk: &mut MemoryDisk) {
     put(rt, disk, SECOND + 8, &[0xFF; 8]);
     put(rt, disk, SECOND + 1602, &[0]);
     set_version(rt, disk, 1);
 }
 
-/// The version that the state page says, and the length and the tag of the second record.
+/// The version on the state page, and the length and the tag of the second record.
 fn form_of(rt: &impl Abort, disk: &mut MemoryDisk) -> (u8, [u8; 8], u8) {
     assert!(rt; SECOND + 16 <= disk.len());
     let mut length = [0; 8];
@@ -44,8 +44,8 @@ fn form_of(rt: &impl Abort, disk: &mut MemoryDisk) -> (u8, [u8; 8], u8) {
     (version, length, byte_at(rt, disk, SECOND + 1602))
 }
 
-/// A disk with a spool of version 1, and three uploads: all five bytes of the first came, two of the second, whose
-/// length isn't known, and of the third the first byte of a byte order mark.
+/// A disk with a spool of version 1 and three uploads: a complete one of five bytes, one of unknown length with two
+/// bytes, and one with the first byte of a byte order mark.
 fn old_spool(rt: &impl Abort, alloc: Global) -> MemoryDisk {
     let mut disk = fresh(rt, alloc);
     set_version(rt, &mut disk, 1);
@@ -59,7 +59,7 @@ fn old_spool(rt: &impl Abort, alloc: Global) -> MemoryDisk {
     spool.into_disk()
 }
 
-/// Whether the three uploads are there as they were made, and the next number is 4.
+/// Whether the three uploads are unchanged, and the next number is 4.
 fn are_there(spool: &mut Spool<MemoryDisk>) -> bool {
     let first = spool.record(1).map(|r| (r.declared, r.accepted));
     let second = spool.record(2).map(|r| (r.declared, r.accepted));
@@ -73,7 +73,7 @@ fn are_there(spool: &mut Spool<MemoryDisk>) -> bool {
         && has_text(spool, 3, b"")
 }
 
-/// The disk, on which the three uploads are there when it is opened.
+/// Opens the spool, checks that the three uploads are unchanged, and returns the disk.
 fn looked_at(rt: &impl Abort, alloc: Global, disk: MemoryDisk) -> MemoryDisk {
     let mut spool = opened(rt, alloc, disk);
     assert!(rt; are_there(&mut spool));
@@ -88,7 +88,7 @@ fn upgraded_spool_has_its_uploads_and_goes_on(rt: HostRuntime) {
     assert_eq!(rt; form_of(&rt, &mut disk), NEW);
     let mut spool = opened(&rt, rt.alloc(), disk);
     assert!(rt; are_there(&mut spool));
-    // the rest of the mark, and a letter
+    // The rest of the mark, and a letter.
     assert_eq!(rt; patched(&mut spool, 3, 1, b"\xbb\xbfA"), Ok(4));
     assert!(rt; has_text(&mut spool, 3, b"A"));
     assert_eq!(rt; declared(&mut spool, 2, 2, Some(3), b"c"), Ok(3));
@@ -101,8 +101,8 @@ fn upgraded_spool_has_its_uploads_and_goes_on(rt: HostRuntime) {
     );
 }
 
-/// Upgrades on a disk that stops after so many calls and crashes in this way then: what the upgrade answers, and the
-/// disk, on which the three uploads are there.
+/// Upgrades on a disk that stops after `calls` calls and then crashes. Checks that the three uploads are unchanged, and
+/// returns the disk and the upgrade's answer.
 fn upgraded_within(
     rt: &impl Abort,
     alloc: Global,
@@ -115,7 +115,7 @@ fn upgraded_within(
     (looked_at(rt, alloc, fuse.into_inner().crash(kind)), answer)
 }
 
-/// How many calls an upgrade makes: one more than the most that aren't enough.
+/// How many calls an upgrade makes. A binary search finds the greatest number of calls after which it still fails.
 fn calls_of_upgrade(rt: &impl Abort, alloc: Global) -> u64 {
     let mut few = 0u64;
     for step in POWERS {
@@ -128,11 +128,12 @@ fn calls_of_upgrade(rt: &impl Abort, alloc: Global) -> u64 {
     few.saturating_add(1)
 }
 
-/// After the write that opens the gate come a sync, 257 pages, a sync, the write that closes the gate and a sync.
+/// The calls after the write that opens the gate: a sync, 257 page writes, a sync, the write that closes the gate and a
+/// sync.
 const AFTER_THE_GATE: u64 = 261;
 
-/// Whether the disk is of version 2 after a stop after so many calls of all, and a crash: where the gate was opened. A
-/// write of the gate that wasn't synced is lost, kept or torn to this byte.
+/// Whether the disk is of version 2 after a stop after `calls` of `all` calls, and a crash: whether the gate was
+/// opened. An unsynced write of the gate is lost, survives, or is torn to a byte, which may be that of an open gate.
 fn is_new(all: u64, calls: u64, kind: Crash) -> bool {
     let written = all.saturating_sub(AFTER_THE_GATE);
     match kind {
@@ -141,7 +142,7 @@ fn is_new(all: u64, calls: u64, kind: Crash) -> bool {
     }
 }
 
-/// Lets the disk stop at each call of the upgrade from this one on, and crash in this way.
+/// Lets the upgrade stop at each call from `first` on, and the disk crash.
 fn stop_within(rt: &impl Abort, alloc: Global, first: u64, kind: Crash) {
     let stopped = Err(UpgradeError::Open(OpenFault::DiskFault));
     let all = calls_of_upgrade(rt, alloc);
@@ -158,8 +159,8 @@ fn stop_within(rt: &impl Abort, alloc: Global, first: u64, kind: Crash) {
     assert_eq!(rt; (answer, form_of(rt, &mut left)), (Ok(()), NEW));
 }
 
-/// At each call where bytes are lost, and else at those after the opening, which writes nothing. Torn bytes are zeros,
-/// or that of an open gate.
+/// The upgrade's own opening writes nothing, so its calls are tried with one kind of crash only. Torn bytes are zeros
+/// or the byte of an open gate.
 #[test]
 fn upgrade_stops_and_bytes_are_lost_kept_or_torn(rt: HostRuntime) {
     let first = calls_of_opening(&rt, rt.alloc(), old_spool(&rt, rt.alloc()));
@@ -173,7 +174,7 @@ fn upgrade_stops_and_bytes_are_lost_kept_or_torn(rt: HostRuntime) {
     }
 }
 
-/// Changes a byte in each row, and looks how the spool is refused when it is opened, and what an upgrade answers then.
+/// Changes a byte in each row, checks how an opening and an upgrade refuse the spool, and changes it back.
 fn refuse_all(
     rt: &impl Abort,
     alloc: Global,
@@ -193,7 +194,7 @@ fn refuse_all(
     disk
 }
 
-/// Bytes that damage the spool of version 1: it is refused as when it is opened.
+/// Bytes that damage the spool of version 1. The upgrade refuses it for the same reason as the opening.
 const OLD_ROWS: [(u64, u8, OpenFault, UpgradeError); 5] = [
     // another version
     (
@@ -202,7 +203,7 @@ const OLD_ROWS: [(u64, u8, OpenFault, UpgradeError); 5] = [
         OpenFault::Version,
         UpgradeError::Open(OpenFault::Version),
     ),
-    // tags that version 1 hasn't
+    // tags that version 1 lacks
     (
         SECOND + 1602,
         1,
@@ -231,7 +232,7 @@ const OLD_ROWS: [(u64, u8, OpenFault, UpgradeError); 5] = [
     ),
 ];
 
-/// Bytes that damage it in version 2: it is new already.
+/// Bytes that damage the spool of version 2. The upgrade answers that it is new already, except for another version.
 const NEW_ROWS: [(u64, u8, OpenFault, UpgradeError); 5] = [
     // another tag
     (
@@ -242,7 +243,7 @@ const NEW_ROWS: [(u64, u8, OpenFault, UpgradeError); 5] = [
     ),
     // an unknown length with a byte of a length
     (SECOND + 15, 1, OpenFault::Damaged, UpgradeError::AlreadyNew),
-    // bytes after the tag and the state page's fields
+    // bytes after the tag and after the state page's fields
     (
         SECOND + 1603,
         1,
@@ -268,7 +269,7 @@ fn damaged_spool_is_refused_or_new_already(rt: HostRuntime) {
     );
     assert_eq!(rt; upgrade(rt.alloc(), &mut disk), Ok(()));
     let mut left = refuse_all(&rt, rt.alloc(), disk, &NEW_ROWS);
-    // an unknown length of version 1 is a length of version 2, and too great
+    // An unknown length of version 1 is a known length in version 2, and above the limit.
     make_old(&rt, &mut left);
     set_version(&rt, &mut left, 2);
     let (_, fault) = refused(rt.alloc(), left);

@@ -1,4 +1,4 @@
-//! A spool in use.
+//! The spool in use.
 
 ghost use Rattle.std.specs.Prelude.{◌≡◌};
 ghost use Rattle.upload_rules.specs.Records.{IsWellFormed};
@@ -11,10 +11,10 @@ use std::alloc::Global;
 use std::process::Abort;
 use upload_rules::{New, UploadError, UploadRefusal, Uploads};
 
-/// The steps by which calls are counted, of which there are fewer than 4,096.
+/// The steps of a binary search for a number of calls below 4,096.
 pub(crate) const POWERS: [u64; 12] = [2048, 1024, 512, 256, 128, 64, 32, 16, 8, 4, 2, 1];
 
-/// The fields of an upload from UTF-8 to UTF-8 of this length.
+/// The fields of an upload from UTF-8 to UTF-8 with this length.
 pub(crate) fn plain(alloc: Global, declared: u64) -> New
     ensures form { IsWellFormed result }
     ensures from { result.from ≡ Encoding.Utf8 }
@@ -26,7 +26,7 @@ pub(crate) fn plain(alloc: Global, declared: u64) -> New
     }
 }
 
-/// The fields of an upload from UTF-8 to UTF-8 whose length is deferred.
+/// The fields of an upload from UTF-8 to UTF-8 with a deferred length.
 pub(crate) fn deferred(alloc: Global) -> New
     ensures form { IsWellFormed result }
     ensures from { result.from ≡ Encoding.Utf8 }
@@ -57,7 +57,8 @@ pub(crate) fn opened<D: Disk>(rt: &impl Abort, alloc: Global, disk: D) -> Spool<
     }
 }
 
-/// How many calls an opening of the spool on a disk makes: one more than the most that aren't enough.
+/// How many calls an opening of the spool on a disk makes. A binary search finds the greatest number of calls after
+/// which it still fails.
 pub(crate) fn calls_of_opening(rt: &impl Abort, alloc: Global, disk: MemoryDisk) -> u64 {
     let mut few = 0u64;
     let mut disk = disk;
@@ -75,14 +76,14 @@ pub(crate) fn calls_of_opening(rt: &impl Abort, alloc: Global, disk: MemoryDisk)
     few.saturating_add(1)
 }
 
-/// A spool of 16 blocks with an upload of this length, of which no byte came.
+/// A spool of 16 blocks with an empty upload of this length.
 fn with_one(rt: &impl Abort, alloc: Global, length: u64) -> Spool<MemoryDisk> {
     let mut spool = opened(rt, alloc, fresh(rt, alloc));
     assert_eq!(rt; spool.create(plain(alloc, length)), Ok(1));
     spool
 }
 
-/// An append of these bytes.
+/// Appends bytes.
 pub(crate) fn patched<U: Uploads>(
     uploads: &mut U,
     number: u64,
@@ -92,7 +93,7 @@ pub(crate) fn patched<U: Uploads>(
     declared(uploads, number, offset, None, bytes)
 }
 
-/// An append of these bytes that may declare the length.
+/// Appends bytes, and declares the length if one is given.
 pub(crate) fn declared<U: Uploads>(
     uploads: &mut U,
     number: u64,
@@ -110,15 +111,15 @@ pub(crate) fn declared<U: Uploads>(
     }
 }
 
-/// Whether an upload's text is these bytes.
+/// Whether the text of an upload is `want`.
 pub(crate) fn has_text(spool: &mut Spool<MemoryDisk>, number: u64, want: &[u8]) -> bool {
     let mut buf = [0; 65536];
     let read = spool.read_text(number, 0, &mut buf);
     read == Ok(want.len()) && buf.starts_with(want)
 }
 
-/// An upload's length but for its last byte, whether another upload takes a block before that byte comes, and what its
-/// append answers.
+/// Each row: an upload's length without its last byte, whether another upload takes a block before that byte comes, and
+/// the answer to the append of that byte.
 const LAST_BYTES: [(u64, bool, Result<u64, UploadError>); 3] = [
     (40960, false, Ok(40961)),
     (61000, false, Ok(61001)),

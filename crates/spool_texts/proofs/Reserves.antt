@@ -23,7 +23,7 @@ listed_below q bound (x ∷ list) below e =
     by_head true is e rest = omega (arith, eqb-true q x (sym is), below 0 (omega arith))
     by_head false is e rest = rest e
 
--- numbers below a bound are no more than it says
+-- a list of distinct numbers below a bound isn't longer than the bound
 pub few_distinct : (bound : ℕ) (list : List ℕ) → ((i : ℕ) → i < length list → get_or list i 0 < bound)
     → ((i k : ℕ) → i < k → k < length list → get_or list i 0 ≢ get_or list k 0) → length list ≤ bound
 few_distinct bound list below distinct =

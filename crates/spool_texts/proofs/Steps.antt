@@ -4,7 +4,7 @@ use Rattle.std.proofs.lemmas.List.{take_at, take_all, append-nil, drop_all}
 use Rattle.spool_disk.specs.Disk.{Counts}
 use Rattle.spool_texts.specs.Reading.{IsRead}
 
--- the same failure, told in another way
+-- the failure count of an equivalent failure
 pub counts_same : {F G : Type 0} {a b : ℕ} → Counts F a b → (F → G) → (G → F) → Counts G a b
 counts_same counts to from = record {
   later = counts.later;

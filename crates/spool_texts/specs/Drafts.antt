@@ -1,40 +1,40 @@
--- The new text of a draft: on reserved blocks, and the bytes of an unfinished block in memory.
+-- The new text of a draft: its reserved blocks, and the bytes of its unfinished block in memory.
 use Rattle.std.specs.Prelude.{◌≡◌, ◌≢◌, ℕ, ◌+◌, ◌*◌, ◌-◌, ◌/◌, ◌<◌, ◌++◌, List, None, true, false, length, get_or, take}
 use Rattle.spool_blocks.specs.Blocks.{Held, IsFree}
 use Rattle.spool_texts.specs.TextOn.{blocks_on}
 
--- its blocks by ordinal, from that of the committed tail on; the bytes that aren't on a full block; and how many blocks
--- its list holds before it takes more memory
+-- The blocks by ordinal, from the committed text's unfinished block on; the bytes that aren't on a full block; and how
+-- many blocks fit the list before it grows.
 pub record Draft : Type 0 where
   pub blocks : List ℕ
   pub unfinished : List ℕ
   pub room : ℕ
 
--- all blocks are full but the last, where bytes of it are unfinished
+-- How many of the blocks are full. The last isn't if bytes are unfinished.
 abbrev pub full_count : Draft → ℕ
 full_count d = length d.blocks - (length d.unfinished + 4095) / 4096
 
--- how many bytes it holds
+-- How many bytes the draft has.
 abbrev pub held_count : Draft → ℕ
 held_count d = 4096 * full_count d + length d.unfinished
 
--- those bytes; the text blocks begin at a page
+-- The bytes of the draft. The text blocks begin at page `first`.
 abbrev pub content_on : (ℕ → ℕ) → ℕ → Draft → List ℕ
 content_on current first d = blocks_on current first (take (full_count d) d.blocks) ++ d.unfinished
 
--- the bytes on the listed blocks, and the last ones, which are still to be written to the last of these
+-- The bytes on the listed blocks, followed by the last ones, which have yet to be written to the last of these blocks.
 abbrev pub bytes_with : (ℕ → ℕ) → ℕ → List ℕ → List ℕ → List ℕ
 bytes_with current first list last = blocks_on current first (take (length list -
     (length last + 4095) / 4096) list) ++ last
 
--- the listed blocks are reserved, each is listed once, and nobody owns one
+-- The listed blocks are reserved and distinct, and no slot owns one.
 pub record IsReserved (h : Held) (list : List ℕ) : Type 0 where
   pub below : (i : ℕ) → i < length list → get_or list i 0 < length h.rows
   pub reserved : (i : ℕ) → i < length list → get_or h.reserved (get_or list i 0) false ≡ true
   pub no_owner : (i : ℕ) → i < length list → get_or h.rows (get_or list i 0) None ≡ None
   pub distinct : (i k : ℕ) → i < k → k < length list → get_or list i 0 ≢ get_or list k 0
 
--- the list grew by blocks that were free and now are reserved; the others are as they were
+-- The list grew by free blocks, which are reserved now. All others are unchanged.
 pub record Takes (old new : Held) (list list' : List ℕ) : Type 0 where
   pub more : List ℕ
   pub grown : list' ≡ list ++ more
@@ -46,7 +46,7 @@ pub record Takes (old new : Held) (list list' : List ℕ) : Type 0 where
       → get_or new.reserved b false ≡ get_or old.reserved b false
   pub keeps : (b : ℕ) → get_or old.reserved b false ≡ true → get_or new.reserved b false ≡ true
 
--- the listed blocks are reserved no more; the others are as they were
+-- The listed blocks aren't reserved any more. All others are unchanged.
 pub record GivesBack (old new : Held) (list : List ℕ) : Type 0 where
   pub rows : new.rows ≡ old.rows
   pub size : length new.reserved ≡ length old.reserved

@@ -1,21 +1,21 @@
 -- Reading a piece of a text.
 use Rattle.std.specs.Prelude.{◌≡◌, ℕ, ◌+◌, ◌-◌, ◌*◌, ◌/◌, ◌%◌, ◌<◌, ◌≤◌, List, ◌++◌, length, get_or, take, drop, min}
 
--- n bytes were read: the text's from `at` on, as many as there are and fit; what is after them in the buffer stays
+-- n bytes of the text from `at` on were read: as many as there are and as fit. The rest of the buffer is unchanged.
 pub record IsRead (text : List ℕ) (at n : ℕ) (old new : List ℕ) : Type 0 where
   pub count : n ≡ min (length text - at) (length old)
   pub bytes : new ≡ take n (drop at text) ++ drop n old
 
--- a byte of the listed blocks
+-- Byte `at` of the listed blocks.
 abbrev pub byte_on : (ℕ → ℕ) → ℕ → List ℕ → ℕ → ℕ
 byte_on current first list at = current (4096 * (first + get_or list (at / 4096) 0) + at % 4096)
 
--- the first n bytes are those of the listed blocks from `at` on; what is after them in the buffer stays
+-- The first n bytes are those of the listed blocks from `at` on. The rest of the buffer is unchanged.
 pub record IsPiece (current : ℕ → ℕ) (first : ℕ) (list : List ℕ) (at n : ℕ) (old new : List ℕ) : Type 0 where
   pub size : length new ≡ length old
   pub bytes : (k : ℕ) → k < n → get_or new k 0 ≡ byte_on current first list (at + k)
   pub rest : (k : ℕ) → n ≤ k → get_or new k 0 ≡ get_or old k 0
 
--- so many of the listed blocks from this index on follow one another
+-- This many of the listed blocks, from this index on, are adjacent.
 abbrev pub Follow : List ℕ → ℕ → ℕ → Type 0
 Follow list at count = (i : ℕ) → i < count → get_or list (at + i) 0 ≡ get_or list at 0 + i

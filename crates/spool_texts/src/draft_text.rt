@@ -19,12 +19,12 @@ use spool_journal::{Layout, PAGE, write_block};
 use std::alloc::{AllocError, Global};
 use std::marker::Model;
 
-/// The new text of a draft: the blocks that it reserved, and the bytes of the unfinished block. Dropped without
-/// `give_back` or `into_list`, its blocks stay reserved.
+/// The new text of a draft: the blocks that it reserved, and the bytes of its unfinished block in memory. If it is
+/// dropped without `give_back` or `into_list`, its blocks stay reserved.
 #[derive(Drop)]
 pub struct DraftText {
     blocks: Vec<BlockNo>,
-    // the bytes of the unfinished block, and room for the rest of it
+    // A page with the bytes of the unfinished block at its start.
     page: Vec<u8>,
     filled: usize,
 }
@@ -39,8 +39,12 @@ impl Model for DraftText {
 }
 
 impl DraftText {
-    /// No new text after the one of this length on the listed blocks. The bytes on its last block, if that isn't full,
-    /// are read and stay in memory: they go on a block of the draft's own with its first new byte.
+    /// An empty draft of a text of `len` bytes on the listed blocks. The bytes after its last full block are read into
+    /// memory; with the first new byte they move to a block that the draft reserves.
+    ///
+    /// # Errors
+    ///
+    /// `NoMemory`, `DiskFault`.
     pub fn begin<D: Disk>(
         alloc: Global,
         disk: &mut D,
@@ -74,8 +78,12 @@ impl DraftText {
         })
     }
 
-    /// No new text after one whose last bytes, so many after its last full block, are nobody's any more: zeros stand
-    /// for them. Nothing is read.
+    /// An empty draft of a deleted upload: the bytes after its last full block are gone, and zeros take their place.
+    /// Nothing is read.
+    ///
+    /// # Errors
+    ///
+    /// `AllocError`.
     pub fn blank(alloc: Global, len: usize) -> Result<Self, AllocError>
         requires { len < 4096 }
         ensures none { IfOk result (λ draft. draft.blocks ≡ []) }
@@ -89,7 +97,7 @@ impl DraftText {
         })
     }
 
-    /// The reserved blocks, by ordinal from that of the committed text's last unfinished block on.
+    /// The reserved blocks. The first has the ordinal of the committed text's unfinished block.
     pub fn list(&self) -> &[BlockNo]
         ensures blocks { result.now ≡ self.now.blocks }
         ensures few { length self.now.blocks ≤ 65536 }
@@ -98,7 +106,7 @@ impl DraftText {
         self.blocks.as_slice()
     }
 
-    /// Gives up the memory, and hands over the reserved blocks.
+    /// The reserved blocks, which the caller has to give back or own.
     pub fn into_list(self) -> Vec<BlockNo>
         ensures { result.items ≡ self.blocks }
     {
@@ -110,7 +118,7 @@ impl DraftText {
         blocks
     }
 
-    /// The number of bytes that it holds, with those of the committed tail.
+    /// How many bytes the draft has, with those of the committed text's unfinished block.
     pub fn len(&self) -> u64
         ensures { result ≡ held_count self.now }
     {
@@ -118,8 +126,11 @@ impl DraftText {
         PAGE as u64 * full as u64 + self.filled as u64
     }
 
-    /// Puts bytes after. A block is reserved as its first byte comes, and written, without a sync, as its last one
-    /// does.
+    /// Appends bytes. A block is reserved with its first byte, and written, without a sync, with its last one.
+    ///
+    /// # Errors
+    ///
+    /// `NoMemory`, with nothing done; `DiskFault`; `Full` if the bytes need another block and none is free.
     pub fn put<D: Disk>(
         &mut self,
         disk: &mut D,
@@ -140,12 +151,11 @@ impl DraftText {
             (content_on (D.current disk.new) (text_page layout.now) self.new
             ≡ content_on (D.current disk.old) (text_page layout.now) self.old ++ bytes.now) }
 
-        // Where memory is short, nothing is done.
+        // Out of memory, nothing is done.
         ensures memory { IsErrOf result DraftError.NoMemory
             → (self.new ≡ self.old) × (disk.new ≡ disk.old) × (blocks.new ≡ blocks.old) }
 
-        // It reserves no more blocks than its bytes need, and refuses only where they need more and none is free. What
-        // it reserved it holds after a refusal too.
+        // It reserves no more blocks than its bytes need, and keeps them when it is refused.
         ensures listed { OnOk result
             (1 ≤ length bytes.now → length self.new.blocks ≡ (held_count self.new + 4095) / 4096) }
         ensures takes { Takes blocks.old blocks.new self.old.blocks self.new.blocks }
@@ -154,7 +164,7 @@ impl DraftText {
         ensures scarce { IsErrOf result DraftError.Full → length
             self.new.blocks < (held_count self.old + length bytes.now + 4095) / 4096 }
 
-        // But for its own blocks, nothing is written, and every image is one from before.
+        // It writes only its own blocks; apart from them, every crash image is one of before.
         ensures writes { D.honest disk.old → WritesIn (text_page layout.now) self.new.blocks
             (D.current disk.old) (D.current disk.new) (D.unsynced disk.old) (D.unsynced disk.new) }
         ensures idle { D.honest disk.old → Idle (journal_pages layout.now) (D.current disk.old) (D.unsynced disk.old)
@@ -177,7 +187,7 @@ impl DraftText {
         Ok(())
     }
 
-    // Makes the list long enough for so many bytes more.
+    // Makes room in the list for the blocks of `len` more bytes.
     fn make_room(&mut self, len: usize) -> Result<(), AllocError>
         requires { len < 2 ^ 63 }
         ensures blocks { self.new.blocks ≡ self.old.blocks }
@@ -189,7 +199,7 @@ impl DraftText {
         self.blocks.reserve(more)
     }
 
-    // Puts as many bytes after as the unfinished block has room for.
+    // Appends as many bytes as the unfinished block has room for, and returns their count.
     fn put_some<D: Disk>(
         &mut self,
         disk: &mut D,
@@ -237,8 +247,12 @@ impl DraftText {
         Ok(n)
     }
 
-    /// Takes these bytes as the last ones, in memory: it reserves the blocks for them, and answers what `write_last` is
-    /// to write, the bytes of the unfinished block and these. The draft may only be spent then.
+    /// Appends the last bytes, in memory: reserves the blocks for them and returns what `write_last` has to write, the
+    /// bytes of the unfinished block and these. Afterwards the draft can only be given back or owned.
+    ///
+    /// # Errors
+    ///
+    /// `NoMemory`, with nothing done; `Full`.
     pub fn end(
         &mut self,
         alloc: Global,
@@ -251,14 +265,14 @@ impl DraftText {
         ensures memory { IsErrOf result DraftError.NoMemory → (self.new ≡ self.old) × (blocks.new ≡ blocks.old) }
         ensures some { IsErrOf result DraftError.Full → 1 ≤ length bytes.now }
 
-        // The bytes on its blocks with those that it answers are all that it held, and the last ones.
+        // The bytes on its blocks and the returned ones are all that it had, and the last bytes.
         ensures content { (current : ℕ → ℕ) (first : ℕ) → IfOk result
             (λ last. bytes_with current first self.new.blocks last.items ≡ content_on current first self.old ++
             bytes.now) }
         ensures fits { IfOk result
             (λ last. 1 ≤ length self.new.blocks → (length last.items + 4095) / 4096 ≤ length self.new.blocks) }
 
-        // It reserves no more blocks than its bytes need, as `put` does.
+        // As in `put`, it reserves no more blocks than its bytes need.
         ensures listed { OnOk result
             (1 ≤ length bytes.now → length self.new.blocks ≡ (held_count self.old + length bytes.now + 4095) / 4096) }
         ensures takes { Takes blocks.old blocks.new self.old.blocks self.new.blocks }
@@ -288,8 +302,7 @@ impl DraftText {
         Ok(last)
     }
 
-    /// Gives the reserved blocks back, without memory and without the disk. The first goes last, so that it is the next
-    /// one to be taken.
+    /// Gives the reserved blocks back. It uses neither memory nor the disk. The first block is freed last.
     pub fn give_back(self, blocks: &mut Blocks)
         requires { IsReserved blocks.old self.blocks }
         ensures { GivesBack blocks.old blocks.new self.blocks }
@@ -300,7 +313,7 @@ impl DraftText {
         }
     }
 
-    // Reserves a block where the next byte is the first one of a block.
+    // Reserves a block if the next byte is the first of one.
     fn open_block(&mut self, blocks: &mut Blocks) -> Result<(), DraftError>
         requires reserved { IsReserved blocks.old self.old.blocks }
         requires space { full_count self.old + 1 ≤ self.old.room }
@@ -321,7 +334,7 @@ impl DraftText {
     }
 }
 
-// Reads the bytes of the text after its last full block.
+// Reads the bytes after the text's last full block, and returns their count.
 fn read_tail<D: Disk>(
     disk: &mut D,
     layout: &Layout,
@@ -387,7 +400,11 @@ fn write_prefix<D: Disk>(
     write_block(disk, layout, last, 0, bytes)
 }
 
-/// Writes the last bytes of a text to the last ones of its listed blocks, without a sync.
+/// Writes the last bytes of a text to the last of the listed blocks, without a sync.
+///
+/// # Errors
+///
+/// `DiskFault`.
 pub fn write_last<D: Disk>(
     disk: &mut D,
     layout: &Layout,
@@ -418,7 +435,7 @@ pub fn write_last<D: Disk>(
     Ok(())
 }
 
-// Reserves a block, and puts it after the others.
+// Reserves a block and appends it to the list.
 fn take_block(list: &mut Vec<BlockNo>, blocks: &mut Blocks) -> Result<(), DraftError>
     requires space { vec_len list.old < vec_capacity list.old }
     requires few { length list.old.items ≤ 65536 }
@@ -439,7 +456,7 @@ fn take_block(list: &mut Vec<BlockNo>, blocks: &mut Blocks) -> Result<(), DraftE
     Ok(())
 }
 
-// Reserves blocks, and puts them after the others, until there are so many.
+// Reserves blocks and appends them to the list until it has `count`.
 fn take_blocks(list: &mut Vec<BlockNo>, blocks: &mut Blocks, count: usize) -> Result<(), DraftError>
     requires space { count ≤ vec_capacity list.old }
     requires fewer { length list.old.items ≤ count }
@@ -459,7 +476,7 @@ fn take_blocks(list: &mut Vec<BlockNo>, blocks: &mut Blocks, count: usize) -> Re
     Ok(())
 }
 
-// Puts as many bytes after the first ones as there is room for.
+// Copies bytes into the page from `filled` on, as many as fit, and returns their count.
 fn fill(page: &mut [u8], filled: usize, bytes: &[u8]) -> usize
     requires { filled ≤ length page.old }
     ensures count { result ≡ min (length bytes.now) (length page.old - filled) }

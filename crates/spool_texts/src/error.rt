@@ -1,4 +1,4 @@
-//! Why a draft's text takes no more bytes.
+//! The errors of a draft's text.
 ghost use Rattle.std.specs.Prelude.{◌≡◌};
 
 use spool_disk::DiskFault;
@@ -6,12 +6,12 @@ use std::alloc::AllocError;
 use std::error::Error;
 use std::fmt;
 
-/// Why the text of a draft wasn't begun, or took no more bytes.
+/// Why the text of a draft can't begin or grow.
 #[derive(Clone, Copy, Debug, PartialEq, Eq)]
 pub enum DraftError {
     /// Out of memory.
     NoMemory,
-    /// The disk failed in this call.
+    /// A disk fault.
     DiskFault,
     /// No block is free.
     Full,

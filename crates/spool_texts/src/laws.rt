@@ -1,4 +1,4 @@
-//! Laws of texts on blocks, as contracts of functions that do nothing.
+//! Laws about texts on blocks. The functions do nothing; their contracts are the laws.
 ghost use Rattle.std.specs.Prelude.{◌≡◌, ◌≤◌, ◌+◌, ◌*◌, ◌/◌, ◌++◌, ℕ, List, Option, length, take};
 ghost use Rattle.spool_journal.specs.Image.{journal_pages, text_page};
 ghost use Rattle.spool_journal.specs.Texts.{text_shown};
@@ -8,8 +8,8 @@ ghost use Rattle.spool_texts.specs.Written.{FrameBlocks, NoneOf, SameOutside, as
 
 use spool_journal::Layout;
 
-/// Where a list has the blocks of a slot by ordinal, as many as the text needs, the text on the list is the one that
-/// the rows show. And the text on two lists joined is that on the first one, whole, and that on the second.
+/// The text on a list of a slot's blocks by ordinal is the slot's text by its rows. The text on two lists joined is the
+/// one on the full blocks of the first, followed by the one on the second.
 pub fn shown_texts()
     ensures shown { (image : ℕ → ℕ) (first : ℕ) (rows : List (Option (ℕ × ℕ))) (slot len : ℕ) (list : List ℕ)
         → IsListed rows slot list → length list ≡ (len + 4095) / 4096 → text_on image first list len ≡ text_shown image
@@ -19,7 +19,7 @@ pub fn shown_texts()
         image first more len }
 {}
 
-/// Texts on other blocks stay where only some blocks are written: those on a list, and what a draft holds.
+/// Writing some blocks doesn't change what is on others: the texts on lists, and the bytes of drafts.
 pub fn kept_texts()
     ensures text { (current current' : ℕ → ℕ) (first len : ℕ) (list blocks : List ℕ)
         → SameOutside first blocks current current'
@@ -29,8 +29,8 @@ pub fn kept_texts()
         → content_on current' first draft ≡ content_on current first draft }
 {}
 
-/// An image shows the same as with some blocks as they were: the same texts where no row owns the blocks, and outside
-/// them it is read the same.
+/// An image shows the same texts if blocks that no row owns are set back, and nothing outside the blocks reads
+/// differently.
 pub fn same_but_blocks(layout: &Layout)
     ensures { (blocks : List ℕ) (was image : ℕ → ℕ) → FrameBlocks (journal_pages layout.now)
         (text_page layout.now) blocks image

@@ -1,8 +1,9 @@
-//! The texts on a spool's blocks, and the new text of a draft on reserved blocks.
+//! Texts on a spool's blocks, and the new text of a draft on reserved ones.
 //!
-//! A text lies on its slot's blocks by ordinal, 4,096 bytes on each. A draft starts with the bytes that the committed
-//! text has on its last, unfinished block, or with zeros once these are nobody's. It writes only blocks that it
-//! reserved itself: each as soon as it is full, the last one by `write_last`. So a committed block is never written to.
+//! A text lies on its slot's blocks by ordinal, 4,096 bytes on each. A draft begins with the bytes on the last,
+//! unfinished block of the committed text, or with zeros once the upload is deleted. It writes only blocks that it
+//! reserved itself: each when it is full, and the last ones by `write_last`. So a committed block is never written
+//! again.
 #![tactic(auto)]
 
 mod draft_text;

@@ -1,4 +1,4 @@
-//! A piece of a text is read.
+//! Reading a piece of a text.
 ghost use Rattle.std.specs.Prelude.{◌≡◌, ◌≢◌, ◌<◌, ◌≤◌, ◌*◌, ◌+◌, ◌-◌, ◌↔◌, length, get_or, min, IsErr, IfOk};
 ghost use Rattle.spool_disk.specs.Disk.{Counts, IsImage, Keeps};
 ghost use Rattle.spool_disk.specs.Views.{Lasts};
@@ -10,8 +10,12 @@ use spool_blocks::BlockNo;
 use spool_disk::{Disk, DiskFault};
 use spool_journal::{Layout, PAGE};
 
-/// Reads bytes of the text of this length on the listed blocks from `at` on, as many as there are and fit. It reads
-/// each block concerned once, those that follow one another by one call, and takes no memory.
+/// Reads bytes of a text of `len` bytes on the listed blocks, from `at` on, as many as there are and as fit. Returns
+/// their count. Adjacent blocks are read by one call. It allocates nothing.
+///
+/// # Errors
+///
+/// `DiskFault`.
 pub fn read_text<D: Disk>(
     disk: &mut D,
     layout: &Layout,
@@ -44,7 +48,7 @@ pub fn read_text<D: Disk>(
     Ok(count)
 }
 
-// Reads bytes from a place of the blocks on by one call, as many as fit and lie on blocks that follow one another.
+// Reads bytes from a place on the listed blocks by one call: as many as fit and lie on adjacent blocks.
 fn read_piece<D: Disk>(
     disk: &mut D,
     layout: &Layout,
@@ -78,7 +82,7 @@ fn read_piece<D: Disk>(
     Ok(n)
 }
 
-// How many of the listed blocks from an index on, at most so many, follow one another.
+// How many of the listed blocks from an index on are adjacent, up to `most`.
 fn run(list: &[BlockNo], at: usize, most: usize) -> usize
     requires at { at < length list.now }
     requires most { 1 ≤ most }

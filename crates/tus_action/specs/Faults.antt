@@ -1,4 +1,4 @@
--- The refusals of the uploads as those of a reply.
+-- The refusals of the upload rules as those of replies.
 use Rattle.tus_request.specs.declared.faults.Fault.{Fault}
 use Rattle.tus_request.specs.declared.faults.Fault.TheVariants as faults
 use Rattle.upload_rules.specs.declared.errors.UploadRefusal.{UploadRefusal}
@@ -8,6 +8,7 @@ use Rattle.upload_rules.specs.declared.errors.UploadError.TheVariants as errors
 use Rattle.tus_action.specs.declared.acts.Stop.{Stop}
 use Rattle.tus_action.specs.declared.acts.Stop.TheVariants.{NoMemory, DiskFault}
 
+-- The reply's refusal for one of the rules.
 abbrev pub fault_of : UploadRefusal → Fault
 fault_of uploads.Unencodable = faults.Unencodable
 fault_of uploads.NoSuch = faults.NoSuch
@@ -18,7 +19,7 @@ fault_of uploads.TooLarge = faults.TooLarge
 fault_of uploads.Full = faults.Full
 fault_of uploads.LengthSet = faults.LengthSet
 
--- why a call that the rules can't refuse gave no answer
+-- Why a call stops that the rules can't refuse. `Refused` doesn't occur; it is mapped to some error.
 abbrev pub stop_of : UploadError → Stop
 stop_of errors.DiskFault = DiskFault
 stop_of errors.NoMemory = NoMemory

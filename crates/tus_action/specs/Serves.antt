@@ -1,4 +1,4 @@
--- How a call that acts on the uploads stands to the rules.
+-- The results of calls that act on the uploads, compared with the rules.
 use Rattle.std.specs.Prelude.{◌≡◌, ◌≤◌, ◌<◌, ◌+◌, nat_le, if◌then◌else◌, ℕ, Bool, true, false, List, ◌++◌, length, take}
 use Rattle.std.specs.Prelude.{drop, Option, Some, None, Result, Ok, Err, IfOk, [], ◌∷◌}
 use Rattle.upload_rules.specs.Store.{Store, Upload, upload_of, text_of, find}
@@ -20,13 +20,13 @@ use Rattle.tus_action.specs.declared.acts.Given.TheVariants.{Piece, Last, Gone}
 use Rattle.tus_action.specs.declared.acts.Stop.{Stop}
 use Rattle.tus_action.specs.declared.acts.Stop.TheVariants.{NoMemory, DiskFault}
 
--- the draft that is open, and the patch that it holds
+-- The open draft stands for the open patch, or there is none.
 abbrev pub DraftIs : {U B : Type 0} → Ghosts U B → World → Option B → Option ℕ → Type 0
 DraftIs u w None None = Unit {0}
 DraftIs u w (Some b) (Some d) = (u.number_of b ≡ d) × ((p : Patch) × (find d w.patches ≡ Some p) × u.holds b p)
 DraftIs u w _ _ = ⊥
 
--- what is left of a text: the upload's bytes from `given` up to `length`, whatever was appended since
+-- What is left of the text: its bytes from `given` to `length`, whatever was appended since.
 pub record GivesAs (m : Store) (g : given.Giving) (h : Giving) (up : Upload) : Type 0 where
   pub number : g.number ≡ h.number
   pub found : upload_of m h.number ≡ Some up
@@ -35,40 +35,43 @@ pub record GivesAs (m : Store) (g : given.Giving) (h : Giving) (up : Upload) : T
   pub left : h.left ≡ drop g.given (take g.length (text_of m.indexes up))
   pub closes : g.closes ≡ h.closes
 
--- the text that is still to be given: of an upload that may be gone meanwhile. No other upload gets its number
+-- The text that is pending. Its upload may be deleted meanwhile; no other upload ever gets its number.
 pub record IsGiving (m : Store) (g : given.Giving) (h : Giving) : Type 0 where
   pub number : g.number ≡ h.number
   pub below : h.number < m.next
   pub closes : g.closes ≡ h.closes
   pub there : (up : Upload) → upload_of m h.number ≡ Some up → GivesAs m g h up
 
+-- The same of a text that may be pending.
 abbrev pub GivingIs : Store → Option given.Giving → Option Giving → Type 0
 GivingIs m None None = Unit {0}
 GivingIs m (Some g) (Some h) = IsGiving m g h
 GivingIs m _ _ = ⊥
 
--- what is open now, and whether the connection closes
+-- The draft that is open afterwards.
 abbrev pub draft_in : {B : Type 0} → code.Done B → Option B
 draft_in (done.Replied closes) = None
 draft_in (done.Opened b) = Some b
 draft_in (done.Giving g) = None
 
+-- The text that is pending afterwards.
 abbrev pub giving_in : {B : Type 0} → code.Done B → Option given.Giving
 giving_in (done.Replied closes) = None
 giving_in (done.Opened b) = None
 giving_in (done.Giving g) = Some g
 
+-- Whether the connection closes.
 abbrev pub closes_in : {B : Type 0} → code.Done B → Bool
 closes_in (done.Replied closes) = closes
 closes_in (done.Opened b) = false
 closes_in (done.Giving g) = false
 
--- as many bytes as the text's, and these where that is sure
+-- As many bytes as the text has, and these very bytes if that is sure.
 pub record AreOf (sure : Bool) (piece text : List ℕ) : Type 0 where
   pub size : length piece ≡ length text
   pub same : sure ≡ true → piece ≡ text
 
--- bytes were appended that end in those of a text
+-- The output grew by a reply and bytes of a text.
 pub record AppendsText (sure : Bool) (old new bytes text : List ℕ) : Type 0 where
   pub reply : List ℕ
   pub piece : List ℕ
@@ -76,12 +79,12 @@ pub record AppendsText (sure : Bool) (old new bytes text : List ℕ) : Type 0 wh
   pub appended : new ≡ old ++ (reply ++ piece)
   pub are : AreOf sure piece text
 
--- bytes were appended, with those of a text at their end or none
+-- The output grew by these bytes, of which the last are those of the text, if any.
 abbrev pub Appends : Bool → List ℕ → List ℕ → List ℕ → List ℕ → Type 0
 Appends sure old new bytes [] = new ≡ old ++ bytes
 Appends sure old new bytes (b ∷ text) = AppendsText sure old new bytes (b ∷ text)
 
--- what was done is what the rules say
+-- The call did what the rules give.
 pub record ActedAs {U B : Type 0} (u : Ghosts U B) (sure : Bool) (store : U) (a : code.Done B) (old new : List ℕ)
     (m : Acted) : Type 0 where
   pub stands : u.stands store sure m.world
@@ -90,23 +93,22 @@ pub record ActedAs {U B : Type 0} (u : Ghosts U B) (sure : Bool) (store : U) (a 
   pub closes : closes_in a ≡ m.closes
   pub bytes : Appends sure old new m.bytes m.text
 
--- It is done as the rules say. Or it was out of memory, and the store stands for the world without what was begun, and
--- nothing was written.
--- Or the disk failed, and nothing was written.
+-- The call did what the rules give. Or it was out of memory: what it began is gone. Or it met a disk fault. Both errors
+-- leave the output unchanged.
 abbrev pub Serves : {U B : Type 0} → Ghosts U B → Bool → U → Result (code.Done B) Stop → List ℕ → List ℕ → World → Acted
     → Type 0
 Serves u sure store (Ok a) old new gone m = ActedAs u sure store a old new m
 Serves u sure store (Err NoMemory) old new gone m = u.stands store sure gone × (new ≡ old)
 Serves u sure store (Err DiskFault) old new gone m = new ≡ old
 
--- a body's bytes are taken: the draft goes on, or it was out of memory and it is gone, or the disk failed
+-- The draft took the bytes. Out of memory, it is gone.
 abbrev pub FeedsDraft : {U B : Type 0} → Ghosts U B → Bool → U → Result B Stop → World → World → ℕ → Patch → Type 0
 FeedsDraft u sure store (Ok b) gone w d p =
     (u.number_of b ≡ d) × u.holds b p × (find d w.patches ≡ Some p) × u.stands store sure w
 FeedsDraft u sure store (Err NoMemory) gone w d p = u.stands store sure gone
 FeedsDraft u sure store (Err DiskFault) gone w d p = Unit {0}
 
--- the patch goes on: the same but for its draft, which has the number that it had
+-- The patch took the bytes: nothing but its draft changed, and that has the same number.
 pub record Fed {U B : Type 0} (u : Ghosts U B) (sure : Bool) (store : U) (b b' : OpenPatch B) (w : World)
     (p : Patch) : Type 0 where
   pub number : u.number_of b'.draft ≡ u.number_of b.draft
@@ -117,31 +119,31 @@ pub record Fed {U B : Type 0} (u : Ghosts U B) (sure : Bool) (store : U) (b b' :
   pub bare : b'.bare ≡ b.bare
   pub closes : b'.closes ≡ b.closes
 
--- or it was out of memory and the draft is gone, or the disk failed
+-- The same result for the patch: out of memory, its draft is gone.
 abbrev pub Feeds : {U B : Type 0} → Ghosts U B → Bool → U → Result (OpenPatch B) Stop → World → World → OpenPatch B
     → Patch → Type 0
 Feeds u sure store (Ok b') gone w b p = Fed u sure store b b' w p
 Feeds u sure store (Err NoMemory) gone w b p = u.stands store sure gone
 Feeds u sure store (Err DiskFault) gone w b p = Unit {0}
 
--- a body's end is answered: committed or refused; or it was out of memory, and the patch is gone; or the disk failed
+-- The body's end was answered by a commit or a refusal. Out of memory, the patch is gone.
 abbrev pub Finishes : {U : Type 0} {B : Type 0} → Ghosts U B → Bool → U → Result (Unit {0}) Stop → List ℕ → List ℕ
     → World → Acted → Type 0
 Finishes u sure store (Ok x) old new gone m = u.stands store sure m.world × (new ≡ old ++ m.bytes)
 Finishes u sure store (Err NoMemory) old new gone m = u.stands store sure gone × (new ≡ old)
 Finishes u sure store (Err DiskFault) old new gone m = new ≡ old
 
--- a cut body is committed as far as it came
+-- The bytes received of a cut body are committed. Out of memory, the patch is gone.
 abbrev pub Ends : {U B : Type 0} → Ghosts U B → Bool → U → Result (Unit {0}) Stop → World → World → Type 0
 Ends u sure store (Ok x) gone w = u.stands store sure w
 Ends u sure store (Err NoMemory) gone w = u.stands store sure gone
 Ends u sure store (Err DiskFault) gone w = Unit {0}
 
--- the piece was appended
+-- The piece was appended to the output.
 abbrev pub AppendsPiece : Bool → List ℕ → List ℕ → List ℕ → Type 0
 AppendsPiece sure old new text = (piece : List ℕ) × (new ≡ old ++ piece) × AreOf sure piece text
 
--- the next piece is written; or the disk failed, or it was out of memory, and nothing was written
+-- The next piece was appended. Both errors leave the output unchanged.
 abbrev pub GivesPiece : {U B : Type 0} → Ghosts U B → Bool → U → Result (Option given.Giving) Stop → List ℕ → List ℕ
     → World → Giving → Type 0
 GivesPiece u sure store (Ok g) old new w h =
@@ -149,7 +151,7 @@ GivesPiece u sure store (Ok g) old new w h =
 GivesPiece u sure store (Err NoMemory) old new w h = u.stands store sure w × (new ≡ old)
 GivesPiece u sure store (Err DiskFault) old new w h = new ≡ old
 
--- the next piece of the text of an upload, or nothing where the upload is gone
+-- The next piece of the text, or nothing if the upload is gone.
 abbrev pub IsGiven : Bool → Store → Given → List ℕ → List ℕ → Giving → Option Upload → Type 0
 IsGiven sure m (Piece g) old new h (Some up) =
     GivingIs m (Some g) (pending_after h) × AppendsPiece sure old new (piece_of h)
@@ -158,8 +160,7 @@ IsGiven sure m Last old new h (Some up) =
 IsGiven sure m Gone old new h None = new ≡ old
 IsGiven sure m _ old new h _ = ⊥
 
--- as the uploads say. The disk may fail, or memory run out, only where the upload is there, and then nothing was
--- written
+-- The result of asking for more of a text. Errors occur only if the upload is there, and leave the output unchanged.
 abbrev pub Gives : {U B : Type 0} → Ghosts U B → Bool → U → Result Given Stop → List ℕ → List ℕ → World → Giving
     → Type 0
 Gives u sure store (Ok given) old new w h =
@@ -168,18 +169,17 @@ Gives u sure store (Err NoMemory) old new w h =
     (is_there (upload_of w.store h.number) ≡ true) × u.stands store sure w × (new ≡ old)
 Gives u sure store (Err DiskFault) old new w h = (is_there (upload_of w.store h.number) ≡ true) × (new ≡ old)
 
--- what a POST makes fits a record, and its text has an output encoding
+-- The metadata that a POST asks for fits a record, and its target has an encoder.
 abbrev pub CanBeMade : Action → Type 0
 CanBeMade (Create c) = IsWellFormed (new_of c)
 CanBeMade _ = Unit {0}
 
--- what a POST makes is what the index set offers
+-- The index set offers the encodings that a POST asks for.
 abbrev pub CanBeRead : World → Action → Type 0
 CanBeRead w (Create c) = IsOffered w.store.indexes (new_of c)
 CanBeRead w _ = Unit {0}
 
--- A call on the uploads gave no answer: its refusal is replied to, unless memory is wanting; and what isn't refused
--- stops here.
+-- A refusal of the rules is answered, unless memory runs out; the other errors stop the call.
 abbrev pub RepliesTo : {T : Type 0} → Result T Stop → UploadError → Bool → Bool → Bool → List ℕ → List ℕ → Type 0
 RepliesTo (Ok a) (errors.Refused f) on_files bare closes old new =
     new ≡ old ++ reply_refused (fault_of f) on_files bare closes
@@ -188,19 +188,19 @@ RepliesTo (Err NoMemory) errors.NoMemory on_files bare closes old new = new ≡ 
 RepliesTo (Err DiskFault) errors.DiskFault on_files bare closes old new = new ≡ old
 RepliesTo _ _ on_files bare closes old new = ⊥
 
--- the same, and nothing is open after it
+-- The same, and nothing is open afterwards.
 pub record RepliesOnly {B : Type 0} (result : Result (code.Done B) Stop) (e : UploadError) (on_files bare closes : Bool)
     (old new : List ℕ) : Type 0 where
   pub replies : RepliesTo result e on_files bare closes old new
   pub nothing : IfOk result (λ a. a ≡ done.Replied closes)
 
--- what is left of a text after so many bytes more
+-- What is left of a text after n more bytes.
 abbrev pub giving_after : given.Giving → ℕ → Option given.Giving
 giving_after g n =
     if nat_le g.length (g.given + n) then None
     else Some (record { number = g.number; length = g.length; given = g.given + n; closes = g.closes })
 
--- a reply whose text goes on, or one that is whole
+-- A reply with text left, or without.
 abbrev pub replied_giving : {B : Type 0} → Option given.Giving → Bool → code.Done B
 replied_giving None closes = done.Replied closes
 replied_giving (Some g) closes = done.Giving g

@@ -1,4 +1,4 @@
-//! What a request does at its head, and what stays open after it.
+//! The results of a request's head, and what stays open after it.
 ghost use Rattle.std.specs.Prelude.{◌≡◌};
 ghost use Rattle.tus_action.specs.Faults.{stop_of};
 ghost use Rattle.tus_action.specs.Serves.{replied_giving, giving_after};
@@ -6,12 +6,12 @@ ghost use Rattle.tus_action.specs.Serves.{replied_giving, giving_after};
 use std::alloc::AllocError;
 use upload_rules::UploadError;
 
-/// Why a call gives no answer.
+/// Why a call stops without a reply.
 #[derive(Clone, Copy, Debug, PartialEq, Eq, Drop)]
 pub enum Stop {
-    /// Out of memory: nothing was changed.
+    /// Out of memory: no upload was changed.
     NoMemory,
-    /// The disk failed: the store must be opened again.
+    /// A disk fault: the spool has to be opened again.
     DiskFault,
 }
 
@@ -20,7 +20,7 @@ impl From<AllocError> for Stop {
 
     ghost from_gives = { λ _ stop. stop ≡ Stop.NoMemory };
 
-    /// Out of memory.
+    /// An allocation was refused.
     fn from(_error: AllocError) -> Self {
         Stop::NoMemory
     }
@@ -29,7 +29,7 @@ impl From<AllocError> for Stop {
 impl From<UploadError> for Stop {
     ghost from_gives = { λ error stop. stop ≡ stop_of error };
 
-    /// Of a call that the rules can't refuse.
+    /// For calls that the rules can't refuse: a refusal doesn't occur there.
     fn from(error: UploadError) -> Self {
         match error {
             UploadError::DiskFault => Stop::DiskFault,
@@ -38,45 +38,45 @@ impl From<UploadError> for Stop {
     }
 }
 
-/// A text that is still to be given.
+/// A text of which more is still to be given.
 #[derive(Clone, Copy, Debug, PartialEq, Eq, Drop)]
 pub struct Giving {
     /// The upload's number.
     pub number: u64,
-    /// How many of the text's bytes are given in all.
+    /// The text's length in bytes when its reply began. Bytes appended later aren't given.
     pub length: u64,
-    /// How many were given.
+    /// How many of these bytes were given.
     pub given: u64,
     /// Whether the connection closes after the last of them.
     pub closes: bool,
 }
 
-/// What became of a text that more was asked of.
+/// The result of asking for more of a text.
 #[derive(Clone, Copy, Debug, PartialEq, Eq, Drop)]
 pub enum Given {
-    /// A piece was given, and this is left after it.
+    /// A piece was given; this much is left.
     Piece(Giving),
     /// The last piece was given.
     Last,
-    /// Nothing was given: the upload was deleted.
+    /// Nothing was given, since the upload was deleted.
     Gone,
 }
 
-/// What a request did, and what it left open.
+/// What a request did at its head, and what it left open.
 pub enum Done<B> {
     /// It was answered, and nothing is open.
     Replied {
         /// Whether the connection closes.
         closes: bool,
     },
-    /// An append was begun: its body is to come.
+    /// A PATCH began. Its body is still to come.
     Opened(B),
-    /// It was answered with a text of which more is to be given.
+    /// A GET was answered with part of the text. More is to be given.
     Giving(Giving),
 }
 
 impl<B> Done<B> {
-    /// A reply whose text goes on, or one that is whole.
+    /// A reply with this much text left, or none.
     pub(crate) fn giving(giving: Option<Giving>, closes: bool) -> Self
         ensures { result ≡ replied_giving giving closes }
     {
@@ -88,7 +88,7 @@ impl<B> Done<B> {
 }
 
 impl Giving {
-    /// What is left of the text after so many bytes more.
+    /// What is left of the text after `count` more bytes.
     pub(crate) fn after(self, count: u64) -> Option<Giving>
         ensures { result ≡ giving_after self count }
     {

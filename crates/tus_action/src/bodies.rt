@@ -1,4 +1,4 @@
-//! A PATCH body: its bytes, its end, and its cut.
+//! The body of a PATCH: its bytes, its end, and its cut by the end of the connection.
 ghost use Rattle.std.specs.Prelude.{◌≡◌, ◌+◌, ◌≤◌, length, Some, IsErrOf, Bool, true};
 ghost use Rattle.upload_rules.specs.Store.{find};
 ghost use Rattle.upload_rules.specs.World.{World, Patch, reached};
@@ -17,17 +17,21 @@ use upload_rules::{UploadError, Uploads};
 
 /// A PATCH whose body is to come: its draft, and what its reply needs.
 pub struct OpenPatch<B> {
-    /// The open append.
+    /// The draft.
     pub draft: B,
     /// The upload's offset after the whole body.
     pub reached: u64,
-    /// Whether the request line says HEAD, so that the reply has no body.
+    /// Whether the reply has no body, as for HEAD.
     pub bare: bool,
     /// Whether the connection closes after the reply.
     pub closes: bool,
 }
 
-/// Some of the body came: the patch goes on, or its draft is dropped.
+/// Appends a piece of the body to the draft. On an error the draft is dropped.
+///
+/// # Errors
+///
+/// `NoMemory`, `DiskFault`.
 pub fn feed<U: Uploads>(
     store: &mut U,
     patch: OpenPatch<U::Draft>,
@@ -60,7 +64,7 @@ pub fn feed<U: Uploads>(
     })
 }
 
-// The same of the draft alone.
+// The same for the draft alone.
 fn feed_draft<U: Uploads>(store: &mut U, draft: U::Draft, piece: &[u8]) -> Result<U::Draft, Stop>
     ensures answer { (sure : Bool) (w : World) (p : Patch) → U.stands store.old sure w
         → find (U.number_of draft) w.patches ≡ Some p
@@ -87,8 +91,12 @@ fn feed_draft<U: Uploads>(store: &mut U, draft: U::Draft, piece: &[u8]) -> Resul
     }
 }
 
-/// The body is there: its patch is committed, or refused, and the reply is appended to `out`. The reply of a commit is
-/// built before it.
+/// Ends the body: commits the draft and appends the reply to `out`, or appends the refusal. The reply is built before
+/// the commit, so that no memory is needed after it.
+///
+/// # Errors
+///
+/// `NoMemory`, with nothing committed; `DiskFault`. Both leave `out` unchanged.
 pub fn finish<U: Uploads>(
     alloc: Global,
     store: &mut U,
@@ -133,7 +141,12 @@ pub fn finish<U: Uploads>(
     }
 }
 
-/// The body was cut by the end of its connection: what came of it is committed, without a reply.
+/// Commits what came of a body that the end of its connection cut, without a reply. If the rules refuse the commit, the
+/// draft is dropped.
+///
+/// # Errors
+///
+/// `NoMemory`, with nothing committed; `DiskFault`.
 pub fn cut<U: Uploads>(store: &mut U, patch: OpenPatch<U::Draft>) -> Result<(), Stop>
     ensures answer { (sure : Bool) (w : World) (p : Patch) → U.stands store.old sure w
         → find (U.number_of patch.draft) w.patches ≡ Some p

@@ -1,4 +1,5 @@
-//! What a request does to the uploads, and what it is answered.
+//! The effects of a request on the uploads, and its reply. Uses `tus_request` for the bytes and `upload_rules` for the
+//! uploads.
 #![tactic(auto)]
 
 pub mod acts;

@@ -1,4 +1,4 @@
-//! Requests that read the uploads: HEAD and GET, and the further pieces of a text.
+//! Requests that read uploads: HEAD, GET, and the further pieces of a text.
 ghost use Rattle.std.specs.Prelude.{◌≡◌, ◌+◌, Some, None, IsErrOf, Bool};
 ghost use Rattle.upload_rules.specs.Store.{Upload, upload_of};
 ghost use Rattle.upload_rules.specs.World.{World};
@@ -18,10 +18,10 @@ use upload_rules::{UploadError, UploadRefusal, Uploads};
 /// The most bytes of a text that one call gives.
 pub const PIECE: usize = 65536;
 
-/// A buffer that the pieces of texts are read into. It is made once, so that no memory is filled for a piece.
+/// A buffer for a piece of a text. It is made once, so that no piece needs to fill memory first.
 pub type PieceBuffer = [u8; PIECE];
 
-/// Tells how far an upload has come.
+/// Answers a HEAD: the upload's offset, length and metadata.
 pub(crate) fn show<U: Uploads>(
     alloc: Global,
     store: &mut U,
@@ -61,8 +61,7 @@ pub(crate) fn show<U: Uploads>(
     }
 }
 
-// Gives the next piece of the text of an upload that is there, 65,536 bytes or all that are left where they are fewer:
-// reads it into the buffer, and appends it to `out`.
+// Appends the next piece of an existing upload's text to `out`: 65,536 bytes, or the rest if that is shorter.
 fn next_piece<U: Uploads>(
     store: &mut U,
     giving: Giving,
@@ -90,8 +89,12 @@ fn next_piece<U: Uploads>(
     }
 }
 
-/// Gives the next piece of a text, 65,536 bytes or all that are left where they are fewer: appends it to `out`. Nothing
-/// is given where the upload was deleted.
+/// Appends the next piece of a text to `out`: 65,536 bytes, or the rest if that is shorter. If the upload was deleted,
+/// nothing is appended.
+///
+/// # Errors
+///
+/// `NoMemory`, `DiskFault`. Both leave `out` unchanged.
 pub fn give_more<U: Uploads>(
     store: &mut U,
     giving: Giving,
@@ -114,7 +117,7 @@ pub fn give_more<U: Uploads>(
     }
 }
 
-/// Gives a text's first piece, after the reply's head.
+/// Answers a GET: the reply's head and the first piece of the text.
 pub(crate) fn give_text<U: Uploads>(
     alloc: Global,
     store: &mut U,

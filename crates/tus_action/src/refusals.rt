@@ -1,4 +1,4 @@
-//! The refusals of the uploads, as replies.
+//! Replies to refusals of the upload rules.
 ghost use Rattle.std.specs.Prelude.{◌≡◌, IsErrOf, ◌↔◌};
 ghost use Rattle.tus_action.specs.Faults.{fault_of as fault};
 ghost use Rattle.tus_action.specs.Serves.{RepliesOnly, RepliesTo};
@@ -10,7 +10,7 @@ use tus_request::Fault;
 use tus_request::replies::reply_refused;
 use upload_rules::{UploadError, UploadRefusal};
 
-/// A refusal of the uploads as that of a reply.
+/// The reply's refusal for one of the rules.
 pub fn fault_of(refusal: UploadRefusal) -> Fault
     ensures { result ≡ fault refusal }
 {
@@ -26,7 +26,7 @@ pub fn fault_of(refusal: UploadRefusal) -> Fault
     }
 }
 
-/// A call on the uploads gave no answer: where the rules refused it, their reply is appended to `out`.
+/// Appends the reply to a refusal of the rules. Other errors append nothing and stop the call.
 pub(crate) fn refuse(
     alloc: Global,
     error: UploadError,
@@ -51,7 +51,7 @@ pub(crate) fn refuse(
     }
 }
 
-/// The same, of a call that a request made at its head: nothing is open after it.
+/// The same at a request's head: nothing is open afterwards.
 pub(crate) fn refused<B>(
     alloc: Global,
     error: UploadError,

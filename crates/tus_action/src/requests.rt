@@ -1,4 +1,4 @@
-//! A request at its head.
+//! A request whose head is complete.
 ghost use Rattle.std.specs.Prelude.{◌+◌, IsErrOf, Bool, true};
 ghost use Rattle.upload_rules.specs.World.{World};
 ghost use Rattle.upload_rules.specs.Answers.{Limits, Counts};
@@ -17,8 +17,12 @@ use tus_request::replies::reply_options;
 use tus_request::{Action, Request};
 use upload_rules::{New, Uploads};
 
-/// Does what a request asks for at its head, and appends the reply to `out`, with a text's first piece. That is read
-/// into the buffer.
+/// Does what a request asks for at its head, and appends the reply to `out`. The reply to a GET ends in the first piece
+/// of the text, which is read into `buffer`.
+///
+/// # Errors
+///
+/// `NoMemory`, with no upload changed; `DiskFault`. Both leave `out` unchanged.
 pub fn act<U: Uploads>(
     alloc: Global,
     store: &mut U,

@@ -1,4 +1,4 @@
-//! Requests that change the uploads: a POST, a DELETE, and a PATCH at its head.
+//! Requests that change uploads: POST, DELETE, and PATCH at its head.
 ghost use Rattle.std.specs.Prelude.{◌≡◌, ◌++◌, [], Some, IsErrOf, OnOk, OnErr, if◌then◌else◌, Bool, true};
 ghost use Rattle.upload_rules.specs.World.{World};
 ghost use Rattle.upload_rules.specs.Calls.{create_refusal, create_outcome, terminate_refusal, terminate_outcome};
@@ -17,7 +17,7 @@ use std::alloc::{AllocError, Global};
 use tus_request::replies::{reply_continue, reply_created, reply_deleted};
 use upload_rules::{New, Uploads};
 
-/// Makes an upload. The reply is built first.
+/// Creates an upload (tus 1.0.0, Creation). The reply is built first, so that no memory is needed after the commit.
 pub(crate) fn create<U: Uploads>(
     alloc: Global,
     store: &mut U,
@@ -54,7 +54,7 @@ pub(crate) fn create<U: Uploads>(
     }
 }
 
-/// Takes an upload away. The reply is built first.
+/// Deletes an upload (tus 1.0.0, Termination). The reply is built first, so that no memory is needed after the commit.
 pub(crate) fn delete<U: Uploads>(
     alloc: Global,
     store: &mut U,
@@ -89,7 +89,7 @@ pub(crate) fn delete<U: Uploads>(
     }
 }
 
-/// Appends `100 Continue` where the request asked for it.
+/// Appends `100 Continue` if the request expects it (RFC 9110, 10.1.1).
 fn append_continue(expects: bool, out: &mut Vec<u8>) -> Result<(), AllocError>
     ensures ok { OnOk result (out.new.items ≡ out.old.items ++ (if expects then continue_bytes else [])) }
     ensures err { OnErr result (out.new.items ≡ out.old.items) }
@@ -101,7 +101,8 @@ fn append_continue(expects: bool, out: &mut Vec<u8>) -> Result<(), AllocError>
     reply_continue(out)
 }
 
-/// Begins an append. The reply is built first.
+/// Begins a PATCH. If it is refused, a client that expects `100 Continue` gets the refusal and a close, since its body
+/// may or may not follow.
 pub(crate) fn begin<U: Uploads>(
     alloc: Global,
     store: &mut U,

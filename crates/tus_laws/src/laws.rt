@@ -1,4 +1,4 @@
-//! The laws, each as the contract of a function that does nothing.
+//! Laws of histories. The functions do nothing; their contracts are the laws.
 
 ghost use Rattle.std.specs.Prelude.{◌≡◌, ◌≤◌, ◌++◌, ◌∷◌, ℕ, List, Option, Some, None, length, slice_get};
 ghost use Rattle.upload_rules.specs.declared.errors.UploadRefusal.{UploadRefusal};
@@ -15,10 +15,10 @@ ghost use Rattle.tus_session.specs.History.{Failed, step, history, beginning};
 ghost use Rattle.tus_laws.specs.Patches.{DonePatch, IsAccepted, IsRefused, HasBody, SamePlace, Changed, IsAbove};
 ghost use Rattle.tus_laws.specs.Cuts.{all_moments, given, still_to_give, AllSmooth};
 
-/// Of two PATCHes with bodies that aren't empty and that began at one offset of one upload at most one is accepted, and
-/// the other changes nothing: after one that is accepted each later one is refused, with `Offset` while the upload is
-/// there, and with `NoSuch` once it is gone. A PATCH began at the offset that it named. The history starts with a next
-/// number above those of its uploads, so that no upload gets the number of a deleted one.
+/// Of two PATCHes with nonempty bodies that began at one offset of one upload, at most one is accepted, and the other
+/// changes nothing: each later one is refused, with `Offset` while the upload exists and with `NoSuch` once it is
+/// deleted. A PATCH began at the offset that it named. The history starts with a next number above those of its
+/// uploads, so that no upload gets the number of a deleted one.
 pub fn one_winner()
     ensures begins { (w : World) (r : Request) (number offset d : ℕ) (declare : Option ℕ)
         → r.action ≡ Patch number offset declare
@@ -38,18 +38,17 @@ pub fn one_winner()
         → (step st e Served).state.world.store ≡ st.world.store }
 {}
 
-/// An event commits at most once: an upload is made; or by a PATCH that is accepted its upload gets the length that it
-/// declares, or its body at the end, or both, all or none of it; or an upload that was there is deleted. An event that
-/// isn't served commits nothing.
+/// An event makes at most one commit: it creates an upload; or an accepted PATCH gives its upload a length, or bytes,
+/// or both together; or an existing upload is deleted. An event that isn't served commits nothing.
 pub fn one_commit()
     ensures served { (st : State) (e : Event) → Changed st e (step st e Served).state.world.store }
     ensures memory { (st : State) (e : Event) → (step st e OutOfMemory).state.world.store ≡ st.world.store }
     ensures fault { (st : State) (e : Event) → (step st e Failed).state.world.store ≡ st.world.store }
 {}
 
-/// An upload's accepted bytes only grow for as long as it is there, and its length stays once it is known, so at two
-/// moments of a history the same upload with the same count of accepted bytes has the same accepted bytes. An upload
-/// that is gone stays away. The history starts with a next number above those of its uploads.
+/// An upload's accepted bytes only grow while it exists, and its length stays once it is known. So the same upload with
+/// the same count of accepted bytes, at two moments of a history, has the same accepted bytes. A deleted upload never
+/// returns. The history starts with a next number above those of its uploads.
 pub fn same_offset()
     ensures grows { (start : State) (past later : List Marked) → IsAbove start.world.store → (n : ℕ) (u v : Upload)
         → upload_of (history start past).world.store n ≡ Some u
@@ -65,7 +64,7 @@ pub fn same_offset()
         → upload_of (history start (later ++ (between ++ past))).world.store n ≡ None }
 {}
 
-/// A number is never used again: the next number is above those of all uploads, and never falls.
+/// A number is never used again: the next number is above those of all uploads and never decreases.
 pub fn new_numbers()
     ensures above { (start : State) (past : List Marked) → IsAbove start.world.store
         → IsAbove (history start past).world.store }
@@ -73,9 +72,9 @@ pub fn new_numbers()
         → (history start past).world.store.next ≤ (history start (later ++ past)).world.store.next }
 {}
 
-/// A call's moments are those of its stream, whatever comes after it: with `i` whole requests before the call, the
-/// request of its body moment is the stream's request number `i`; and likewise for the head, whose bytes and verdict
-/// stay, among the requests with whole heads.
+/// A call's moments are those of its stream, whatever follows. With i whole requests before the call, the request of
+/// its body moment is request i of the stream. The same holds for the head moment among the requests with whole heads,
+/// whose bytes and verdicts stay.
 pub fn moments_of_streams()
     ensures body { (w : World) (s piece more : List ℕ) (r : Asked) → (moments (reader w) s piece).body ≡ Some r
         → slice_get (cut (reader w) ((s ++ piece) ++ more)).whole (length (cut (reader w) s).whole) ≡ Some r }
@@ -85,8 +84,8 @@ pub fn moments_of_streams()
         × (x.head ≡ r.head) × (x.verdict ≡ r.verdict) }
 {}
 
-/// How the streams are cut doesn't matter: two histories from one store, with the same moments in the same order, give
-/// each connection the same bytes, the text that it is still to be given with them, and leave the same uploads. Every
+/// It doesn't matter how the streams are cut: two histories from one store with the same moments in the same order give
+/// each connection the same bytes, its pending text included, and leave the same uploads. This requires that every
 /// event is served, no PATCH is refused for room, no connection is closed because the upload of its text was deleted,
 /// and none ends before its text is taken.
 pub fn any_cut()

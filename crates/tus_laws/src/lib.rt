@@ -1,5 +1,5 @@
-//! Laws over histories of events: of PATCHes that began at one offset of one upload at most one is accepted, and how
-//! streams are cut doesn't matter.
+//! Laws of histories: of the PATCHes that began at one offset of an upload at most one is accepted, and it doesn't
+//! matter how streams are cut.
 #![tactic(auto)]
 
 mod laws;

@@ -1,4 +1,4 @@
--- From what the parser says of a whole head to its answer.
+-- From the parser's result for a finished head to the answer.
 use Rattle.std.specs.Prelude.{◌≡◌, ℕ, ◌+◌, ◌<◌, ◌≤◌, Bool, true, false, List, [], ◌∷◌, ◌++◌, length, map, take, drop}
 use Rattle.std.specs.Prelude.{min, nat_le, nat_lt, if◌then◌else◌, All, Option, Some, None, Result, Ok, Err, IfOk, OnErr}
 use Rattle.std.proofs.Common.{arith, ap, sym, ◌∙◌, refl, inl, inr, suc, get_or, subst, Bor, option_copied}

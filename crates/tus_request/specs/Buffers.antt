@@ -1,18 +1,19 @@
--- The head that a buffer has.
+-- The head in a buffer.
 use Rattle.std.specs.Prelude.{ℕ, Bool, ◌||◌, List, [], length, nat_le}
 use Rattle.tus_request.specs.Answers.{Answer, More, Judged}
 use Rattle.tus_request.specs.Searches.{after_bytes, is_over}
 use Rattle.tus_request.specs.declared.search.Search.TheVariants.{Front}
 use Rattle.tus_request.specs.declared.buffer.HeadBuffer.{HeadBuffer}
 
+-- The bytes of the head.
 abbrev pub bytes_of : HeadBuffer → List ℕ
 bytes_of b = b.bytes.items
 
--- what stays of a stream's start: all of it, where it is an unfinished head
+-- What a buffer stores of a stream's start: all of it if the head is unfinished, nothing otherwise.
 abbrev pub unfinished : Answer → List ℕ → List ℕ
 unfinished More s = s
 unfinished (Judged n v) s = []
 
--- the head's end has come, or as many bytes as a head may have
+-- The head's end has arrived, or as many bytes as a head may have.
 abbrev pub is_judged : List ℕ → Bool
 is_judged bytes = is_over (after_bytes Front bytes) || nat_le 8192 (length bytes)

@@ -21,60 +21,63 @@ use Rattle.tus_request.specs.declared.faults.Fault.TheVariants.{BadMethod, Media
 use Rattle.tus_request.specs.Metadata.{KeyValue, metadata_of, Choice, choice_of}
 use Rattle.tus_request.specs.Requests.{Action, Options, Create, Head, Get, Patch, Delete, Verdict, Asks, Refuses}
 
--- WHAT THE CHECKS READ
+-- What the checks read. A field's values are a list.
 
+-- The field is given.
 abbrev pub is_given : List (List ℕ) → Bool
 is_given [] = false
 is_given (value ∷ values) = true
 
+-- The first value, or another text.
 abbrev pub first_or : List (List ℕ) → List ℕ → List ℕ
 first_or [] other = other
 first_or (value ∷ values) other = value
 
--- the one value
+-- The value, if there is exactly one.
 abbrev pub only : List (List ℕ) → Option (List ℕ)
 only [] = None
 only (value ∷ []) = Some value
 only (value ∷ other ∷ values) = None
 
+-- The number in a value, if there is one.
 abbrev pub number_when : Option (List ℕ) → Option ℕ
 number_when None = None
 number_when (Some value) = number_of value
 
--- the number that the one value writes
+-- The number in the value, if there is exactly one.
 abbrev pub number_in : List (List ℕ) → Option ℕ
 number_in values = number_when (only values)
 
--- the body's length: none means 0
+-- The body's length, which is 0 without the field.
 abbrev pub length_in : List (List ℕ) → Option ℕ
 length_in [] = Some 0
 length_in (value ∷ values) = number_in (value ∷ values)
 
--- the number that the one value writes, where there are values
+-- The number in the value; none is fine, several aren't.
 abbrev pub optional_number_in : List (List ℕ) → Option (Option ℕ)
 optional_number_in [] = Some None
 optional_number_in (value ∷ values) = option_map Some (number_in (value ∷ values))
 
--- the one value is a word
+-- There is exactly one value, and it is the word.
 abbrev pub is_word_when : List ℕ → Option (List ℕ) → Bool
 is_word_when word None = false
 is_word_when word (Some value) = bytes_eq value word
 
--- the length of an upload to be made, from the values of Upload-Length and of Upload-Defer-Length: there is either a
--- number or the deferral `1`, and not both
+-- The length of a new upload by the values of Upload-Length and of Upload-Defer-Length: a number, or the deferral `1`,
+-- never both.
 abbrev pub declared_in : List (List ℕ) → List (List ℕ) → Option (Option ℕ)
 declared_in lengths [] = option_map Some (number_in lengths)
 declared_in [] (deferral ∷ deferrals) =
     if is_word_when (codes "1") (only (deferral ∷ deferrals)) then Some None else None
 declared_in (length ∷ lengths) (deferral ∷ deferrals) = None
 
--- a request line
+-- A request line. `minor` is the digit after `HTTP/1.`.
 pub record Line : Type 0 where
   pub method : List ℕ
   pub target : List ℕ
   pub minor : ℕ
 
--- what a request line and the fields say; the fields as the values of each name, which is in lower case
+-- What the checks read of a head. `given` gives the values of each name in lower case.
 pub record Asking : Type 0 where
   pub verb : Verb
   pub place : Option Place
@@ -84,21 +87,23 @@ pub record Asking : Type 0 where
   pub expects : Bool
   pub closes : Bool
 
--- the path is the target up to the first `?`
+-- The resource of a request line: its path is the target up to the first `?`.
 abbrev pub line_place : Line → Option Place
 line_place line = place_of (before 63 line.target)
 
+-- The method is HEAD.
 abbrev pub is_bare : Line → Bool
 is_bare line = bytes_eq line.method (codes "HEAD")
 
--- 100 Continue is asked for (RFC 9110, section 10.1.1)
+-- The client awaits 100 Continue (RFC 9110, 10.1.1).
 abbrev pub is_expecting : ℕ → ℕ → List (List ℕ) → Bool
 is_expecting minor length values = minor == 1 && (nat_lt 0 length && list_any (any_case (codes "100-continue")) values)
 
--- the connection closes (RFC 9112, section 9.3)
+-- The connection closes after the reply (RFC 9112, 9.3).
 abbrev pub is_closing : ℕ → List (List ℕ) → Bool
 is_closing minor values = minor == 0 || list_any (lists_word (codes "close")) values
 
+-- The checks' input, by the request line, the fields and the length of the body.
 abbrev pub asking : Line → (List ℕ → List (List ℕ)) → ℕ → Asking
 asking line given length = record {
   verb = verb_of (first_or (given (codes "x-http-method-override")) line.method);
@@ -110,9 +115,9 @@ asking line given length = record {
   closes = is_closing line.minor (given (codes "connection"));
 }
 
--- THE CHECKS (tus 1.0.0, "Core Protocol" and "Creation"), from the last to the first
+-- The checks (tus 1.0.0, Core Protocol and Creation), from the last to the first.
 
--- A request that is refused by a check of its fields. One that asked for 100 Continue is answered with a close.
+-- A request is refused. A client that awaits 100 Continue also gets a close.
 abbrev pub refused : Asking → Fault → Verdict
 refused x f = Refuses (record {
   fault = f;
@@ -122,6 +127,7 @@ refused x f = Refuses (record {
   closes = x.closes || x.expects;
 })
 
+-- A request other than PATCH is accepted.
 abbrev pub passed : Asking → Action → Verdict
 passed x action = Asks (record {
   action = action;
@@ -131,6 +137,7 @@ passed x action = Asks (record {
   closes = x.closes || x.expects;
 })
 
+-- A PATCH is accepted.
 abbrev pub passed_patch : Asking → ℕ → ℕ → Option ℕ → Verdict
 passed_patch x number offset declare = Asks (record {
   action = Patch number offset declare;
@@ -140,30 +147,30 @@ passed_patch x number offset declare = Asks (record {
   closes = x.closes;
 })
 
--- the media type of an append, up to a semicolon
+-- The media type of a PATCH, up to a semicolon.
 abbrev pub is_patch_media : Option (List ℕ) → Bool
 is_patch_media None = false
 is_patch_media (Some value) = any_case (codes "application/offset+octet-stream") (before 59 value)
 
--- an append declares one length, or none
+-- A PATCH declares one length or none.
 abbrev pub declaring : Asking → ℕ → ℕ → Option (Option ℕ) → Verdict
 declaring x number offset None = refused x BadHeader
 declaring x number offset (Some declare) = passed_patch x number offset declare
 
--- and before that, it names one offset
+-- Before that: it has one offset.
 abbrev pub at_offset : Asking → ℕ → Option ℕ → Verdict
 at_offset x number None = refused x BadHeader
 at_offset x number (Some offset) =
     declaring x number offset (optional_number_in (x.given (codes "upload-length")))
 
--- and before that, its media type
+-- Before that: it has the media type of a PATCH.
 abbrev pub patch_checked : Asking → ℕ → Verdict
 patch_checked x number =
     if is_patch_media (only (x.given (codes "content-type")))
     then at_offset x number (number_in (x.given (codes "upload-offset")))
     else refused x MediaType
 
--- the encodings and the mode are known, and the index set offers the encodings
+-- The encodings and the mode are known, and the index set offers the encodings.
 abbrev pub with_choice : (Encoding → Bool) → Asking → Option ℕ → List ℕ → Option Choice → Verdict
 with_choice offers x declared metadata None = refused x BadLabel
 with_choice offers x declared metadata (Some c) =
@@ -177,30 +184,30 @@ with_choice offers x declared metadata (Some c) =
     }))
     else refused x BadLabel
 
--- and before that, the metadata is of its form
+-- Before that: the metadata is well-formed.
 abbrev pub with_pairs : (Encoding → Bool) → Asking → Option ℕ → List ℕ → Option (List KeyValue) → Verdict
 with_pairs offers x declared metadata None = refused x BadMetadata
 with_pairs offers x declared metadata (Some pairs) = with_choice offers x declared metadata (choice_of pairs)
 
--- and comes at most once
+-- Before that: it is given at most once.
 abbrev pub with_metadata : (Encoding → Bool) → Asking → Option ℕ → List (List ℕ) → Verdict
 with_metadata offers x declared [] = with_pairs offers x declared [] (metadata_of [])
 with_metadata offers x declared (value ∷ []) = with_pairs offers x declared value (metadata_of value)
 with_metadata offers x declared (value ∷ other ∷ values) = refused x BadHeader
 
--- an upload names one length, or defers it
+-- Before that: a POST gives a length or defers it.
 abbrev pub with_declared : (Encoding → Bool) → Asking → Option (Option ℕ) → Verdict
 with_declared offers x None = refused x BadHeader
 with_declared offers x (Some declared) = with_metadata offers x declared (x.given (codes "upload-metadata"))
 
--- and a POST has no body
+-- Before that: it has no body.
 abbrev pub post_checked : (Encoding → Bool) → Asking → Verdict
 post_checked offers x =
     if nat_lt 0 x.length then refused x BadHeader
     else with_declared offers x
     (declared_in (x.given (codes "upload-length")) (x.given (codes "upload-defer-length")))
 
--- what is asked of all the uploads
+-- The checks of a request for `/files`.
 abbrev pub on_all : (Encoding → Bool) → Asking → Verb → Verdict
 on_all offers x verb.Options = passed x Options
 on_all offers x verb.Post = post_checked offers x
@@ -210,7 +217,7 @@ on_all offers x verb.Get = refused x BadMethod
 on_all offers x verb.Delete = refused x BadMethod
 on_all offers x verb.Other = refused x BadMethod
 
--- what is asked of one
+-- The checks of a request for one upload.
 abbrev pub on_upload : Asking → ℕ → Verb → Verdict
 on_upload x n verb.Options = passed x Options
 on_upload x n verb.Post = refused x BadMethod
@@ -220,25 +227,27 @@ on_upload x n verb.Get = passed x (Get n)
 on_upload x n verb.Delete = passed x (Delete n)
 on_upload x n verb.Other = refused x BadMethod
 
--- the path names something
+-- The path has a resource.
 abbrev pub on_place : (Encoding → Bool) → Asking → Option Place → Verdict
 on_place offers x None = refused x NoRoute
 on_place offers x (Some place.Files) = on_all offers x x.verb
 on_place offers x (Some (place.Upload n)) = on_upload x n x.verb
 
--- the version of the protocol is there; OPTIONS and GET need none
+-- OPTIONS and GET don't require the protocol's version (tus 1.0.0, Tus-Resumable).
 abbrev pub needs_version : Verb → Bool
 needs_version verb.Options = false
 needs_version verb.Get = false
 needs_version v = true
 
+-- The version is required and missing.
 abbrev pub lacks_version : Asking → Bool
 lacks_version x = needs_version x.verb && not (is_word_when (codes "1.0.0") (only (x.given (codes "tus-resumable"))))
 
+-- Before the resource: the version.
 abbrev pub decided : (Encoding → Bool) → Asking → Verdict
 decided offers x = if lacks_version x then refused x TusVersion else on_place offers x x.place
 
--- a request whose body has no known end
+-- The refusal of a request whose body has no known end.
 abbrev pub cut_off : Line → Fault → Verdict
 cut_off line f = Refuses (record {
   fault = f;
@@ -248,27 +257,30 @@ cut_off line f = Refuses (record {
   closes = true;
 })
 
--- the length of the body is known
+-- Before that: the length of the body is known.
 abbrev pub measured : (Encoding → Bool) → Line → (List ℕ → List (List ℕ)) → Option ℕ → Verdict
 measured offers line given None = cut_off line BadLength
 measured offers line given (Some length) = decided offers (asking line given length)
 
--- the body has no transfer coding
+-- Before that: the body has no transfer coding.
 abbrev pub checked : (Encoding → Bool) → Line → (List ℕ → List (List ℕ)) → Verdict
 checked offers line given =
     if is_given (given (codes "transfer-encoding")) then cut_off line Coding
     else measured offers line given (length_in (given (codes "content-length")))
 
+-- The request line of a head.
 abbrev pub line_of : RequestHead → Line
 line_of h = record { method = h.method; target = h.target; minor = h.minor }
 
+-- The verdict on a head.
 abbrev pub verdict_on : (Encoding → Bool) → RequestHead → Verdict
 verdict_on offers h = checked offers (line_of h) (values_in (map name_and_value h.fields))
 
--- no head stands there
+-- The refusal of bytes that aren't a head.
 abbrev pub no_head : Fault → Verdict
 no_head f = Refuses (record { fault = f; length = 0; on_files = false; bare = false; closes = true })
 
+-- The verdict on a head that may be malformed.
 abbrev pub judged : (Encoding → Bool) → Option RequestHead → Verdict
 judged offers None = no_head Malformed
 judged offers (Some h) = verdict_on offers h

@@ -6,6 +6,7 @@ use Rattle.tus_request.specs.declared.faults.Fault.TheVariants.{Full, Malformed,
 use Rattle.tus_request.specs.declared.faults.Fault.TheVariants.{TusVersion, NoRoute, BadMethod, MediaType, BadHeader}
 use Rattle.tus_request.specs.declared.faults.Fault.TheVariants.{BadMetadata, BadLabel, LengthSet}
 
+-- The number that a reply gives as `X-Refusal`.
 abbrev pub fault_number : Fault → ℕ
 fault_number Unencodable = 6
 fault_number NoSuch = 8

@@ -1,4 +1,4 @@
--- Pairs of a key and a value as the code has them.
+-- Pairs of a key and a value in the code.
 use Rattle.std.specs.Prelude.{ℕ, List, map, Option, option_map}
 use Rattle.std.specs.declared.vec.Vec.{Vec}
 use Rattle.tus_request.specs.Metadata.{KeyValue}
@@ -6,16 +6,18 @@ use Rattle.tus_request.specs.Metadata as metadata
 use Rattle.tus_request.specs.declared.metadata.Pair.{Pair}
 use Rattle.tus_request.specs.declared.metadata.Choice as code
 
+-- The pair.
 abbrev pub pair_shown : Pair → KeyValue
 pair_shown p = (p.key.now, p.value.items)
 
+-- The choice.
 abbrev pub choice_shown : code.Choice → metadata.Choice
 choice_shown c = record { from = c.from; to = c.to; mode = c.mode }
 
--- the bytes that were found
+-- The bytes that were found.
 abbrev pub bytes_shown : {A : Type 0} → Option (Vec ℕ A) → Option (List ℕ)
 bytes_shown = option_map (λ v. v.items)
 
--- the pairs that were found
+-- The pairs that were found.
 abbrev pub pairs_shown : {A : Type 0} → Option (Vec Pair A) → Option (List KeyValue)
 pairs_shown = option_map (λ v. map pair_shown v.items)

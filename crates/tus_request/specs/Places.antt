@@ -1,29 +1,31 @@
--- What a path names.
+-- The resources that paths name.
 use Rattle.std.specs.Prelude.{ℕ, Bool, true, false, List, [], ◌∷◌, ◌++◌, if◌then◌else◌, ◌==◌, Option, Some, None}
 use Rattle.std.specs.Prelude.{option_map, codes, bytes_eq}
 use Rattle.tus_request.specs.Number.{upload_number}
 use Rattle.tus_request.specs.declared.places.Place.{Place}
 use Rattle.tus_request.specs.declared.places.Place.TheVariants.{Files, Upload}
 
--- what follows the prefix, if the text begins with it
+-- The rest of the text after the prefix, if it begins with that.
 abbrev pub after : List ℕ → List ℕ → Option (List ℕ)
 after [] text = Some text
 after (p ∷ prefix) [] = None
 after (p ∷ prefix) (b ∷ text) = if p == b then after prefix text else None
 
+-- The upload's number in the rest of a path.
 abbrev pub upload_at : Option (List ℕ) → Option ℕ
 upload_at None = None
 upload_at (Some part) = upload_number part
 
--- the word, or the word, a slash and an upload's number
+-- The word is `/files`. The path is the word, or the word, a slash and an upload's number.
 abbrev pub place_at : List ℕ → List ℕ → Option Place
 place_at word path =
     if bytes_eq path word then Some Files else option_map Upload (upload_at (after (word ++ 47 ∷ []) path))
 
--- `/files`, or `/files/` and an upload's number
+-- The resource of a path: `/files`, or `/files/` and an upload's number.
 abbrev pub place_of : List ℕ → Option Place
 place_of path = place_at (codes "/files") path
 
+-- The resource is `/files`.
 abbrev pub is_files : Option Place → Bool
 is_files (Some Files) = true
 is_files _ = false

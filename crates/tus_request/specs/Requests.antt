@@ -1,11 +1,11 @@
--- What a head asks for, or why it is refused.
+-- Requests, and refused requests.
 use Rattle.std.specs.Prelude.{ℕ, Bool, List, Option}
 use Rattle.enc_model.specs.declared.Encoding.{Encoding}
 use Rattle.enc_model.specs.declared.Mode.{Mode}
 use Rattle.tus_request.specs.declared.faults.Fault.{Fault}
 
--- an upload to be made: how many bytes it will have, where that is known, the encoding of these and of the text, what
--- becomes of characters that the latter hasn't, and the metadata as given
+-- A new upload: its length if that is known, the encoding of its bytes and of its text, the error mode, and the
+-- metadata as given.
 pub record Creation : Type 0 where
   pub declared : Option ℕ
   pub from : Encoding
@@ -13,8 +13,7 @@ pub record Creation : Type 0 where
   pub mode : Mode
   pub metadata : List ℕ
 
--- what a request asks for; of an upload by its number, and a PATCH with the offset that it names and the length that it
--- declares
+-- What a request asks for. A PATCH has an offset, and possibly a length that it declares.
 pub data Action : Type 0 where
   Options : Action
   Create : Creation → Action
@@ -23,8 +22,8 @@ pub data Action : Type 0 where
   Patch : ℕ → ℕ → Option ℕ → Action
   Delete : ℕ → Action
 
--- a request that passed its checks: the bytes of its body, whether the request line says HEAD, whether it is a PATCH
--- that awaits 100 Continue, and whether the connection closes after the reply, whatever it is
+-- A request that passed its checks: the length of its body, whether its method is HEAD, whether it is a PATCH that
+-- awaits 100 Continue, and whether the connection closes after the reply.
 pub record Request : Type 0 where
   pub action : Action
   pub length : ℕ
@@ -32,7 +31,8 @@ pub record Request : Type 0 where
   pub expects : Bool
   pub closes : Bool
 
--- a request that is refused: why, the bytes of its body, whether its path is `/files`, and the same two as above
+-- A refused request: the reason, the length of its body, whether its path is `/files`, whether its method is HEAD, and
+-- whether the connection closes.
 pub record Refusal : Type 0 where
   pub fault : Fault
   pub length : ℕ
@@ -40,12 +40,12 @@ pub record Refusal : Type 0 where
   pub bare : Bool
   pub closes : Bool
 
--- what a whole head comes to
+-- The verdict on a finished head.
 pub data Verdict : Type 0 where
   Asks : Request → Verdict
   Refuses : Refusal → Verdict
 
--- the bytes of the body
+-- The length of the body.
 abbrev pub body_length : Verdict → ℕ
 body_length (Asks r) = r.length
 body_length (Refuses r) = r.length

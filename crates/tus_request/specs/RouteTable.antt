@@ -1,15 +1,15 @@
--- What the router holds.
+-- The rows of the router.
 use Rattle.std.specs.Prelude.{[], ◌∷◌, ◌++◌, codes}
 use Rattle.matchit.specs.Rows.{RowsOf, param_token}
 use Rattle.matchit.specs.Router.{RouteOf}
 use Rattle.tus_request.specs.declared.places.Kind.{Kind}
 use Rattle.tus_request.specs.declared.places.Kind.TheVariants.{Files, Upload}
 
--- the route `/files`
+-- The route `/files`.
 abbrev pub files_route : RouteOf Kind
 files_route = record { pattern = codes "/files"; text = codes "/files"; names = []; value = Files }
 
--- the route `/files/{number}`, whose parameter's name is in the text from 8 to 14
+-- The route `/files/{number}`. The name of its parameter is in the text from 8 to 14.
 abbrev pub upload_route : RouteOf Kind
 upload_route = record {
   pattern = codes "/files/" ++ param_token ∷ [];
@@ -18,6 +18,6 @@ upload_route = record {
   value = Upload;
 }
 
--- the two routes
+-- The two routes.
 abbrev pub table : RowsOf (RouteOf Kind)
 table = (codes "/files/" ++ param_token ∷ [], upload_route) ∷ (codes "/files", files_route) ∷ []

@@ -1,9 +1,9 @@
--- Where the search for a head's end stands.
+-- The search for a head's end, byte by byte.
 use Rattle.std.specs.Prelude.{ℕ, Bool, true, false, List, [], ◌∷◌, if◌then◌else◌, ◌==◌}
 use Rattle.tus_request.specs.declared.search.Search.{Search}
 use Rattle.tus_request.specs.declared.search.Search.TheVariants.{Front, FrontCr, Text, Start, StartCr, Over}
 
--- after a LF
+-- The state after a LF.
 abbrev pub after_lf : Search → Search
 after_lf Front = Front
 after_lf FrontCr = Front
@@ -12,7 +12,7 @@ after_lf Start = Over
 after_lf StartCr = Over
 after_lf Over = Over
 
--- after a CR
+-- The state after a CR.
 abbrev pub after_cr : Search → Search
 after_cr Front = FrontCr
 after_cr FrontCr = Text
@@ -21,19 +21,21 @@ after_cr Start = StartCr
 after_cr StartCr = Text
 after_cr Over = Over
 
--- after any other byte
+-- The state after any other byte.
 abbrev pub after_text_byte : Search → Search
 after_text_byte Over = Over
 after_text_byte _ = Text
 
+-- The state after a byte.
 abbrev pub after_byte : Search → ℕ → Search
 after_byte s b = if b == 10 then after_lf s else if b == 13 then after_cr s else after_text_byte s
 
--- after bytes
+-- The state after these bytes.
 abbrev pub after_bytes : Search → List ℕ → Search
 after_bytes s [] = s
 after_bytes s (b ∷ bytes) = after_bytes (after_byte s b) bytes
 
+-- The head's end was found.
 abbrev pub is_over : Search → Bool
 is_over Over = true
 is_over _ = false

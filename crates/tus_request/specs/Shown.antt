@@ -8,7 +8,7 @@ use Rattle.tus_request.specs.declared.requests.Parsed.TheVariants as parsed
 use Rattle.tus_request.specs.Requests.{Action, Options, Create, Head, Get, Patch, Delete, Request, Asks, Refuses}
 use Rattle.tus_request.specs.Answers.{Answer, More, Judged}
 
--- what a request asks for
+-- What a request asks for.
 abbrev pub action_shown : code_action.Action → Action
 action_shown action.Options = Options
 action_shown (action.Create declared from to mode metadata) =
@@ -18,7 +18,7 @@ action_shown (action.Get number) = Get number
 action_shown (action.Patch number offset declare) = Patch number offset declare
 action_shown (action.Delete number) = Delete number
 
--- a request
+-- A request.
 abbrev pub request_shown : code_request.Request → Request
 request_shown r = record {
   action = action_shown r.action;
@@ -28,7 +28,7 @@ request_shown r = record {
   closes = r.closes;
 }
 
--- an answer
+-- An answer.
 abbrev pub answer_shown : code_parsed.Parsed → Answer
 answer_shown parsed.More = More
 answer_shown (parsed.Head taken request) = Judged taken (Asks (request_shown request))

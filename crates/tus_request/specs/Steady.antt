@@ -1,12 +1,12 @@
--- What an answer for a stream's start says doesn't depend on what follows.
+-- The answer to a stream's start doesn't depend on what follows.
 use Rattle.std.specs.Prelude.{◌≡◌, ℕ, ◌<◌, ◌≤◌, List, ◌++◌, length, take}
 use Rattle.tus_request.specs.Requests.{Verdict}
 use Rattle.tus_request.specs.Answers.{Answer, Judged}
 
--- a head has at least one byte, lies in the stream, and is the same whatever follows
+-- A head has at least one byte, lies in the stream, and is the same whatever follows.
 pub record IsSteady (answer : List ℕ → Answer) : Type 0 where
   pub some : (s : List ℕ) (n : ℕ) (v : Verdict) → answer s ≡ Judged n v → 0 < n
   pub within : (s : List ℕ) (n : ℕ) (v : Verdict) → answer s ≡ Judged n v → n ≤ length s
   pub keeps : (s more : List ℕ) (n : ℕ) (v : Verdict) → answer s ≡ Judged n v → answer (s ++ more) ≡ Judged n v
-  -- its own bytes say as much
+  -- Its own bytes have the same answer.
   pub own : (s : List ℕ) (n : ℕ) (v : Verdict) → answer s ≡ Judged n v → answer (take n s) ≡ Judged n v

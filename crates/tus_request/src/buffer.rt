@@ -1,4 +1,4 @@
-//! A head that comes in pieces.
+//! A request head that arrives in pieces.
 ghost use Rattle.std.specs.Prelude.{◌≡◌, ◌++◌, ◌≤◌, [], length, take, vec_len, is_ok, IfOk, if◌then◌else◌};
 ghost use Rattle.enc_model.specs.Indexes.{offers};
 ghost use Rattle.tus_request.specs.Answers.{answer_of};
@@ -12,11 +12,11 @@ use crate::search::Search;
 use enc_index::IndexSet;
 use std::alloc::{AllocError, Global};
 
-/// The bytes of an unfinished head, at most 8,192; none where no head is under way.
+/// The bytes of an unfinished head, at most 8,192. Empty if no head has begun.
 #[derive(Drop)]
 pub struct HeadBuffer {
     bytes: Vec<u8>,
-    // where the search for the head's end stands after these bytes
+    // The state of the search for the head's end after these bytes, so that no byte is searched twice.
     search: Search,
     ghost short: { vec_len bytes ≤ 8192 },
     ghost searched: { search ≡ after_bytes Front bytes.items },
@@ -25,7 +25,7 @@ pub struct HeadBuffer {
 impl HeadBuffer {
     ghost use Rattle.tus_request.specs.Buffers.{bytes_of, unfinished, is_judged};
 
-    /// No head is under way. It needs no memory.
+    /// An empty buffer. It needs no memory.
     pub fn new(alloc: Global) -> Self
         ensures { bytes_of result ≡ [] }
     {
@@ -35,21 +35,21 @@ impl HeadBuffer {
         }
     }
 
-    /// How many bytes of the head have come.
+    /// How many bytes of the head have arrived.
     pub fn len(&self) -> usize
         ensures { result ≡ length (bytes_of self.now) }
     {
         self.bytes.len()
     }
 
-    /// Reads the head with a piece of the stream after it, as `parse` reads both in one. What can't belong to a head
-    /// isn't copied, and only the piece is looked through for the head's end.
-    /// Where the head isn't whole yet, the piece is kept; where it is, or can't become one, no head is under way any
-    /// more.
+    /// Reads the head together with a further piece of the stream; the result is that of `parse` over both. Bytes that
+    /// can't belong to the head aren't copied, and only the piece is searched for the head's end.
+    ///
+    /// A head that is still unfinished is stored. Otherwise the buffer is empty afterwards.
     ///
     /// # Errors
     ///
-    /// `AllocError` if the buffer can't grow, or `parse` wants memory.
+    /// `AllocError` if the buffer can't grow, or if `parse` is out of memory.
     pub fn read(
         &mut self,
         alloc: Global,
@@ -70,14 +70,14 @@ impl HeadBuffer {
         Ok(parsed)
     }
 
-    /// Whether a whole head has come, or what can't become one.
+    /// Whether the head's end has arrived, or as many bytes as a head may have.
     fn is_judged(&self) -> bool
         ensures { result ≡ is_judged (bytes_of self.now) }
     {
         self.search.is_over() || self.bytes.len() >= MAX_HEAD
     }
 
-    /// No head is under way any more.
+    /// Empties the buffer.
     fn clear(&mut self)
         ensures { bytes_of self.new ≡ [] }
     {
@@ -85,7 +85,7 @@ impl HeadBuffer {
         self.search = Search::Front;
     }
 
-    /// Puts after the head what it may need of the piece.
+    /// Appends those bytes of the piece that may belong to the head.
     fn fill(&mut self, piece: &[u8]) -> Result<(), AllocError>
         ensures { bytes_of self.new ≡ (if is_ok result then take 8192
             (bytes_of self.old ++ piece.now) else bytes_of self.old) }

@@ -1,4 +1,4 @@
-//! The checks of a head.
+//! The checks of a head. Their order decides which refusal a bad request gets.
 ghost use Rattle.std.specs.Prelude.{◌≡◌, ◌≤◌, length, map, All, IfOk};
 ghost use Rattle.httparse.specs.Borrowed.{header_parts};
 ghost use Rattle.enc_model.specs.Indexes.{offers};
@@ -23,7 +23,7 @@ use std::alloc::{AllocError, Global};
 mod post;
 mod rules;
 
-/// A request line.
+/// A request line. `minor` is the digit after `HTTP/1.`.
 #[derive(Clone, Copy, Drop)]
 pub(crate) struct Line<'h> {
     pub(crate) method: &'h str,
@@ -31,7 +31,8 @@ pub(crate) struct Line<'h> {
     pub(crate) minor: u8,
 }
 
-/// What a request line and the fields say.
+/// A request line and its fields, as the checks read them. `bare`: the reply has no body; `expects`: the client awaits
+/// `100 Continue`; `closes`: the connection closes after the reply.
 #[derive(Drop)]
 struct Asking<'h> {
     verb: Verb,
@@ -43,7 +44,7 @@ struct Asking<'h> {
     closes: bool,
 }
 
-/// Why a request is refused, and what its reply needs.
+/// A refused request: the reason, the length of its body, and what its reply needs.
 #[derive(Clone, Copy, Drop)]
 pub(crate) struct Refusal {
     pub(crate) fault: Fault,
@@ -53,14 +54,14 @@ pub(crate) struct Refusal {
     pub(crate) closes: bool,
 }
 
-/// What the checks of a head come to.
+/// The verdict on a head.
 #[derive(Drop)]
 pub(crate) enum Verdict {
     Asks(Request),
     Refuses(Refusal),
 }
 
-/// The checks, over a request line and its headers.
+/// Checks a request line and its headers.
 pub(crate) fn judge(
     alloc: Global,
     line: Line<'_>,
@@ -76,7 +77,8 @@ pub(crate) fn judge(
     check(alloc, line, &fields, set)
 }
 
-/// The checks, over a request line and its fields.
+/// Checks a request line and its fields. A body of unknown length is refused first, since nothing after it could be
+/// read.
 fn check(
     alloc: Global,
     line: Line<'_>,
@@ -97,7 +99,7 @@ fn check(
     decide(alloc, &asking, set)
 }
 
-/// What a request line and the fields say.
+/// Collects what the further checks read.
 fn ask<'h>(
     alloc: Global,
     line: Line<'h>,
@@ -123,14 +125,14 @@ fn ask<'h>(
     })
 }
 
-/// Whether a request line says HEAD.
+/// Whether the method is HEAD, so that the reply has no body.
 fn is_bare(line: Line<'_>) -> bool
     ensures { result ≡ is_bare (line_shown line.entry) }
 {
     line.method == "HEAD"
 }
 
-/// A request whose body has no known end.
+/// The refusal of a request whose body has no known end: the connection closes.
 fn cut_off(line: Line<'_>, place: Option<Place>, fault: Fault) -> Refusal
     requires { place ≡ line_place (line_shown line) }
     ensures { Refuses (refusal_shown result) ≡ cut_off (line_shown line.entry) fault }

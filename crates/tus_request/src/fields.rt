@@ -1,4 +1,4 @@
-//! The fields of a head.
+//! The fields of a head as a map. `httparse` has checked their names and values before.
 ghost use Rattle.std.specs.Prelude.{◌≡◌, ◌≤◌, ℕ, List, length, map, All, IfOk, OnOk};
 ghost use Rattle.http_header.specs.HeaderMap.{value_count};
 ghost use Rattle.httparse.specs.Borrowed.{header_parts};
@@ -10,7 +10,7 @@ use http_header::{
 use httparse::Header;
 use std::alloc::{AllocError, Global};
 
-/// The fields of a head by their names.
+/// The fields by their names, which are compared without case.
 pub(crate) fn by_name(alloc: Global, headers: &[Header<'_>]) -> Result<HeaderMap, AllocError>
     requires few { length headers.now ≤ 64 }
     requires usable { All IsUsable headers.now }
@@ -23,7 +23,7 @@ pub(crate) fn by_name(alloc: Global, headers: &[Header<'_>]) -> Result<HeaderMap
     Ok(fields)
 }
 
-/// Puts one more field into a map.
+/// Adds one field to the map.
 fn put(alloc: Global, fields: &mut HeaderMap, header: &Header<'_>) -> Result<(), AllocError>
     requires usable { IsUsable header.now }
     requires few_names { length fields.old ≤ 64 }

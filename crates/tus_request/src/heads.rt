@@ -1,4 +1,4 @@
-//! Reading a head.
+//! Parsing the head at the start of a stream.
 ghost use Rattle.std.specs.Prelude.{◌≡◌, IfOk, OnErr, nat_lt, if◌then◌else◌};
 ghost use Rattle.enc_model.specs.Indexes.{offers};
 ghost use Rattle.tus_request.specs.Answers.{More, Judged, answer_of};
@@ -16,22 +16,22 @@ use enc_index::IndexSet;
 use httparse::{Request, Status};
 use std::alloc::{AllocError, Global};
 
-// The most bytes of a head, and the most lines after its request line.
+// The most bytes of a head. `MAX_LINES` is the most lines after its request line.
 pub(crate) const MAX_HEAD: usize = 8192;
 
 const MAX_LINES: usize = 64;
 
-/// Reads the head at the start of a stream, which is all of the stream that has come and isn't read yet.
+/// Parses the head at the start of a stream: of all bytes that arrived and aren't taken yet.
 ///
-/// The answer is a function of the bytes and of what the index set offers, and it is the one that the grammar of
-/// request heads (RFC 9112, sections 2 to 5, as `httparse` reads it by default) gives.
-/// A head has at most 8,192 bytes and 64 lines after its request line, and ends with the first empty line after a
-/// line that isn't empty. While it isn't whole, it is only looked through for its end.
+/// The result depends on the bytes and on the encodings that the index set offers, on nothing else. It is the one that
+/// the grammar of request heads gives (RFC 9112, sections 2 to 5, as `httparse` reads it by default). A head has at
+/// most 8,192 bytes and 64 lines after its request line. It ends at the first empty line after one that isn't empty. An
+/// unfinished head is only searched for its end.
 ///
 /// # Errors
 ///
-/// `AllocError` if memory for the fields, the route or the metadata is refused: only where a whole head within the
-/// limits stands there.
+/// `AllocError` if memory for the fields, the route or the metadata is refused, which needs a finished head within the
+/// limits.
 pub fn parse(alloc: Global, bytes: &[u8], set: &IndexSet) -> Result<Parsed, AllocError>
     ensures function { IfOk result (λ answer. answer_shown answer ≡ answer_of (offers set.now) bytes.now) }
     ensures grammar { IfOk result (λ answer. IsAnswer (offers set.now) bytes.now (answer_shown answer)) }
@@ -40,7 +40,7 @@ pub fn parse(alloc: Global, bytes: &[u8], set: &IndexSet) -> Result<Parsed, Allo
     parse_head(alloc, bytes, set)
 }
 
-/// Reads the head at the start of a stream.
+/// The same, stated by the grammar alone.
 fn parse_head(alloc: Global, bytes: &[u8], set: &IndexSet) -> Result<Parsed, AllocError>
     ensures grammar { IfOk result (λ answer. IsAnswer (offers set.now) bytes.now (answer_shown answer)) }
     ensures memory { OnErr result (IsWhole (prefix bytes.now)) }
@@ -55,7 +55,7 @@ fn parse_head(alloc: Global, bytes: &[u8], set: &IndexSet) -> Result<Parsed, All
     read_whole(alloc, &prefix[..extent.len], set)
 }
 
-/// The answer where so many bytes of a head, and no whole one, have come.
+/// The answer to an unfinished head of `came` bytes.
 fn unmeasured(came: usize) -> Parsed
     ensures { answer_shown result ≡ (if nat_lt came 8192 then More else Judged 8192 (no_head HeadTooLong)) }
 {
@@ -66,7 +66,7 @@ fn unmeasured(came: usize) -> Parsed
     }
 }
 
-/// No head stands there.
+/// The answer to bytes that aren't a head.
 fn no_head(taken: usize, fault: Fault) -> Parsed
     ensures { answer_shown result ≡ Judged taken (no_head fault) }
 {
@@ -80,7 +80,7 @@ fn no_head(taken: usize, fault: Fault) -> Parsed
     }
 }
 
-/// What a whole head comes to.
+/// The answer with this verdict.
 fn answer(taken: usize, verdict: Verdict) -> Parsed
     ensures { answer_shown result ≡ Judged taken (verdict_shown verdict) }
 {
@@ -97,7 +97,7 @@ fn answer(taken: usize, verdict: Verdict) -> Parsed
     }
 }
 
-/// Reads a head that is whole.
+/// Parses a finished head.
 fn read_whole(alloc: Global, head: &[u8], set: &IndexSet) -> Result<Parsed, AllocError>
     requires { IsShortHead head.now }
     ensures { IfOk result (λ answer. IsHeadAnswer (offers set.now) head.now (answer_shown answer)) }

@@ -1,4 +1,4 @@
-//! Laws about the answers for a stream: each call does nothing, and its contract is the law.
+//! Laws about the answers to a stream. The functions do nothing; their contracts are the laws.
 ghost use Rattle.std.specs.Prelude.{◌≡◌, ℕ, List, [], Some};
 ghost use Rattle.enc_model.specs.Indexes.{offers};
 ghost use Rattle.httparse.specs.Grammar.{RequestHead, ReadsRequest};
@@ -12,28 +12,29 @@ ghost use Rattle.tus_request.specs.Value.{IsValue, value_of};
 
 use enc_index::IndexSet;
 
-/// A stream has one answer at most.
+/// A stream has at most one answer.
 pub fn one_answer(bytes: &[u8], set: &IndexSet)
     ensures { (x y : Answer) → IsAnswer (offers set.now) bytes.now x → IsAnswer (offers set.now) bytes.now y → x ≡ y }
 {}
 
-/// What an answer says of a stream's start doesn't depend on what follows.
+/// The answer to the start of a stream doesn't depend on what follows.
 pub fn steady_answers(set: &IndexSet)
     ensures { IsSteady (answer_of (offers set.now)) }
 {}
 
-/// A request head is read from some bytes exactly where they are its print, by the grammar.
+/// Bytes are parsed as a request head exactly if they are its print by the grammar.
 pub fn head_read(head: &[u8])
     ensures finds { (h : RequestHead) → ReadsRequest head.now h [] → request_of head.now ≡ Some h }
     ensures reads { (h : RequestHead) → request_of head.now ≡ Some h → ReadsRequest head.now h [] }
 {}
 
-/// At most one list of bytes has a text as its padded Base64.
+/// A text is the padded Base64 of at most one list of bytes.
 pub fn one_value(text: &[u8])
     ensures { (bytes : List ℕ) → IsValue text.now bytes → value_of text.now ≡ Some bytes }
 {}
 
-/// A request that passed its checks is valid: its numbers are small, its encodings are offered, its metadata is plain.
+/// A request that passed the checks is valid: its numbers are below 10^18, its encodings are offered, and its metadata
+/// is printable ASCII.
 pub fn valid_requests(bytes: &[u8], set: &IndexSet)
     ensures { (n : ℕ) (r : Request) → answer_of (offers set.now) bytes.now ≡ Judged n (Asks r)
         → IsValidRequest (offers set.now) r }

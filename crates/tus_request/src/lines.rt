@@ -1,33 +1,33 @@
-//! Where a head ends.
+//! The end of a head.
 ghost use Rattle.std.specs.Prelude.{◌≡◌, ◌==◌, ◌≤◌, length, IfSome, option_map};
 ghost use Rattle.std.specs.List.{position};
 ghost use Rattle.tus_request.specs.Lines.{head_extent, is_empty_line};
 ghost use Rattle.tus_request.specs.Extents.{shown};
 
-/// How far a head goes.
+/// The extent of a head.
 #[derive(Clone, Copy, Drop)]
 pub(crate) struct Reach {
-    /// How many bytes it has.
+    /// Its length in bytes.
     pub(crate) len: usize,
     /// How many of its lines aren't empty.
     pub(crate) texts: usize,
 }
 
-/// Whether a line is empty.
+/// Whether the line is empty. Both LF and CRLF end a line (RFC 9112, 2.2).
 fn is_empty(line: &[u8]) -> bool
     ensures { result ≡ is_empty_line line.now }
 {
     matches!(line, b"\n" | b"\r\n")
 }
 
-/// Where the first LF stands.
+/// The position of the first LF.
 fn line_feed(bytes: &[u8]) -> Option<usize>
     ensures { result ≡ position (λ b. b == 10) bytes.now }
 {
     bytes.iter().position(|b| *b == b'\n')
 }
 
-/// How far the head at the start of the bytes goes, if it is whole.
+/// The extent of the head at the start of the bytes, if it is finished.
 pub(crate) fn measure(bytes: &[u8]) -> Option<Reach>
     ensures extent { option_map shown result ≡ head_extent bytes.now }
     ensures within { IfSome result (λ r. r.len ≤ length bytes.now) }

@@ -1,4 +1,4 @@
-//! Looking up the fields of a head.
+//! Lookups in the fields of a head.
 ghost use Rattle.std.specs.Prelude.{◌≡◌, codes, option_copied};
 ghost use Rattle.std.specs.List.{list_any};
 ghost use Rattle.http_header.specs.Token.{lowercase};
@@ -11,14 +11,14 @@ use crate::number::number;
 use crate::texts::{is_word, lists_word, prefix};
 use http_header::HeaderMap;
 
-/// Whether there is a field of a name.
+/// Whether the field is given.
 pub(crate) fn is_given(fields: &HeaderMap, name: &str) -> bool
     ensures { result ≡ is_given (values fields.now (lowercase name.now)) }
 {
     fields.get(name).is_some()
 }
 
-/// The first value of a name, or another text.
+/// The first value of the field, or `other`.
 pub(crate) fn first_or<'f>(fields: &'f HeaderMap, name: &str, other: &'f str) -> &'f [u8]
     ensures { result.now ≡ first_or (values fields.now (lowercase name.now)) other.now }
 {
@@ -28,7 +28,7 @@ pub(crate) fn first_or<'f>(fields: &'f HeaderMap, name: &str, other: &'f str) ->
     }
 }
 
-/// The one value of a name.
+/// The value of the field, if there is exactly one.
 pub(crate) fn only<'f>(fields: &'f HeaderMap, name: &str) -> Option<&'f [u8]>
     ensures { option_copied result ≡ only (values fields.now (lowercase name.now)) }
 {
@@ -40,14 +40,14 @@ pub(crate) fn only<'f>(fields: &'f HeaderMap, name: &str) -> Option<&'f [u8]>
     Some(value.as_bytes())
 }
 
-/// The number that the one value of a name writes.
+/// The number in the field, if it has exactly one value.
 pub(crate) fn number_in(fields: &HeaderMap, name: &str) -> Option<u64>
     ensures { result ≡ number_in (values fields.now (lowercase name.now)) }
 {
     number(only(fields, name)?)
 }
 
-/// The length of the body, if the fields give one.
+/// The length of the body: 0 without `Content-Length`, None if that is invalid.
 pub(crate) fn body_length(fields: &HeaderMap) -> Option<u64>
     ensures { result ≡ length_in (values fields.now (codes "content-length")) }
 {
@@ -57,7 +57,7 @@ pub(crate) fn body_length(fields: &HeaderMap) -> Option<u64>
     number_in(fields, "content-length")
 }
 
-/// The number that the one value of a name writes, where there are values.
+/// The number in the field; `Some(None)` without the field, None if it is invalid.
 pub(crate) fn optional_number_in(fields: &HeaderMap, name: &str) -> Option<Option<u64>>
     ensures { result ≡ optional_number_in (values fields.now (lowercase name.now)) }
 {
@@ -67,7 +67,7 @@ pub(crate) fn optional_number_in(fields: &HeaderMap, name: &str) -> Option<Optio
     number_in(fields, name).map(Some)
 }
 
-/// The length of an upload to be made, which is a number or deferred, and not both.
+/// The length of a new upload (tus 1.0.0, Creation): `Upload-Length`, or `Upload-Defer-Length: 1`, never both.
 pub(crate) fn declared_in(fields: &HeaderMap) -> Option<Option<u64>>
     ensures { result ≡ declared_in (values fields.now (codes "upload-length"))
         (values fields.now (codes "upload-defer-length")) }
@@ -81,7 +81,7 @@ pub(crate) fn declared_in(fields: &HeaderMap) -> Option<Option<u64>>
     Some(None)
 }
 
-/// Whether the one value of a name is a word.
+/// Whether the field has exactly this one value.
 pub(crate) fn is_only(fields: &HeaderMap, name: &str, word: &str) -> bool
     ensures { result ≡ is_word_when word.now (only (values fields.now (lowercase name.now))) }
 {
@@ -91,7 +91,7 @@ pub(crate) fn is_only(fields: &HeaderMap, name: &str, word: &str) -> bool
     }
 }
 
-/// Whether the media type is that of an append.
+/// Whether the media type is that of a PATCH. Parameters after a semicolon are ignored.
 pub(crate) fn is_patch_media(fields: &HeaderMap) -> bool
     ensures { result ≡ is_patch_media (only (values fields.now (codes "content-type"))) }
 {
@@ -101,7 +101,7 @@ pub(crate) fn is_patch_media(fields: &HeaderMap) -> bool
     }
 }
 
-/// Whether a value of a name is a word, in any case.
+/// Whether one of the field's values is this word, compared without case.
 pub(crate) fn has_word(fields: &HeaderMap, name: &str, word: &str) -> bool
     ensures { result ≡ list_any (any_case word.now) (values fields.now (lowercase name.now)) }
 {
@@ -113,7 +113,7 @@ pub(crate) fn has_word(fields: &HeaderMap, name: &str, word: &str) -> bool
     false
 }
 
-/// Whether a value of a name is a list that has a word, in any case.
+/// Whether one of the field's values is a list with this word, compared without case.
 pub(crate) fn lists(fields: &HeaderMap, name: &str, word: &str) -> bool
     ensures { result ≡ list_any (lists_word word.now) (values fields.now (lowercase name.now)) }
 {

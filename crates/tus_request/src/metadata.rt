@@ -1,4 +1,4 @@
-//! The metadata of an upload.
+//! The metadata of a new upload (tus 1.0.0, Upload-Metadata).
 ghost use Rattle.std.specs.Prelude.{◌≡◌, IfOk, map, option_map, Some, [], ◌∷◌};
 ghost use Rattle.tus_request.specs.Value.{IsValueOf, value_of};
 ghost use Rattle.tus_request.specs.Texts.{parts, trimmed};
@@ -14,17 +14,17 @@ use enc_labels::{encoding_of, output_of};
 use enc_model::{Encoding, Mode};
 use std::alloc::{AllocError, Global};
 
-// The most bytes of metadata.
+// The most bytes of metadata, so that they fit into a record.
 const MAX_METADATA: usize = 1536;
 
-/// A key and its value.
+/// A key and its decoded value.
 #[derive(Drop)]
 pub(crate) struct Pair<'m> {
     key: &'m [u8],
     value: Vec<u8>,
 }
 
-/// The encoding of the bytes, that of the text, and what becomes of characters that the latter hasn't.
+/// The encoding of the bytes, the encoding of the text, and the error mode for characters that the latter lacks.
 #[derive(Clone, Copy, Drop)]
 pub(crate) struct Choice {
     pub(crate) from: Encoding,
@@ -32,7 +32,7 @@ pub(crate) struct Choice {
     pub(crate) mode: Mode,
 }
 
-/// What a value stands for, if it is the padded Base64 of some bytes.
+/// The bytes whose padded Base64 the text is, if it is one.
 fn value(alloc: Global, text: &[u8]) -> Result<Option<Vec<u8>>, AllocError>
     ensures value { IfOk result (λ found. bytes_shown found ≡ value_of text.now) }
     ensures exact { IfOk result (λ found. IsValueOf text.now (bytes_shown found)) }
@@ -44,7 +44,7 @@ fn value(alloc: Global, text: &[u8]) -> Result<Option<Vec<u8>>, AllocError>
     }
 }
 
-/// What a value stands for, which may be empty.
+/// The same for a value, which may also be empty.
 fn pair_value(alloc: Global, text: &[u8]) -> Result<Option<Vec<u8>>, AllocError>
     ensures { IfOk result (λ found. bytes_shown found ≡ pair_value text.now) }
 {
@@ -54,7 +54,7 @@ fn pair_value(alloc: Global, text: &[u8]) -> Result<Option<Vec<u8>>, AllocError>
     value(alloc, text)
 }
 
-/// The key and the value that a part writes, if it writes a pair.
+/// The key and value of a part, if it has the form of a pair.
 fn read_pair<'m>(alloc: Global, part: &'m [u8]) -> Result<Option<Pair<'m>>, AllocError>
     ensures { IfOk result (λ found. option_map pair_shown found ≡ pair_of part.now) }
 {
@@ -66,7 +66,7 @@ fn read_pair<'m>(alloc: Global, part: &'m [u8]) -> Result<Option<Pair<'m>>, Allo
     Ok(value.map(|value| Pair { key, value }))
 }
 
-/// Whether a pair has the key.
+/// Whether one of the pairs has the key.
 fn has_key(pairs: &[Pair<'_>], key: &[u8]) -> bool
     ensures { result ≡ has_key key.now (map pair_shown pairs.now) }
 {
@@ -78,7 +78,7 @@ fn has_key(pairs: &[Pair<'_>], key: &[u8]) -> bool
     false
 }
 
-/// The pairs that a text writes, if it writes pairs whose keys differ.
+/// The pairs of a list, if all its parts are pairs and no key occurs twice.
 fn read_pairs<'m>(alloc: Global, text: &'m [u8]) -> Result<Option<Vec<Pair<'m>>>, AllocError>
     ensures { IfOk result
         (λ found. pairs_shown found ≡ pairs_from (Some []) (map (trimmed (32 ∷ [])) (parts text.now))) }
@@ -96,28 +96,28 @@ fn read_pairs<'m>(alloc: Global, text: &'m [u8]) -> Result<Option<Vec<Pair<'m>>>
     Ok(Some(pairs))
 }
 
-/// Whether a text is short enough, and of the bytes that metadata has.
+/// Whether the text is short enough and printable ASCII.
 fn is_metadata(text: &[u8]) -> bool
     ensures { result ≡ is_metadata text.now }
 {
     text.len() <= MAX_METADATA && are_plain(text)
 }
 
-/// Whether a byte is one that metadata has.
+/// Whether the byte is printable ASCII.
 fn is_plain(byte: u8) -> bool
     ensures { result ≡ is_plain byte }
 {
     byte >= 0x20 && byte <= 0x7E
 }
 
-/// Whether all bytes are such that metadata has.
+/// Whether all bytes are printable ASCII.
 fn are_plain(text: &[u8]) -> bool
     ensures { result ≡ list_all is_plain text.now }
 {
     text.iter().all(|b| is_plain(*b))
 }
 
-/// The pairs of some metadata, if it is of the form. Empty metadata has none.
+/// The pairs of the metadata, if it is well-formed. Empty metadata has none.
 pub(crate) fn read<'m>(
     alloc: Global,
     metadata: &'m [u8],
@@ -133,7 +133,7 @@ pub(crate) fn read<'m>(
     read_pairs(alloc, metadata)
 }
 
-/// The value of a key, or a default.
+/// The value of the key, or a default.
 fn setting<'p>(pairs: &'p [Pair<'_>], key: &[u8], other: &'p [u8]) -> &'p [u8]
     ensures { result.now ≡ setting key.now other.now (map pair_shown pairs.now) }
 {
@@ -145,7 +145,7 @@ fn setting<'p>(pairs: &'p [Pair<'_>], key: &[u8], other: &'p [u8]) -> &'p [u8]
     other
 }
 
-/// The mode of a name.
+/// The error mode of this name.
 fn mode_of(name: &[u8]) -> Option<Mode>
     ensures { result ≡ mode_of name.now }
 {
@@ -156,7 +156,7 @@ fn mode_of(name: &[u8]) -> Option<Mode>
     }
 }
 
-/// What the keys `from`, `to` and `mode` ask for, if there is such.
+/// The choice that the keys `from`, `to` and `mode` make, if all three values are known. Other keys are ignored.
 pub(crate) fn choice_of(pairs: &[Pair<'_>]) -> Option<Choice>
     ensures { option_map choice_shown result ≡ choice_of (map pair_shown pairs.now) }
 {

@@ -1,4 +1,4 @@
-//! The methods.
+//! The methods of a request.
 ghost use Rattle.std.specs.Prelude.{◌≡◌, IfOk};
 ghost use Rattle.tus_request.specs.Methods.{verb_of};
 
@@ -6,7 +6,7 @@ use http::Method;
 use http::method::MethodError;
 use std::alloc::{AllocError, Global};
 
-/// A method that the server knows, or another.
+/// The methods that tus uses, and all others as one.
 #[derive(Clone, Copy, Drop)]
 pub(crate) enum Verb {
     Options,
@@ -18,7 +18,7 @@ pub(crate) enum Verb {
     Other,
 }
 
-/// The method that some bytes name.
+/// The method of this name.
 pub(crate) fn verb_of(alloc: Global, name: &[u8]) -> Result<Verb, AllocError>
     ensures { IfOk result (λ verb. verb ≡ verb_of name.now) }
 {

@@ -2,7 +2,7 @@
 ghost use Rattle.std.specs.Prelude.{◌≡◌};
 ghost use Rattle.tus_request.specs.Number.{number_of, upload_number};
 
-/// The number that a text of 1 to 18 digits writes.
+/// The number of a text of 1 to 18 digits. Such a number fits 60 bits, so sums of a few don't overflow.
 pub fn number(text: &[u8]) -> Option<u64>
     ensures { result ≡ number_of text.now }
 {
@@ -19,7 +19,7 @@ pub fn number(text: &[u8]) -> Option<u64>
     Some(value)
 }
 
-/// The number of an upload, as a path writes it: with no leading zero.
+/// The number of an upload in a path. It has no leading zero, so that each upload has one path.
 pub fn upload(text: &[u8]) -> Option<u64>
     ensures { result ≡ upload_number text.now }
 {

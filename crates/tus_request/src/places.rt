@@ -1,4 +1,4 @@
-//! What a path names.
+//! The resources that paths name.
 ghost use Rattle.std.specs.Prelude.{◌≡◌, IfOk};
 ghost use Rattle.tus_request.specs.Places.{place_of, is_files};
 ghost use Rattle.tus_request.specs.RouteTable.{table};
@@ -7,23 +7,23 @@ use crate::number::upload;
 use matchit::{InsertError, Router};
 use std::alloc::{AllocError, Global};
 
-/// What a path names.
+/// A resource.
 #[derive(Clone, Copy, Drop)]
 pub(crate) enum Place {
-    /// All the uploads.
+    /// `/files`: all uploads.
     Files,
-    /// The upload of a number.
+    /// `/files/N`: the upload of this number.
     Upload(u64),
 }
 
-/// Which route a path has.
+/// The route that a path matches.
 #[derive(Clone, Copy, Drop)]
 enum Kind {
     Files,
     Upload,
 }
 
-/// What a path names, if it names anything.
+/// The resource of the path, if it has one.
 pub(crate) fn named_by(alloc: Global, path: &str) -> Result<Option<Place>, AllocError>
     ensures { IfOk result (λ place. place ≡ place_of path.now) }
 {
@@ -42,7 +42,7 @@ pub(crate) fn named_by(alloc: Global, path: &str) -> Result<Option<Place>, Alloc
     })
 }
 
-/// The routes of the server.
+/// The two routes of the server. The router is built for each request.
 fn routes(alloc: Global) -> Result<Router<Kind>, InsertError>
     ensures { IfOk result (λ router. router ≡ table) }
 {
@@ -52,7 +52,7 @@ fn routes(alloc: Global) -> Result<Router<Kind>, InsertError>
     Ok(router)
 }
 
-/// Whether all the uploads are named.
+/// Whether the resource is `/files`.
 pub(crate) fn on_files(place: Option<Place>) -> bool
     ensures { result ≡ is_files place }
 {

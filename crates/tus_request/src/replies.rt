@@ -1,7 +1,7 @@
-//! The replies of the server, each as its exact bytes, without its body.
+//! The replies of the server, each as its exact bytes without the body.
 //!
-//! Each call appends to `out`; on an error `out` is as it was. `bare` says that the request line was HEAD, and `closes`
-//! that the connection closes.
+//! Each call appends to `out`, and leaves it unchanged on an error. `bare` means that the request's method was HEAD,
+//! `closes` that the connection closes after the reply.
 ghost use Rattle.std.specs.Prelude.{◌≡◌, ◌<◌, ◌≤◌, ◌+◌, ◌++◌, OnOk, OnErr, length};
 ghost use Rattle.std.specs.Vec.{vec_capacity, vec_len};
 ghost use Rattle.tus_request.specs.Replies.{reply_options, reply_created, reply_head, reply_patched, reply_deleted};
@@ -44,7 +44,7 @@ pub fn reply_options(
     append(alloc, &reply, out)
 }
 
-/// Appends the reply to a POST that made the upload of this number.
+/// Appends the reply to a POST that created the upload of this number.
 ///
 /// # Errors
 ///
@@ -69,8 +69,7 @@ pub fn reply_created(
     append(alloc, &reply, out)
 }
 
-/// Appends the reply to a HEAD of an upload: how many bytes it has, how many it will have, where that is known, and its
-/// metadata.
+/// Appends the reply to a HEAD: the upload's offset, its length or that it is deferred, and its metadata.
 ///
 /// # Errors
 ///
@@ -102,7 +101,7 @@ pub fn reply_head(
     append(alloc, &reply, out)
 }
 
-/// Appends the reply to a PATCH that was accepted: how many bytes the upload has now.
+/// Appends the reply to a PATCH that was accepted; `offset` is the upload's new offset.
 ///
 /// # Errors
 ///
@@ -151,7 +150,7 @@ pub fn reply_deleted(
     append(alloc, &reply, out)
 }
 
-/// Appends the head of the reply to a GET of an upload whose text, in the encoding `to`, has so many bytes.
+/// Appends the head of the reply to a GET whose text has `length` bytes in the encoding `to`.
 ///
 /// # Errors
 ///
@@ -207,7 +206,7 @@ pub fn reply_refused(
 ///
 /// # Errors
 ///
-/// `AllocError` when out of memory: only where `out` has no room.
+/// `AllocError` when out of memory, which needs an `out` with less than 25 bytes of free capacity.
 pub fn reply_continue(out: &mut Vec<u8>) -> Result<(), AllocError>
     ensures ok { OnOk result (out.new.items ≡ out.old.items ++ reply_continue) }
     ensures err { OnErr result (out.new.items ≡ out.old.items) }
@@ -216,14 +215,14 @@ pub fn reply_continue(out: &mut Vec<u8>) -> Result<(), AllocError>
     out.extend_from_slice(b"HTTP/1.1 100 Continue\r\n\r\n")
 }
 
-/// The body's length, which a reply to a request line of HEAD leaves out.
+/// The value of `Content-Length`. A reply to a HEAD leaves it out.
 fn unless_bare(bare: bool, length: u64) -> Option<u64>
     ensures { result ≡ unless_bare bare length }
 {
     if bare { None } else { Some(length) }
 }
 
-/// Appends a reply, or leaves `out` as it is.
+/// Appends a reply, or leaves `out` unchanged.
 fn append(alloc: Global, reply: &Reply<'_>, out: &mut Vec<u8>) -> Result<(), AllocError>
     ensures ok { OnOk result (out.new.items ≡ out.old.items ++ reply_shown reply.now) }
     ensures err { OnErr result (out.new.items ≡ out.old.items) }

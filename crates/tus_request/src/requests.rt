@@ -1,4 +1,4 @@
-//! What a head asks for.
+//! Requests as their heads give them.
 
 use crate::faults::Fault;
 use enc_model::{Encoding, Mode};
@@ -10,72 +10,72 @@ pub enum Action {
     Options,
     /// A new upload.
     Create {
-        /// How many bytes it will have, where that is known.
+        /// Its length in bytes, if that is known.
         declared: Option<u64>,
         /// The encoding of its bytes.
         from: Encoding,
         /// The encoding of its text.
         to: Encoding,
-        /// What becomes of characters that `to` hasn't.
+        /// The error mode for characters that `to` lacks.
         mode: Mode,
-        /// The metadata as given, at most 1,536 bytes of 20..7E; empty where there is none.
+        /// The metadata as given: at most 1,536 bytes of 20..7E, possibly none.
         metadata: String,
     },
-    /// How far the upload of this number has come.
+    /// The offset of the upload of this number.
     Head(u64),
     /// The text of the upload of this number.
     Get(u64),
-    /// More bytes.
+    /// More bytes for an upload.
     Patch {
         /// The upload's number.
         number: u64,
-        /// How many bytes it should have before.
+        /// The offset that the client expects.
         offset: u64,
-        /// The upload's length, where the request declares it.
+        /// The upload's length, if the request declares it.
         declare: Option<u64>,
     },
     /// The deletion of the upload of this number.
     Delete(u64),
 }
 
-/// A request, as its head gives it.
+/// A request that passed its checks.
 #[derive(Debug, PartialEq, Eq, Drop)]
 pub struct Request {
     /// What it asks for.
     pub action: Action,
-    /// How many bytes its body has.
+    /// The length of its body in bytes.
     pub length: u64,
-    /// Whether the request line says HEAD, so that the reply has no body.
+    /// Whether the method is HEAD, so that the reply has no body.
     pub bare: bool,
     /// Whether it is a PATCH that awaits `100 Continue`.
     pub expects: bool,
-    /// Whether the connection closes after the reply, whatever it is.
+    /// Whether the connection closes after the reply, whatever the reply is.
     pub closes: bool,
 }
 
-/// What the start of a stream comes to.
+/// The result of parsing the start of a stream.
 #[derive(Debug, PartialEq, Eq, Drop)]
 pub enum Parsed {
-    /// The head isn't whole yet.
+    /// The head is unfinished.
     More,
     /// A request that passed its checks.
     Head {
-        /// How many bytes the head has.
+        /// The length of the head in bytes.
         taken: usize,
         /// The request.
         request: Request,
     },
     /// A request that is refused.
     Refused {
-        /// How many bytes the head has.
+        /// The length of the head in bytes.
         taken: usize,
-        /// How many bytes the body has.
+        /// The length of the body in bytes.
         length: u64,
         /// Why it is refused.
         fault: Fault,
         /// Whether its path is `/files`.
         on_files: bool,
-        /// Whether the request line says HEAD.
+        /// Whether the method is HEAD, so that the reply has no body.
         bare: bool,
         /// Whether the connection closes after the reply.
         closes: bool,

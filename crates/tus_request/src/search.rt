@@ -2,18 +2,18 @@
 ghost use Rattle.std.specs.Prelude.{◌≡◌};
 ghost use Rattle.tus_request.specs.Searches.{after_byte, after_bytes, is_over};
 
-/// Where the search stands after the bytes that it has seen.
+/// The state of the search.
 #[derive(Clone, Copy, Drop)]
 pub(crate) enum Search {
-    /// At the start of a line, after empty ones or none.
+    /// At the start of a line; all lines so far are empty.
     Front,
-    /// After a CR that stands there.
+    /// After a CR at the start of such a line.
     FrontCr,
     /// In a line that isn't empty.
     Text,
-    /// At the start of a line, after one that isn't empty.
+    /// At the start of a line after one that isn't empty.
     Start,
-    /// After a CR that stands there.
+    /// After a CR at the start of such a line.
     StartCr,
     /// After the empty line that ends the head.
     Over,
@@ -27,7 +27,7 @@ impl Search {
         matches!(self, Search::Over)
     }
 
-    /// After one byte more.
+    /// The state after one more byte.
     fn after_byte(self, byte: u8) -> Self
         ensures { result ≡ after_byte self byte }
     {
@@ -41,7 +41,7 @@ impl Search {
         }
     }
 
-    /// After more bytes, of which those after the head aren't looked at.
+    /// The state after more bytes. Those after the head's end aren't read.
     pub(crate) fn after(self, bytes: &[u8]) -> Self
         ensures { result ≡ after_bytes self bytes.now }
     {

@@ -4,21 +4,21 @@ ghost use Rattle.std.specs.List.{position};
 ghost use Rattle.tus_request.specs.Reading.{before, after};
 ghost use Rattle.tus_request.specs.Texts.{any_case, skipped, trimmed, lists_word};
 
-/// Whether a text is a word, in any case.
+/// Whether the text is the word, compared without case.
 pub(crate) fn is_word(text: &[u8], word: &str) -> bool
     ensures { result ≡ any_case word.now text.now }
 {
     text.eq_ignore_ascii_case(word.as_bytes())
 }
 
-/// Where the first of a mark stands.
+/// The position of the first mark.
 fn place_of(text: &[u8], mark: u8) -> Option<usize>
     ensures { result ≡ position (λ b. b == mark) text.now }
 {
     text.iter().position(|b| *b == mark)
 }
 
-/// The bytes before the first of a mark, or all of them.
+/// The bytes before the first mark, or all of them.
 pub fn prefix(text: &[u8], mark: u8) -> &[u8]
     ensures { result.now ≡ before mark text.now }
 {
@@ -28,7 +28,7 @@ pub fn prefix(text: &[u8], mark: u8) -> &[u8]
     }
 }
 
-/// The bytes after the first of a mark, or none.
+/// The bytes after the first mark, or none.
 pub fn after(text: &[u8], mark: u8) -> &[u8]
     ensures { result.now ≡ after mark text.now }
 {
@@ -38,7 +38,7 @@ pub fn after(text: &[u8], mark: u8) -> &[u8]
     }
 }
 
-/// A text without the blanks at the start.
+/// The text without blanks at its start.
 fn without_prefix<'t>(text: &'t [u8], blanks: &[u8]) -> &'t [u8]
     ensures { result.now ≡ skipped blanks.now text.now }
 {
@@ -52,7 +52,7 @@ fn without_prefix<'t>(text: &'t [u8], blanks: &[u8]) -> &'t [u8]
     rest
 }
 
-/// A text without the blanks at both ends.
+/// The text without blanks at both ends.
 pub(crate) fn trimmed<'t>(text: &'t [u8], blanks: &[u8]) -> &'t [u8]
     ensures { result.now ≡ trimmed blanks.now text.now }
 {
@@ -66,7 +66,7 @@ pub(crate) fn trimmed<'t>(text: &'t [u8], blanks: &[u8]) -> &'t [u8]
     rest
 }
 
-/// Whether a list of words, with commas between them, has one, in any case.
+/// Whether a list with commas has the word, compared without case (RFC 9110, 5.6.1).
 pub(crate) fn lists_word(text: &[u8], word: &str) -> bool
     ensures { result ≡ lists_word word.now text.now }
 {
@@ -74,7 +74,7 @@ pub(crate) fn lists_word(text: &[u8], word: &str) -> bool
         .any(|part| is_word(trimmed(part, b" \t"), word))
 }
 
-/// The part of a target before the first question mark.
+/// The path of a request target: the part before the first question mark.
 pub(crate) fn path(target: &str) -> &str
     ensures { result.now ≡ before 63 target.now }
 {

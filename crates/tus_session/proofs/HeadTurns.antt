@@ -69,7 +69,7 @@ module _ (w : World) (conn : Conn) (h : List ℕ) (inside : InsideHead w conn h)
         let l : length (h ++ bytes) ≡ length h + length bytes = length-append h bytes in
         (omega arith, omega arith)
 
-    -- a prefix of the bytes with the whole head says as much
+    -- a prefix of the bytes with the whole head has the same verdict
     pub prefix_judged : (m : ℕ) → reader w (h ++ take (before + m) bytes) ≡ Judged n v
     prefix_judged m =
         let a : take n (h ++ bytes) ≡ h ++ take before bytes = take_after h bytes before n head_within.0 in

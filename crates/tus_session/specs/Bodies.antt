@@ -1,4 +1,4 @@
--- What becomes of a body: a patch goes on or ends, or the body is dropped.
+-- What bytes of a body lead to: the patch goes on, it ends with an answer, or the body is dropped.
 use Rattle.std.specs.Prelude.{◌≡◌, ◌++◌, ℕ, zero, suc, Bool, false, List, take, Option, None, Some, Result, Ok, Err}
 use Rattle.std.specs.Prelude.{if◌then◌else◌}
 use Rattle.upload_rules.specs.Store.{find}
@@ -16,20 +16,20 @@ use Rattle.tus_session.specs.declared.conns.Link.{Link}
 use Rattle.tus_action.specs.declared.acts.Stop.{Stop}
 use Rattle.tus_action.specs.declared.acts.Stop.TheVariants.{NoMemory, DiskFault}
 
--- the answer that gives nothing more
+-- The answer of a call that took n bytes and leaves no text pending.
 abbrev pub took : ℕ → Bool → Answer
 took n closes = record { taken = n; closes = closes; more = false }
 
--- a body of which so many bytes are to come is dropped
+-- What a connection awaits while this many bytes of a body are to be dropped.
 abbrev pub dropping : {B : Type 0} → ℕ → Awaiting B
 dropping zero = awaits.Head
 dropping (suc n) = awaits.Skip (suc n)
 
--- a connection with nothing open, after a reply that may close it
+-- The connection after a reply, which may close it.
 abbrev pub link_after : {B : Type 0} → HeadBuffer → ℕ → Bool → Option (Link B)
 link_after head left closes = if closes then None else Some (record { head = head; awaiting = dropping left })
 
--- the patch goes on: the same but for its draft
+-- The patch goes on: nothing but its draft and the missing bytes changed.
 pub record GoesOn {U B : Type 0} (u : Ghosts U B) (sure : Bool) (store : U) (link : Option (Link B)) (a : Answer)
     (head : HeadBuffer) (b b' : OpenPatch B) (left taken : ℕ) (w : World) (p : Patch) : Type 0 where
   pub link_is : link ≡ Some (record { head = head; awaiting = awaits.Patch b' left })
@@ -42,18 +42,20 @@ pub record GoesOn {U B : Type 0} (u : Ghosts U B) (sure : Bool) (store : U) (lin
   pub bare : b'.bare ≡ b.bare
   pub closes : b'.closes ≡ b.closes
 
+-- The patch goes on with some draft.
 abbrev pub GoesOnSome : {U B : Type 0} → Ghosts U B → Bool → U → Option (Link B) → Answer → HeadBuffer → OpenPatch B → ℕ
     → ℕ → World → Patch → Type 0
 GoesOnSome {U} {B} u sure store link a head b left taken w p =
     (b' : OpenPatch B) × GoesOn u sure store link a head b b' left taken w p
 
+-- The result of bytes that leave the body unfinished. Out of memory, the patch is gone.
 abbrev pub Parts : {U B : Type 0} → Ghosts U B → Bool → U → Result (Option (Link B) × Answer) Stop → HeadBuffer
     → OpenPatch B → ℕ → ℕ → World → Patch → World → Type 0
 Parts u sure store (Ok (link, a)) head b left taken w p gone = GoesOnSome u sure store link a head b left taken w p
 Parts u sure store (Err NoMemory) head b left taken w p gone = u.stands store sure gone
 Parts u sure store (Err DiskFault) head b left taken w p gone = Unit {0}
 
--- an answer was given, and nothing is open
+-- The answer was appended, and nothing is open.
 pub record Answered {U B : Type 0} (u : Ghosts U B) (sure : Bool) (store : U) (link : Option (Link B)) (a : Answer)
     (old new : List ℕ) (head : HeadBuffer) (taken : ℕ) (m : Acted) : Type 0 where
   pub shown : u.stands store sure m.world
@@ -61,18 +63,19 @@ pub record Answered {U B : Type 0} (u : Ghosts U B) (sure : Bool) (store : U) (l
   pub answer_is : a ≡ took taken m.closes
   pub bytes : new ≡ old ++ m.bytes
 
+-- The result of the body's last bytes. A refusal appends nothing.
 abbrev pub Replies : {U B : Type 0} → Ghosts U B → Bool → U → Result (Option (Link B) × Answer) Stop → List ℕ → List ℕ
     → HeadBuffer → ℕ → Acted → World → Type 0
 Replies u sure store (Ok (link, a)) old new head taken m gone = Answered u sure store link a old new head taken m
 Replies u sure store (Err NoMemory) old new head taken m gone = u.stands store sure gone × (new ≡ old)
 Replies u sure store (Err DiskFault) old new head taken m gone = new ≡ old
 
--- the body's end, with the rest of the body
+-- The last piece of the body is fed, and the patch committed.
 abbrev pub ended_by : World → ℕ → Patch → List ℕ → Request → Acted
 ended_by w d p piece r = committed_as (fed w d piece) d (fed_patch w d p piece) r
     (commit_refusal (fed w d piece) d (fed_patch w d p piece))
 
--- where a call stopped, what was written after so many bytes is taken back
+-- A failed call cuts the output back to this length.
 abbrev pub BackTo : {T : Type 0} → Result T Stop → ℕ → List ℕ → List ℕ → Type 0
 BackTo (Ok x) start old new = new ≡ old
 BackTo (Err e) start old new = new ≡ take start old

@@ -1,10 +1,11 @@
--- The numbers of a session's own refusals, and why it stops.
+-- The numbers of a session's errors.
 use Rattle.std.specs.Prelude.{ℕ}
 use Rattle.tus_session.specs.declared.errors.SessionError.{SessionError}
 use Rattle.tus_session.specs.declared.errors.SessionError.TheVariants.{NoMemory, DiskFault, TooMany, Closed, Down}
 use Rattle.tus_action.specs.declared.acts.Stop.{Stop}
 use Rattle.tus_action.specs.declared.acts.Stop.TheVariants as stops
 
+-- The number that a script reports.
 abbrev pub error_number : SessionError → ℕ
 error_number NoMemory = 0
 error_number DiskFault = 1
@@ -12,7 +13,7 @@ error_number TooMany = 29
 error_number Closed = 30
 error_number Down = 31
 
--- a call on the uploads stopped for it
+-- The error of a session whose call on the uploads stopped.
 abbrev pub error_of : Stop → SessionError
 error_of stops.NoMemory = NoMemory
 error_of stops.DiskFault = DiskFault

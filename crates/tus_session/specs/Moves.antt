@@ -1,10 +1,10 @@
--- What a turn of one connection leaves to the others.
+-- What a turn of one connection leaves unchanged for the others.
 use Rattle.std.specs.Prelude.{◌≡◌, ◌≤◌, ◌<◌, ◌⊎◌, ℕ, List, ◌++◌, Option, Some, None}
 use Rattle.upload_rules.specs.Store.{Upload, Store, upload_of, text_of, patched, find}
 use Rattle.upload_rules.specs.World.{Patch, World}
 use Rattle.upload_rules.specs.Apart.{IsApart}
 
--- the upload that was there has bytes after it or none, and so has its text; its length may have become known
+-- The upload only grew: bytes were appended to it and to its text, and its length may have been declared.
 pub record Longer (m m' : Store) (up up' : Upload) : Type 0 where
   pub declare : Option ℕ
   pub bytes : List ℕ
@@ -12,15 +12,15 @@ pub record Longer (m m' : Store) (up up' : Upload) : Type 0 where
   pub is : up' ≡ patched up declare bytes
   pub text : text_of m'.indexes up' ≡ text_of m.indexes up ++ more
 
--- an upload of a number that was given was there before, and lost neither bytes nor text; others may be gone
+-- Each upload that has a number below the earlier `next` was there before and only grew. Some may be deleted.
 pub record Grows (m m' : Store) : Type 0 where
   pub indexes : m'.indexes ≡ m.indexes
   pub next : m.next ≤ m'.next
   pub uploads : (n : ℕ) (up' : Upload) → n < m.next → upload_of m' n ≡ Some up'
       → (up : Upload) × (upload_of m n ≡ Some up) × Longer m m' up up'
 
--- From one world to the next by the connection that had one draft and now has another: all other patches are as they
--- were, and no draft number is taken that was another's
+-- From one world to the next by the connection whose draft was `own` and is `own'`: all other patches stay, and a new
+-- draft number belongs to no other.
 pub record Moves (w w' : World) (own own' : Option ℕ) : Type 0 where
   pub grows : Grows w.store w'.store
   pub others : (e : ℕ) (p : Patch) → (own ≡ Some e → ⊥) → find e w.patches ≡ Some p → find e w'.patches ≡ Some p

@@ -8,16 +8,17 @@ use Rattle.tus_session.specs.Turns.{Conn}
 use Rattle.tus_session.specs.declared.conns.Link.{Link}
 use Rattle.tus_session.specs.declared.session.Session.{Session}
 
+-- The places of the connections, by their numbers.
 abbrev pub places_of : {U B : Type 0} → Session U B → List (Option (Link B))
 places_of s = s.links.items
 
--- the list with another place there
+-- The same places with another connection at k.
 pub record IsPut {B : Type 0} (places all : List (Option (Link B))) (k : ℕ) (next : Option (Link B)) : Type 0 where
   pub count : length all ≡ length places
   pub here : get_or all k None ≡ next
   pub others : (j : ℕ) → j ≢ k → get_or all j None ≡ get_or places j None
 
--- the connection is open in the history, and is this
+-- Connection c is open in the history, and this link stands for it.
 abbrev pub IsOpen : {U B : Type 0} → Ghosts U B → State → ℕ → Link B → Type 0
 IsOpen u st c k =
     (conn : Conn) × (st.conns c ≡ Some conn) × LinkIs u st.world (bytes_of k.head) k.awaiting conn

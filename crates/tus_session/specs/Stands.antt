@@ -1,4 +1,4 @@
--- What a session stands for.
+-- The abstraction relation of a session: the state that it stands for.
 use Rattle.std.specs.Prelude.{◌≡◌, ◌+◌, ◌≤◌, ◌<◌, ◌-◌, ℕ, List, [], length, get_or, Option, Some, None, Bool}
 use Rattle.tus_request.specs.Requests.{Request, Asks, body_length}
 use Rattle.tus_request.specs.Buffers.{bytes_of}
@@ -21,7 +21,7 @@ use Rattle.tus_session.specs.declared.conns.Awaiting.{Awaiting}
 use Rattle.tus_session.specs.declared.conns.Awaiting.TheVariants as awaits
 use Rattle.tus_session.specs.declared.conns.Link.{Link}
 
--- the request that a body belongs to, and the open patch that it is
+-- The open patch belongs to request r: its draft, body and offset are those of the history.
 pub record PatchesAs {U B : Type 0} (u : Ghosts U B) (w : World) (b : OpenPatch B) (d : ℕ) (asked : Asked) (r : Request)
     (p : Patch) : Type 0 where
   pub number : u.number_of b.draft ≡ d
@@ -37,14 +37,14 @@ pub record PatchesAs {U B : Type 0} (u : Ghosts U B) (w : World) (b : OpenPatch 
   pub bare : b.bare ≡ r.bare
   pub closes : b.closes ≡ r.closes
 
--- the connection's bytes end in a body that wants so many more, at least one, and no head is kept
+-- The stream ends in a body that misses `left` bytes, at least one. The head buffer is empty.
 pub record InsideBody (w : World) (conn : Conn) (head : List ℕ) (left : ℕ) (asked : Asked) : Type 0 where
   pub rest : (cut (reader w) conn.stream).rest ≡ InBody asked
   pub cleared : head ≡ []
   pub some : 0 < left
   pub wanted : left ≡ body_length asked.verdict - length asked.body
 
--- a patch is open for it
+-- The body is fed to an open patch.
 pub record IsPatching {U B : Type 0} (u : Ghosts U B) (w : World) (conn : Conn) (head : List ℕ) (b : OpenPatch B)
     (left : ℕ) : Type 0 where
   pub d : ℕ
@@ -56,19 +56,19 @@ pub record IsPatching {U B : Type 0} (u : Ghosts U B) (w : World) (conn : Conn) 
   pub pending : conn.pending ≡ None
   pub patches : PatchesAs u w b d asked r p
 
--- or nothing is open
+-- The body is dropped.
 pub record IsSkipping (w : World) (conn : Conn) (head : List ℕ) (left : ℕ) : Type 0 where
   pub asked : Asked
   pub inside : InsideBody w conn head left asked
   pub draft : conn.draft ≡ None
   pub pending : conn.pending ≡ None
 
--- an unfinished head is kept; of a body only how many bytes it still wants
+-- The head buffer holds an unfinished head, or `left` counts the missing bytes of a body.
 abbrev pub RestIs : List ℕ → ℕ → Rest → Type 0
 RestIs head left (InHead h) = (head ≡ h) × (left ≡ 0)
 RestIs head left (InBody r) = (head ≡ []) × (left ≡ body_length r.verdict - length r.body)
 
--- a text is still to be given
+-- A text is pending.
 pub record IsGivingText (w : World) (conn : Conn) (head : List ℕ) (g : given.Giving) (left : ℕ) : Type 0 where
   pub h : Giving
   pub rest : RestIs head left (cut (reader w) conn.stream).rest
@@ -76,23 +76,25 @@ pub record IsGivingText (w : World) (conn : Conn) (head : List ℕ) (g : given.G
   pub pending : conn.pending ≡ Some h
   pub gives : IsGiving w.store g h
 
--- a connection is the history's
+-- What a connection awaits stands for the connection of the history.
 abbrev pub LinkIs : {U B : Type 0} → Ghosts U B → World → List ℕ → Awaiting B → Conn → Type 0
 LinkIs u w head awaits.Head conn = InsideHead w conn head
 LinkIs u w head (awaits.Patch b left) conn = IsPatching u w conn head b left
 LinkIs u w head (awaits.Skip left) conn = IsSkipping w conn head left
 LinkIs u w head (awaits.Text g left) conn = IsGivingText w conn head g left
 
+-- A place stands for an open connection or for none.
 abbrev pub PlaceIs : {U B : Type 0} → Ghosts U B → World → Option (Link B) → Option Conn → Type 0
 PlaceIs u w None None = Unit {0}
 PlaceIs u w (Some k) (Some conn) = LinkIs u w (bytes_of k.head) k.awaiting conn
 PlaceIs u w _ _ = ⊥
 
+-- The draft of a connection.
 abbrev pub draft_at : Option Conn → Option ℕ
 draft_at None = None
 draft_at (Some conn) = conn.draft
 
--- the store shows the history's world, each place is the history's, and no two connections have one draft
+-- The store stands for the history's world and each place for its connection. No two connections share a draft.
 pub record SessionStands {U B : Type 0} (u : Ghosts U B) (sure : Bool) (places : List (Option (Link B))) (store : U)
     (st : State) : Type 0 where
   pub count : length places ≡ most_open
@@ -100,10 +102,10 @@ pub record SessionStands {U B : Type 0} (u : Ghosts U B) (sure : Bool) (places :
   pub each : (c : ℕ) → PlaceIs u st.world (get_or places c None) (st.conns c)
   pub apart : (c e d : ℕ) → draft_at (st.conns c) ≡ Some d → draft_at (st.conns e) ≡ Some d → c ≡ e
   pub unique : IsApart st.world.patches
-  -- over a spool: the open patches are those of the connections, so that the blocks that are reserved are the needs
+  -- Each open patch belongs to a connection. Over a spool, the reserved blocks are therefore exactly what they need.
   pub owned : (d : ℕ) (p : Patch) → find d st.world.patches ≡ Some p → (c : ℕ) × (draft_at (st.conns c) ≡ Some d)
 
--- the world without the draft that is open
+-- The world without the draft that is open.
 abbrev pub dropped_by : {U B : Type 0} → Ghosts U B → World → Awaiting B → World
 dropped_by u w awaits.Head = w
 dropped_by u w (awaits.Patch b left) = dropped w (u.number_of b.draft)

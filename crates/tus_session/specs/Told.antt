@@ -1,4 +1,4 @@
--- How a call of a session answers.
+-- The results of calls on a session.
 use Rattle.std.specs.Prelude.{◌≡◌, ℕ, List, Option, Result, Ok, Err, Bool}
 use Rattle.upload_rules.specs.declared.uploads.Uploads.{Ghosts}
 use Rattle.tus_action.specs.Serves.{Appends}
@@ -9,14 +9,14 @@ use Rattle.tus_session.specs.declared.conns.Link.{Link}
 use Rattle.tus_session.specs.declared.errors.SessionError.{SessionError}
 use Rattle.tus_session.specs.declared.errors.SessionError.TheVariants.{NoMemory, DiskFault}
 
--- the session is where the history is after the event, and the history answers so
+-- The session stands for the state after the event, and the history's outcome is the given one.
 pub record Follows {U B : Type 0} (u : Ghosts U B) (sure : Bool) (places : List (Option (Link B))) (store : U)
     (now : State) (answered given : Outcome) : Type 0 where
   pub stands : SessionStands u sure places store now
   pub outcome : answered ≡ given
 
--- What became of an event that gives bytes: served; out of memory, and its connection closed; or refused, and
--- nothing changed. After a disk fault only the bytes are as they were. The refusals of a connection go before both
+-- The result of an event that gives bytes. Served: the history's step. Out of memory: the connection closed. A disk
+-- fault: only the output is known, and it is unchanged. Any other refusal changes nothing.
 abbrev pub Told : {U B : Type 0} → Ghosts U B → Bool → List (Option (Link B)) → U → Result Answer SessionError → List ℕ
     → List ℕ → State → Event → Type 0
 Told u sure places store (Ok a) old new st e =
@@ -29,7 +29,7 @@ Told u sure places store (Err DiskFault) old new st e = ((step st e Failed).outc
 Told u sure places store (Err f) old new st e =
     Follows u sure places store st (step st e Served).outcome (Refused f) × (new ≡ old)
 
--- the same of an event that gives none
+-- The result of an event that gives none.
 abbrev pub Ends : {U B : Type 0} → Ghosts U B → Bool → List (Option (Link B)) → U → Result (Unit {0}) SessionError
     → State → Event → Type 0
 Ends u sure places store (Ok x) st e = Follows u sure places store (step st e Served).state (step st e Served).outcome
@@ -39,7 +39,7 @@ Ends u sure places store (Err NoMemory) st e =
 Ends u sure places store (Err DiskFault) st e = (step st e Failed).outcome ≡ Refused DiskFault
 Ends u sure places store (Err f) st e = Follows u sure places store st (step st e Served).outcome (Refused f)
 
--- a connection is opened, or nothing changed
+-- The connection is open, or nothing changed.
 abbrev pub Opens : {U B : Type 0} → Ghosts U B → Bool → List (Option (Link B)) → U → Result (Unit {0}) SessionError
     → State → Event → Type 0
 Opens u sure places store (Ok x) st e = Follows u sure places store (step st e Served).state (step st e Served).outcome

@@ -1,4 +1,4 @@
--- How a turn on one connection answers.
+-- The results of a turn on one connection.
 use Rattle.std.specs.Prelude.{◌≡◌, ℕ, List, Option, None, Result, Ok, Err, Bool}
 use Rattle.upload_rules.specs.World.{World}
 use Rattle.upload_rules.specs.declared.uploads.Uploads.{Ghosts}
@@ -12,7 +12,7 @@ use Rattle.tus_action.specs.Serves.{Appends}
 use Rattle.tus_action.specs.declared.acts.Stop.{Stop}
 use Rattle.tus_action.specs.declared.acts.Stop.TheVariants.{NoMemory, DiskFault}
 
--- the turn's world, connection and bytes
+-- The store stands for the turn's world and the link for its connection, and the answer has its numbers and bytes.
 pub record TurnedAs {U B : Type 0} (u : Ghosts U B) (sure : Bool) (store : U) (link : Option (Link B)) (a : Answer)
     (old new : List ℕ) (w : World) (own : Option ℕ) (t : Turn) : Type 0 where
   pub shown : u.stands store sure t.world
@@ -23,20 +23,21 @@ pub record TurnedAs {U B : Type 0} (u : Ghosts U B) (sure : Bool) (store : U) (l
   pub more : a.more ≡ has_text t.conn
   pub bytes : Appends sure old new t.bytes t.text
 
--- the turn is done, and this is the connection after it; or it was out of memory, and the draft is gone; or the
--- disk failed. An error closes the connection
+-- The turn is done; or it was out of memory and the draft is gone; or a disk fault stopped it. Every error closes the
+-- connection.
 abbrev pub Turned : {U B : Type 0} → Ghosts U B → Bool → U → Result (Option (Link B) × Answer) Stop → List ℕ → List ℕ
     → World → Option ℕ → Turn → Type 0
 Turned u sure store (Ok (link, a)) old new w own t = TurnedAs u sure store link a old new w own t
 Turned u sure store (Err NoMemory) old new w own t = u.stands store sure (left_world w own) × (new ≡ old)
 Turned u sure store (Err DiskFault) old new w own t = new ≡ old
 
--- a connection's end: its draft is spent
+-- The connection ended, and its draft is spent.
 pub record EndedAs {U B : Type 0} (u : Ghosts U B) (sure : Bool) (store : U) (w : World) (own : Option ℕ)
     (done : World) : Type 0 where
   pub shown : u.stands store sure done
   pub moves : Moves w done own None
 
+-- The result of a connection's end.
 abbrev pub Ended : {U B : Type 0} → Ghosts U B → Bool → U → Result (Unit {0}) Stop → World → Option ℕ → World → Type 0
 Ended u sure store (Ok x) w own done = EndedAs u sure store w own done
 Ended u sure store (Err NoMemory) w own done = u.stands store sure (left_world w own)

@@ -1,4 +1,4 @@
-//! A body under way: what came of it, and its end.
+//! Request bodies: a PATCH's goes on or ends; any other is dropped.
 ghost use Rattle.std.specs.Prelude.{◌≡◌, ◌+◌, ◌-◌, ◌<◌, ◌≤◌, ◌^◌, false, length, Bool, true};
 ghost use Rattle.std.specs.Prelude.{take, min, Some, IsErrOf};
 ghost use Rattle.upload_rules.specs.Store.{find};
@@ -18,7 +18,8 @@ use tus_action::{OpenPatch, Stop, feed, finish};
 use tus_request::HeadBuffer;
 use upload_rules::Uploads;
 
-// A body that is dropped: what came of it is taken.
+// Drops bytes of a body: at most `left` of the `after` bytes that follow the head are taken, and the `before` bytes of
+// the head.
 pub(crate) fn skip<B>(
     head: HeadBuffer,
     left: u64,
@@ -39,7 +40,7 @@ pub(crate) fn skip<B>(
     (Link::after_reply(head, left - count, closes), answer)
 }
 
-// More of a patch's body came, but not its end.
+// Feeds bytes to the draft. The body doesn't end among them.
 fn go_on<U: Uploads>(
     store: &mut U,
     head: HeadBuffer,
@@ -73,7 +74,7 @@ fn go_on<U: Uploads>(
     ))
 }
 
-// The rest of a patch's body came: it is committed, or refused, and answered.
+// Feeds the last bytes of the body, commits the draft, and appends the reply or the refusal.
 fn last_of<U: Uploads>(
     alloc: Global,
     store: &mut U,
@@ -115,7 +116,7 @@ fn last_of<U: Uploads>(
     Ok((Link::after_reply(head, 0, closes), answer))
 }
 
-// What came of a patch's body: it goes on, or it is answered.
+// Feeds bytes to the draft; at most one call finishes it. Bytes after the body's end are left.
 pub(crate) fn body_of<U: Uploads>(
     alloc: Global,
     store: &mut U,

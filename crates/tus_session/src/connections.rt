@@ -1,4 +1,4 @@
-//! Connections, as a script or sockets drive them.
+//! The trait of connections that scripts and sockets drive.
 ghost use Rattle.std.specs.Prelude.{◌≡◌, ℕ, Bool, true, false, List, IsErrOf, Option};
 ghost use Rattle.upload_rules.specs.Store.{Store};
 ghost use Rattle.upload_rules.specs.Answers.{Among, Limits, Quiet, Counts};
@@ -9,29 +9,32 @@ ghost use Rattle.tus_session.specs.Images.{shown_by};
 
 use crate::{Answer, SessionError};
 
-/// Connections that keep the history of their events.
+/// Connections that follow the history of their events.
 ///
-/// Once a call was refused with `DiskFault` they are down: each further call is refused with `Down` at once, the disk
-/// isn't asked, and `out` stays as it was.
+/// After one call was refused with `DiskFault` they are down: each further call is refused with `Down`, doesn't ask the
+/// disk, and leaves `out` unchanged.
 pub trait Connections {
-    /// They are where the history is; and where that is sure, the disk is honest and holds the texts. Where it isn't,
-    /// nothing is said of the disk.
+    /// The connections stand for this state. If that is sure, the disk is honest and holds the texts; otherwise nothing
+    /// is claimed of the disk.
     ghost stands: { Self → Bool → State → Type 0 };
 
-    /// Counts what the disk was asked.
+    /// How much the disk was asked so far.
     ghost moment: { Self → ℕ };
 
-    /// What a crash at any moment since that one might have left shows one of these stores.
+    /// Every crash image since that moment shows one of these stores.
     ghost left_only: { Self → Option ℕ → ℕ → List Store → Type 0 };
 
-    /// How often the disk failed.
+    /// How many disk faults there were.
     ghost failures: { Self → ℕ };
 
-    /// Whether the disk failed at one of their calls.
+    /// Whether an earlier call met a disk fault.
     ghost down: { Self → Bool };
 
-    /// Opens a connection: refused with `TooMany` exactly where its number isn't below `MOST_OPEN`, or it is open. It
-    /// needs neither memory nor the disk.
+    /// Opens a connection. Uses neither memory nor the disk.
+    ///
+    /// # Errors
+    ///
+    /// `TooMany` exactly if the number isn't below `MOST_OPEN` or that connection is open.
     fn opened(&mut self, conn: usize) -> Result<(), SessionError>
         ensures does { (sure : Bool) (st : State) → stands self.old sure st
             → Does (stands self.new sure) result st (Opened conn) }
@@ -41,10 +44,12 @@ pub trait Connections {
         ensures unasked { down self.old ≡ true → Unasked (moment self.old) (moment self.new) (left_only self.old)
             (left_only self.new) (failures self.old) (failures self.new) };
 
-    /// Bytes came: those of at most one request are taken, and what they are answered is put after `out`, which a
-    /// refusal leaves as it was. That is at most 69,632 bytes.
+    /// Takes received bytes, at most to the end of one request, and appends the reply to `out`, with the first piece of
+    /// a text if one is read: at most 69,632 bytes. A refusal leaves `out` unchanged.
     ///
-    /// Refused with `Closed` exactly where the connection isn't open, and else with `NoMemory` or `DiskFault`.
+    /// # Errors
+    ///
+    /// `Closed` exactly if the connection isn't open; otherwise `NoMemory` or `DiskFault`.
     fn came(&mut self, conn: usize, bytes: &[u8], out: &mut Vec<u8>) -> Result<Answer, SessionError>
         ensures gives { (sure : Bool) (st : State) → stands self.old sure st
             → Gives sure (stands self.new sure) result out.old.items out.new.items st (Came conn bytes.now) }
@@ -58,8 +63,11 @@ pub trait Connections {
         ensures unwritten { down self.old ≡ true → out.new.items ≡ out.old.items }
         ensures few { GivesFew out.old.items out.new.items };
 
-    /// The next piece of a text is put after `out`, which a refusal leaves as it was: at most as many bytes as `came`
-    /// gives. Refused as `came` is.
+    /// Appends the next piece of the pending text to `out`, at most 69,632 bytes. A refusal leaves `out` unchanged.
+    ///
+    /// # Errors
+    ///
+    /// Those of `came`.
     fn more(&mut self, conn: usize, out: &mut Vec<u8>) -> Result<Answer, SessionError>
         ensures gives { (sure : Bool) (st : State) → stands self.old sure st
             → Gives sure (stands self.new sure) result out.old.items out.new.items st (More conn) }
@@ -71,7 +79,11 @@ pub trait Connections {
         ensures unwritten { down self.old ≡ true → out.new.items ≡ out.old.items }
         ensures few { GivesFew out.old.items out.new.items };
 
-    /// The connection ended. Refused as `came` is.
+    /// The client closed the connection, or was lost.
+    ///
+    /// # Errors
+    ///
+    /// Those of `came`.
     fn ended(&mut self, conn: usize) -> Result<(), SessionError>
         ensures does { (sure : Bool) (st : State) → stands self.old sure st
             → Does (stands self.new sure) result st (Ended conn) }
@@ -83,10 +95,10 @@ pub trait Connections {
         ensures unasked { down self.old ≡ true → Unasked (moment self.old) (moment self.new) (left_only self.old)
             (left_only self.new) (failures self.old) (failures self.new) };
 
-    /// Where connections are where a history is, its uploads are on the disk.
+    /// If the connections are known to stand for a state, each crash image from now on shows its uploads.
     ghost durable: { (core : Self) (st : State) (ms : List Store) → stands core true st → Among st.world.store ms
         → left_only core st.world.blocks (moment core) ms };
 
-    /// Where connections are where a history is, they aren't down.
+    /// Connections that stand for a state aren't down.
     ghost up: { (core : Self) (sure : Bool) (st : State) → stands core sure st → down core ≡ false };
 }

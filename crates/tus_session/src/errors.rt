@@ -1,21 +1,21 @@
-//! Why a call of a session gives no answer.
+//! The errors of a session.
 ghost use Rattle.std.specs.Prelude.{◌≡◌};
 ghost use Rattle.tus_session.specs.Faults.{error_of};
 
 use tus_action::Stop;
 
-/// Why a call of a session gives no answer.
+/// Why a session refuses a call.
 #[derive(Clone, Copy, Debug, PartialEq, Eq, Drop)]
 pub enum SessionError {
     /// Out of memory: nothing was committed, and the connection is closed.
     NoMemory,
-    /// The disk failed: the store must be opened again.
+    /// A disk fault: the spool has to be opened again.
     DiskFault,
-    /// The connection's number isn't below `MOST_OPEN`, or it is open.
+    /// The connection's number isn't below `MOST_OPEN`, or that connection is open.
     TooMany,
     /// The connection isn't open.
     Closed,
-    /// The disk failed in an earlier call: the store must be opened again. A session alone never answers it.
+    /// A disk fault at an earlier call. Only connections over a disk answer it, never a `Session`.
     Down,
 }
 

@@ -1,4 +1,4 @@
-//! What came on a connection: the bytes of a head, or of a body.
+//! Received bytes: a head is parsed and acted on, a body goes to `bodies`.
 ghost use Rattle.std.specs.Prelude.{◌≡◌, ◌+◌, ◌-◌, ◌<◌, ◌≤◌, ◌^◌, ℕ, List, [], Bool};
 ghost use Rattle.std.specs.Prelude.{length, min, true, false, None, Some, IsErrOf, if◌then◌else◌};
 ghost use Rattle.tus_request.specs.Requests.{Asks};
@@ -24,7 +24,7 @@ use tus_request::replies::reply_refused;
 use tus_request::{Action, HeadBuffer, Parsed, Request};
 use upload_rules::Uploads;
 
-// The offset after the body that a PATCH asks for.
+// The offset after a PATCH's body; 0 for other requests.
 fn reached_by(request: &Request) -> u64
     ensures { IsSmall (request_shown request.now)
         → ReachedIs (request_shown request.now).action request.now.length result }
@@ -35,7 +35,8 @@ fn reached_by(request: &Request) -> u64
     }
 }
 
-// A request whose head is whole: what it asks for is done, and then what came of its body is taken.
+// Acts on a request, then takes the part of its body that came with the head. `before` counts the bytes of the head in
+// `bytes`.
 fn request_of<U: Uploads>(
     alloc: Global,
     store: &mut U,
@@ -96,7 +97,7 @@ fn request_of<U: Uploads>(
     }
 }
 
-// Where a call stopped, what was written after so many bytes is taken back.
+// Cuts `out` back to its length before the call if the call failed, so that a refusal leaves no reply.
 fn back_to<T>(start: usize, done: Result<T, Stop>, out: &mut Vec<u8>) -> Result<T, Stop>
     ensures same { result ≡ done }
     ensures back { BackTo done start out.old.items out.new.items }
@@ -108,7 +109,7 @@ fn back_to<T>(start: usize, done: Result<T, Stop>, out: &mut Vec<u8>) -> Result<
     done
 }
 
-// Bytes of a head came.
+// Adds bytes to an unfinished head.
 fn head_of<U: Uploads>(
     alloc: Global,
     store: &mut U,
@@ -159,7 +160,7 @@ fn head_of<U: Uploads>(
     }
 }
 
-// Bytes came on an open connection.
+// Takes received bytes on an open connection.
 pub(crate) fn came_of<U: Uploads>(
     alloc: Global,
     store: &mut U,

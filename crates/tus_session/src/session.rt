@@ -1,4 +1,4 @@
-//! Up to `MOST_OPEN` connections over any store of uploads.
+//! The connections of a server, over any store of uploads.
 ghost use Rattle.std.specs.Prelude.{◌≡◌, ◌<◌, ℕ, length, Option, None, IfOk, IfErr, OnOk, OnErr, IsErrOf, Bool, true};
 ghost use Rattle.tus_session.specs.History.{State, Opened, Came, More, Ended, Served, step, beginning};
 ghost use Rattle.tus_session.specs.Places.{places_of, IsPut, IsOpen};
@@ -22,16 +22,20 @@ use upload_rules::Uploads;
 /// How many connections may be open at once.
 pub const MOST_OPEN: usize = 16;
 
-/// Up to `MOST_OPEN` connections, each in its place: of each an unfinished head and what it waits for.
+/// At most `MOST_OPEN` connections: the unfinished head of each, and what it waits for.
 pub struct Session<U: Uploads> {
     alloc: Global,
     links: Vec<Option<Link<U::Draft>>>,
-    // what the pieces of texts are read into
+    // One buffer for all connections: it holds a piece of a text only during a call.
     buffer: Box<PieceBuffer>,
 }
 
 impl<U: Uploads> Session<U> {
-    /// No connection is open.
+    /// A session without connections. The places and the piece buffer are allocated here, once.
+    ///
+    /// # Errors
+    ///
+    /// `AllocError`.
     pub fn new(alloc: Global) -> Result<Self, AllocError>
         ensures { (sure : Bool) (store : U) (m : Store) (blocks : Option ℕ) → U.stands store sure (at_rest m blocks)
             → IfOk result (λ s. SessionStands U.Uploads sure (places_of s) store (beginning m blocks)) }
@@ -52,6 +56,10 @@ impl<U: Uploads> Session<U> {
     }
 
     /// Opens a connection. It needs no memory.
+    ///
+    /// # Errors
+    ///
+    /// `TooMany`.
     pub fn opened(&mut self, conn: usize) -> Result<(), SessionError>
         ensures answer { (sure : Bool) (store : U) (st : State)
             → SessionStands U.Uploads sure (places_of self.old) store st
@@ -70,15 +78,16 @@ impl<U: Uploads> Session<U> {
         Ok(())
     }
 
-    /// Bytes came: those of at most one request are taken, and what they bring is appended to `out`. At most one change
-    /// is made.
+    /// Takes received bytes, at most to the end of one request, and appends the reply to `out`. At most one change is
+    /// made.
     ///
-    /// A call takes up to the end of the request under way, or all bytes where that end isn't among them. While a text
-    /// is still to be given it takes none, and a request that leaves a text to be given is taken up to the end of its
-    /// head. Of an unfinished head at most 8,192 bytes are kept, and each call looks for its end there once.
+    /// The call takes the bytes up to the end of the current request, or all of them if it doesn't end there. It takes
+    /// none while a text is pending. A request that makes a text pending is taken up to the end of its head. At most
+    /// 8,192 bytes of an unfinished head are stored, and each call searches them for the head's end once.
     ///
-    /// Refused with `Closed` where the connection isn't open, and then with `NoMemory`, which closes the connection, or
-    /// `DiskFault`.
+    /// # Errors
+    ///
+    /// `Closed` if the connection isn't open; `NoMemory`, which closes the connection; `DiskFault`.
     pub fn came(
         &mut self,
         store: &mut U,
@@ -107,12 +116,12 @@ impl<U: Uploads> Session<U> {
         Ok(answer)
     }
 
-    /// Gives the next piece of a text that is still to be given: 65,536 bytes, or all that are left where they are
-    /// fewer, appended to `out`.
-    /// With none left it gives nothing.
+    /// Appends the next piece of the pending text to `out`: 65,536 bytes, or the rest if that is shorter. It appends
+    /// nothing if no text is pending.
     ///
-    /// Refused with `Closed` where the connection isn't open, and then with `NoMemory`, which closes the connection, or
-    /// `DiskFault`.
+    /// # Errors
+    ///
+    /// `Closed` if the connection isn't open; `NoMemory`, which closes the connection; `DiskFault`.
     pub fn more(
         &mut self,
         store: &mut U,
@@ -133,10 +142,12 @@ impl<U: Uploads> Session<U> {
         Ok(answer)
     }
 
-    /// The connection ended. What came of a PATCH body is committed, without a reply.
+    /// Ends a connection. The bytes received of a PATCH's body are committed, without a reply. The connection is closed
+    /// even if the call fails.
     ///
-    /// Refused with `Closed` where the connection isn't open, and then with `NoMemory` or `DiskFault`. It is closed in
-    /// every case.
+    /// # Errors
+    ///
+    /// `Closed` if the connection isn't open; `NoMemory`; `DiskFault`.
     pub fn ended(&mut self, store: &mut U, conn: usize) -> Result<(), SessionError>
         ensures answer { (sure : Bool) (st : State) → SessionStands U.Uploads sure (places_of self.old) store.old st
             → Ends U.Uploads sure (places_of self.new) store.new result st (Ended conn) }
@@ -156,7 +167,7 @@ impl<U: Uploads> Session<U> {
         Ok(())
     }
 
-    // Takes an open connection out of its place, which is closed then. Refused with `Closed` where none is open.
+    // Takes the connection out and leaves its place closed.
     fn take(&mut self, conn: usize) -> Result<Link<U::Draft>, SessionError>
         ensures open { (sure : Bool) (store : U) (st : State)
             → SessionStands U.Uploads sure (places_of self.old) store st
@@ -174,7 +185,7 @@ impl<U: Uploads> Session<U> {
         self.links[conn].take().ok_or(SessionError::Closed)
     }
 
-    /// Ends the session: the drafts that are open are dropped.
+    /// Ends the session and drops the open drafts.
     pub fn close(self, store: &mut U)
         ensures kept { (sure : Bool) (st : State) → SessionStands U.Uploads sure (places_of self) store.old st
             → U.stands store.new sure (at_rest st.world.store st.world.blocks) }
@@ -196,7 +207,7 @@ impl<U: Uploads> Session<U> {
     }
 }
 
-// Puts a connection in the place of a closed one.
+// Puts a connection into a closed place.
 fn put_back<B>(place: &mut Option<Link<B>>, next: Option<Link<B>>)
     requires { place.old ≡ None }
     ensures { place.new ≡ next }

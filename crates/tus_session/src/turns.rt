@@ -1,4 +1,4 @@
-//! A turn of one connection: the next piece of a text, and the connection's end.
+//! The next piece of a pending text, and the end of a connection.
 ghost use Rattle.std.specs.Prelude.{◌≡◌, false, IsErrOf, Ok, Bool, true};
 ghost use Rattle.upload_rules.specs.World.{World};
 ghost use Rattle.upload_rules.specs.Answers.{Limits, Quiet, Counts};
@@ -13,7 +13,7 @@ use crate::conns::{Awaiting, Link};
 use tus_action::{Given, OpenPatch, PieceBuffer, Stop, cut, give_more};
 use upload_rules::Uploads;
 
-// What is answered where the connection stays open and nothing was given.
+// The answer of an open connection to which no reply was given.
 pub(crate) fn waits(taken: usize, more: bool) -> Answer
     ensures { result ≡ record { taken = taken; closes = false; more = more } }
 {
@@ -24,8 +24,8 @@ pub(crate) fn waits(taken: usize, more: bool) -> Answer
     }
 }
 
-// The next piece of the text that is still to be given, if there is one. The connection closes where its upload was
-// deleted.
+// Appends the next piece of the pending text. The connection closes if the upload was deleted meanwhile, since the
+// announced length can't be met any more.
 pub(crate) fn more_of<U: Uploads>(
     store: &mut U,
     link: Link<U::Draft>,
@@ -58,7 +58,7 @@ pub(crate) fn more_of<U: Uploads>(
     }
 }
 
-// What is answered after the last piece of a text.
+// The answer after the last piece of a text.
 fn gave(closes: bool) -> Answer
     ensures { result ≡ record { taken = 0; closes = closes; more = false } }
 {
@@ -69,7 +69,7 @@ fn gave(closes: bool) -> Answer
     }
 }
 
-// The connection ended: what came of an open patch is committed.
+// Ends a connection: commits what its draft has.
 pub(crate) fn end_of<U: Uploads>(store: &mut U, link: Link<U::Draft>) -> Result<(), Stop>
     ensures answer { (sure : Bool) (w : World) (conn : Conn) → U.stands store.old sure w
         → LinkIs U.Uploads w (bytes_of link.head) link.awaiting conn
@@ -93,7 +93,7 @@ pub(crate) fn end_of<U: Uploads>(store: &mut U, link: Link<U::Draft>) -> Result<
     }
 }
 
-// The session ends: an open patch is dropped.
+// Drops a connection's draft without a commit.
 pub(crate) fn drop_link<U: Uploads>(store: &mut U, link: Link<U::Draft>)
     ensures kept { (sure : Bool) (w : World) → U.stands store.old sure w
         → U.stands store.new sure (dropped_by U.Uploads w link.awaiting) }

@@ -1,4 +1,4 @@
-//! Tests of requests by their public calls.
+//! Tests of the request parser by its public calls.
 #![tactic(auto)]
 
 #[cfg(test)]

@@ -1,22 +1,22 @@
-//! Heads whose meaning is known from outside.
+//! Heads, and the requests or refusals that each must parse to.
 
 use enc_index::IndexSet;
 use std::alloc::Global;
 use std::process::Abort;
 use tus_request::{Fault, Parsed, parse};
 
-/// What a head is answered where no index file was set.
+/// The answer to a head without any index file.
 fn parsed(rt: &impl Abort, alloc: Global, head: &[u8]) -> Parsed {
     let set = IndexSet::new(alloc).expect(rt, "memory for a set");
     parse(alloc, head, &set).expect(rt, "memory for an answer")
 }
 
-/// An answer as text.
+/// The answer as text.
 fn shown(rt: &impl Abort, alloc: Global, answer: &Parsed) -> String {
     format!(in alloc; "{answer:?}").expect(rt, "memory for a text")
 }
 
-/// The text of a request whose head has so many bytes.
+/// The text of a request whose head has `taken` bytes.
 fn accepted(rt: &impl Abort, alloc: Global, taken: usize, request: &str) -> String {
     format!(in alloc; "Head {{ taken: {taken}, request: Request {{ action: {request} }} }}").expect(
         rt,
@@ -24,7 +24,7 @@ fn accepted(rt: &impl Abort, alloc: Global, taken: usize, request: &str) -> Stri
     )
 }
 
-/// A request that is refused, with no body.
+/// A refused request without a body.
 fn refusal(taken: usize, fault: Fault, on_files: bool, closes: bool) -> Parsed {
     Parsed::Refused {
         taken,
@@ -36,7 +36,7 @@ fn refusal(taken: usize, fault: Fault, on_files: bool, closes: bool) -> Parsed {
     }
 }
 
-/// Each head is refused for the fault beside it.
+/// Checks that each head is refused for the fault beside it.
 fn all_refused(
     rt: &impl Abort,
     alloc: Global,
@@ -53,23 +53,23 @@ fn all_refused(
     }
 }
 
-/// Heads, how many bytes stand after each, and the requests that they are.
+/// Each row: a head with the bytes after it, how many bytes follow the head, and the request.
 const ACCEPTED: [(&str, usize, &str); 12] = [
-    // A length, and a field's name in any case.
+    // A length. A field's name may be in any case.
     (
         "\r\n\nPOST /files?x HTTP/1.1\nTus-Resumable: 1.0.0\r\nupload-LENGTH:  5 \r\n\r\n",
         0,
         "Create { declared: Some(5), from: Utf8, to: Utf8, mode: Html, metadata: \"\" }, \
           length: 0, bare: false, expects: false, closes: false",
     ),
-    // No length yet.
+    // A deferred length.
     (
         "POST /files HTTP/1.1\r\nTus-Resumable: 1.0.0\r\nUpload-Defer-Length: 1\r\n\r\n",
         0,
         "Create { declared: None, from: Utf8, to: Utf8, mode: Html, metadata: \"\" }, \
           length: 0, bare: false, expects: false, closes: false",
     ),
-    // Pairs with spaces round them.
+    // Metadata pairs with spaces around them.
     (
         "POST /files HTTP/1.1\r\nTus-Resumable: 1.0.0\r\nUpload-Length: 5\r\n\
           Upload-Metadata: from dXRmLTE2bGU= ,  to dXRmLTE2,mode ZmF0YWw=, note\r\n\r\n",
@@ -78,14 +78,14 @@ const ACCEPTED: [(&str, usize, &str); 12] = [
           metadata: \"from dXRmLTE2bGU= ,  to dXRmLTE2,mode ZmF0YWw=, note\" }, \
           length: 0, bare: false, expects: false, closes: false",
     ),
-    // An append that declares a length.
+    // A PATCH that declares the length.
     (
         "PATCH /files/1 HTTP/1.1\nTus-Resumable: 1.0.0\nUpload-Offset: 0\nUpload-Length: 5\n\
           Content-Type: application/offset+octet-stream\n\n",
         0,
         "Patch { number: 1, offset: 0, declare: Some(5) }, length: 0, bare: false, expects: false, closes: false",
     ),
-    // An append with bytes after its head.
+    // A PATCH with bytes after its head.
     (
         "PATCH /files/17 HTTP/1.1\r\nTus-Resumable: 1.0.0\r\nUpload-Offset: 2\r\n\
           Content-Type: Application/Offset+Octet-Stream;x\r\nContent-Length: 3\r\n\
@@ -94,7 +94,7 @@ const ACCEPTED: [(&str, usize, &str); 12] = [
         "Patch { number: 17, offset: 2, declare: None }, \
           length: 3, bare: false, expects: true, closes: true",
     ),
-    // A method in place of another.
+    // X-HTTP-Method-Override replaces the method.
     (
         "POST /files/1 HTTP/1.0\r\nX-HTTP-Method-Override: GET\r\n\r\n",
         0,
@@ -106,7 +106,7 @@ const ACCEPTED: [(&str, usize, &str); 12] = [
         0,
         "Head(1), length: 0, bare: true, expects: false, closes: false",
     ),
-    // An append inside a POST.
+    // A PATCH inside a POST.
     (
         "POST /files/2 HTTP/1.1\r\nTus-Resumable: 1.0.0\r\nX-HTTP-Method-Override: PATCH\r\n\
           Upload-Offset: 7\r\nContent-Type: application/offset+octet-stream\r\nContent-Length: 3\r\n\r\n",
@@ -120,19 +120,19 @@ const ACCEPTED: [(&str, usize, &str); 12] = [
         0,
         "Head(1), length: 0, bare: false, expects: false, closes: false",
     ),
-    // A deletion.
+    // A DELETE.
     (
         "DELETE /files/17 HTTP/1.1\r\nTus-Resumable: 1.0.0\r\n\r\n",
         0,
         "Delete(17), length: 0, bare: false, expects: false, closes: false",
     ),
-    // A deletion inside a POST.
+    // A DELETE inside a POST.
     (
         "POST /files/1 HTTP/1.1\r\nTus-Resumable: 1.0.0\r\nX-HTTP-Method-Override: DELETE\r\n\r\n",
         0,
         "Delete(1), length: 0, bare: false, expects: false, closes: false",
     ),
-    // A deletion with a body.
+    // A DELETE with a body.
     (
         "DELETE /files/1 HTTP/1.1\r\nTus-Resumable: 1.0.0\r\n\
           Content-Length: 3\r\nExpect: 100-continue\r\n\r\nabc",
@@ -154,36 +154,36 @@ fn requests_that_are_accepted(rt: HostRuntime) {
     }
 }
 
-/// Refused heads whose path is `/files`, in the order of their checks.
+/// Refused heads for `/files`, in the order of the checks.
 const ON_FILES: [(&str, Fault); 6] = [
     (
         "DELETE /files HTTP/1.1\r\nTus-Resumable: 1.0.0\r\n\r\n",
         Fault::BadMethod,
     ),
-    // A length, and one that comes later.
+    // A length and a deferred length.
     (
         "POST /files HTTP/1.1\nTus-Resumable: 1.0.0\nUpload-Length: 5\nUpload-Defer-Length: 1\n\n",
         Fault::BadHeader,
     ),
-    // A key twice.
+    // A key that is given twice.
     (
         "POST /files HTTP/1.1\r\nTus-Resumable: 1.0.0\r\nUpload-Length: 5\r\n\
           Upload-Metadata: from dXRmLTg=,from dXRmLTg=\r\n\r\n",
         Fault::BadMetadata,
     ),
-    // A stray bit.
+    // A value with a stray bit at its end.
     (
         "POST /files HTTP/1.1\r\nTus-Resumable: 1.0.0\r\nUpload-Length: 5\r\n\
           Upload-Metadata: note YR==\r\n\r\n",
         Fault::BadMetadata,
     ),
-    // `klingon`.
+    // The label `klingon`.
     (
         "POST /files HTTP/1.1\r\nTus-Resumable: 1.0.0\r\nUpload-Length: 5\r\n\
           Upload-Metadata: from a2xpbmdvbg==\r\n\r\n",
         Fault::BadLabel,
     ),
-    // `shift_jis`, whose index file isn't set.
+    // The label `shift_jis`, whose index file isn't set.
     (
         "POST /files HTTP/1.1\r\nTus-Resumable: 1.0.0\r\nUpload-Length: 5\r\n\
           Upload-Metadata: to c2hpZnRfamlz\r\n\r\n",
@@ -191,7 +191,7 @@ const ON_FILES: [(&str, Fault); 6] = [
     ),
 ];
 
-/// Refused heads of other paths, in the order of their checks.
+/// Refused heads for other paths, in the order of the checks.
 const ELSEWHERE: [(&str, Fault); 12] = [
     ("DELETE /other HTTP/1.1\r\n\r\n", Fault::TusVersion),
     ("DELETE /files/1 HTTP/1.1\r\n\r\n", Fault::TusVersion),
@@ -220,7 +220,7 @@ const ELSEWHERE: [(&str, Fault); 12] = [
         "PATCH /files/1 HTTP/1.1\r\nTus-Resumable: 1.0.0\r\nContent-Type: application/offset+octet-stream\r\n\r\n",
         Fault::BadHeader,
     ),
-    // A length twice.
+    // A length that is given twice.
     (
         "PATCH /files/1 HTTP/1.1\nTus-Resumable: 1.0.0\nUpload-Offset: 0\nUpload-Length: 5\n\
           Upload-Length: 5\nContent-Type: application/offset+octet-stream\n\n",
@@ -228,7 +228,7 @@ const ELSEWHERE: [(&str, Fault); 12] = [
     ),
 ];
 
-/// Heads after which nobody knows where the next one begins.
+/// Heads that close the connection, because the start of the next request is unknown.
 const CLOSING: [(&str, Fault); 9] = [
     ("BAD\r\n\r\n", Fault::Malformed),
     ("GET /files/\x001 HTTP/1.1\r\n\r\n", Fault::Malformed),
@@ -262,7 +262,7 @@ const CLOSING: [(&str, Fault); 9] = [
     ),
 ];
 
-/// Heads whose bodies have a coding, on `/files`.
+/// Heads for `/files` whose bodies have a transfer coding.
 const CODED: [(&str, Fault); 2] = [
     (
         "GET /files HTTP/1.1\ntransfer-encoding: chunked\nContent-Length: x\n\n",
@@ -282,7 +282,7 @@ fn requests_that_are_refused(rt: HostRuntime) {
     all_refused(&rt, rt.alloc(), &CODED, true, true);
 }
 
-/// What a GET of the upload 1 asks for.
+/// The request of a GET of upload 1.
 const GET: &str = "Get(1), length: 0, bare: false, expects: false, closes: false";
 
 #[test]
@@ -299,7 +299,7 @@ fn heads_that_are_not_whole(rt: HostRuntime) {
     );
 }
 
-/// A GET of so many bytes.
+/// A GET whose head has `len` bytes.
 fn padded(rt: &impl Abort, alloc: Global, len: usize) -> Vec<u8> {
     let mut head = Vec::new(alloc);
     head.extend_from_slice(b"GET /files/1 HTTP/1.1\r\nnote: ")
@@ -327,7 +327,7 @@ fn heads_as_long_as_may_be(rt: HostRuntime) {
     );
 }
 
-/// A GET with so many lines after its first.
+/// A GET with `lines` lines after its request line.
 fn lined(rt: &impl Abort, alloc: Global, lines: usize) -> Vec<u8> {
     let mut head = Vec::new(alloc);
     head.extend_from_slice(b"GET /files/1 HTTP/1.1\n")

@@ -52,7 +52,7 @@ module _ (t : Table) (w : World) (stands : TableStands t w) (n : ℕ) where
       (λ k lt. parts.before k (omega arith)) in
       subst (λ o. TellsOf w.store.indexes o r) (sym e) (subst (TellsOf w.store.indexes None) (sym none) tt)
 
--- what is told of the slot's upload
+-- the record reports the slot's upload
 pub told : (y : IndexSet) (n : ℕ) (u : Option Upload) (s : Slot) → IsSlotOf y n u (Some s)
     → TellsOf y (with_number n u) (Some s.record)
 told y n None s h = absurd h

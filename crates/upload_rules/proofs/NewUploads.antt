@@ -67,7 +67,7 @@ new_text x new = ap (λ r. r.bytes) (text_of_nothing (tables x) new.from new.to 
 pub new_encodable : (x : IndexSet) (new : New) (done : Bool) → (text_with x (new_upload new) [] done).fault ≡ None
 new_encodable x new done = ap (λ r. r.fault) (text_of_nothing (tables x) new.from new.to new.mode done)
 
--- where a transcoder stands that saw no byte, and the end where none is to come
+-- the transcoder of a new upload has read nothing, or is past the end if no bytes are to come
 pub new_open : (x : IndexSet) (new : New) (t : Standing) → t ≡ start new.from new.to new.mode → is_length
     new.declared 0 ≡ false
     → t.transcoder ≡ transcoder_with x (new_upload new) [] (is_complete (new_upload new))

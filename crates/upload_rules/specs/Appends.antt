@@ -12,6 +12,7 @@ use Rattle.upload_rules.specs.Texts.{HoldsText}
 use Rattle.upload_rules.specs.declared.slot.Slot.{Slot}
 use Rattle.upload_rules.specs.declared.appends.OpenAppend.{OpenAppend}
 
+-- The append stands for the patch, whose upload is below the next number.
 pub record AppendStands (x : IndexSet) (next : ℕ) (p : Patch) (o : OpenAppend) : Type 0 where
   pub number : o.number ≡ p.number
   pub offset : o.offset ≡ length p.began.accepted
@@ -24,7 +25,7 @@ pub record AppendStands (x : IndexSet) (next : ℕ) (p : Patch) (o : OpenAppend)
   pub roomy : p.short ≡ false
   pub text : HoldsText x p.began p.body o.text
 
--- what a commit of a patch that brings something makes of the slot of its upload
+-- The result of committing a patch that brings bytes or a length to its slot.
 abbrev pub IsPut : IndexSet → Patch → Upload → Bool → Slot → Result ℕ UploadError → Type 0
 IsPut x p u done s (Ok n) =
     (n ≡ reached p) × ((patch_text x p done).fault ≡ None) × SlotStands x p.number (patched u p.declare p.body) s

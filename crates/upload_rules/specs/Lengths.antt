@@ -1,32 +1,32 @@
--- Declared lengths, which may be unknown.
+-- Lengths of uploads, which may be unknown.
 use Rattle.std.specs.Prelude.{ℕ, Bool, true, false, nat_lt, ◌==◌, if◌then◌else◌, Option, Some, None}
 
--- the length is known, and the count is as great
+-- The length is known and equals the count.
 abbrev pub is_length : Option ℕ → ℕ → Bool
 is_length None count = false
 is_length (Some length) count = count == length
 
--- the length that is known, else the one that is declared
+-- The known length, or else the declared one.
 abbrev pub known_or : Option ℕ → Option ℕ → Option ℕ
 known_or None declare = declare
 known_or (Some length) declare = Some length
 
--- a length is declared where none is known
+-- A length is declared, and none was known.
 abbrev pub is_new : Option ℕ → Option ℕ → Bool
 is_new None (Some length) = true
 is_new _ _ = false
 
--- both are known, and they differ
+-- Both lengths are known, and they differ.
 abbrev pub differ : Option ℕ → Option ℕ → Bool
 differ (Some length) (Some other) = if length == other then false else true
 differ _ _ = false
 
--- the length is known and over the limit
+-- The length is known and above the limit.
 abbrev pub is_too_large : Option ℕ → Bool
 is_too_large None = false
 is_too_large (Some length) = nat_lt 1073741824 length
 
--- how many bytes there may be: the length where it is known, else the limit
+-- How many bytes there may be: the length if it is known, else the limit.
 abbrev pub longest : Option ℕ → ℕ
 longest None = 1073741824
 longest (Some length) = length

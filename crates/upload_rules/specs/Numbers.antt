@@ -1,4 +1,4 @@
--- A table's numbers are below the next one.
+-- Every number of a table is below the next one.
 use Rattle.std.specs.Prelude.{◌≡◌, ◌<◌, ℕ, suc, List, [], ◌∷◌, Some, if◌then◌else◌}
 use Rattle.std.proofs.Common.{sym, ◌∙◌, ap, arith, inl, inr}
 use Rattle.std.proofs.lemmas.Bool.{cases_eq, ne_eqb}
@@ -10,6 +10,7 @@ use Rattle.upload_rules.specs.World.{World}
 use Rattle.upload_rules.specs.Slots.{numbers, IsBelow, AllStand}
 use Rattle.upload_rules.specs.Table.{TableStands}
 
+-- An upload that is found has a number below the bound.
 found_below : (x : IndexSet) (top n : ℕ) (u : Upload) (us : List (ℕ × Upload)) (ss : List Slot) → AllStand x us ss
     → IsBelow (numbers ss) top → find n us ≡ Some u → n < top
 found_below x top n u [] ss all below there = absurd cc
@@ -22,6 +23,7 @@ found_below x top n u (e ∷ us) (s ∷ ss) all below there =
           (sym (ap (λ b. if b then Some e.1 else find n us) (ne_eqb e.0 n other)) ∙ there)
     ]
 
+-- The number of each upload is below the next one.
 pub upload_below : (t : Table) (w : World) → TableStands t w → (number : ℕ) (u : Upload)
     → upload_of w.store number ≡ Some u → number < w.store.next
 upload_below t w stands number u there =

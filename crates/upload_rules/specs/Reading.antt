@@ -4,21 +4,22 @@ use Rattle.upload_rules.specs.declared.errors.UploadRefusal.{UploadRefusal}
 use Rattle.upload_rules.specs.declared.errors.UploadRefusal.TheVariants.{NoSuch}
 use Rattle.upload_rules.specs.Store.{Upload, Store, text_of}
 
+-- NoSuch, unless the upload is there.
 abbrev pub no_such : Option Upload → Option UploadRefusal
 no_such None = Some NoSuch
 no_such (Some u) = None
 
--- the text of the upload, if there is one
+-- The text of the upload, if there is one.
 abbrev pub text_at : Store → Option Upload → List ℕ
 text_at m None = []
 text_at m (Some u) = text_of m.indexes u
 
--- n bytes were read: the text's from `at` on, as many as there are and fit; what is after them in the buffer stays
+-- n bytes of the text from `at` on were read: as many as there are and as fit. The rest of the buffer is unchanged.
 pub record IsRead (text : List ℕ) (at n : ℕ) (old new : List ℕ) : Type 0 where
   pub count : n ≡ min (length text - at) (length old)
   pub bytes : new ≡ take n (drop at text) ++ drop n old
 
--- so many bytes were read of a disk, and they are the text's where that is sure
+-- n bytes were read. They are the text's if that is sure.
 pub record IsReadOf (sure : Bool) (text : List ℕ) (at n : ℕ) (old new : List ℕ) : Type 0 where
   pub count : n ≡ min (length text - at) (length old)
   pub read : sure ≡ true → IsRead text at n old new

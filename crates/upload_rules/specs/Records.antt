@@ -1,4 +1,4 @@
--- What a record tells of an upload, and which fields an upload may be made of.
+-- Records of uploads, and the fields of new ones.
 use Rattle.std.specs.Prelude.{◌≡◌, ◌≤◌, ℕ, true, List, [], ◌∷◌, All, length, nat_lt, if◌then◌else◌, Option, Some, None}
 use Rattle.enc_model.specs.Indexes.{IndexSet, offers}
 use Rattle.enc_model.specs.declared.Encoding.TheVariants.{Utf16Be, Utf16Le}
@@ -7,6 +7,7 @@ use Rattle.enc_stream.specs.StateBytes.{IsValid}
 use Rattle.upload_rules.specs.Store.{New, Upload, text_of, text_with, is_complete}
 use Rattle.upload_rules.specs.States.{state_of, transcoder_with}
 
+-- The record represents the upload.
 pub record Tells (x : IndexSet) (number : ℕ) (r : Record) (u : Upload) : Type 0 where
   pub number_is : r.number ≡ number
   pub declared : r.declared ≡ u.declared
@@ -18,38 +19,39 @@ pub record Tells (x : IndexSet) (number : ℕ) (r : Record) (u : Upload) : Type 
   pub state : r.state ≡ state_of x u
   pub metadata : r.metadata.bytes.items ≡ u.metadata
 
--- its metadata has room in the record of a spool
+-- The metadata fits a record of a spool.
 abbrev pub IsShort : Record → Type 0
 IsShort r = length r.metadata.bytes.items ≤ 1536
 
--- the record tells of the upload, its text has a value, and its state can be unpacked
+-- The record represents the upload, its text has no unmappable character, and its state bytes can be unpacked.
 pub record Keeps (x : IndexSet) (number : ℕ) (r : Record) (u : Upload) : Type 0 where
   pub tells : Tells x number r u
   pub encodable : (text_with x u [] (is_complete u)).fault ≡ None
   pub valid : IsValid (transcoder_with x u [] (is_complete u))
 
--- a record where there is an upload, and none where there is none
+-- The record represents the entry, or neither is there.
 abbrev pub TellsOf : IndexSet → Option (ℕ × Upload) → Option Record → Type 0
 TellsOf x None None = Unit {0}
 TellsOf x (Some entry) (Some r) = Tells x entry.0 r entry.1
 TellsOf x _ _ = ⊥
 
+-- The entry of an upload with its number.
 abbrev pub with_number : ℕ → Option Upload → Option (ℕ × Upload)
 with_number n None = None
 with_number n (Some u) = Some (n, u)
 
--- the upload of the least number above this one
+-- The upload of the least number above n.
 abbrev pub above : ℕ → List (ℕ × Upload) → Option (ℕ × Upload)
 above n [] = None
 above n (entry ∷ entries) = if nat_lt n entry.0 then Some entry else above n entries
 
--- what `create` may be given, whatever the index set
+-- The fields of a new upload are valid, whatever the index set.
 pub record IsWellFormed (new : New) : Type 0 where
   pub no_utf16 : (new.to ≡ Utf16Be → ⊥) × (new.to ≡ Utf16Le → ⊥)
   pub short : length new.metadata ≤ 1536
   pub printable : All (λ b. (0x20 ≤ b) × (b ≤ 0x7E)) new.metadata
 
--- the index set offers both encodings
+-- The index set offers both encodings.
 pub record IsOffered (x : IndexSet) (new : New) : Type 0 where
   pub from : offers x new.from ≡ true
   pub to : offers x new.to ≡ true

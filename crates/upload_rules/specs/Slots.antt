@@ -1,4 +1,4 @@
--- The uploads of a table by their places.
+-- The slots of a table.
 use Rattle.std.specs.Prelude.{◌≡◌, ◌≤◌, ◌<◌, ℕ, List, [], ◌∷◌, None, map, length, slice_index}
 use Rattle.enc_model.specs.Indexes.{IndexSet}
 use Rattle.enc_stream.specs.StateBytes.{IsValid}
@@ -7,41 +7,46 @@ use Rattle.upload_rules.specs.Records.{Tells}
 use Rattle.upload_rules.specs.States.{transcoder_with}
 use Rattle.upload_rules.specs.declared.slot.Slot.{Slot}
 
+-- The slot's number.
 abbrev pub number_of : Slot → ℕ
 number_of s = s.record.number
 
+-- The numbers of the slots.
 abbrev pub numbers : List Slot → List ℕ
 numbers slots = map number_of slots
 
--- each number is above those before it
+-- Each number is above those before it.
 abbrev pub IsRising : List ℕ → Type 0
 IsRising ns = (i j : ℕ) → i < j → j < length ns → slice_index ns i < slice_index ns j
 
+-- All numbers are below `top`.
 abbrev pub IsBelow : List ℕ → ℕ → Type 0
 IsBelow ns top = (k : ℕ) → k < length ns → slice_index ns k < top
 
--- the numbers up to this one are before the place, the greater ones from it on
+-- The numbers before this place are at most n, those from it on are greater.
 pub record IsDivided (ns : List ℕ) (n place : ℕ) : Type 0 where
   pub within : place ≤ length ns
   pub before : (k : ℕ) → k < place → slice_index ns k ≤ n
   pub after : (k : ℕ) → place ≤ k → k < length ns → n < slice_index ns k
 
--- the number is at this place first
+-- This place is the first with the number.
 pub record IsFirstAt (ns : List ℕ) (n place : ℕ) : Type 0 where
   pub within : place < length ns
   pub here : slice_index ns place ≡ n
   pub before : (k : ℕ) → k < place → slice_index ns k ≡ n → ⊥
 
+-- No place has the number.
 abbrev pub IsNowhere : List ℕ → ℕ → Type 0
 IsNowhere ns n = (k : ℕ) → k < length ns → slice_index ns k ≡ n → ⊥
 
--- a place of a table: the record tells of the upload, its text has a value and is kept, and its state can be unpacked
+-- The slot stands for the upload: its record represents it, and its text is stored.
 pub record SlotStands (x : IndexSet) (n : ℕ) (u : Upload) (s : Slot) : Type 0 where
   pub tells : Tells x n s.record u
   pub text : s.text.items ≡ text_of x u
   pub encodable : (text_with x u [] (is_complete u)).fault ≡ None
   pub valid : IsValid (transcoder_with x u [] (is_complete u))
 
+-- Each slot stands for its upload.
 abbrev pub AllStand : IndexSet → List (ℕ × Upload) → List Slot → Type 0
 AllStand x [] [] = Unit {0}
 AllStand x (entry ∷ entries) (s ∷ slots) = SlotStands x entry.0 entry.1 s × AllStand x entries slots

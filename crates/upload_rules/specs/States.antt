@@ -1,4 +1,4 @@
--- Where transcoding stands over an upload's bytes, and its state bytes.
+-- The state of transcoding over an upload's bytes, and its state bytes.
 use Rattle.std.specs.Prelude.{◌≡◌, ℕ, Bool, true, false, List, [], ◌++◌}
 use Rattle.enc_model.specs.declared.Encoding.{Encoding}
 use Rattle.enc_model.specs.declared.Mode.{Mode}
@@ -9,7 +9,7 @@ use Rattle.enc_model.specs.Transcode.{Transcoder, Over, phase_of}
 use Rattle.enc_stream.specs.StateBytes.{IsValid, state_bytes}
 use Rattle.upload_rules.specs.Store.{Upload, is_complete}
 
--- where decoding and encoding end over the bytes, the end among them or not
+-- The transcoder after these bytes. `true` means that the bytes end there.
 abbrev pub transcoder_over : Tables → Encoding → Encoding → Mode → List ℕ → Bool → Transcoder
 transcoder_over t from to mode b false =
     record {
@@ -21,30 +21,31 @@ transcoder_over t from to mode b false =
     }
 transcoder_over t from to mode b true = record { from = from; to = to; mode = mode; phase = Over; shift = InAscii }
 
--- over the accepted bytes and these further ones
+-- The transcoder after the accepted bytes and these.
 abbrev pub transcoder_with : IndexSet → Upload → List ℕ → Bool → Transcoder
 transcoder_with x u bytes done = transcoder_over (tables x) u.from u.to u.mode (u.accepted ++ bytes) done
 
+-- Its state bytes.
 unfoldable pub state_with : IndexSet → Upload → List ℕ → Bool → List ℕ
 state_with x u bytes done = state_bytes (transcoder_with x u bytes done)
 
--- the state of an upload: after the end exactly where it is complete
+-- The state bytes of an upload. They are past the end exactly if it is complete.
 abbrev pub state_of : IndexSet → Upload → List ℕ
 state_of x u = state_with x u [] (is_complete u)
 
--- these are the state bytes of a transcoder
+-- These are the state bytes of a valid transcoder.
 pub record IsState (state : List ℕ) : Type 0 where
   pub transcoder : Transcoder
   pub valid : IsValid transcoder
   pub is : state ≡ state_bytes transcoder
 
--- a transcoder with these state bytes has the encodings and the mode of this one
+-- The other transcoder has the encodings and the mode of these state bytes.
 pub record IsStateLike (state : List ℕ) (other : Transcoder) : Type 0 where
   pub from : (s : Transcoder) → IsValid s → state ≡ state_bytes s → other.from ≡ s.from
   pub to : (s : Transcoder) → IsValid s → state ≡ state_bytes s → other.to ≡ s.to
   pub mode : (s : Transcoder) → IsValid s → state ≡ state_bytes s → other.mode ≡ s.mode
 
--- the states of two transcoders with the same encodings and the same mode
+-- The two states have equal encodings and modes.
 pub record SameEncodings (old new : List ℕ) : Type 0 where
   pub before : Transcoder
   pub after : Transcoder

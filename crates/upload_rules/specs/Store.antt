@@ -1,4 +1,4 @@
--- The uploads model: what each upload is, and its text.
+-- The model of uploads and their texts.
 use Rattle.std.specs.Prelude.{ℕ, ◌+◌, Bool, List, [], ◌∷◌, ◌++◌, length, ◌==◌, if◌then◌else◌, Option, Some, None}
 use Rattle.enc_model.specs.declared.Encoding.{Encoding}
 use Rattle.enc_model.specs.declared.Mode.{Mode}
@@ -7,7 +7,7 @@ use Rattle.enc_model.specs.Indexes.{IndexSet, tables}
 use Rattle.enc_model.specs.Decode.{text}
 use Rattle.upload_rules.specs.Lengths.{is_length, known_or}
 
--- the fields of an upload to be made
+-- The fields of a new upload.
 pub record New : Type 0 where
   pub declared : Option ℕ
   pub from : Encoding
@@ -15,7 +15,7 @@ pub record New : Type 0 where
   pub mode : Mode
   pub metadata : List ℕ
 
--- an upload. Its declared length may be unknown
+-- An upload. Its length may be unknown.
 pub record Upload : Type 0 where
   pub from : Encoding
   pub to : Encoding
@@ -24,60 +24,63 @@ pub record Upload : Type 0 where
   pub metadata : List ℕ
   pub accepted : List ℕ
 
--- the uploads by ascending numbers, the next number, and the index set
+-- The uploads by ascending numbers, the next number, and the index set.
 pub record Store : Type 0 where
   pub uploads : List (ℕ × Upload)
   pub next : ℕ
   pub indexes : IndexSet
 
--- the uploads of a new store
+-- A store without uploads.
 abbrev pub no_uploads : IndexSet → Store
 no_uploads x = record { uploads = []; next = 1; indexes = x }
 
+-- The entry of number n.
 abbrev pub find : {A : Type 0} → ℕ → List (ℕ × A) → Option A
 find n [] = None
 find n (entry ∷ entries) = if entry.0 == n then Some entry.1 else find n entries
 
+-- The upload of number n.
 abbrev pub upload_of : Store → ℕ → Option Upload
 upload_of m n = find n m.uploads
 
--- with another value at a number that is there
+-- The list with another value at a number that it has.
 abbrev pub replaced : {A : Type 0} → ℕ → A → List (ℕ × A) → List (ℕ × A)
 replaced n x [] = []
 replaced n x (entry ∷ entries) = if entry.0 == n then (n, x) ∷ entries else entry ∷ replaced n x entries
 
+-- The list without its first entry of number n.
 abbrev pub without : {A : Type 0} → ℕ → List (ℕ × A) → List (ℕ × A)
 without n [] = []
 without n (entry ∷ entries) = if entry.0 == n then entries else entry ∷ without n entries
 
--- the entries of other numbers
+-- The entries of other numbers.
 abbrev pub others : {A : Type 0} → ℕ → List (ℕ × A) → List (ℕ × A)
 others n [] = []
 others n (entry ∷ entries) = if entry.0 == n then others n entries else entry ∷ others n entries
 
--- complete: the accepted bytes are as many as were declared
+-- The upload is complete: as many bytes were accepted as declared.
 abbrev pub is_complete : Upload → Bool
 is_complete u = is_length u.declared (length u.accepted)
 
--- with the length that a patch declares, where none is known
+-- The upload with the length that a patch declares, if none was known.
 abbrev pub with_length : Upload → Option ℕ → Upload
 with_length u declare = record u { declared = known_or u.declared declare }
 
--- with what a patch brings: a length, where none is known, and bytes at the end
+-- The upload with the length and the bytes that a patch brings.
 abbrev pub patched : Upload → Option ℕ → List ℕ → Upload
 patched u declare bytes = record (with_length u declare) { accepted = u.accepted ++ bytes }
 
--- what the text is with these further bytes, the end among them or not: its bytes, or the first code point that has no
--- code
+-- The text of the accepted bytes and these, which may be the last: its bytes, and the first unmappable code point.
 abbrev pub text_with : IndexSet → Upload → List ℕ → Bool → Coded
 text_with x u bytes done = text (tables x) u.from u.to u.mode (u.accepted ++ bytes) done
 
--- the text of an upload
+-- The text of an upload.
 unfoldable pub text_of : IndexSet → Upload → List ℕ
 text_of x u = (text_with x u [] (is_complete u)).bytes
 
--- CHANGES
+-- Changes.
 
+-- A new upload.
 abbrev pub new_upload : New → Upload
 new_upload new = record {
   from = new.from;
@@ -88,19 +91,19 @@ new_upload new = record {
   accepted = [];
 }
 
--- `create`: the next number, with no accepted bytes
+-- `create` appends an upload of the next number, without bytes.
 abbrev pub created_store : Store → New → Store
 created_store m new = record m { uploads = m.uploads ++ (m.next, new_upload new) ∷ []; next = m.next + 1 }
 
--- `delete`: only the uploads of other numbers are there. The next number stays, so no upload gets that number again
+-- `terminate` keeps the uploads of other numbers. The next number stays, so no upload gets that number again.
 abbrev pub deleted_store : Store → ℕ → Store
 deleted_store m n = record m { uploads = others n m.uploads }
 
+-- The store with a longer upload, if that is there.
 abbrev pub patched_at : Store → ℕ → Option ℕ → List ℕ → Option Upload → Store
 patched_at m n declare bytes None = m
 patched_at m n declare bytes (Some u) = record m { uploads = replaced n (patched u declare bytes) m.uploads }
 
--- `declare`, which gives an upload of unknown length one, and after it `append`, which puts bytes at the upload's end:
--- each where the patch brings it
+-- `commit` gives an upload of unknown length the one that the patch declares, and appends the patch's bytes.
 abbrev pub patched_store : Store → ℕ → Option ℕ → List ℕ → Store
 patched_store m n declare bytes = patched_at m n declare bytes (upload_of m n)

@@ -1,4 +1,4 @@
--- What a table stands for.
+-- The world that a table stands for.
 use Rattle.std.specs.Prelude.{◌≡◌, ℕ, Option, Some, None, Result, Ok, Err}
 use Rattle.enc_model.specs.Indexes.{IndexSet}
 use Rattle.upload_rules.specs.declared.errors.UploadRefusal.{UploadRefusal}
@@ -14,6 +14,7 @@ use Rattle.upload_rules.specs.Drafts.{DraftOf, draft_at}
 use Rattle.upload_rules.specs.Appends.{AppendStands}
 use Rattle.upload_rules.specs.declared.table.Table.{Table}
 
+-- The table stands for the world.
 pub record TableStands (t : Table) (w : World) : Type 0 where
   pub indexes : t.indexes ≡ w.store.indexes
   pub next : t.next ≡ w.store.next
@@ -26,13 +27,13 @@ pub record TableStands (t : Table) (w : World) : Type 0 where
   pub grown : IsGrown w
   pub unlimited : w.blocks ≡ None
 
--- the upload's slot, and none where there is no upload
+-- The slot stands for the upload, or neither is there.
 abbrev pub IsSlotOf : IndexSet → ℕ → Option Upload → Option Slot → Type 0
 IsSlotOf x n None None = Unit {0}
 IsSlotOf x n (Some u) (Some s) = SlotStands x n u s
 IsSlotOf x n _ _ = ⊥
 
--- an append of an upload as it is, or the rules' refusal
+-- The append of an upload, or the refusal of the rules.
 abbrev pub IsOpened : World → ℕ → ℕ → ℕ → Option ℕ → Option Upload → Result OpenAppend UploadRefusal → Type 0
 IsOpened w n offset count declare None (Ok o) = ⊥
 IsOpened w n offset count declare (Some u) (Ok o) =

@@ -1,4 +1,4 @@
--- What is kept of a text: where a transcoder stands, and what an append adds.
+-- The text that an append adds, and the state of transcoding.
 use Rattle.std.specs.Prelude.{◌≡◌, ℕ, Bool, true, false, List, [], ◌++◌, None, Result, Ok, Err, Vec}
 use Rattle.std.specs.declared.alloc.Global.{Global}
 use Rattle.enc_model.specs.Indexes.{IndexSet, tables}
@@ -14,7 +14,7 @@ use Rattle.upload_rules.specs.declared.errors.UploadRefusal.TheVariants as refus
 use Rattle.upload_rules.specs.declared.new_text.NewText.{NewText}
 use Rattle.upload_rules.specs.declared.new_text.NewText.TheVariants.{Growing, Unencodable, Complete}
 
--- the transcoder stands where decoding and encoding end over the accepted bytes and these
+-- The transcoder is in the state after the accepted bytes and these.
 pub record IsReading (x : IndexSet) (u : Upload) (bytes : List ℕ) (t : Standing) : Type 0 where
   pub unspent : t.spent ≡ false
   pub from : t.transcoder.from ≡ u.from
@@ -22,37 +22,36 @@ pub record IsReading (x : IndexSet) (u : Upload) (bytes : List ℕ) (t : Standin
   pub mode : t.transcoder.mode ≡ u.mode
   pub at : IsAt (tables x) t.transcoder (u.accepted ++ bytes)
 
--- after the text of the accepted bytes these are what further bytes come to, the end among them or not
+-- Appended to the text of the accepted bytes, these give the text with the further bytes.
 abbrev pub IsRest : IndexSet → Upload → List ℕ → Bool → List ℕ → Type 0
 IsRest x u bytes done text = (text_with x u [] false).bytes ++ text ≡ (text_with x u bytes done).bytes
 
--- what an append of these bytes adds to the text
+-- The new text is what these bytes add.
 abbrev pub HoldsText : IndexSet → Upload → List ℕ → NewText → Type 0
 HoldsText x u bytes (Growing t text) = IsReading x u bytes t × IsRest x u bytes false text.items
 HoldsText x u bytes Unencodable = is_there (text_with x u bytes false).fault ≡ true
 HoldsText x u bytes Complete = is_complete u ≡ true
 
--- where bytes may come, the encodings and the mode are those of these state bytes
+-- If bytes may come, the encodings and the mode are those of these state bytes.
 abbrev pub GoesOn : List ℕ → NewText → Type 0
 GoesOn state (Growing t text) = IsStateLike state t.transcoder
 GoesOn state Unencodable = Unit {0}
 GoesOn state Complete = Unit {0}
 
--- bytes may come
+-- Bytes may come.
 abbrev pub IsGrowing : NewText → Type 0
 IsGrowing (Growing t text) = Unit {0}
 IsGrowing Unencodable = ⊥
 IsGrowing Complete = ⊥
 
--- the text with an append's bytes, the end among them or not, has a value, these are what is new in it, and this is the
--- state then
+-- The text with the append's bytes has no unmappable character; these are its new part and its state.
 pub record IsWhole (x : IndexSet) (u : Upload) (bytes : List ℕ) (done : Bool) (state text : List ℕ) : Type 0 where
   pub state_is : state ≡ state_with x u bytes done
   pub valid : IsValid (transcoder_with x u bytes done)
   pub rest : IsRest x u bytes done text
   pub encodable : (text_with x u bytes done).fault ≡ None
 
--- how an append's text ends
+-- The result of an append's end.
 abbrev pub IsEnded : IndexSet → Upload → List ℕ → Bool → Result (List ℕ × Vec ℕ Global) UploadError → Type 0
 IsEnded x u bytes done (Ok parts) = IsWhole x u bytes done parts.0 parts.1.items
 IsEnded x u bytes done (Err NoMemory) = Unit {0}

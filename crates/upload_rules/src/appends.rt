@@ -1,4 +1,4 @@
-//! Appends under way.
+//! The open appends of a table.
 
 ghost use Rattle.std.specs.Prelude.{◌≡◌, ◌==◌, ◌≤◌, ◌+◌, ◌++◌, ℕ, if◌then◌else◌, Option, false, length, OnOk, OnErr};
 ghost use Rattle.std.specs.Prelude.{IsErrOf};
@@ -16,23 +16,23 @@ use enc_index::IndexSet;
 use std::alloc::AllocError;
 use std::mem;
 
-/// An append under way.
+/// An open append of a table.
 #[derive(Drop)]
 pub(crate) struct OpenAppend {
     /// The upload's number.
     pub(crate) number: u64,
-    /// How many bytes were accepted when it began.
+    /// The upload's offset when it began.
     pub(crate) offset: u64,
-    /// How many bytes came since.
+    /// How many bytes it was given since.
     pub(crate) came: u64,
     /// The length that it declares.
     pub(crate) declare: Option<u64>,
-    /// What they add to the text.
+    /// What these bytes add to the text.
     pub(crate) text: NewText,
 }
 
 impl OpenAppend {
-    /// With a piece more of its body; as it was, when out of memory.
+    /// Takes a piece of the body. Out of memory, the append is unchanged.
     pub(crate) fn feed(&mut self, indexes: &IndexSet, piece: &[u8]) -> Result<(), AllocError>
         ensures ok { (next : ℕ) (p : Patch) → AppendStands indexes.now next p self.old
             → length p.body + length piece.now ≤ p.count
@@ -48,15 +48,14 @@ impl OpenAppend {
         Ok(())
     }
 
-    /// Whether it brings neither bytes nor a length to its upload, whose length is known or not.
+    /// Whether it brings its upload neither bytes nor a length.
     pub(crate) fn is_idle(&self, known: Option<u64>) -> bool
         ensures { result ≡ (if is_new known self.now.declare then false else self.now.came == 0) }
     {
         self.came == 0 && !is_new(known, self.declare)
     }
 
-    /// Puts the new text after the slot's, whose length is then `declared`, and answers the new count of accepted
-    /// bytes.
+    /// Appends the new text to the slot, whose length becomes `declared`, and returns the new offset.
     pub(crate) fn append_to(
         self,
         slot: &mut Slot,

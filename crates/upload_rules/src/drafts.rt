@@ -1,11 +1,11 @@
-// Open drafts by their numbers.
+//! Open drafts in a list. A draft's number is its index there, and a free place is reused.
 ghost use Rattle.std.specs.Prelude.{◌≡◌, ◌≤◌, ◌<◌, ℕ, true, length, IfOk, OnErr, Some, None, slice_set};
 ghost use Rattle.upload_rules.specs.Drafts.{IsPlaced, draft_at};
 ghost use Rattle.upload_rules.specs.World.{is_there};
 
 use std::alloc::AllocError;
 
-// The least number that is free.
+// The least free number.
 fn free_number<T: Drop>(drafts: &[Option<T>]) -> usize
     ensures free { draft_at drafts.now result ≡ None }
     ensures least { (d : ℕ) → d < result → is_there (draft_at drafts.now d) ≡ true }
@@ -19,7 +19,11 @@ fn free_number<T: Drop>(drafts: &[Option<T>]) -> usize
     drafts.len()
 }
 
-/// Puts a draft at the least number that is free.
+/// Puts a draft at the least free number, which it returns.
+///
+/// # Errors
+///
+/// `AllocError`, with the list unchanged.
 pub fn placed<T: Drop>(drafts: &mut Vec<Option<T>>, draft: T) -> Result<usize, AllocError>
     ensures ok { IfOk result (λ number. IsPlaced drafts.old.items draft number drafts.new.items) }
     ensures err { OnErr result (drafts.new.items ≡ drafts.old.items) }
@@ -33,7 +37,7 @@ pub fn placed<T: Drop>(drafts: &mut Vec<Option<T>>, draft: T) -> Result<usize, A
     Ok(number)
 }
 
-/// Takes the draft of a number out.
+/// Takes out the draft of this number.
 pub fn taken<T: Drop>(drafts: &mut Vec<Option<T>>, number: usize) -> Option<T>
     ensures taken { result ≡ draft_at drafts.old.items number }
     ensures after { drafts.new.items ≡ slice_set drafts.old.items number None }
@@ -41,7 +45,7 @@ pub fn taken<T: Drop>(drafts: &mut Vec<Option<T>>, number: usize) -> Option<T>
     drafts.get_mut(number)?.take()
 }
 
-/// Puts a draft back that was taken out.
+/// Puts back a draft that was taken out.
 pub fn put_back<T: Drop>(drafts: &mut Vec<Option<T>>, number: usize, draft: T)
     ensures { drafts.new.items ≡ slice_set drafts.old.items number (Some draft) }
 {

@@ -1,15 +1,15 @@
-//! Why a call on uploads gives no answer.
+//! The errors of calls on uploads.
 
-/// Why the rules of uploads refuse a call.
+/// Why the rules refuse a call.
 #[derive(Clone, Copy, Debug, PartialEq, Eq, Drop)]
 pub enum UploadRefusal {
-    /// The text has a character that the output encoding lacks, and the mode is fatal.
+    /// The target encoding lacks a character of the text, and the mode is fatal.
     Unencodable,
-    /// No upload has the number.
+    /// No upload has this number.
     NoSuch,
-    /// The offset isn't the count of accepted bytes.
+    /// The offset isn't the number of accepted bytes.
     Offset,
-    /// More bytes than the declared length leaves, or, while it is unknown, than 1,073,741,824.
+    /// The bytes exceed the declared length or, if that is unknown, 1,073,741,824.
     TooLong,
     /// No slot is free, or no number is left.
     Slots,
@@ -17,16 +17,16 @@ pub enum UploadRefusal {
     TooLarge,
     /// No block is free for the text.
     Full,
-    /// The declared length is known, and another one was declared.
+    /// The upload's length is known, and another one was declared.
     LengthSet,
 }
 
-/// Why a call on uploads gives no answer.
+/// Why a call on uploads fails.
 #[derive(Clone, Copy, Debug, PartialEq, Eq, Drop)]
 pub enum UploadError {
     /// Out of memory.
     NoMemory,
-    /// The disk failed in this call; the store must be opened again.
+    /// A disk fault: the spool has to be opened again.
     DiskFault,
     /// The rules refuse the call.
     Refused(UploadRefusal),

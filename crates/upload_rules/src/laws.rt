@@ -1,4 +1,4 @@
-//! The laws of the definitions, each as the contract of a function that does nothing.
+//! Laws about the definitions. The functions do nothing; their contracts are the laws.
 
 ghost use Rattle.std.specs.Prelude.{◌≡◌, ◌++◌, ◌+◌, ℕ, List, [], Bool, false, length, Option, Some, None};
 ghost use Rattle.enc_model.specs.Indexes.{IndexSet};
@@ -7,8 +7,8 @@ ghost use Rattle.upload_rules.specs.Store.{is_complete};
 ghost use Rattle.upload_rules.specs.World.{World, Patch};
 ghost use Rattle.upload_rules.specs.Grown.{IsGrown};
 
-/// The same upload and the same count of accepted bytes mean the same accepted bytes: an open patch whose offset is
-/// still the count began at the upload as it is, but for a length that may have been declared since.
+/// An equal count of accepted bytes means equal bytes. If the offset of an open patch is still the upload's count, the
+/// upload is the one that the patch began at, except that a length may have been declared since.
 pub fn same_offset()
     ensures { (w : World) (d : ℕ) (p : Patch) (u : Upload) → IsGrown w → find d w.patches ≡ Some p
         → upload_of w.store p.number ≡ Some u
@@ -16,8 +16,8 @@ pub fn same_offset()
         → (declare : Option ℕ) × (u ≡ with_length p.began declare) }
 {}
 
-/// While an upload isn't complete, its text is a prefix of its text with more bytes, and of that of the same bytes when
-/// a length says that they are all. A character without a code stays one, whatever comes after it.
+/// The text of an incomplete upload is a prefix of its text after more bytes, also when these complete it. Once a
+/// character is unmappable, it stays so whatever follows.
 pub fn text_grows()
     ensures prefix { (x : IndexSet) (u : Upload) (declare : Option ℕ) (bytes : List ℕ) → is_complete u ≡ false
         → (text_with x u [] false).fault ≡ None

@@ -1,4 +1,4 @@
-//! Declared lengths, which may be unknown.
+//! Lengths of uploads, which may be unknown (tus 1.0.0, Upload-Defer-Length).
 
 ghost use Rattle.std.specs.Prelude.{◌≡◌, ◌≤◌, ◌+◌, None, Some, MatchResult};
 ghost use Rattle.upload_rules.specs.Lengths.{is_length, is_new, is_too_large, known_or, longest};
@@ -6,10 +6,10 @@ ghost use Rattle.upload_rules.specs.Calls.{length_refusal};
 
 use crate::UploadRefusal;
 
-/// The greatest length of an upload, in bytes.
+/// The greatest length of an upload: 1 GiB.
 pub const LENGTH_LIMIT: u64 = 1_073_741_824;
 
-/// Whether a length is known and over the limit.
+/// Whether the length is known and above the limit.
 pub fn is_too_large(length: Option<u64>) -> bool
     ensures { result ≡ is_too_large length }
 {
@@ -19,7 +19,7 @@ pub fn is_too_large(length: Option<u64>) -> bool
     }
 }
 
-/// Whether the length is known, and the count is as great.
+/// Whether the length is known and equals the count.
 pub fn is_length(length: Option<u64>, count: u64) -> bool
     ensures { result ≡ is_length length count }
 {
@@ -29,14 +29,17 @@ pub fn is_length(length: Option<u64>, count: u64) -> bool
     }
 }
 
-/// Whether a length is declared where none is known.
+/// Whether a length is declared and none was known.
 pub fn is_new(known: Option<u64>, declare: Option<u64>) -> bool
     ensures { result ≡ is_new known declare }
 {
     known.is_none() && declare.is_some()
 }
 
-/// The length of an upload with the one that a patch declares, which puts `count` bytes at `offset`: refused with
+/// The length of an upload once a patch declares one and puts `count` bytes at `offset`.
+///
+/// # Errors
+///
 /// `LengthSet`, `TooLong`.
 pub fn length_then(
     known: Option<u64>,

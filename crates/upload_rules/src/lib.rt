@@ -1,4 +1,5 @@
-//! The rules of uploads: what a store of uploads is to its callers, and one in memory.
+//! The rules of uploads: the trait of stores, with each call's result as a function of the uploads, and a store in
+//! memory. Knows no disk and no HTTP.
 #![tactic(auto)]
 
 mod appends;

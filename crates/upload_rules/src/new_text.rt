@@ -1,4 +1,4 @@
-//! What an append adds to its upload's text.
+//! The text that an append adds to its upload.
 
 ghost use Rattle.std.specs.Prelude.{◌≡◌, ◌++◌, [], ℕ, false, None, List, IfOk, IfSome, OnOk, OnErr};
 ghost use Rattle.std.specs.Prelude.{IsErrOf, IsOk, MatchOption};
@@ -13,19 +13,19 @@ use enc_index::IndexSet;
 use enc_stream::{TranscodeError, Transcoder};
 use std::alloc::{AllocError, Global};
 
-/// What an append adds to its upload's text.
+/// The text that an append adds to its upload.
 #[derive(Drop)]
 pub enum NewText {
-    /// These bytes, and where transcoding stands after them.
+    /// The text so far, and the state of transcoding after it.
     Growing {
-        /// Where transcoding stands.
+        /// The state of transcoding.
         transcoder: Transcoder,
-        /// The new bytes.
+        /// The new bytes of the text.
         text: Vec<u8>,
     },
-    /// A character has no code.
+    /// A character is unmappable: the append can only be refused.
     Unencodable,
-    /// The upload is complete: no bytes come.
+    /// The upload is complete, so no bytes may come.
     Complete,
 }
 
@@ -35,14 +35,13 @@ impl NewText {
     ghost use Rattle.upload_rules.specs.States.{IsState, SameEncodings, transcoder_with};
     ghost use Rattle.enc_stream.specs.StateBytes.{IsValid};
 
-    /// What an append to the upload of a record adds at first: nothing. None where the state bytes are those of no
-    /// state.
+    /// Nothing yet, for an append to this upload. None if the record's state bytes aren't a state.
     pub fn after(alloc: Global, upload: &Record) -> Option<Self>
         ensures holds { (x : Indexes) (n : ℕ) (u : Upload) → Tells x n upload.now u
             → (text_with x u [] (is_complete u)).fault ≡ None
             → IsValid (transcoder_with x u [] (is_complete u)) → MatchOption result ⊥ (HoldsText x u []) }
 
-        // Whatever the record says.
+        // These hold of any record, even if it represents no upload.
         ensures goes_on { IfSome result (GoesOn upload.now.state) }
         ensures room { IfSome result
             (λ text. IsGrowing text → is_length upload.now.declared upload.now.accepted ≡ false) }
@@ -56,7 +55,7 @@ impl NewText {
         })
     }
 
-    /// With a piece more; as it was, when out of memory.
+    /// With another piece. Out of memory, it is unchanged.
     pub fn with(self, indexes: &IndexSet, piece: &[u8]) -> (Self, Result<(), AllocError>)
         ensures ok { (u : Upload) (bytes : List ℕ) → HoldsText indexes.now u bytes self
             → OnOk result.1 (HoldsText indexes.now u (bytes ++ piece.now) result.0) }
@@ -92,8 +91,12 @@ impl NewText {
         }
     }
 
-    /// The state bytes after the accepted bytes, and the new text, with the bytes of the end where these complete the
-    /// upload.
+    /// The state bytes and the new text at the append's end. If the upload is complete then, the text includes what the
+    /// decoder and the encoder emit at their end.
+    ///
+    /// # Errors
+    ///
+    /// `Unencodable`, `NoMemory`.
     pub fn ended(
         self,
         indexes: &IndexSet,
@@ -123,7 +126,7 @@ impl NewText {
                 Err(_) => return Err(UploadError::NoMemory),
             }
         }
-        // No spent transcoder is kept: it would have no state.
+        // A spent transcoder has no state bytes.
         if transcoder.is_spent() {
             return Err(UploadError::Refused(UploadRefusal::Unencodable));
         }

@@ -1,4 +1,4 @@
-//! What a store tells of an upload, and what it is given to make one.
+//! Records: what a store reports of an upload, and what a new one is made of.
 
 ghost use Rattle.std.specs.Prelude.{◌≡◌, ◌≤◌, ◌<◌, ◌+◌, ◌^◌, ℕ, false, IsOk, None, Some, MatchResult};
 ghost use Rattle.enc_model.specs.Indexes.{IndexSet};
@@ -13,40 +13,40 @@ use enc_model::{Encoding, Mode};
 use enc_stream::Transcoder;
 use std::marker::Model;
 
-/// An upload as the store tells of it.
+/// What a store reports of an upload.
 #[derive(Drop)]
 pub struct Record {
     /// The upload's number, from 1 on.
     pub number: u64,
-    /// The declared length in bytes, where it is known.
+    /// The length in bytes, if it is known.
     pub declared: Option<u64>,
     /// How many bytes were accepted.
     pub accepted: u64,
     /// The length of the stored text in bytes.
     pub text_len: u64,
-    /// The encoding by its label.
+    /// The encoding of the bytes, as the client labelled it.
     pub from: Encoding,
-    /// The encoding that the text is stored in.
+    /// The encoding of the stored text.
     pub to: Encoding,
-    /// What is done with a character that `to` lacks.
+    /// The error mode for characters that `to` lacks.
     pub mode: Mode,
-    /// Where transcoding stands over the accepted bytes, as `Transcoder::pack` writes it: after the end where all are
-    /// accepted.
+    /// The state of transcoding after the accepted bytes, as `Transcoder::pack` encodes it. It is past the end if the
+    /// upload is complete.
     pub state: [u8; 32],
-    /// The metadata as it was given: bytes 20 to 7E.
+    /// The metadata as given: bytes 20 to 7E.
     pub metadata: String,
 }
 
-/// The fields of an upload to be made.
+/// The fields of a new upload.
 #[derive(Drop)]
 pub struct New {
-    /// The declared length in bytes, where it is known.
+    /// The length in bytes, if it is known.
     pub declared: Option<u64>,
-    /// The encoding by its label; the index set offers it.
+    /// The encoding of the bytes. The index set offers it.
     pub from: Encoding,
-    /// The encoding that the text is stored in: an output encoding that the index set offers.
+    /// The encoding of the stored text: an output encoding that the index set offers.
     pub to: Encoding,
-    /// What is done with a character that `to` lacks.
+    /// The error mode for characters that `to` lacks.
     pub mode: Mode,
     /// At most 1,536 bytes of 20 to 7E.
     pub metadata: String,
@@ -62,7 +62,7 @@ impl Model for New {
 impl Record {
     ghost use Rattle.upload_rules.specs.Records.{Keeps, Tells};
 
-    /// The record of a new upload, without bytes.
+    /// The record of a new upload. One of length 0 is complete at once.
     pub fn first(number: u64, fields: New) -> Record
         requires { IsOutput fields.to }
         ensures kept { (x : IndexSet) → Keeps x number result (new_upload fields) }
@@ -93,8 +93,11 @@ impl Record {
         }
     }
 
-    /// Whether a patch may begin that puts `count` bytes at an offset and may declare the length: refused with
-    /// `Offset`, `TooLarge`, `LengthSet`, `TooLong`.
+    /// Checks a patch that puts `count` bytes at `offset` and may declare a length.
+    ///
+    /// # Errors
+    ///
+    /// `Offset`, `TooLarge`, `LengthSet`, `TooLong`, the first that applies.
     pub fn admits(&self, offset: u64, count: u64, declare: Option<u64>) -> Result<(), UploadRefusal>
         ensures room { IsOk result → (self.now.accepted ≡ offset)
             × (offset + count ≤ longest (known_or self.now.declared declare))

@@ -1,14 +1,14 @@
-//! An upload of a table.
+//! A slot of a table.
 
 ghost use Rattle.upload_rules.specs.Records.{IsShort};
 
 use crate::{New, Record};
 use std::alloc::{AllocError, Global};
 
-/// An upload of a table.
+/// An upload of a table: its record and its text.
 #[derive(Drop)]
 pub(crate) struct Slot {
-    /// What is told of it.
+    /// The record.
     pub(crate) record: Record,
     /// The stored text.
     pub(crate) text: Vec<u8>,
@@ -34,7 +34,7 @@ impl Slot {
         }
     }
 
-    /// The text with these bytes after it; and the length, the count of accepted bytes and the state that are said.
+    /// Appends to the text, and sets the length, the offset and the state. Out of memory, the slot is unchanged.
     pub(crate) fn grow(
         &mut self,
         text: &[u8],

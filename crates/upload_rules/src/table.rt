@@ -1,4 +1,4 @@
-//! Uploads in memory, where a crash leaves nothing to speak of.
+//! A store in memory. It has no disk, so it makes no promise about crashes.
 
 use crate::appends::OpenAppend;
 use crate::drafts::{placed, put_back, taken};
@@ -10,25 +10,25 @@ use crate::{New, Record, UploadError, UploadRefusal, Uploads};
 use enc_index::IndexSet;
 use std::alloc::Global;
 
-/// How many uploads there may be.
+/// The most uploads at a time.
 const SLOT_COUNT: usize = 512;
 
-/// After the last number: the greatest next number.
+/// The end of the numbers: 10^18.
 pub const NUMBERS_END: u64 = 1_000_000_000_000_000_000;
 
-/// Uploads in memory: without a disk, and without a limit of room.
+/// Uploads in memory, without a limit of room. Tests compare a spool with it.
 #[derive(Drop)]
 pub struct Table {
     alloc: Global,
     indexes: IndexSet,
-    /// by ascending numbers
+    /// By ascending numbers.
     slots: Vec<Slot>,
     next: u64,
-    /// by the numbers of their drafts
+    /// By the numbers of their drafts.
     appends: Vec<Option<OpenAppend>>,
 }
 
-/// A draft of a table: the append of its number.
+/// A draft of a table: the number of its append.
 pub struct TableDraft {
     number: usize,
 }
@@ -52,7 +52,7 @@ impl Table {
         }
     }
 
-    /// The slot of a number.
+    /// The slot of this number.
     fn slot(&self, number: u64) -> Option<&Slot>
         ensures { (w : World) → TableStands self.now w → IsSlotOf w.store.indexes number (upload_of w.store number)
             (option_copied result) }

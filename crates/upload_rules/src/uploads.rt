@@ -1,5 +1,4 @@
-//! Uploads: each call is stated for every world that the store stands for, whether or not its disk is known to be
-//! honest.
+//! The trait of stores of uploads. Each result is stated for every world that the store stands for.
 ghost use Rattle.std.specs.Prelude.{◌≡◌, ◌≤◌, ◌<◌, ◌+◌, ℕ, Bool, true, List, length, Option, Some, None, IfSome};
 ghost use Rattle.std.specs.Prelude.{IsErrOf, option_copied};
 ghost use Rattle.upload_rules.specs.Store.{Upload, Store, upload_of, find};
@@ -14,52 +13,54 @@ ghost use Rattle.upload_rules.specs.Reading.{no_such, text_at, IsReadOf};
 use crate::{New, Record, UploadError};
 use enc_index::IndexSet;
 
-/// A store of uploads, and appends to them that are under way.
+/// A store of uploads, with the appends that are under way.
 pub trait Uploads {
-    /// An append under way: has to be spent, by `commit` or `drop_open`.
+    /// An append under way. It has to be spent, by `commit` or `drop_open`.
     type Draft;
 
-    /// What the store keeps in memory stands for the world: a relation, since no accepted byte is kept. Where that is
-    /// sure, its disk does too: it is honest, and holds the texts. Where it isn't, nothing is said of the disk.
+    /// The store stands for a world. This is a relation, since accepted bytes aren't stored. If it is sure, the disk is
+    /// honest and holds the texts; otherwise nothing is claimed of the disk.
     ghost stands: { Self → Bool → World → Type 0 };
 
     /// The draft's number.
     ghost number_of: { Self.Draft → ℕ };
 
-    /// What the draft itself knows of its patch.
+    /// What the draft itself represents of its patch.
     ghost holds: { Self.Draft → Patch → Type 0 };
 
-    /// Counts what the disk was asked.
+    /// How much the disk was asked so far.
     ghost moment: { Self → ℕ };
 
-    /// What a crash at any moment since that one might have left shows one of these stores, and so many blocks, as in
-    /// a world.
+    /// Every crash image since that moment shows one of these stores and has this many blocks.
     ghost left_only: { Self → Option ℕ → ℕ → List Store → Type 0 };
 
-    /// How often the disk failed.
+    /// How many disk faults there were.
     ghost failures: { Self → ℕ };
 
-    /// The upload of a number.
+    /// The record of the upload with this number.
     fn record(&self, number: u64) -> Option<&Record>
         ensures short { IfSome (option_copied result) IsShort }
         ensures told { (sure : Bool) (w : World) → stands self.now sure w → TellsOf w.store.indexes
             (with_number number (upload_of w.store number)) (option_copied result) };
 
-    /// The upload of the least number above this one.
+    /// The record of the upload with the least number above this one.
     fn record_after(&self, number: u64) -> Option<&Record>
         ensures { (sure : Bool) (w : World) → stands self.now sure w
             → TellsOf w.store.indexes (above number w.store.uploads) (option_copied result) };
 
-    /// The number that the next upload gets.
+    /// The number of the next upload.
     fn next_number(&self) -> u64
         ensures { (sure : Bool) (w : World) → stands self.now sure w → result ≡ w.store.next };
 
-    /// The index files.
+    /// The index files that the store decodes and encodes with.
     fn indexes(&self) -> &IndexSet
         ensures { (sure : Bool) (w : World) → stands self.now sure w → result.now ≡ w.store.indexes };
 
-    /// Makes an upload without bytes, and answers its number: refused with `TooLarge`, `Slots`, `NoMemory`,
-    /// `DiskFault`.
+    /// Creates an upload without bytes and returns its number.
+    ///
+    /// # Errors
+    ///
+    /// `TooLarge`, `Slots`, `NoMemory`, `DiskFault`.
     fn create(&mut self, new: New) -> Result<u64, UploadError>
         requires well_formed { IsWellFormed new }
         requires offered { (sure : Bool) (w : World) → stands self.old sure w → IsOffered w.store.indexes new }
@@ -73,8 +74,11 @@ pub trait Uploads {
             → Limits (moment self.old) (moment self.new) (left_only self.old) (left_only self.new) w.store w.store }
         ensures counts { Counts (IsErrOf result UploadError.DiskFault) (failures self.old) (failures self.new) };
 
-    /// Takes an upload away with its text: refused with `NoSuch`, `NoMemory`, `DiskFault`. Its number is never used
-    /// again, and an open draft of it can only be refused from then on.
+    /// Deletes an upload and its text. Its number is never used again, and the commit of a draft for it is refused.
+    ///
+    /// # Errors
+    ///
+    /// `NoSuch`, `NoMemory`, `DiskFault`.
     fn terminate(&mut self, number: u64) -> Result<(), UploadError>
         ensures answer { (sure : Bool) (w : World) → stands self.old sure w
             → Answers (terminate_refusal w number) result (λ done. stands self.new sure (terminated w number))
@@ -86,8 +90,12 @@ pub trait Uploads {
             → Limits (moment self.old) (moment self.new) (left_only self.old) (left_only self.new) w.store w.store }
         ensures counts { Counts (IsErrOf result UploadError.DiskFault) (failures self.old) (failures self.new) };
 
-    /// Opens a draft of `count` bytes at an offset, which may declare the upload's length, under the least number that
-    /// is free: refused with `NoSuch`, `Offset`, `TooLarge`, `LengthSet`, `TooLong`, `NoMemory`.
+    /// Opens a draft of `count` bytes at `offset`, which may declare the upload's length. Its number is the least free
+    /// one.
+    ///
+    /// # Errors
+    ///
+    /// `NoSuch`, `Offset`, `TooLarge`, `LengthSet`, `TooLong`, `NoMemory`.
     fn begin(
         &mut self,
         number: u64,
@@ -104,8 +112,12 @@ pub trait Uploads {
         ensures crash { Quiet (moment self.old) (moment self.new) (left_only self.old) (left_only self.new) }
         ensures counts { failures self.new ≡ failures self.old };
 
-    /// Adds bytes to a draft, at most its count in all: refused with `NoMemory`, `DiskFault`, after which the draft may
-    /// only be dropped. Text that can't be encoded or stored is kept as the draft's fault.
+    /// Appends bytes to a draft, at most its count in all. If they can't be encoded, or there is no room for their
+    /// text, the draft records that and its commit is refused.
+    ///
+    /// # Errors
+    ///
+    /// `NoMemory`, `DiskFault`; the draft can then only be dropped.
     fn append(&mut self, draft: &mut Self::Draft, piece: &[u8]) -> Result<(), UploadError>
         ensures same { Self.number_of draft.new ≡ Self.number_of draft.old }
         ensures answer { (sure : Bool) (w : World) (p : Patch) → stands self.old sure w
@@ -120,9 +132,12 @@ pub trait Uploads {
             → Quiet (moment self.old) (moment self.new) (left_only self.old) (left_only self.new) }
         ensures counts { Counts (IsErrOf result UploadError.DiskFault) (failures self.old) (failures self.new) };
 
-    /// Puts a draft's text after its upload's, gives the upload the length that the draft declares where it had none,
-    /// and answers the new offset: refused with `NoSuch`, `Offset`, `LengthSet`, `TooLong`, `Unencodable`, `Full`,
-    /// `NoMemory`, `DiskFault`. The draft is spent in every case.
+    /// Appends the draft's text to the upload's, gives the upload the length that the draft declares if it had none,
+    /// and returns the new offset. The draft is spent in every case.
+    ///
+    /// # Errors
+    ///
+    /// `NoSuch`, `Offset`, `LengthSet`, `TooLong`, `Unencodable`, `Full`, `NoMemory`, `DiskFault`.
     fn commit(&mut self, draft: Self::Draft) -> Result<u64, UploadError>
         ensures answer { (sure : Bool) (w : World) (p : Patch) → stands self.old sure w
             → find (Self.number_of draft) w.patches ≡ Some p → holds draft p
@@ -138,15 +153,19 @@ pub trait Uploads {
             → Limits (moment self.old) (moment self.new) (left_only self.old) (left_only self.new) w.store w.store }
         ensures counts { Counts (IsErrOf result UploadError.DiskFault) (failures self.old) (failures self.new) };
 
-    /// Gives a draft up. It serves after a fault too, when the store stands for no world.
+    /// Drops a draft. This also works after a disk fault, when the store stands for no world.
     fn drop_open(&mut self, draft: Self::Draft)
         ensures stands { (sure : Bool) (w : World) → stands self.old sure w
             → stands self.new sure (dropped w (Self.number_of draft)) }
         ensures crash { Quiet (moment self.old) (moment self.new) (left_only self.old) (left_only self.new) }
         ensures counts { failures self.new ≡ failures self.old };
 
-    /// Reads a text's bytes from `at` on, as many as there are and fit: refused with `NoSuch`, `DiskFault`. A disk that
-    /// isn't honest may give other bytes, but as many.
+    /// Reads the text's bytes from `at` on, as many as there are and as fit, and returns their count. A disk that isn't
+    /// honest may give other bytes, but as many.
+    ///
+    /// # Errors
+    ///
+    /// `NoSuch`, `DiskFault`.
     fn read_text(&mut self, number: u64, at: u64, buf: &mut [u8]) -> Result<usize, UploadError>
         ensures answer { (sure : Bool) (w : World) → stands self.old sure w
             → Answers (no_such (upload_of w.store number)) result
@@ -157,11 +176,11 @@ pub trait Uploads {
         ensures crash { Quiet (moment self.old) (moment self.new) (left_only self.old) (left_only self.new) }
         ensures counts { Counts (IsErrOf result UploadError.DiskFault) (failures self.old) (failures self.new) };
 
-    /// Each upload's number is below the next one.
+    /// Every upload's number is below the next one.
     ghost below: { (store : Self) (sure : Bool) (w : World) (number : ℕ) (u : Upload) → stands store sure w
         → upload_of w.store number ≡ Some u → number < w.store.next };
 
-    /// A store that stands for a world is on the disk.
+    /// If the store is known to stand for a world, each crash image from now on shows it.
     ghost durable: { (store : Self) (w : World) (ms : List Store) → stands store true w → Among w.store ms
         → left_only store w.blocks (moment store) ms };
 }

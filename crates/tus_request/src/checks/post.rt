@@ -1,4 +1,4 @@
-//! The checks of a POST.
+//! The checks of a POST (tus 1.0.0, Creation).
 ghost use Rattle.std.specs.Prelude.{◌≡◌, IfOk, codes, option_map};
 ghost use Rattle.enc_model.specs.Indexes.{offers};
 ghost use Rattle.tus_request.specs.Checks.{post_checked, with_metadata, with_pairs, with_choice};
@@ -17,7 +17,7 @@ use enc_index::IndexSet;
 use http_header::HeaderValue;
 use std::alloc::{AllocError, Global};
 
-/// The checks of a POST.
+/// Checks a POST. It has no body and exactly one of a length and its deferral.
 pub(super) fn check_post(
     alloc: Global,
     asking: &Asking<'_>,
@@ -34,7 +34,7 @@ pub(super) fn check_post(
     }
 }
 
-/// The check that there is at most one metadata.
+/// Checks that the metadata is given at most once.
 fn check_metadata(
     alloc: Global,
     asking: &Asking<'_>,
@@ -54,7 +54,7 @@ fn check_metadata(
     check_value(alloc, asking, set, declared, value)
 }
 
-/// The checks of a metadata value.
+/// Checks the value of the metadata field.
 fn check_value(
     alloc: Global,
     asking: &Asking<'_>,
@@ -71,7 +71,7 @@ fn check_value(
     }
 }
 
-/// The checks of a metadata text.
+/// Checks the form of the metadata.
 fn check_pairs(
     alloc: Global,
     asking: &Asking<'_>,
@@ -88,7 +88,7 @@ fn check_pairs(
     }
 }
 
-/// The check that the encodings and the mode are known and offered.
+/// Checks that the encodings and the mode are known and offered.
 fn check_choice(
     alloc: Global,
     asking: &Asking<'_>,

@@ -16,7 +16,7 @@ use crate::requests::{Action, Request};
 use enc_index::IndexSet;
 use std::alloc::{AllocError, Global};
 
-/// A request that is refused. One that asked for 100 Continue is answered with a close.
+/// Refuses a request. A client that awaits 100 Continue also gets a close, since its body may or may not follow.
 pub(super) fn refused(asking: &Asking<'_>, fault: Fault) -> Verdict
     ensures { verdict_shown result ≡ refused (asking_shown asking.now) fault }
 {
@@ -29,7 +29,7 @@ pub(super) fn refused(asking: &Asking<'_>, fault: Fault) -> Verdict
     })
 }
 
-/// A request that passed its checks and isn't an append.
+/// Accepts a request other than PATCH.
 pub(super) fn passed(asking: &Asking<'_>, action: Action) -> Verdict
     ensures { verdict_shown result ≡ passed (asking_shown asking.now) (action_shown action) }
 {
@@ -42,7 +42,7 @@ pub(super) fn passed(asking: &Asking<'_>, action: Action) -> Verdict
     })
 }
 
-/// An append that passed its checks.
+/// Accepts a PATCH.
 fn passed_patch(asking: &Asking<'_>, number: u64, offset: u64, declare: Option<u64>) -> Verdict
     ensures { verdict_shown result ≡ passed_patch (asking_shown asking.now) number offset declare }
 {
@@ -59,7 +59,7 @@ fn passed_patch(asking: &Asking<'_>, number: u64, offset: u64, declare: Option<u
     })
 }
 
-/// Whether the version of the protocol is needed, and isn't there. OPTIONS and GET need none.
+/// Whether the protocol's version is required and missing. OPTIONS and GET don't require it.
 fn lacks_version(asking: &Asking<'_>) -> bool
     ensures { result ≡ lacks_version (asking_shown asking.now) }
 {
@@ -69,7 +69,7 @@ fn lacks_version(asking: &Asking<'_>) -> bool
     }
 }
 
-/// The checks of an append.
+/// Checks a PATCH (tus 1.0.0, PATCH).
 fn check_patch(asking: &Asking<'_>, number: u64) -> Verdict
     ensures { verdict_shown result ≡ patch_checked (asking_shown asking.now) number }
 {
@@ -85,7 +85,7 @@ fn check_patch(asking: &Asking<'_>, number: u64) -> Verdict
     passed_patch(asking, number, offset, declare)
 }
 
-/// What is asked of an upload.
+/// Checks a request for one upload.
 fn on_upload(asking: &Asking<'_>, number: u64) -> Verdict
     ensures { verdict_shown result ≡ on_upload (asking_shown asking.now) number asking.now.verb }
 {
@@ -99,7 +99,7 @@ fn on_upload(asking: &Asking<'_>, number: u64) -> Verdict
     }
 }
 
-/// What is asked of all the uploads.
+/// Checks a request for `/files`.
 fn on_all(alloc: Global, asking: &Asking<'_>, set: &IndexSet) -> Result<Verdict, AllocError>
     ensures { IfOk result (λ v. verdict_shown v ≡ on_all (offers set.now) (asking_shown asking.now) asking.now.verb) }
 {
@@ -110,7 +110,7 @@ fn on_all(alloc: Global, asking: &Asking<'_>, set: &IndexSet) -> Result<Verdict,
     }
 }
 
-/// The checks from the version on.
+/// All checks from the protocol's version on.
 pub(super) fn decide(
     alloc: Global,
     asking: &Asking<'_>,

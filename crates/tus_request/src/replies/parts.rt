@@ -1,4 +1,4 @@
-//! The parts of a reply, as they print.
+//! The parts of a reply and their print.
 ghost use Rattle.std.specs.Prelude.{◌≡◌, Some};
 ghost use Rattle.tus_request.specs.Replies.{length_line, close_line, declared_line, metadata_line, refusal_lead};
 ghost use Rattle.tus_request.specs.Replies.{status_of};
@@ -51,7 +51,7 @@ fn status_of(fault: Fault) -> &'static str
     }
 }
 
-/// The lines of a reply's own.
+/// The header lines that only this kind of reply has.
 #[derive(Drop)]
 pub(crate) enum Lines<'m> {
     Options,
@@ -102,7 +102,7 @@ impl fmt::Display for Lines<'_> {
     }
 }
 
-/// A reply without its body.
+/// A reply without its body. `length` is the value of `Content-Length`, if it has that field.
 #[derive(Drop)]
 pub(crate) struct Reply<'m> {
     pub(crate) status: Status,
@@ -126,7 +126,7 @@ impl fmt::Display for Reply<'_> {
     }
 }
 
-/// The line that says how many bytes an upload will have, or that it isn't known yet.
+/// The line of an upload's length, or of its deferral.
 #[derive(Drop)]
 struct DeclaredLine(Option<u64>);
 
@@ -141,7 +141,7 @@ impl fmt::Display for DeclaredLine {
     }
 }
 
-/// The line of an upload's metadata, where it has any.
+/// The line of an upload's metadata, if it has any.
 #[derive(Drop)]
 struct MetadataLine<'m>(&'m str);
 
@@ -157,7 +157,7 @@ impl fmt::Display for MetadataLine<'_> {
     }
 }
 
-/// The line before a refusal's number, where it has one.
+/// The line before `X-Refusal`, for the two refusals that have one.
 #[derive(Drop)]
 struct RefusalLead(Fault, bool);
 
@@ -174,7 +174,7 @@ impl fmt::Display for RefusalLead {
     }
 }
 
-/// The line of the body's length, where the reply has one.
+/// The line of the body's length, if the reply has it.
 #[derive(Drop)]
 struct LengthLine(Option<u64>);
 
@@ -189,7 +189,7 @@ impl fmt::Display for LengthLine {
     }
 }
 
-/// The line that says that the connection closes.
+/// The line of the connection's close.
 #[derive(Drop)]
 struct CloseLine(bool);
 
