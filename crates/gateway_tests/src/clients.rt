@@ -11,45 +11,53 @@ use std::process::Abort;
 use std::time::{Clock, Duration};
 use tus_session::MOST_OPEN;
 
-/// What a client says at first, and then at each second reading; how many bytes it takes, for how many writes it takes
-/// none after them, before it takes all.
-pub(crate) type Manner<'a> = (&'a [u8], &'a [u8], usize, u32);
+/// How a client behaves.
+#[derive(Clone, Copy, Drop)]
+pub(crate) struct Manner<'a> {
+    /// What it sends first.
+    pub(crate) says: &'a [u8],
+    /// What it sends then, at each second reading.
+    pub(crate) goes_on: &'a [u8],
+    /// How many bytes it takes before it pauses.
+    pub(crate) takes: usize,
+    /// For how many writes it then takes none, before it takes all.
+    pub(crate) pauses: u32,
+}
 
 /// A client as the server's socket shows it. How many bytes it took is counted.
 #[derive(Drop)]
 pub(crate) struct Client<'a> {
-    says: &'a [u8],
-    goes_on: &'a [u8],
-    takes: usize,
-    pauses: u32,
+    manner: Manner<'a>,
     told: &'a Cell<usize>,
 }
 
 impl Read for Client<'_> {
     fn read(&mut self, buf: &mut [u8]) -> io::Result<usize> {
-        let count = self.says.len().min(buf.len());
+        let says = self.manner.says;
+        let count = says.len().min(buf.len());
         if count == 0 {
-            self.says = self.goes_on;
+            self.manner.says = self.manner.goes_on;
             return Err(io::Error::from(ErrorKind::WouldBlock));
         }
-        buf[..count].copy_from_slice(&self.says[..count]);
-        self.says = &self.says[count..];
+        buf[..count].copy_from_slice(&says[..count]);
+        self.manner.says = &says[count..];
         Ok(count)
     }
 }
 
 impl Write for Client<'_> {
     fn write(&mut self, buf: &[u8]) -> io::Result<usize> {
-        if self.takes == 0 && self.pauses > 0 {
-            self.pauses -= 1;
+        let manner = &mut self.manner;
+        if manner.takes == 0 && manner.pauses > 0 {
+            manner.pauses -= 1;
             return Err(io::Error::from(ErrorKind::WouldBlock));
         }
-        let count = if self.pauses > 0 {
-            self.takes.min(buf.len())
+        let count = if manner.pauses > 0 {
+            manner.takes.min(buf.len())
         } else {
             buf.len()
         };
-        self.takes = self.takes.saturating_sub(count);
+        manner.takes = manner.takes.saturating_sub(count);
         self.told.set(self.told.get().saturating_add(count));
         Ok(count)
     }
@@ -88,7 +96,7 @@ impl<'a> OpenListener for Clients<'a> {
             return Err(io::Error::from(ErrorKind::WouldBlock));
         }
         self.left.set(left - 1);
-        let (says, goes_on, takes, pauses) = if left == self.all {
+        let manner = if left == self.all {
             self.first
         } else if left == 1 {
             self.last
@@ -96,10 +104,7 @@ impl<'a> OpenListener for Clients<'a> {
             self.others
         };
         let client = Client {
-            says,
-            goes_on,
-            takes,
-            pauses,
+            manner,
             told: if left == self.watched {
                 self.told
             } else {
