@@ -63,7 +63,7 @@ impl Story<'_> {
         let (disk, fault, written) = ran(self.alloc, self.talk, disk);
         self.check(rt, disk.into_inner(), &written);
         assert!(rt; fault.is_some() || written == self.talk.wanted);
-        is_disk_fault(rt, fault, call)
+        is_device(rt, fault, call)
     }
 
     /// Each call fails once.
@@ -86,7 +86,7 @@ impl Story<'_> {
         let (disk, fault, written) = ran(self.alloc, self.talk, disk);
         let left = stopped(rt, self.alloc, disk.into_inner().crash(kind), call % 16);
         self.check(rt, left.crash(kind), &written);
-        is_disk_fault(rt, fault, call)
+        is_device(rt, fault, call)
     }
 
     /// From each call on all fail.
@@ -125,7 +125,7 @@ fn stopped(rt: &impl Abort, alloc: Global, disk: MemoryDisk, calls: u64) -> Memo
 }
 
 /// Whether a run was refused, which only the disk did.
-fn is_disk_fault(rt: &impl Abort, fault: Option<RunFault>, call: u64) -> bool {
+fn is_device(rt: &impl Abort, fault: Option<RunFault>, call: u64) -> bool {
     match fault {
         Some(fault) => {
             let device = fault == RunFault::DiskFault

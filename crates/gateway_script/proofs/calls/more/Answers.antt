@@ -33,7 +33,7 @@ returns-in_err-tell-in-Ok-clause-does g c = λ sure before st r prefix at.
     let none : c.new-out.result.items ≡ [] = c.new-out.ensures.items in
     let p = err_from_is_err_and c.from_residual.result c.from_residual.ensures.1 in
     rw (p.1, p.2) (tell_stopped (view g.C.Connections sure before c.args.core.now st old prefix) c.more.new.self new
-    r e at a
+        r e at a
     given (λ yes. quiet_limits _ _ c.more.ensures.crash)
     (subst (λ o. Gives sure s' (Ok a) o given r.state e) none (c.in-Ok.ensures.gives sure r.state at.keeps))
     c.in_err-tell-in-Ok.field-0.0
@@ -48,7 +48,7 @@ returns-clause-does g c = λ sure before st r prefix at.
     let given : List ℕ = c.more.new.out.items in
     let none : c.new-out.result.items ≡ [] = c.new-out.ensures.items in
     refused_called (view g.C.Connections sure before c.args.core.now st
-    (g.W.CountedWrite.contents c.args.writer.now) prefix)
+        (g.W.CountedWrite.contents c.args.writer.now) prefix)
     c.more.new.self (g.W.CountedWrite.contents c.refused.new.writer) r e at f given
     (λ yes. quiet_limits _ _ c.more.ensures.crash)
     (subst (λ o. Gives sure s' (Err f) o given r.state e) none (c.in-Err.ensures.gives sure r.state at.keeps))

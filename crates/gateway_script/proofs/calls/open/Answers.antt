@@ -13,7 +13,7 @@ returns-in-Ok-clause-does g c = λ sure before st r prefix at.
 pub returns-in-Err-clause-does : goal.returns-in-Err-clause-does
 returns-in-Err-clause-does g c = λ sure before st r prefix at.
     refused_went (view g.C.Connections sure before c.args.core.now st
-    (g.W.CountedWrite.contents c.args.writer.now) prefix)
+        (g.W.CountedWrite.contents c.args.writer.now) prefix)
     c.opened.new.self (g.W.CountedWrite.contents c.refused.new.writer) r (Opened c.args.conn)
     c.in-Err.error c.refused.result at
     (λ yes ms among. g.met.C.Connections.durable c.args.core.now r.state ms (surely at yes) among)

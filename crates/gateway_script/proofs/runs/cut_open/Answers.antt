@@ -27,7 +27,7 @@ returns-in-Closed-clause-does g c = λ sure before st r prefix k at.
 pub returns-in_default-clause-does : goal.returns-in_default-clause-does
 returns-in_default-clause-does g c = λ sure before st r prefix k at.
     cut_refused (view g.C.Connections sure before c.args.core.now st
-    (g.W.CountedWrite.contents c.args.writer.now) prefix)
+        (g.W.CountedWrite.contents c.args.writer.now) prefix)
     c.ended.new.self (g.W.CountedWrite.contents c.refused.new.writer)
     k c.args.conn r c.in-Err.error c.refused.result at
     (λ yes ms among. g.met.C.Connections.durable c.args.core.now r.state ms (surely at yes) among)
