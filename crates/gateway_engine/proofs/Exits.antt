@@ -1,5 +1,5 @@
 -- From the lines' end to the script's.
-use Rattle.std.proofs.Common.{◌≡◌, ◌⊎◌, inl, inr, ℕ, List, [], ◌++◌, take, Option, Some, None, Ok, Err, refl, sym}
+use Rattle.std.proofs.Common.{◌≡◌, ◌⊎◌, inl, inr, ℕ, Bool, List, [], ◌++◌, take, Option, Some, None, Ok, Err, refl, sym}
 use Rattle.std.proofs.Common.{subst, ◌∙◌, append-nil, arith}
 use Rattle.std.proofs.Common.{⊎_elim, true}
 use Rattle.std.specs.Prelude.{IsErrOf}
@@ -14,8 +14,9 @@ use Rattle.gateway_script.proofs.Outputs.{appends_nothing}
 use Rattle.gateway_script.specs.Script as script
 use Rattle.gateway_script.specs.Script.{script as the_script, Run, run_lines, script_lines, run_from, ended_as, Exit}
 use Rattle.gateway_script.specs.Script.{Ran, AtLine, Faulted}
-use Rattle.gateway_script.specs.Outputs.{IsFirst}
-use Rattle.gateway_script.specs.Runs.{View, with_marks, IsHistory, IsAt, IsDown, Reaches, Stops, script_past, Ends}
+use Rattle.gateway_script.specs.Outputs.{IsFirst, BreaksOff}
+use Rattle.gateway_script.specs.Runs.{View, with_marks, HasWritten, IsHistory, IsAt, IsDown, Reaches, Stops}
+use Rattle.gateway_script.specs.Runs.{script_past, Ends}
 use Rattle.gateway_script.specs.Script.{IsScript}
 use Rattle.gateway_engine.specs.Ran.{Shows, Rests, EndedSo, RestsSo, FailedSo, StoppedSo, HasRun, HasFailed}
 use Rattle.gateway_engine.specs.Ran.{HasRefused, CountsEither}
@@ -29,16 +30,16 @@ limits_none : (moment : ℕ) (left_only : Option ℕ → ℕ → List Store → 
     → LimitsTo moment moment left_only left_only stores
 limits_none moment left_only stores = record { later = omega arith; limits = λ n t ms le left among. left }
 
-pub begins : {C : Type 0} (v : View C) → v.before ≡ v.now → v.u.stands v.now true v.st → v.held ≡ v.prefix
+pub begins : {C : Type 0} (v : View C) → v.before ≡ v.now → v.u.stands v.now v.sure v.st → v.held ≡ v.prefix
     → IsAt v (run_from v.st [])
 begins v same stands is = record {
   keeps = stands;
-  wrote = subst (λ h. Appends h v.held []) is (appends_nothing v.held);
+  wrote = record { out = []; wrote = subst (λ h. Appends h v.held []) is (appends_nothing v.held); output = refl };
   up = refl;
   history = record {
     state = refl;
     output = refl;
-    images = subst (λ c. LimitsTo (v.u.moment c) (v.u.moment v.now) (v.u.left_only c) (v.u.left_only v.now)
+    images = λ yes. subst (λ c. LimitsTo (v.u.moment c) (v.u.moment v.now) (v.u.left_only c) (v.u.left_only v.now)
         (stores_of v.st [])) (sym same) (limits_none (v.u.moment v.now) (v.u.left_only v.now) (stores_of v.st []));
   };
 }
@@ -74,8 +75,8 @@ abbrev pub LastIn : {C : Type 0} → View C → List Marked → Type 0
 LastIn v past = ShowsLast (v.u.moment v.now) (v.u.left_only v.now) v.st past
 
 module _ {U B C : Type 0} (u : Ghosts U B) (v : View C) (before store : U) (bytes : List ℕ)
-    (closes : (now : State) → v.u.stands v.now true now → Rests u store now)
-    (shows : (past : List Marked) → ShowsIn v past → Shows u before store v.st past)
+    (closes : (now : State) → v.u.stands v.now v.sure now → Rests u v.sure store now)
+    (shows : v.sure ≡ true → (past : List Marked) → ShowsIn v past → Shows u before store v.st past)
     (last : (past : List Marked) → LastIn v past → ShowsLast (u.moment store) (u.left_only store) v.st past) where
   abbrev lines : Run → script.Result
   lines = run_lines 1 0 (script_lines bytes)
@@ -88,94 +89,92 @@ module _ {U B C : Type 0} (u : Ghosts U B) (v : View C) (before store : U) (byte
   ends_as s exit p = script_is v.st (p.0 ++ []) bytes ∙ p.1 []
 
   ended_so : (s : Run) (exit : Exit) → (p : Reaches lines begun (λ x. ended_as x exit) s)
-      → Appends v.prefix v.held s.out
-      → IsHistory v s
-      → EndedSo u before store v.st (the_script v.st (p.0 ++ []) bytes) v.held v.prefix exit
+      → HasWritten v.sure v.prefix v.held v.st s.past → IsHistory v s
+      → EndedSo u v.sure before store v.st (the_script v.st (p.0 ++ []) bytes) v.held v.prefix exit
   ended_so s exit p wrote is =
-      let now : EndedSo u before store v.st (ended_as (with_marks s []) exit) v.held v.prefix exit =
-      record { exits = refl; wrote = wrote; output = is.output; state = is.state; shows = shows s.past is.images } in
-      subst (λ r. EndedSo u before store v.st r v.held v.prefix exit) (sym (ends_as s exit p)) now
+      let now : EndedSo u v.sure before store v.st (ended_as (with_marks s []) exit) v.held v.prefix exit = record {
+        writes = record { exits = refl; all = wrote };
+        output = is.output;
+        state = is.state;
+        shows = λ yes. shows yes s.past (is.images yes);
+      } in
+      subst (λ r. EndedSo u v.sure before store v.st r v.held v.prefix exit) (sym (ends_as s exit p)) now
 
   rests_so : (s : Run) (exit : Exit) → (p : Reaches lines begun (λ x. ended_as x exit) s) → IsAt v s
-      → (marks : List Mark) × RestsSo u before store v.st (the_script v.st marks bytes) v.held v.prefix exit
+      → (marks : List Mark) × RestsSo u v.sure before store v.st (the_script v.st marks bytes) v.held v.prefix exit
   rests_so s exit p at = (
     p.0 ++ [],
     record {
       ended = ended_so s exit p at.wrote at.history;
-      rests = subst (λ r. Rests u store r.run.state) (sym (ends_as s exit p)) (closes s.state at.keeps);
+      rests = subst (λ r. Rests u v.sure store r.run.state) (sym (ends_as s exit p)) (closes s.state at.keeps);
     },
   )
 
   failed_so : (s : Run) → (p : Reaches lines begun (λ x. ended_as x Faulted) s) → IsDown v s
-      → (marks : List Mark) × FailedSo u before store v.st (the_script v.st marks bytes) v.held v.prefix
+      → (marks : List Mark) × FailedSo u v.sure before store v.st (the_script v.st marks bytes) v.held v.prefix
   failed_so s p down = (
     p.0 ++ [],
     record {
       ended = ended_so s Faulted p down.wrote down.history;
-      last = subst (λ r. ShowsLast (u.moment store) (u.left_only store) v.st r.run.past) (sym (ends_as s Faulted p))
-          (last s.past down.last);
+      last = λ yes. subst (λ r. ShowsLast (u.moment store) (u.left_only store) v.st r.run.past)
+          (sym (ends_as s Faulted p)) (last s.past (down.last yes));
     },
   )
 
   stopped_so : (fault : CallFault) → Stops v fault script_past lines begun
-      → (marks : List Mark) × StoppedSo u before store v.st (the_script v.st marks bytes) v.held v.prefix fault
+      → (marks : List Mark) × StoppedSo u v.sure before store v.st (the_script v.st marks bytes) v.held v.prefix fault
   stopped_so fault p = (
     p.1.0 ++ [],
     record {
-      past = p.0.past;
-      first = subst (λ r. IsFirst p.0.past r.run.past) (sym (script_is v.st (p.1.0 ++ []) bytes)) (p.1.1 []);
-      out = p.2.out;
-      wrote = p.2.wrote;
-      most = p.2.replies;
-      rests = subst (Rests u store) p.2.history.state (closes p.0.state p.2.keeps);
-      shows = shows p.0.past p.2.history.images;
+      writes = record {
+        past = p.0.past;
+        first = subst (λ r. IsFirst p.0.past r.run.past) (sym (script_is v.st (p.1.0 ++ []) bytes)) (p.1.1 []);
+        out = p.2.out;
+        wrote = p.2.wrote;
+        most = p.2.replies;
+      };
+      rests = subst (Rests u v.sure store) p.2.history.state (closes p.0.state p.2.keeps);
+      shows = λ yes. shows yes p.0.past (p.2.history.images yes);
     },
   )
 
-  pub ran : Ends v (Ok (tt {0})) lines begun → HasRun u before (Ok store) v.held v.prefix v.st bytes
+  pub ran : Ends v (Ok (tt {0})) lines begun → HasRun u v.sure before (Ok store) v.held v.prefix v.st bytes
   ran p = rests_so p.0 Ran p.1 p.2
 
-  pub stopped : (fault : ScriptFault) → Ends v (Err fault) lines begun → HasRun u before (Err (store, fault)) v.held
-      v.prefix v.st bytes
+  pub stopped : (fault : ScriptFault) → Ends v (Err fault) lines begun → HasRun u v.sure before (Err (store, fault))
+      v.held v.prefix v.st bytes
   stopped runs.NoMemory p = stopped_so faults.NoMemory p
   stopped runs.DiskFault p = failed_so p.0 p.1 p.2
   stopped (runs.Script n) p = rests_so p.0 (AtLine n) p.1 p.2
   stopped runs.Io p = stopped_so faults.Io p
 
 -- THE RUN NEVER BEGAN: the script wasn't read, or it was out of memory
-module _ {U B : Type 0} (u : Ghosts U B) (store : U) (held : Option (List ℕ)) (st : State) (bytes : List ℕ)
-    (stands : Rests u store st) (durable : IsDurable u store st) where
-  all_follow : (past : List Marked) → IsFirst [] past
-  all_follow past = (past, sym (append-nil past))
+module _ {U B : Type 0} (u : Ghosts U B) (sure : Bool) (store : U) (held : Option (List ℕ)) (st : State)
+    (bytes : List ℕ) (stands : Rests u sure store st) (durable : sure ≡ true → IsDurable u store st) where
+  none_so : (fault : CallFault) → BreaksOff sure fault st [] []
+      → (marks : List Mark) × StoppedSo u sure store store st (the_script st marks bytes) held held fault
+  none_so fault most = (
+    [],
+    record {
+      writes = record {
+        past = [];
+        first = ((the_script st [] bytes).run.past, sym (append-nil (the_script st [] bytes).run.past));
+        out = [];
+        wrote = appends_nothing held;
+        most = most;
+      };
+      rests = stands;
+      shows = λ yes. shows_since u store store st [] (durable yes)
+          (limits_none (u.moment store) (u.left_only store) (stores_of st []));
+    },
+  )
 
   pub unbegun : (fault : ScriptFault) → (fault ≡ runs.NoMemory) ⊎ (fault ≡ runs.Io)
-      → HasRun u store (Err (store, fault)) held held st bytes
-  unbegun fault (inl e) = subst (λ f. HasRun u store (Err (store, f)) held held st bytes) (sym e) (
-    [],
-    record {
-      past = [];
-      first = all_follow (the_script st [] bytes).run.past;
-      out = [];
-      wrote = appends_nothing held;
-      most = inl refl;
-      rests = stands;
-      shows = shows_since u store store st [] durable
-          (limits_none (u.moment store) (u.left_only store) (stores_of st []));
-    },
-  )
-  unbegun fault (inr e) = subst (λ f. HasRun u store (Err (store, f)) held held st bytes) (sym e) (
-    [],
-    record {
-      past = [];
-      first = all_follow (the_script st [] bytes).run.past;
-      out = [];
-      wrote = appends_nothing held;
-      most = ([], [], refl, refl);
-      rests = stands;
-      shows = shows_since u store store st [] durable
-          (limits_none (u.moment store) (u.left_only store) (stores_of st []));
-    },
-  )
+      → HasRun u sure store (Err (store, fault)) held held st bytes
+  unbegun fault (inl e) = subst (λ f. HasRun u sure store (Err (store, f)) held held st bytes) (sym e)
+      (none_so faults.NoMemory (inl refl))
+  unbegun fault (inr e) = subst (λ f. HasRun u sure store (Err (store, f)) held held st bytes) (sym e)
+      (none_so faults.Io ([], [], [], refl, refl, refl))
 
 -- THE COUNT OF FAULTS
 pub counts_as : {U : Type 0} {a b : ℕ} (store : U) (fault : ScriptFault)

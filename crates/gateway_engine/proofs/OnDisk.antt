@@ -1,6 +1,7 @@
 -- From the uploads on a disk to the disk.
 use Rattle.std.proofs.Common.{◌≡◌, ◌≤◌, ◌*◌, inl, inr, ℕ, List, [], ◌∷◌, Option, None, Some, Ok, Err, refl, sym}
-use Rattle.std.proofs.Common.{subst, arith, ⊎_elim, Bool}
+use Rattle.std.proofs.Common.{subst, arith, ⊎_elim, Bool, true, false, ◌∙◌}
+use Rattle.std.specs.Io.KnownBytes.{Appends}
 use Rattle.spool_disk.specs.Disk.{IsImage}
 use Rattle.spool_disk.specs.Views.{Lasts}
 use Rattle.spool_disk.specs.declared.disk.Disk.{Ghosts}
@@ -18,12 +19,13 @@ use Rattle.upload_rules.specs.declared.uploads.Uploads as uploads
 use Rattle.tus_session.specs.History.{State, Marked, beginning, history}
 use Rattle.tus_session.specs.Images.{AllAmong, stores_of, last_stores}
 use Rattle.gateway_engine.specs.Faults.{run_fault}
+use Rattle.gateway_script.proofs.Sure.{outputs_sure, breaks_sure}
 use Rattle.gateway_script.specs.Script as script
 use Rattle.gateway_script.specs.Script.{Exit, Faulted}
 use Rattle.gateway_engine.specs.Ran.{Shows, Rests, EndedSo, RestsSo, FailedSo, StoppedSo, HasRun}
 use Rattle.gateway_engine.specs.Ran.{HasRefused, CountsEither}
 use Rattle.gateway_engine.specs.RanOn.{AllShowOne, LastsOver, EndedOn, RestsOn, FailedOn, StoppedOn, UnopenedOn}
-use Rattle.gateway_engine.specs.RanOn.{HasRunOn}
+use Rattle.gateway_engine.specs.RanOn.{HasRunOn, Opened, Writes}
 use Rattle.gateway_engine.specs.RanOn.{HasFailedOn, HasRefusedOn, refusal_in}
 use Rattle.gateway_script.specs.declared.faults.CallFault.{CallFault}
 use Rattle.gateway_engine.specs.declared.faults.RunFault.{RunFault}
@@ -133,65 +135,94 @@ module _ {D U B : Type 0} (disk : Ghosts D) (disk_of : U → D) (size_of : U →
     }
 
     module _ (counts_now : CountsNow disk (disk_of now))
-        (rests : (st : State) → Rests u now st → AllShow disk (disk_of now) (size_of now) st.world.store)
+        (rests : (st : State) → Rests u true now st → AllShow disk (disk_of now) (size_of now) st.world.store)
         (held prefix : Option (List ℕ)) where
       -- with as many blocks as it was opened with
-      rests_all : (past : List Marked) (st' : State) → Shows u opened now st past → Rests u now st'
+      rests_all : (past : List Marked) (st' : State) → Shows u opened now st past → Rests u true now st'
           → AllShow disk (disk_of now) n st'.world.store
       rests_all past st' shows is =
           subst (λ (k : ℕ). AllShow disk (disk_of now) k st'.world.store) (same_size n (size_of now) shows.since.0)
           (rests st' is)
 
-      ended_on : (r : script.Result) (exit : Exit) → EndedSo u opened now st r held prefix exit
+      ended_on : (r : script.Result) (exit : Exit) → EndedSo u true opened now st r held prefix exit
           → EndedOn disk before (disk_of now) n st r held prefix exit
       ended_on r exit is = record {
-        exits = is.exits;
-        wrote = is.wrote;
+        exits = is.writes.exits;
+        wrote = subst (Appends prefix held)
+            (outputs_sure st r.run.past is.writes.all.out is.writes.all.output ∙ sym is.output) is.writes.all.wrote;
         output = is.output;
         state = is.state;
-        lasts = lasts_over r.run.past is.shows;
+        lasts = lasts_over r.run.past (is.shows refl);
       }
 
-      rests_on : (r : script.Result) (exit : Exit) → RestsSo u opened now st r held prefix exit
+      rests_on : (r : script.Result) (exit : Exit) → RestsSo u true opened now st r held prefix exit
           → RestsOn disk before (disk_of now) n st r held prefix exit
       rests_on r exit is = record {
         ended = ended_on r exit is.ended;
-        shows = rests_all r.run.past r.run.state is.ended.shows is.rests;
+        shows = rests_all r.run.past r.run.state (is.ended.shows refl) is.rests;
       }
 
-      failed_on : (r : script.Result) → FailedSo u opened now st r held prefix
+      failed_on : (r : script.Result) → FailedSo u true opened now st r held prefix
           → FailedOn disk before (disk_of now) n st r held prefix
       failed_on r is =
-          let size : size_of now ≡ n = same_size n (size_of now) is.ended.shows.since.0 in
+          let size : size_of now ≡ n = same_size n (size_of now) (is.ended.shows refl).since.0 in
           let stores : List Store = last_stores st r.run.past in
+          let last = is.last refl in
           record {
             ended = ended_on r Faulted is.ended;
-            shows = all_show_one disk (disk_of now) n is.last.since stores counts_now is.last.reached
-                (subst (λ (k : ℕ). LeftOnly disk (disk_of now) k is.last.since stores) size is.last.left.1);
+            shows = all_show_one disk (disk_of now) n last.since stores counts_now last.reached
+                (subst (λ (k : ℕ). LeftOnly disk (disk_of now) k last.since stores) size last.left.1);
           }
 
-      stopped_on : (r : script.Result) (fault : CallFault) → StoppedSo u opened now st r held prefix fault
+      stopped_on : (r : script.Result) (fault : CallFault) → StoppedSo u true opened now st r held prefix fault
           → StoppedOn disk before (disk_of now) n st r held prefix fault
       stopped_on r fault is = record {
-        past = is.past;
-        first = is.first;
-        out = is.out;
-        wrote = is.wrote;
-        most = is.most;
-        shows = rests_all is.past (history st is.past) is.shows is.rests;
-        lasts = lasts_over is.past is.shows;
+        past = is.writes.past;
+        first = is.writes.first;
+        out = is.writes.out;
+        wrote = is.writes.wrote;
+        most = breaks_sure fault st is.writes.past is.writes.out is.writes.most;
+        shows = rests_all is.writes.past (history st is.writes.past) (is.shows refl) is.rests;
+        lasts = lasts_over is.writes.past (is.shows refl);
       }
 
-      pub ran_on : (bytes : List ℕ) → HasRun u opened (Ok now) held prefix st bytes
+      pub ran_on : (bytes : List ℕ) → HasRun u true opened (Ok now) held prefix st bytes
           → HasRunOn disk before (Ok (disk_of now)) held prefix n st bytes
       ran_on bytes has = (has.0, rests_on _ _ has.1)
 
-      pub broke_on : (bytes : List ℕ) (fault : ScriptFault) → HasRun u opened (Err (now, fault)) held prefix st bytes
+      pub broke_on : (bytes : List ℕ) (fault : ScriptFault)
+          → HasRun u true opened (Err (now, fault)) held prefix st bytes
           → HasRunOn disk before (Err (disk_of now, run_fault fault)) held prefix n st bytes
       broke_on bytes runs.NoMemory has = (has.0, stopped_on _ _ has.1)
       broke_on bytes runs.DiskFault has = (has.0, failed_on _ has.1)
       broke_on bytes (runs.Script line) has = (has.0, rests_on _ _ has.1)
       broke_on bytes runs.Io has = (has.0, stopped_on _ _ has.1)
+
+-- WHAT A RUN WRITES over any disk
+module _ {D U B : Type 0} (u : uploads.Ghosts U B) (before now : U) (d : D) (held prefix : Option (List ℕ)) (st : State)
+    (bytes : List ℕ) where
+  pub writes_all : HasRun u false before (Ok now) held prefix st bytes → Writes (Ok d) held prefix st bytes
+  writes_all has = (has.0, has.1.ended.writes)
+
+  pub writes_most : (fault : ScriptFault) → HasRun u false before (Err (now, fault)) held prefix st bytes
+      → Writes (Err (d, run_fault fault)) held prefix st bytes
+  writes_most runs.NoMemory has = (has.0, has.1.writes)
+  writes_most runs.DiskFault has = (has.0, has.1.ended.writes)
+  writes_most (runs.Script line) has = (has.0, has.1.ended.writes)
+  writes_most runs.Io has = (has.0, has.1.writes)
+
+opened_by : {D : Type 0} (d : D) (fault : ScriptFault) {same : Type 0} → same
+    → Opened {D = D} (Err (d, run_fault fault)) same
+opened_by d runs.NoMemory here = here
+opened_by d runs.DiskFault here = here
+opened_by d (runs.Script line) here = here
+opened_by d runs.Io here = here
+
+-- a fault of a script is met once the disk is opened
+pub opened_so : {D : Type 0} (d : D) (fault : ScriptFault) (told : RunFault) {same : Type 0} → told ≡ run_fault fault
+    → same → Opened {D = D} (Err (d, told)) same
+opened_so {D = D} d fault told {same = same} is here =
+    subst (λ (f : RunFault). Opened {D = D} (Err (d, f)) same) (sym is) (opened_by d fault here)
 
 -- a refusal of a run over uploads is one of the run over their disk
 same_refusal : {D U : Type 0} {a b v w : ℕ} (store : U) (d : D) (fault : ScriptFault)

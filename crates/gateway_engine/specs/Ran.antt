@@ -1,5 +1,5 @@
 -- What a run of a script comes to.
-use Rattle.std.specs.Prelude.{◌≡◌, ◌⊎◌, ◌<◌, ◌≤◌, ◌+◌, ◌^◌, ℕ, List, Option, Result, Ok, Err, true}
+use Rattle.std.specs.Prelude.{◌≡◌, ◌⊎◌, ◌<◌, ◌≤◌, ◌+◌, ◌^◌, ℕ, Bool, true, List, Option, Result, Ok, Err}
 use Rattle.std.specs.Io.KnownBytes.{Appends}
 use Rattle.upload_rules.specs.World.{at_rest}
 use Rattle.upload_rules.specs.declared.uploads.Uploads.{Ghosts}
@@ -7,7 +7,8 @@ use Rattle.tus_session.specs.History.{State, Mark, Marked, history}
 use Rattle.tus_session.specs.Images.{stores_of, ShowsLast, LimitsTo}
 use Rattle.gateway_script.specs.Script as script
 use Rattle.gateway_script.specs.Script.{script as the_script, Exit, Ran, AtLine, Faulted}
-use Rattle.gateway_script.specs.Outputs.{IsFirst, output_of, WroteMost}
+use Rattle.gateway_script.specs.Outputs.{IsFirst, output_of, BreaksOff}
+use Rattle.gateway_script.specs.Runs.{HasWritten}
 use Rattle.gateway_script.specs.declared.faults.CallFault.{CallFault}
 use Rattle.gateway_script.specs.declared.faults.CallFault.TheVariants as calls
 use Rattle.gateway_script.specs.declared.faults.ScriptFault.{ScriptFault}
@@ -21,56 +22,65 @@ pub record Shows {U B : Type 0} (u : Ghosts U B) (before now : U) (st : State) (
   pub limits : LimitsTo (u.moment before) (u.moment now) (u.left_only before) (u.left_only now) (stores_of st past)
 
 -- the uploads are those of the history, and no draft is open
-abbrev pub Rests : {U B : Type 0} → Ghosts U B → U → State → Type 0
-Rests u store st = u.stands store true (at_rest st.world.store st.world.blocks)
+abbrev pub Rests : {U B : Type 0} → Ghosts U B → Bool → U → State → Type 0
+Rests u sure store st = u.stands store sure (at_rest st.world.store st.world.blocks)
 
--- The script ended so, by the marks of its calls, and this was written after what was there: the output of all its
--- events.
-pub record EndedSo {U B : Type 0} (u : Ghosts U B) (before now : U) (st : State) (r : script.Result)
-    (held prefix : Option (List ℕ)) (exit : Exit) : Type 0 where
+-- WHAT IS WRITTEN. The script ended so, by the marks of its calls, and the output of all its events was written after
+-- what was there
+pub record WritesAll (sure : Bool) (st : State) (r : script.Result) (held prefix : Option (List ℕ)) (exit : Exit) :
+    Type 0 where
   pub exits : r.exit ≡ exit
-  pub wrote : Appends prefix held r.run.out
-  pub output : r.run.out ≡ output_of st r.run.past
-  pub state : r.run.state ≡ history st r.run.past
-  pub shows : Shows u before now st r.run.past
+  pub all : HasWritten sure prefix held st r.run.past
 
--- the script ended so, and the store has the uploads of its history, no draft open
-pub record RestsSo {U B : Type 0} (u : Ghosts U B) (before now : U) (st : State) (r : script.Result)
-    (held prefix : Option (List ℕ)) (exit : Exit) : Type 0 where
-  pub ended : EndedSo u before now st r held prefix exit
-  pub rests : Rests u now r.run.state
-
--- the script ended at an event at which the disk failed: images show the uploads after it, or before it
-pub record FailedSo {U B : Type 0} (u : Ghosts U B) (before now : U) (st : State) (r : script.Result)
-    (held prefix : Option (List ℕ)) : Type 0 where
-  pub ended : EndedSo u before now st r held prefix Faulted
-  pub last : ShowsLast (u.moment now) (u.left_only now) st r.run.past
-
--- The run was broken off after these events, the first of the script's. The store has the uploads of their history, no
--- draft open
-pub record StoppedSo {U B : Type 0} (u : Ghosts U B) (before now : U) (st : State) (r : script.Result)
-    (held prefix : Option (List ℕ)) (fault : CallFault) : Type 0 where
+-- the run was broken off after these events, the first of the script's
+pub record WritesSome (sure : Bool) (st : State) (r : script.Result) (held prefix : Option (List ℕ))
+    (fault : CallFault) : Type 0 where
   pub past : List Marked
   pub first : IsFirst past r.run.past
   pub out : List ℕ
   pub wrote : Appends prefix held out
-  pub most : WroteMost fault st past out
-  pub rests : Rests u now (history st past)
-  pub shows : Shows u before now st past
+  pub most : BreaksOff sure fault st past out
+
+-- AND WHAT IS LEFT. The script ended so, and its run is the history's
+pub record EndedSo {U B : Type 0} (u : Ghosts U B) (sure : Bool) (before now : U) (st : State) (r : script.Result)
+    (held prefix : Option (List ℕ)) (exit : Exit) : Type 0 where
+  pub writes : WritesAll sure st r held prefix exit
+  pub output : r.run.out ≡ output_of st r.run.past
+  pub state : r.run.state ≡ history st r.run.past
+  pub shows : sure ≡ true → Shows u before now st r.run.past
+
+-- the script ended so, and the store has the uploads of its history, no draft open
+pub record RestsSo {U B : Type 0} (u : Ghosts U B) (sure : Bool) (before now : U) (st : State) (r : script.Result)
+    (held prefix : Option (List ℕ)) (exit : Exit) : Type 0 where
+  pub ended : EndedSo u sure before now st r held prefix exit
+  pub rests : Rests u sure now r.run.state
+
+-- the script ended at an event at which the disk failed: images show the uploads after it, or before it
+pub record FailedSo {U B : Type 0} (u : Ghosts U B) (sure : Bool) (before now : U) (st : State) (r : script.Result)
+    (held prefix : Option (List ℕ)) : Type 0 where
+  pub ended : EndedSo u sure before now st r held prefix Faulted
+  pub last : sure ≡ true → ShowsLast (u.moment now) (u.left_only now) st r.run.past
+
+-- the run was broken off, and the store has the uploads of the history of its events, no draft open
+pub record StoppedSo {U B : Type 0} (u : Ghosts U B) (sure : Bool) (before now : U) (st : State) (r : script.Result)
+    (held prefix : Option (List ℕ)) (fault : CallFault) : Type 0 where
+  pub writes : WritesSome sure st r held prefix fault
+  pub rests : Rests u sure now (history st writes.past)
+  pub shows : sure ≡ true → Shows u before now st writes.past
 
 -- after a disk fault nothing is known of the store but its images
-abbrev pub HasRun : {U B : Type 0} → Ghosts U B → U → Result U (U × ScriptFault) → Option (List ℕ) → Option (List ℕ)
-    → State → List ℕ → Type 0
-HasRun u before (Ok store) held prefix st bytes =
-    (marks : List Mark) × RestsSo u before store st (the_script st marks bytes) held prefix Ran
-HasRun u before (Err (store, Script n)) held prefix st bytes =
-    (marks : List Mark) × RestsSo u before store st (the_script st marks bytes) held prefix (AtLine n)
-HasRun u before (Err (store, DiskFault)) held prefix st bytes =
-    (marks : List Mark) × FailedSo u before store st (the_script st marks bytes) held prefix
-HasRun u before (Err (store, NoMemory)) held prefix st bytes =
-    (marks : List Mark) × StoppedSo u before store st (the_script st marks bytes) held prefix calls.NoMemory
-HasRun u before (Err (store, Io)) held prefix st bytes =
-    (marks : List Mark) × StoppedSo u before store st (the_script st marks bytes) held prefix calls.Io
+abbrev pub HasRun : {U B : Type 0} → Ghosts U B → Bool → U → Result U (U × ScriptFault) → Option (List ℕ)
+    → Option (List ℕ) → State → List ℕ → Type 0
+HasRun u sure before (Ok store) held prefix st bytes =
+    (marks : List Mark) × RestsSo u sure before store st (the_script st marks bytes) held prefix Ran
+HasRun u sure before (Err (store, Script n)) held prefix st bytes =
+    (marks : List Mark) × RestsSo u sure before store st (the_script st marks bytes) held prefix (AtLine n)
+HasRun u sure before (Err (store, DiskFault)) held prefix st bytes =
+    (marks : List Mark) × FailedSo u sure before store st (the_script st marks bytes) held prefix
+HasRun u sure before (Err (store, NoMemory)) held prefix st bytes =
+    (marks : List Mark) × StoppedSo u sure before store st (the_script st marks bytes) held prefix calls.NoMemory
+HasRun u sure before (Err (store, Io)) held prefix st bytes =
+    (marks : List Mark) × StoppedSo u sure before store st (the_script st marks bytes) held prefix calls.Io
 
 -- the disk failed
 abbrev pub HasFailed : {U : Type 0} → Result U (U × ScriptFault) → Type 0

@@ -1,5 +1,5 @@
 -- What a run of a script over a spool on a disk comes to.
-use Rattle.std.specs.Prelude.{◌≡◌, ◌≤◌, ◌*◌, ℕ, List, Option, None, Some, Result, Ok, Err}
+use Rattle.std.specs.Prelude.{◌≡◌, ◌≤◌, ◌*◌, ℕ, false, List, Option, None, Some, Result, Ok, Err}
 use Rattle.std.specs.Io.KnownBytes.{Appends}
 use Rattle.spool_disk.specs.Disk.{IsImage}
 use Rattle.spool_disk.specs.Views.{Lasts}
@@ -16,6 +16,7 @@ use Rattle.gateway_script.specs.Script.{script as the_script, Exit, Ran, AtLine,
 use Rattle.gateway_script.specs.Outputs.{IsFirst, output_of, WroteMost}
 use Rattle.gateway_script.specs.declared.faults.CallFault.{CallFault}
 use Rattle.gateway_script.specs.declared.faults.CallFault.TheVariants as calls
+use Rattle.gateway_engine.specs.Ran.{WritesAll, WritesSome}
 use Rattle.gateway_engine.specs.declared.faults.RunFault.{RunFault}
 use Rattle.gateway_engine.specs.declared.faults.RunFault.TheVariants.{Open, NoMemory, DiskFault, Script, Io}
 
@@ -102,6 +103,20 @@ HasRunOn disk before (Err (d, Open _)) held prefix n st bytes = ⊥
 
 -- WHATEVER THE DISK
 
+-- What a run writes: the output of the script's events over the uploads with which it began, but for the bytes of texts
+abbrev pub Writes : {D : Type 0} → Result D (D × RunFault) → Option (List ℕ) → Option (List ℕ) → State → List ℕ → Type 0
+Writes (Ok d) held prefix st bytes =
+    (marks : List Mark) × WritesAll false st (the_script st marks bytes) held prefix Ran
+Writes (Err (d, Script line)) held prefix st bytes =
+    (marks : List Mark) × WritesAll false st (the_script st marks bytes) held prefix (AtLine line)
+Writes (Err (d, DiskFault)) held prefix st bytes =
+    (marks : List Mark) × WritesAll false st (the_script st marks bytes) held prefix Faulted
+Writes (Err (d, NoMemory)) held prefix st bytes =
+    (marks : List Mark) × WritesSome false st (the_script st marks bytes) held prefix calls.NoMemory
+Writes (Err (d, Io)) held prefix st bytes =
+    (marks : List Mark) × WritesSome false st (the_script st marks bytes) held prefix calls.Io
+Writes (Err (d, Open fault)) held prefix st bytes = held ≡ prefix
+
 -- the disk that is handed back
 abbrev pub disk_back : {D : Type 0} → Result D (D × RunFault) → D
 disk_back (Ok d) = d
@@ -127,3 +142,8 @@ HasRefusedOn result = ⊥
 abbrev pub Unopened : {D : Type 0} → Result D (D × RunFault) → Type 0 → Type 0
 Unopened (Err (d, Open fault)) same = same
 Unopened result same = Unit {0}
+
+-- where it was, this holds
+abbrev pub Opened : {D : Type 0} → Result D (D × RunFault) → Type 0 → Type 0
+Opened (Err (d, Open fault)) same = Unit {0}
+Opened result same = same

@@ -1,5 +1,5 @@
 //! A script over a store of uploads.
-ghost use Rattle.std.specs.Prelude.{ℕ, List, Option, true};
+ghost use Rattle.std.specs.Prelude.{ℕ, Bool, List, Option};
 ghost use Rattle.upload_rules.specs.Store.{Store};
 ghost use Rattle.upload_rules.specs.World.{at_rest};
 ghost use Rattle.upload_rules.specs.Answers.{Counts};
@@ -25,11 +25,13 @@ pub fn run_over<U: Uploads, R: CountedRead, W: CountedWrite>(
     writer: &mut W,
     store: U,
 ) -> Result<U, (U, ScriptFault)>
-    // What is written is the script's output, with a mark for each call that was out of memory. Images show the
-    // uploads of its history.
-    ensures output { (m : Store) (blocks : Option ℕ) → U.stands store true (at_rest m blocks)
+    // What is written is the script's output, with a mark for each call that was out of memory, whatever the disk, but
+    // for the bytes of texts. Where the disk is known to be honest these are the texts', and images show the uploads
+    // of the script's history.
+    ensures output { (sure : Bool) (m : Store) (blocks : Option ℕ) → U.stands store sure (at_rest m blocks)
         → (script : List ℕ) × IsScript (R.remaining reader.old) script
-        × HasRun U.Uploads store result (W.contents writer.new) (W.contents writer.old) (beginning m blocks) script }
+        × HasRun U.Uploads sure store result (W.contents writer.new) (W.contents writer.old) (beginning m blocks)
+        script }
     ensures counts { Counts (HasFailed result) (U.failures store) (U.failures (store_of result)) }
 
     // `Io` exactly where the reader or the writer refused a call.

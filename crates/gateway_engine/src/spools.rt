@@ -13,7 +13,7 @@ ghost use Rattle.tus_session.specs.History.{State, beginning};
 ghost use Rattle.gateway_engine.specs.Gateways.{GatewayStands, disk_in, size_in, disk_after, is_down, store_of};
 ghost use Rattle.gateway_script.specs.Script.{IsScript};
 ghost use Rattle.gateway_engine.specs.Ran.{CountsEither};
-ghost use Rattle.gateway_engine.specs.RanOn.{HasRunOn, HasFailedOn, HasRefusedOn, Unopened};
+ghost use Rattle.gateway_engine.specs.RanOn.{HasRunOn, HasFailedOn, HasRefusedOn, Opened, Unopened, Writes};
 ghost use Rattle.gateway_engine.specs.RanOn.{disk_back, refusal_in};
 
 use crate::faults::RunFault;
@@ -99,6 +99,12 @@ pub fn run<D: Disk, R: CountedRead, W: CountedWrite>(
     ensures runs { (n : ℕ) (m : Store) → IsSpool D.Disk disk n m
         → (script : List ℕ) × IsScript (R.remaining reader.old) script
         × HasRunOn D.Disk disk result (W.contents writer.new) (W.contents writer.old) n (beginning m (Some n)) script }
+
+    // Over any disk that is opened: what was read is what a view says, and for the uploads that this shows the exit and
+    // the output are the script's, but for the bytes of texts, which are as many.
+    ensures writes { Opened result ((v : View) × ((m : Store) → Shows v m
+        → (script : List ℕ) × IsScript (R.remaining reader.old) script
+        × Writes result (W.contents writer.new) (W.contents writer.old) (beginning m (Some v.blocks)) script)) }
 
     // What is opened is a valid spool. Each refusal to open has its reason, and each reason is answered so.
     ensures exact { D.honest disk → OpensExactly (D.size disk) (D.current disk) (refusal_in result) }

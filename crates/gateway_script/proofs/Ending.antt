@@ -140,7 +140,7 @@ went_cut v (Err faults.Io) k n r is_open up p = cut_stops v faults.Io k n r is_o
 
 pub cut_done : {C : Type 0} (v : View C) (now : C) (k n : ℕ) (r : Run) → IsAt v r
     → Leaves v now r.state.world.store (shown_by r.state (Ended n) Served)
-    → Does (v.u.stands now true) (Ok (tt {0})) r.state (Ended n)
+    → Does (v.u.stands now v.sure) (Ok (tt {0})) r.state (Ended n)
     → CutOne (current_after v now v.held) (Ok (tt {0})) k n r
 cut_done v now k n r at leaves does =
     went_cut (current_after v now v.held) (Ok (tt {0})) k n r (ended_open r.state n does.answer) at.up
@@ -148,14 +148,14 @@ cut_done v now k n r at leaves does =
 
 pub cut_skipped : {C : Type 0} (v : View C) (now : C) (k n : ℕ) (r : Run) → IsAt v r
     → Leaves v now r.state.world.store (shown_by r.state (Ended n) Served)
-    → Does (v.u.stands now true) (Err errors.Closed) r.state (Ended n)
+    → Does (v.u.stands now v.sure) (Err errors.Closed) r.state (Ended n)
     → CutOne (current_after v now v.held) (Ok (tt {0})) k n r
 cut_skipped v now k n r at leaves does =
     let c = ended_closed r.state n does.answer in (
       r,
       cut_closed k n r c.0 at.up,
       record {
-        keeps = subst (v.u.stands now true) c.1 does.keeps;
+        keeps = subst (v.u.stands now v.sure) c.1 does.keeps;
         wrote = at.wrote;
         up = at.up;
         history = history_same v now v.held r at.history
@@ -167,7 +167,7 @@ pub cut_refused : {C : Type 0} (v : View C) (now : C) (held : Option (List ℕ))
     (result : Result (Unit {0}) CallFault)
     → IsAt v r → OnDevice v r
     → Leaves v now r.state.world.store (shown_by r.state (Ended n) (mark_of {T = Unit {0}} (Err f)))
-    → Does (v.u.stands now true) (Err f) r.state (Ended n) → Falling v now f
+    → Does (v.u.stands now v.sure) (Err f) r.state (Ended n) → Falling v now f
     → (f ≡ errors.Closed → ⊥) → Refuses v.held held result n f → CutOne (current_after v now held) result k n r
 cut_refused v now held k n r errors.NoMemory result at durable leaves does fell other refuses =
     went_cut (current_after v now held) result k n r (ended_lost r.state n does.answer) at.up
@@ -267,7 +267,13 @@ line_wants v number start line lines r at = (
   r,
   passes_by script_past (run_lines number start (line ∷ lines)) (run_lines number start (line ∷ lines)) r r
       (reach_none (run_lines number start (line ∷ lines)) r) (lines_add number start (line ∷ lines)),
-  record { keeps = at.keeps; out = r.out; wrote = at.wrote; replies = inl at.history.output; history = at.history },
+  record {
+    keeps = at.keeps;
+    out = at.wrote.out;
+    wrote = at.wrote.wrote;
+    replies = inl at.wrote.output;
+    history = at.history;
+  },
 )
 
 pub line_stops : {C : Type 0} (v : View C) (fault : CallFault) (number start : ℕ) (line : List ℕ)

@@ -5,3 +5,4 @@ pub mod Seen
 pub mod Turns
 pub mod Reaching
 pub mod Ending
+pub mod Sure

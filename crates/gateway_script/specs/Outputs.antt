@@ -1,8 +1,9 @@
 -- What is written of a list of events, and parts of it. Of each list the latest event is first.
-use Rattle.std.specs.Prelude.{◌≡◌, ◌⊎◌, ℕ, List, [], ◌∷◌, ◌++◌, drop, codes, Option, Result, Ok, Err}
+use Rattle.std.specs.Prelude.{◌≡◌, ◌⊎◌, ℕ, Bool, List, [], ◌∷◌, ◌++◌, drop, codes, Option, Result, Ok, Err}
 use Rattle.std.specs.Fmt.{decimal}
 use Rattle.std.specs.Io.KnownBytes.{Appends}
-use Rattle.tus_session.specs.History.{State, Marked, step, history, conn_in}
+use Rattle.tus_action.specs.Serves.{Appends as Given}
+use Rattle.tus_session.specs.History.{State, Marked, Outcome, Gave, step, history, conn_in}
 use Rattle.gateway_script.specs.Script.{written}
 use Rattle.gateway_script.specs.declared.faults.CallFault.{CallFault}
 use Rattle.gateway_script.specs.declared.faults.CallFault.TheVariants.{NoMemory, DiskFault, Io}
@@ -17,12 +18,40 @@ abbrev pub output_of : State → List Marked → List ℕ
 output_of st [] = []
 output_of st (e ∷ past) = output_of st past ++ last_output st (e ∷ past)
 
+-- WHAT IS WRITTEN of one outcome whatever the disk: the bytes of a text, if those given end in one, are as many as the
+-- history's, and the same where that is sure; all else is the history's
+abbrev pub WritesAs : Bool → ℕ → Outcome → List ℕ → List ℕ → Type 0
+WritesAs sure n (Gave bytes taken closes more) text out =
+    (given : List ℕ) × Given sure [] given bytes text × (out ≡ written n (Gave given taken closes more))
+WritesAs sure n outcome text out = out ≡ written n outcome
+
+-- the same of the latest event
+abbrev pub LastOutput : Bool → State → List Marked → List ℕ → Type 0
+LastOutput sure st [] out = out ≡ []
+LastOutput sure st (e ∷ past) out =
+    let t = step (history st past) e.0 e.1 in WritesAs sure (conn_in e.0) t.outcome t.text out
+
+-- the same of all events
+abbrev pub Outputs : Bool → State → List Marked → List ℕ → Type 0
+Outputs sure st [] out = out ≡ []
+Outputs sure st (e ∷ past) out =
+    (before : List ℕ) × (last : List ℕ) × Outputs sure st past before × LastOutput sure st (e ∷ past) last
+    × (out ≡ before ++ last)
+
 -- these are the first of all events
 abbrev pub IsFirst : List Marked → List Marked → Type 0
 IsFirst first all = (later : List Marked) × (all ≡ later ++ first)
 
--- What was written of these events by a run that was broken off: all, but nothing of the latest where memory was
--- wanting, or of the latest a prefix part, where the writer failed
+-- What was written of these events by a run that was broken off: all, or nothing of the latest, where it was out of
+-- memory; and of the latest a prefix, where the writer failed
+abbrev pub BreaksOff : Bool → CallFault → State → List Marked → List ℕ → Type 0
+BreaksOff sure NoMemory st past out = Outputs sure st past out ⊎ Outputs sure st (drop 1 past) out
+BreaksOff sure Io st past out =
+    (before : List ℕ) × (part : List ℕ) × (missing : List ℕ) × Outputs sure st (drop 1 past) before
+    × LastOutput sure st past (part ++ missing) × (out ≡ before ++ part)
+BreaksOff sure DiskFault st past out = ⊥
+
+-- the same by the history's own output
 abbrev pub WroteMost : CallFault → State → List Marked → List ℕ → Type 0
 WroteMost NoMemory st past out = (out ≡ output_of st past) ⊎ (out ≡ output_of st (drop 1 past))
 WroteMost Io st past out =

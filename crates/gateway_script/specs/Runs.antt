@@ -11,7 +11,7 @@ use Rattle.tus_session.specs.declared.connections.Connections.{Ghosts}
 use Rattle.gateway_script.specs.Script as script
 use Rattle.gateway_script.specs.Script.{Run, Flow, flow, call, give_within, cut_from, run_lines, ended_as, Ran, Faulted}
 use Rattle.gateway_script.specs.Script.{AtLine, is_fault, written, written_bytes, written_close, written_refusal}
-use Rattle.gateway_script.specs.Outputs.{IsFirst, output_of, WroteMost, AppendsPart}
+use Rattle.gateway_script.specs.Outputs.{IsFirst, output_of, Outputs, BreaksOff, AppendsPart}
 use Rattle.gateway_script.specs.declared.faults.CallFault.{CallFault}
 use Rattle.gateway_script.specs.declared.faults.CallFault.TheVariants.{DiskFault, NoMemory, Io}
 use Rattle.gateway_script.specs.declared.faults.ScriptFault.{ScriptFault}
@@ -21,50 +21,59 @@ use Rattle.gateway_script.specs.declared.faults.ScriptFault.TheVariants as runs
 abbrev pub with_marks : Run → List Mark → Run
 with_marks r marks = record r { marks = marks }
 
--- A run as it is seen: the connections before it and now, where the history was before it, and what the writer holds
--- now, and held before it
+-- A run as it is seen: whether the disk is known to be honest, the connections before it and now, where the history was
+-- before it, and what the writer holds now, and held before it
 pub record View (C : Type 0) : Type 1 where
   pub u : Ghosts C
+  pub sure : Bool
   pub before : C
   pub now : C
   pub st : State
   pub held : Option (List ℕ)
   pub prefix : Option (List ℕ)
 
-abbrev pub view : {C : Type 0} → Ghosts C → C → C → State → Option (List ℕ) → Option (List ℕ) → View C
-view u before now st held prefix = record { u = u; before = before; now = now; st = st; held = held; prefix = prefix }
+abbrev pub view : {C : Type 0} → Ghosts C → Bool → C → C → State → Option (List ℕ) → Option (List ℕ) → View C
+view u sure before now st held prefix =
+    record { u = u; sure = sure; before = before; now = now; st = st; held = held; prefix = prefix }
 
 -- The run is at the history of its events, and its output is theirs. Since its beginning images are limited to its
--- uploads
+-- uploads, where the disk is known to be honest
 pub record IsHistory {C : Type 0} (v : View C) (r : Run) : Type 0 where
   pub state : r.state ≡ history v.st r.past
   pub output : r.out ≡ output_of v.st r.past
-  pub images : LimitsTo (v.u.moment v.before) (v.u.moment v.now) (v.u.left_only v.before) (v.u.left_only v.now)
-      (stores_of v.st r.past)
+  pub images : v.sure ≡ true → LimitsTo (v.u.moment v.before) (v.u.moment v.now) (v.u.left_only v.before)
+      (v.u.left_only v.now) (stores_of v.st r.past)
+
+-- the writer holds the output of these events after what was there before, but for the bytes of texts where the disk
+-- isn't known
+pub record HasWritten (sure : Bool) (prefix held : Option (List ℕ)) (st : State) (past : List Marked) : Type 0 where
+  pub out : List ℕ
+  pub wrote : Appends prefix held out
+  pub output : Outputs sure st past out
 
 -- the connections are where the run is, the writer holds what it wrote after what was there before, and the disk
 -- hasn't failed
 pub record IsAt {C : Type 0} (v : View C) (r : Run) : Type 0 where
-  pub keeps : v.u.stands v.now true r.state
-  pub wrote : Appends v.prefix v.held r.out
+  pub keeps : v.u.stands v.now v.sure r.state
+  pub wrote : HasWritten v.sure v.prefix v.held v.st r.past
   pub up : r.down ≡ false
   pub history : IsHistory v r
 
 -- the disk failed at the latest event, after what the run wrote, and so the connections are down
 pub record IsDown {C : Type 0} (v : View C) (r : Run) : Type 0 where
-  pub wrote : Appends v.prefix v.held r.out
+  pub wrote : HasWritten v.sure v.prefix v.held v.st r.past
   pub down : r.down ≡ true
   pub fell : v.u.down v.now ≡ true
   pub history : IsHistory v r
-  pub last : ShowsLast (v.u.moment v.now) (v.u.left_only v.now) v.st r.past
+  pub last : v.sure ≡ true → ShowsLast (v.u.moment v.now) (v.u.left_only v.now) v.st r.past
 
 -- the writer failed or it was out of memory, and the connections are where the run is; what it gave last may not be
 -- written
 pub record IsStopped {C : Type 0} (v : View C) (fault : CallFault) (r : Run) : Type 0 where
-  pub keeps : v.u.stands v.now true r.state
+  pub keeps : v.u.stands v.now v.sure r.state
   pub out : List ℕ
   pub wrote : Appends v.prefix v.held out
-  pub replies : WroteMost fault v.st r.past out
+  pub replies : BreaksOff v.sure fault v.st r.past out
   pub history : IsHistory v r
 
 -- what is to be made of one run is what is to be made of another, by some marks of the calls between

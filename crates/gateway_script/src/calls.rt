@@ -1,5 +1,5 @@
 //! A call on the connections, and what it writes.
-ghost use Rattle.std.specs.Prelude.{ℕ, List, Option, IsErrOf};
+ghost use Rattle.std.specs.Prelude.{ℕ, Bool, List, Option, IsErrOf};
 ghost use Rattle.upload_rules.specs.Answers.{Counts};
 ghost use Rattle.tus_session.specs.History.{State, Opened, Came, More, Ended};
 ghost use Rattle.gateway_script.specs.Script.{Run, call};
@@ -56,9 +56,9 @@ pub(crate) fn open<C: Connections, W: CountedWrite>(
     writer: &mut W,
     conn: usize,
 ) -> Result<(), CallFault>
-    ensures does { (before : C) (st : State) (r : Run) (prefix : Option (List ℕ))
-        → IsAt (view C.Connections before core.old st (W.contents writer.old) prefix) r
-        → Went (view C.Connections before core.new st (W.contents writer.new) prefix) result
+    ensures does { (sure : Bool) (before : C) (st : State) (r : Run) (prefix : Option (List ℕ))
+        → IsAt (view C.Connections sure before core.old st (W.contents writer.old) prefix) r
+        → Went (view C.Connections sure before core.new st (W.contents writer.new) prefix) result
         (λ x. (call x conn (Opened conn)).run) r }
     ensures counts { Counts (IsErrOf result CallFault.DiskFault) (C.failures core.old) (C.failures core.new) }
     ensures io { Counts (IsErrOf result CallFault.Io) (W.refusals writer.old) (W.refusals writer.new) }
@@ -76,9 +76,9 @@ pub(crate) fn cut<C: Connections, W: CountedWrite>(
     writer: &mut W,
     conn: usize,
 ) -> Result<(), CallFault>
-    ensures does { (before : C) (st : State) (r : Run) (prefix : Option (List ℕ))
-        → IsAt (view C.Connections before core.old st (W.contents writer.old) prefix) r
-        → Went (view C.Connections before core.new st (W.contents writer.new) prefix) result
+    ensures does { (sure : Bool) (before : C) (st : State) (r : Run) (prefix : Option (List ℕ))
+        → IsAt (view C.Connections sure before core.old st (W.contents writer.old) prefix) r
+        → Went (view C.Connections sure before core.new st (W.contents writer.new) prefix) result
         (λ x. (call x conn (Ended conn)).run) r }
     ensures counts { Counts (IsErrOf result CallFault.DiskFault) (C.failures core.old) (C.failures core.new) }
     ensures io { Counts (IsErrOf result CallFault.Io) (W.refusals writer.old) (W.refusals writer.new) }
@@ -97,9 +97,9 @@ pub(crate) fn came<C: Connections, W: CountedWrite>(
     conn: usize,
     bytes: &[u8],
 ) -> Result<Option<Answer>, CallFault>
-    ensures does { (before : C) (st : State) (r : Run) (prefix : Option (List ℕ))
-        → IsAt (view C.Connections before core.old st (W.contents writer.old) prefix) r
-        → Called (view C.Connections before core.new st (W.contents writer.new) prefix) result conn
+    ensures does { (sure : Bool) (before : C) (st : State) (r : Run) (prefix : Option (List ℕ))
+        → IsAt (view C.Connections sure before core.old st (W.contents writer.old) prefix) r
+        → Called (view C.Connections sure before core.new st (W.contents writer.new) prefix) result conn
         (Came conn bytes.now) r }
     ensures counts { Counts (IsErrOf result CallFault.DiskFault) (C.failures core.old) (C.failures core.new) }
     ensures io { Counts (IsErrOf result CallFault.Io) (W.refusals writer.old) (W.refusals writer.new) }
@@ -124,9 +124,9 @@ pub(crate) fn more<C: Connections, W: CountedWrite>(
     writer: &mut W,
     conn: usize,
 ) -> Result<Option<Answer>, CallFault>
-    ensures does { (before : C) (st : State) (r : Run) (prefix : Option (List ℕ))
-        → IsAt (view C.Connections before core.old st (W.contents writer.old) prefix) r
-        → Called (view C.Connections before core.new st (W.contents writer.new) prefix) result conn (More conn) r }
+    ensures does { (sure : Bool) (before : C) (st : State) (r : Run) (prefix : Option (List ℕ))
+        → IsAt (view C.Connections sure before core.old st (W.contents writer.old) prefix) r
+        → Called (view C.Connections sure before core.new st (W.contents writer.new) prefix) result conn (More conn) r }
     ensures counts { Counts (IsErrOf result CallFault.DiskFault) (C.failures core.old) (C.failures core.new) }
     ensures io { Counts (IsErrOf result CallFault.Io) (W.refusals writer.old) (W.refusals writer.new) }
 {

@@ -1,5 +1,5 @@
 //! The bytes of a line, given until all are taken.
-ghost use Rattle.std.specs.Prelude.{◌≡◌, ℕ, Option, List, [], length, drop, IsErrOf};
+ghost use Rattle.std.specs.Prelude.{◌≡◌, ℕ, Bool, Option, List, [], length, drop, IsErrOf};
 ghost use Rattle.upload_rules.specs.Answers.{Counts};
 ghost use Rattle.tus_session.specs.History.{State, Gave};
 ghost use Rattle.gateway_script.specs.Script.{Run, mores, mores_after, most_calls, give_within};
@@ -30,9 +30,10 @@ fn give_text<C: Connections, W: CountedWrite>(
     writer: &mut W,
     conn: usize,
 ) -> Result<bool, CallFault>
-    ensures does { (before : C) (st : State) (r : Run) (prefix : Option (List ℕ))
-        → IsAt (view C.Connections before core.old st (W.contents writer.old) prefix) r
-        → Flowed (view C.Connections before core.new st (W.contents writer.new) prefix) result (mores most_calls conn)
+    ensures does { (sure : Bool) (before : C) (st : State) (r : Run) (prefix : Option (List ℕ))
+        → IsAt (view C.Connections sure before core.old st (W.contents writer.old) prefix) r
+        → Flowed (view C.Connections sure before core.new st (W.contents writer.new) prefix) result
+        (mores most_calls conn)
         r }
     ensures counts { Counts (IsErrOf result CallFault.DiskFault) (C.failures core.old) (C.failures core.new) }
     ensures io { Counts (IsErrOf result CallFault.Io) (W.refusals writer.old) (W.refusals writer.new) }
@@ -56,9 +57,9 @@ fn go_on<C: Connections, W: CountedWrite>(
     conn: usize,
     answer: Answer,
 ) -> Result<bool, CallFault>
-    ensures does { (before : C) (st : State) (r : Run) (prefix : Option (List ℕ)) (given : List ℕ)
-        → IsAt (view C.Connections before core.old st (W.contents writer.old) prefix) r
-        → Flowed (view C.Connections before core.new st (W.contents writer.new) prefix) result
+    ensures does { (sure : Bool) (before : C) (st : State) (r : Run) (prefix : Option (List ℕ)) (given : List ℕ)
+        → IsAt (view C.Connections sure before core.old st (W.contents writer.old) prefix) r
+        → Flowed (view C.Connections sure before core.new st (W.contents writer.new) prefix) result
         (λ x. mores_after (mores most_calls conn)
         (record { run = x; outcome = Gave given answer.taken answer.closes answer.more })) r }
     ensures counts { Counts (IsErrOf result CallFault.DiskFault) (C.failures core.old) (C.failures core.new) }
@@ -78,9 +79,11 @@ fn give_once<C: Connections, W: CountedWrite>(
     conn: usize,
     bytes: &[u8],
 ) -> Result<Option<usize>, CallFault>
-    ensures does { (before : C) (st : State) (r : Run) (prefix : Option (List ℕ)) (k : ℕ) → (bytes.now ≡ [] → ⊥)
-        → IsAt (view C.Connections before core.old st (W.contents writer.old) prefix) r
-        → GivenOnce (view C.Connections before core.new st (W.contents writer.new) prefix) result k conn bytes.now r }
+    ensures does { (sure : Bool) (before : C) (st : State) (r : Run) (prefix : Option (List ℕ)) (k : ℕ)
+        → (bytes.now ≡ [] → ⊥)
+        → IsAt (view C.Connections sure before core.old st (W.contents writer.old) prefix) r
+        → GivenOnce (view C.Connections sure before core.new st
+        (W.contents writer.new) prefix) result k conn bytes.now r }
     ensures counts { Counts (IsErrOf result CallFault.DiskFault) (C.failures core.old) (C.failures core.new) }
     ensures io { Counts (IsErrOf result CallFault.Io) (W.refusals writer.old) (W.refusals writer.new) }
 {
@@ -112,9 +115,9 @@ pub(crate) fn give<C: Connections, W: CountedWrite>(
     conn: usize,
     bytes: &[u8],
 ) -> Result<(), CallFault>
-    ensures does { (before : C) (st : State) (r : Run) (prefix : Option (List ℕ))
-        → IsAt (view C.Connections before core.old st (W.contents writer.old) prefix) r
-        → Went (view C.Connections before core.new st (W.contents writer.new) prefix) result
+    ensures does { (sure : Bool) (before : C) (st : State) (r : Run) (prefix : Option (List ℕ))
+        → IsAt (view C.Connections sure before core.old st (W.contents writer.old) prefix) r
+        → Went (view C.Connections sure before core.new st (W.contents writer.new) prefix) result
         (give_within (length bytes.now) conn bytes.now) r }
     ensures counts { Counts (IsErrOf result CallFault.DiskFault) (C.failures core.old) (C.failures core.new) }
     ensures io { Counts (IsErrOf result CallFault.Io) (W.refusals writer.old) (W.refusals writer.new) }

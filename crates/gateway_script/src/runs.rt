@@ -1,5 +1,5 @@
 //! The lines of a script, one after another, and its end.
-ghost use Rattle.std.specs.Prelude.{◌≡◌, ◌≤◌, ℕ, Option, List, length, IsErrOf};
+ghost use Rattle.std.specs.Prelude.{◌≡◌, ◌≤◌, ℕ, Bool, Option, List, length, IsErrOf};
 ghost use Rattle.std.specs.Io.BufRead.{take_through};
 ghost use Rattle.upload_rules.specs.Answers.{Counts};
 ghost use Rattle.tus_session.specs.History.{State, most_open};
@@ -29,9 +29,9 @@ fn obey<C: Connections, W: CountedWrite>(
     writer: &mut W,
     order: &Order,
 ) -> Result<(), CallFault>
-    ensures does { (before : C) (st : State) (r : Run) (prefix : Option (List ℕ))
-        → IsAt (view C.Connections before core.old st (W.contents writer.old) prefix) r
-        → Went (view C.Connections before core.new st (W.contents writer.new) prefix) result
+    ensures does { (sure : Bool) (before : C) (st : State) (r : Run) (prefix : Option (List ℕ))
+        → IsAt (view C.Connections sure before core.old st (W.contents writer.old) prefix) r
+        → Went (view C.Connections sure before core.new st (W.contents writer.new) prefix) result
         (obeyed (order_shown order.now)) r }
     ensures counts { Counts (IsErrOf result CallFault.DiskFault) (C.failures core.old) (C.failures core.new) }
     ensures io { Counts (IsErrOf result CallFault.Io) (W.refusals writer.old) (W.refusals writer.new) }
@@ -51,9 +51,9 @@ fn cut_open<C: Connections, W: CountedWrite>(
     writer: &mut W,
     conn: usize,
 ) -> Result<(), CallFault>
-    ensures does { (before : C) (st : State) (r : Run) (prefix : Option (List ℕ)) (k : ℕ)
-        → IsAt (view C.Connections before core.old st (W.contents writer.old) prefix) r
-        → CutOne (view C.Connections before core.new st (W.contents writer.new) prefix) result k conn r }
+    ensures does { (sure : Bool) (before : C) (st : State) (r : Run) (prefix : Option (List ℕ)) (k : ℕ)
+        → IsAt (view C.Connections sure before core.old st (W.contents writer.old) prefix) r
+        → CutOne (view C.Connections sure before core.new st (W.contents writer.new) prefix) result k conn r }
     ensures counts { Counts (IsErrOf result CallFault.DiskFault) (C.failures core.old) (C.failures core.new) }
     ensures io { Counts (IsErrOf result CallFault.Io) (W.refusals writer.old) (W.refusals writer.new) }
 {
@@ -98,9 +98,10 @@ fn run_line<C: Connections, W: CountedWrite>(
     start: u64,
     line: &[u8],
 ) -> Result<(), ScriptFault>
-    ensures does { (before : C) (st : State) (r : Run) (prefix : Option (List ℕ)) (lines : List (List ℕ))
-        → IsAt (view C.Connections before core.old st (W.contents writer.old) prefix) r
-        → LineRan (view C.Connections before core.new st (W.contents writer.new) prefix) result number start line.now
+    ensures does { (sure : Bool) (before : C) (st : State) (r : Run) (prefix : Option (List ℕ)) (lines : List (List ℕ))
+        → IsAt (view C.Connections sure before core.old st (W.contents writer.old) prefix) r
+        → LineRan (view C.Connections sure before core.new st
+        (W.contents writer.new) prefix) result number start line.now
         lines r }
     ensures counts { Counts (IsErrOf result ScriptFault.DiskFault) (C.failures core.old) (C.failures core.new) }
     ensures io { Counts (IsErrOf result ScriptFault.Io) (W.refusals writer.old) (W.refusals writer.new) }
@@ -122,9 +123,10 @@ fn cut_all<C: Connections, W: CountedWrite>(
     core: &mut C,
     writer: &mut W,
 ) -> Result<(), CallFault>
-    ensures does { (before : C) (st : State) (r : Run) (prefix : Option (List ℕ))
-        → IsAt (view C.Connections before core.old st (W.contents writer.old) prefix) r
-        → Went (view C.Connections before core.new st (W.contents writer.new) prefix) result (cut_from most_open 0) r }
+    ensures does { (sure : Bool) (before : C) (st : State) (r : Run) (prefix : Option (List ℕ))
+        → IsAt (view C.Connections sure before core.old st (W.contents writer.old) prefix) r
+        → Went (view C.Connections sure before core.new st (W.contents writer.new) prefix) result
+        (cut_from most_open 0) r }
     ensures counts { Counts (IsErrOf result CallFault.DiskFault) (C.failures core.old) (C.failures core.new) }
     ensures io { Counts (IsErrOf result CallFault.Io) (W.refusals writer.old) (W.refusals writer.new) }
 {
@@ -143,9 +145,9 @@ pub fn run_script<C: Connections, W: CountedWrite>(
     writer: &mut W,
     script: &[u8],
 ) -> Result<(), ScriptFault>
-    ensures does { (before : C) (st : State) (r : Run) (prefix : Option (List ℕ))
-        → IsAt (view C.Connections before core.old st (W.contents writer.old) prefix) r
-        → Ends (view C.Connections before core.new st (W.contents writer.new) prefix) result
+    ensures does { (sure : Bool) (before : C) (st : State) (r : Run) (prefix : Option (List ℕ))
+        → IsAt (view C.Connections sure before core.old st (W.contents writer.old) prefix) r
+        → Ends (view C.Connections sure before core.new st (W.contents writer.new) prefix) result
         (run_lines 1 0 (script_lines script.now)) r }
     ensures counts { Counts (IsErrOf result ScriptFault.DiskFault) (C.failures core.old) (C.failures core.new) }
     ensures io { Counts (IsErrOf result ScriptFault.Io) (W.refusals writer.old) (W.refusals writer.new) }

@@ -1,5 +1,5 @@
 -- What serving did, after one call of the session more.
-use Rattle.std.proofs.Common.{◌≡◌, ◌↔◌, ℕ, false, true, List, ◌∷◌, Result, Ok, Err, inr, refl}
+use Rattle.std.proofs.Common.{◌≡◌, ◌↔◌, ℕ, Bool, false, true, List, ◌∷◌, Result, Ok, Err, inr, refl, subst}
 use Rattle.std.specs.Prelude.{IsErr, IsErrOf}
 use Rattle.spool_disk.specs.declared.disk.DiskFault.{DiskFault}
 use Rattle.upload_rules.specs.Answers.{Among, Limits}
@@ -15,6 +15,12 @@ use Rattle.gateway_serve.specs.Served.{WentOn, Serves}
 use Rattle.gateway_serve.specs.Joined.{Alone}
 use Rattle.gateway_serve.proofs.Talks.{alone_then}
 
+-- of connections that are known to be over an honest disk
+pub surely : {C : Type 0} {c : Ghosts C} {sure : Bool} {before now : C} {st : State} {past : List Marked}
+    → WentOn c sure before now st past → sure ≡ true → c.stands now true (history st past)
+surely {c = c} {now = now} {st = st} {past = past} went yes =
+    subst (λ b. c.stands now b (history st past)) yes went.stands
+
 -- serving goes on after every answer but the disk fault
 abbrev pub GoesOn : {T U : Type 0} → Result T SessionError → Result U DiskFault → Type 0
 GoesOn answer told = IsErr told ↔ IsErrOf answer errors.DiskFault
@@ -22,27 +28,28 @@ GoesOn answer told = IsErr told ↔ IsErrOf answer errors.DiskFault
 abbrev pub Faults : {T : Type 0} → Result T SessionError → Type 0
 Faults answer = IsErrOf answer errors.DiskFault
 
-module _ {C : Type 0} (c : Ghosts C) (before old now : C) (st : State) (past : List Marked) (e : Event)
-    (w : WentOn c before old st past)
-    (durable : (ms : List Store) → Among (history st past).world.store ms
+module _ {C : Type 0} (c : Ghosts C) (sure : Bool) (before old now : C) (st : State) (past : List Marked) (e : Event)
+    (w : WentOn c sure before old st past)
+    (durable : sure ≡ true → (ms : List Store) → Among (history st past).world.store ms
     → c.left_only old (history st past).world.blocks (c.moment old) ms) where
   -- what images may show after a call that answered so
   abbrev pub Leaves : {T : Type 0} → Result T SessionError → Type 0
-  Leaves answer = Limits (c.moment old) (c.moment now) (c.left_only old) (c.left_only now) (history st past).world.store
+  Leaves answer = sure ≡ true → Limits (c.moment old) (c.moment now) (c.left_only old) (c.left_only now)
+      (history st past).world.store
       (shown_by (history st past) e (mark_of answer))
 
   -- where the connections are after it
   abbrev pub Keeps : {T : Type 0} → Result T SessionError → Type 0
-  Keeps answer = UnlessFailed answer (c.stands now true (step (history st past) e (mark_of answer)).state)
+  Keeps answer = UnlessFailed answer (c.stands now sure (step (history st past) e (mark_of answer)).state)
 
   module _ (On Down : List Marked → Type 0) where
     pub served : {T U : Type 0} (answer : Result T SessionError) (told : Result U DiskFault) → GoesOn answer told
         → Keeps answer → Leaves answer
         → Falls (c.down old) (c.down now) answer → ((Faults answer → ⊥) → On ((e, mark_of answer) ∷ past))
-        → (Faults answer → Down ((e, mark_of answer) ∷ past)) → Serves c before now st told On Down
+        → (Faults answer → Down ((e, mark_of answer) ∷ past)) → Serves c sure before now st told On Down
     served (Ok x) (Ok y) same keeps leaves falls on down = (
       (e, Served) ∷ past,
-      record { stands = keeps; images = limits_step st past e Served w.images leaves },
+      record { stands = keeps; images = λ yes. limits_step st past e Served (w.images yes) (leaves yes) },
       on
           (λ f. absurd (cc)),
     )
@@ -50,14 +57,14 @@ module _ {C : Type 0} (c : Ghosts C) (before old now : C) (st : State) (past : L
         absurd (cc)
     served (Err errors.NoMemory) (Ok y) same keeps leaves falls on down = (
       (e, OutOfMemory) ∷ past,
-      record { stands = keeps; images = limits_step st past e OutOfMemory w.images leaves },
+      record { stands = keeps; images = λ yes. limits_step st past e OutOfMemory (w.images yes) (leaves yes) },
       on (λ f. absurd (cc)),
     )
     served (Err errors.NoMemory) (Err y) same keeps leaves falls on down =
         let f : Err errors.NoMemory ≡ Err errors.DiskFault = same.0 refl in absurd (cc)
     served (Err errors.TooMany) (Ok y) same keeps leaves falls on down = (
       (e, Served) ∷ past,
-      record { stands = keeps; images = limits_step st past e Served w.images leaves },
+      record { stands = keeps; images = λ yes. limits_step st past e Served (w.images yes) (leaves yes) },
       on
           (λ f. absurd (cc)),
     )
@@ -65,7 +72,7 @@ module _ {C : Type 0} (c : Ghosts C) (before old now : C) (st : State) (past : L
         let f : Err errors.TooMany ≡ Err errors.DiskFault = same.0 refl in absurd (cc)
     served (Err errors.Closed) (Ok y) same keeps leaves falls on down = (
       (e, Served) ∷ past,
-      record { stands = keeps; images = limits_step st past e Served w.images leaves },
+      record { stands = keeps; images = λ yes. limits_step st past e Served (w.images yes) (leaves yes) },
       on
           (λ f. absurd (cc)),
     )
@@ -73,7 +80,7 @@ module _ {C : Type 0} (c : Ghosts C) (before old now : C) (st : State) (past : L
         let f : Err errors.Closed ≡ Err errors.DiskFault = same.0 refl in absurd (cc)
     served (Err errors.Down) (Ok y) same keeps leaves falls on down = (
       (e, Served) ∷ past,
-      record { stands = keeps; images = limits_step st past e Served w.images leaves },
+      record { stands = keeps; images = λ yes. limits_step st past e Served (w.images yes) (leaves yes) },
       on
           (λ f. absurd (cc)),
     )
@@ -85,27 +92,30 @@ module _ {C : Type 0} (c : Ghosts C) (before old now : C) (st : State) (past : L
       past,
       e,
       record {
-        images = limits_step st past e Failed w.images leaves;
-        last = last_step st past e Failed durable leaves;
+        images = λ yes. limits_step st past e Failed (w.images yes) (leaves yes);
+        last = λ yes. last_step st past e Failed (durable yes) (leaves yes);
         down = falls.falls.1 (inr refl);
       },
       down refl,
     )
 
 -- what holds of the events after a part of serving, from what it says of them
-pub followed : {C T : Type 0} (c : Ghosts C) (before now : C) (st : State) (On Down On' Down' : List Marked
-    → Type 0) (told : Result T DiskFault) → Serves c before now st told On Down
+pub followed : {C T : Type 0} (c : Ghosts C) (sure : Bool) (before now : C) (st : State)
+    (On Down On' Down' : List Marked
+    → Type 0) (told : Result T DiskFault) → Serves c sure before now st told On Down
     → ((past : List Marked) → On past → On' past) → ((past : List Marked) → Down past → Down' past)
-    → Serves c before now st told On' Down'
-followed c before now st On Down On' Down' (Ok x) s on down = (s.0, s.1, on s.0 s.2)
-followed c before now st On Down On' Down' (Err y) s on down = (s.0, s.1, s.2, down _ s.3)
+    → Serves c sure before now st told On' Down'
+followed c sure before now st On Down On' Down' (Ok x) s on down = (s.0, s.1, on s.0 s.2)
+followed c sure before now st On Down On' Down' (Err y) s on down = (s.0, s.1, s.2, down _ s.3)
 
 -- of one connection alone, after others of its events
-pub alone_after : {C T : Type 0} (c : Ghosts C) (before now : C) (st : State) (n : ℕ) (past mid : List Marked)
-    (On Down : List Marked → Type 0) (told : Result T DiskFault) → Alone st n past mid
-    → Serves c before now st told (λ p. Alone st n mid p × On p) (λ p. Alone st n mid p × Down p)
-    → Serves c before now st told (λ p. Alone st n past p × On p) (λ p. Alone st n past p × Down p)
-alone_after c before now st n past mid On Down told first s =
-    followed c before now st (λ p. Alone st n mid p × On p) (λ p. Alone st n mid p × Down p) (λ p. Alone st n past p
-    × On p) (λ p. Alone st n past p × Down p) told s (λ p x. (alone_then first x.0, x.1))
+pub alone_after : {C T : Type 0} (c : Ghosts C) (sure : Bool) (before now : C) (st : State) (n : ℕ)
+    (past mid : List Marked)
+    (On Down : List Marked → Type 0) (told : Result T DiskFault) → Alone sure st n past mid
+    → Serves c sure before now st told (λ p. Alone sure st n mid p × On p) (λ p. Alone sure st n mid p × Down p)
+    → Serves c sure before now st told (λ p. Alone sure st n past p × On p) (λ p. Alone sure st n past p × Down p)
+alone_after c sure before now st n past mid On Down told first s =
+    followed c sure before now st (λ p. Alone sure st n mid p × On p) (λ p. Alone sure st n mid p × Down p)
+    (λ p. Alone sure st n past p
+    × On p) (λ p. Alone sure st n past p × Down p) told s (λ p x. (alone_then first x.0, x.1))
     (λ p x. (alone_then first x.0, x.1))

@@ -1,13 +1,12 @@
 -- Places that are freed, and sockets that are let go.
-use Rattle.std.proofs.Common.{◌≡◌, ℕ, ◌==◌, true, false, List, [], ◌∷◌, ◌++◌, None, Result, Ok, Err, refl, sym}
+use Rattle.std.proofs.Common.{◌≡◌, ℕ, ◌==◌, Bool, true, false, List, [], ◌∷◌, ◌++◌, None, Result, Ok, Err, refl, sym}
 use Rattle.std.proofs.Common.{◌∙◌, ap, subst}
 use Rattle.std.proofs.Common.{append-nil}
-use Rattle.tus_session.specs.History.{State, Ended, Mark, Marked, history}
+use Rattle.tus_session.specs.History.{State, Ended, Mark, Marked, history, step}
 use Rattle.tus_session.specs.declared.errors.SessionError.{SessionError}
 use Rattle.tus_session.specs.declared.errors.SessionError.TheVariants.{NoMemory, DiskFault, TooMany, Closed, Down}
 use Rattle.tus_session.specs.Connections.{mark_of}
-use Rattle.gateway_serve.specs.Conversations.{Conversation, hung_up, conversations}
-use Rattle.gateway_serve.specs.Conversations.{latest as latest_by}
+use Rattle.gateway_serve.specs.Conversations.{Conversation, AreTalks, hung_up}
 use Rattle.gateway_serve.specs.Sockets as sockets
 use Rattle.gateway_serve.specs.Sockets.{Seen, IsQuietly, IsWhole, Pairs, current_of}
 use Rattle.gateway_serve.specs.Joined.{Joint, Joins, IsOver, PlaceJoins, PlaceFell, OthersStay, MayEnd, joint_of}
@@ -21,7 +20,7 @@ use Rattle.gateway_serve.specs.declared.links.Link.{Link}
 use Rattle.gateway_serve.specs.declared.places.Place.{Place}
 use Rattle.gateway_serve.specs.declared.places.Place.TheVariants.{Free, Open}
 use Rattle.gateway_serve.proofs.Steps.{by_true, by_false, same_number, other_number, ended_shuts, ended_lost}
-use Rattle.gateway_serve.proofs.Talks.{talks_here}
+use Rattle.gateway_serve.proofs.Talks.{talks_here, gave_ended}
 
 -- its socket is the first of those of the connection
 abbrev current_at : ℕ → Joint → Latest → Reason → Seen
@@ -60,11 +59,11 @@ loosely [] (c ∷ cs) p = p
 loosely (s ∷ current) [] p = p
 loosely (s ∷ current) (c ∷ cs) p = (p.0.fits, loosely current cs p.1)
 
-module _ (ended : List Seen) (st : State) (past : List Marked) (n : ℕ) where
-  all_went : (j : Joint) (is : Joins j (current_of n ended) st past n) → j.output ≡ [] → j.went ≡ is.latest.gave
+module _ (sure : Bool) (ended : List Seen) (st : State) (past : List Marked) (n : ℕ) where
+  all_went : (j : Joint) (is : Joins sure j (current_of n ended) st past n) → j.output ≡ [] → j.went ≡ is.latest.gave
   all_went j is none = sym (append-nil j.went) ∙ (ap (λ l. j.went ++ l) (sym none) ∙ is.given)
 
-  fits : (latest : Latest) (reason : Reason) (j : Joint) (is : Joins j (current_of n ended) st past n)
+  fits : (latest : Latest) (reason : Reason) (j : Joint) (is : Joins sure j (current_of n ended) st past n)
       → IfWhole reason j
       → FewWait j.output → sockets.Fits (current_at n j latest reason) is.latest
   fits latest reason j is whole few = record {
@@ -75,25 +74,31 @@ module _ (ended : List Seen) (st : State) (past : List Marked) (n : ℕ) where
   }
 
   -- the session closed the connection, and all is written
-  over_pairs : (latest : Latest) (j : Joint) → IsOver j → FewWait j.output → Joins j (current_of n ended) st past n
-      → Pairs sockets.Served (current_of n (current_at n j latest Why.Closed ∷ ended)) (conversations st past n)
+  over_pairs : (latest : Latest) (j : Joint) → IsOver j → FewWait j.output → Joins sure j (current_of n ended) st past n
+      → (cs : List Conversation) × AreTalks sure st past n cs
+      × Pairs sockets.Served (current_of n (current_at n j latest Why.Closed ∷ ended)) cs
   over_pairs latest j over few is =
       let s = current_at n j latest Why.Closed in
       let served : sockets.Served s is.latest =
-      record { fits = fits latest Why.Closed j is (λ w. over.1) few; whole = λ e. all_went j is over.1 } in
-      subst (λ current. Pairs sockets.Served current (conversations st past n)) (sym (first_current n s ended refl))
-      (subst (λ talks. Pairs sockets.Served (s ∷ current_of n ended) talks) (sym is.talks) (served, is.pairs))
+      record { fits = fits latest Why.Closed j is (λ w. over.1) few; whole = λ e. all_went j is over.1 } in (
+        is.latest ∷ is.others,
+        is.talks,
+        subst (λ current. Pairs sockets.Served current (is.latest ∷ is.others)) (sym (first_current n s ended refl))
+            (served, is.pairs),
+      )
 
   pub over_freed : {S : Type 0} (l : Link S) → IsOver (joint_of l) → FewWait l.output
-      → Joins (joint_of l) (current_of n ended) st past n
-      → PlaceJoins {S = S} Free (current_of n (with_place n Why.Closed (Open l) ended)) st past n
-  over_freed l over few is = (over_pairs l.socket.latest (joint_of l) over few is, is.shut over.0 ∙ sym is.apart)
+      → Joins sure (joint_of l) (current_of n ended) st past n
+      → PlaceJoins {S = S} sure Free (current_of n (with_place n Why.Closed (Open l) ended)) st past n
+  over_freed l over few is =
+      let all = over_pairs l.socket.latest (joint_of l) over few is in
+      (all.0, all.1, all.2, is.shut over.0 ∙ sym is.apart)
 
   -- the session was told that its client is gone
   told_pairs : (latest : Latest) (reason : Reason) (m : Mark) (j : Joint) → IfWhole reason j
-      → (reason ≡ Why.Closed → ⊥) → FewWait j.output → Joins j (current_of n ended) st past n
-      → Pairs sockets.Served (current_of n (current_at n j latest reason ∷ ended)) (conversations st
-      ((Ended n, m) ∷ past) n)
+      → (reason ≡ Why.Closed → ⊥) → FewWait j.output → Joins sure j (current_of n ended) st past n
+      → (cs : List Conversation) × AreTalks sure st ((Ended n, m) ∷ past) n cs
+      × Pairs sockets.Served (current_of n (current_at n j latest reason ∷ ended)) cs
   told_pairs latest reason m j whole unclosed few is =
       let s = current_at n j latest reason in
       let served : sockets.Served s (hung_up is.latest) =
@@ -105,12 +110,13 @@ module _ (ended : List Seen) (st : State) (past : List Marked) (n : ℕ) where
           untold = λ e. absurd (unclosed e);
         };
         whole = λ e. absurd (cc);
-      } in
-      let talks : conversations st ((Ended n, m) ∷ past) n ≡ hung_up is.latest ∷ is.others = talks_here st past
-      (Ended n) m ∙ ap (latest_by hung_up) is.talks in
-      subst (λ current. Pairs sockets.Served current (conversations st ((Ended n, m) ∷ past) n))
-      (sym (first_current n s ended refl))
-      (subst (λ x. Pairs sockets.Served (s ∷ current_of n ended) x) (sym talks) (served, is.pairs))
+      } in (
+        hung_up is.latest ∷ is.others,
+        talks_here sure st past (Ended n) m (is.latest ∷ is.others) (step (history st past) (Ended n) m).outcome
+            is.talks (gave_ended sure (history st past) n m),
+        subst (λ current. Pairs sockets.Served current (hung_up is.latest ∷ is.others))
+            (sym (first_current n s ended refl)) (served, is.pairs),
+      )
 
   told_none : (answer : Result (Unit {0}) SessionError) → (answer ≡ Err DiskFault → ⊥)
       → (history st ((Ended n, mark_of answer) ∷ past)).conns n ≡ None
@@ -123,20 +129,19 @@ module _ (ended : List Seen) (st : State) (past : List Marked) (n : ℕ) where
 
   pub told_freed : {S : Type 0} (reason : Reason) (p : Place S) (answer : Result (Unit {0}) SessionError)
       → MayEnd reason p → PlaceWaits p → (p ≡ Free → ⊥)
-      → (answer ≡ Err DiskFault → ⊥) → PlaceJoins p (current_of n ended) st past n
-      → PlaceJoins {S = S} Free (current_of n (with_place n reason p ended)) st ((Ended n, mark_of answer) ∷ past) n
+      → (answer ≡ Err DiskFault → ⊥) → PlaceJoins sure p (current_of n ended) st past n
+      → PlaceJoins {S = S} sure Free (current_of n (with_place n reason p ended)) st
+      ((Ended n, mark_of answer) ∷ past) n
   told_freed reason Free answer may few used ok is = absurd (used refl)
-  told_freed reason (Open l) answer may few used ok is = (
-    told_pairs l.socket.latest reason (mark_of answer) (joint_of l) (if_whole reason l may)
-        (not_closed reason (Open l) may) few is,
-    told_none answer ok
-        ∙ sym is.apart,
-  )
+  told_freed reason (Open l) answer may few used ok is =
+      let all = told_pairs l.socket.latest reason (mark_of answer) (joint_of l) (if_whole reason l may)
+      (not_closed reason (Open l) may) few is in
+      (all.0, all.1, all.2, told_none answer ok ∙ sym is.apart)
 
   pub told_fell : {S : Type 0} (reason : Reason) (p : Place S) (m : Mark) → MayEnd reason p → PlaceWaits p
       → (p ≡ Free → ⊥)
-      → PlaceJoins p (current_of n ended) st past n
-      → PlaceFell {S = S} Free (current_of n (with_place n reason p ended)) st ((Ended n, m) ∷ past) n
+      → PlaceJoins sure p (current_of n ended) st past n
+      → PlaceFell {S = S} sure Free (current_of n (with_place n reason p ended)) st ((Ended n, m) ∷ past) n
   told_fell reason Free m may few used is = absurd (used refl)
   told_fell reason (Open l) m may few used is =
       told_pairs l.socket.latest reason m (joint_of l) (if_whole reason l may) (not_closed reason (Open l) may)
@@ -146,41 +151,42 @@ module _ (ended : List Seen) (st : State) (past : List Marked) (n : ℕ) where
   pub told_place : {S : Type 0} (reason : Reason) (p p' : Place S) (ended' : List Seen)
       (answer : Result (Unit {0}) SessionError)
       → p' ≡ Free → ended' ≡ with_place n reason p ended → MayEnd reason p → PlaceWaits p → (p ≡ Free → ⊥)
-      → (answer ≡ Err DiskFault → ⊥) → PlaceJoins p (current_of n ended) st past n
-      → PlaceJoins p' (current_of n ended') st ((Ended n, mark_of answer) ∷ past) n
+      → (answer ≡ Err DiskFault → ⊥) → PlaceJoins sure p (current_of n ended) st past n
+      → PlaceJoins sure p' (current_of n ended') st ((Ended n, mark_of answer) ∷ past) n
   told_place {S} reason p p' ended' answer free with may few used ok is =
-      subst (λ (x : Place S). PlaceJoins x (current_of n ended') st ((Ended n, mark_of answer) ∷ past) n) (sym free)
-      (subst (λ x. PlaceJoins {S = S} Free (current_of n x) st ((Ended n, mark_of answer) ∷ past) n) (sym with)
+      subst (λ (x : Place S). PlaceJoins sure x (current_of n ended') st ((Ended n, mark_of answer) ∷ past) n)
+      (sym free)
+      (subst (λ x. PlaceJoins {S = S} sure Free (current_of n x) st ((Ended n, mark_of answer) ∷ past) n) (sym with)
       (told_freed reason p answer may few used ok is))
 
   pub fallen_place : {S : Type 0} (reason : Reason) (p p' : Place S) (ended' : List Seen) (m : Mark) → p' ≡ Free
       → ended' ≡ with_place n reason p ended → MayEnd reason p → PlaceWaits p → (p ≡ Free → ⊥)
-      → PlaceJoins p (current_of n ended) st past n → PlaceFell p' (current_of n ended') st ((Ended n, m) ∷ past) n
+      → PlaceJoins sure p (current_of n ended) st past n
+      → PlaceFell sure p' (current_of n ended') st ((Ended n, m) ∷ past) n
   fallen_place {S} reason p p' ended' m free with may few used is =
-      subst (λ (x : Place S). PlaceFell x (current_of n ended') st ((Ended n, m) ∷ past) n) (sym free)
-      (subst (λ x. PlaceFell {S = S} Free (current_of n x) st ((Ended n, m) ∷ past) n) (sym with)
+      subst (λ (x : Place S). PlaceFell sure x (current_of n ended') st ((Ended n, m) ∷ past) n) (sym free)
+      (subst (λ x. PlaceFell {S = S} sure Free (current_of n x) st ((Ended n, m) ∷ past) n) (sym with)
       (told_fell reason p m may few used is))
 
   pub over_place : {S : Type 0} (l : Link S) (p' : Place S) (ended' : List Seen) → p' ≡ Free
       → ended' ≡ with_place n Why.Closed (Open l) ended → IsOver (joint_of l)
-      → FewWait l.output → Joins (joint_of l) (current_of n ended) st past n
-      → PlaceJoins p' (current_of n ended') st past n
+      → FewWait l.output → Joins sure (joint_of l) (current_of n ended) st past n
+      → PlaceJoins sure p' (current_of n ended') st past n
   over_place {S} l p' ended' free with over few is =
-      subst (λ (x : Place S). PlaceJoins x (current_of n ended') st past n) (sym free)
-      (subst (λ x. PlaceJoins {S = S} Free (current_of n x) st past n) (sym with) (over_freed l over few is))
+      subst (λ (x : Place S). PlaceJoins sure x (current_of n ended') st past n) (sym free)
+      (subst (λ x. PlaceJoins {S = S} sure Free (current_of n x) st past n) (sym with) (over_freed l over few is))
 
   -- WITHOUT A WORD to the session
-  untold_pairs : (latest : Latest) (j : Joint) (is : Joins j (current_of n ended) st past n) → FewWait j.output
-      → Pairs sockets.Fits (current_of n ended) is.others
-      → Pairs sockets.Fits (current_of n (current_at n j latest Why.Over ∷ ended)) (conversations st past n)
-  untold_pairs latest j is few rest =
-      let s = current_at n j latest Why.Over in
-      subst (λ current. Pairs sockets.Fits current (conversations st past n)) (sym (first_current n s ended refl))
-      (subst (λ talks. Pairs sockets.Fits (s ∷ current_of n ended) talks) (sym is.talks)
-      (fits latest Why.Over j is (λ w. absurd w) few, rest))
-
-  pub untold_place : {S : Type 0} (p : Place S) → PlaceWaits p → PlaceFell p (current_of n ended) st past n
-      → Pairs sockets.Fits (current_of n (with_place n Why.Over p ended)) (conversations st past n)
-  untold_place Free few is = loosely (current_of n ended) (conversations st past n) is
-  untold_place (Open l) few is =
-      untold_pairs l.socket.latest (joint_of l) is few (loosely (current_of n ended) is.others is.pairs)
+  pub untold_place : {S : Type 0} (p : Place S) → PlaceWaits p → PlaceFell sure p (current_of n ended) st past n
+      → (cs : List Conversation) × AreTalks sure st past n cs
+      × Pairs sockets.Fits (current_of n (with_place n Why.Over p ended)) cs
+  untold_place Free few is = (is.0, is.1, loosely (current_of n ended) is.0 is.2)
+  untold_place (Open l) few is = (
+    is.latest ∷ is.others,
+    is.talks,
+    subst (λ current. Pairs sockets.Fits current (is.latest ∷ is.others))
+        (sym (first_current n (current n l.socket Why.Over) ended refl)) (
+          fits l.socket.latest Why.Over (joint_of l) is (λ w. absurd w) few,
+          loosely (current_of n ended) is.others is.pairs,
+        ),
+  )

@@ -7,3 +7,4 @@ mod Lost
 mod Pauses
 mod Steps
 mod Talks
+mod Known

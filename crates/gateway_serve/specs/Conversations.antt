@@ -1,5 +1,6 @@
 -- What a history makes of each connection: its conversations.
-use Rattle.std.specs.Prelude.{◌==◌, ℕ, Bool, true, false, List, [], ◌∷◌, ◌++◌, take, if◌then◌else◌}
+use Rattle.std.specs.Prelude.{◌≡◌, ◌==◌, ℕ, Bool, true, false, List, [], ◌∷◌, ◌++◌, take, if◌then◌else◌}
+use Rattle.tus_action.specs.Serves.{Appends}
 use Rattle.tus_session.specs.History.{State, Event, Opened, Came, More, Ended, Marked, Outcome, Gave, Done, step}
 use Rattle.tus_session.specs.History.{history, conn_in}
 
@@ -37,3 +38,23 @@ conversations st [] n = []
 conversations st (e ∷ past) n =
     if n == conn_in e.0 then goes_on e.0 (step (history st past) e.0 e.1).outcome (conversations st past n)
     else conversations st past n
+
+-- WHATEVER THE DISK. An outcome as it may be: where that isn't sure, the bytes of a text that it ends in may be others,
+-- as many
+abbrev pub GaveAs : Bool → Outcome → List ℕ → Outcome → Type 0
+GaveAs sure (Gave bytes taken closes more) text o =
+    (given : List ℕ) × Appends sure [] given bytes text × (o ≡ Gave given taken closes more)
+GaveAs sure outcome text o = o ≡ outcome
+
+abbrev pub Either : Bool → Type 0 → Type 0 → Type 0
+Either true X Y = X
+Either false X Y = Y
+
+-- conversations as they may be, of what the calls gave
+abbrev pub AreTalks : Bool → State → List Marked → ℕ → List Conversation → Type 0
+AreTalks sure st [] n cs = cs ≡ []
+AreTalks sure st (e ∷ past) n cs =
+    let t = step (history st past) e.0 e.1 in
+    Either (n == conn_in e.0)
+    ((before : List Conversation) × (o : Outcome) × AreTalks sure st past n before × GaveAs sure t.outcome t.text o
+    × (cs ≡ goes_on e.0 o before)) (AreTalks sure st past n cs)

@@ -6,7 +6,7 @@ use Rattle.tus_session.specs.History.{State, Marked, history}
 use Rattle.tus_session.specs.declared.answers.Answer.{Answer}
 use Rattle.tus_session.specs.declared.errors.SessionError.{SessionError}
 use Rattle.tus_session.specs.declared.connections.Connections.{Ghosts}
-use Rattle.gateway_serve.specs.Conversations.{Conversation, conversations}
+use Rattle.gateway_serve.specs.Conversations.{Conversation, AreTalks}
 use Rattle.gateway_serve.specs.Sockets.{Seen, current_of, IsQuietly, Served, Pairs}
 use Rattle.gateway_serve.specs.Bytes.{came_of, went_of, current}
 use Rattle.gateway_serve.specs.Waiting.{FewWait}
@@ -49,10 +49,10 @@ joint_of l = record {
 
 -- THE INVARIANT. Of the connection's latest conversation, what came is what the session took and what waits for it, and
 -- what went, with what waits for the socket, is what it gave. Of the conversations before, each had a socket of its own
-pub record Joins (j : Joint) (ended : List Seen) (st : State) (past : List Marked) (n : ℕ) : Type 0 where
+pub record Joins (sure : Bool) (j : Joint) (ended : List Seen) (st : State) (past : List Marked) (n : ℕ) : Type 0 where
   pub latest : Conversation
   pub others : List Conversation
-  pub talks : conversations st past n ≡ latest ∷ others
+  pub talks : AreTalks sure st past n (latest ∷ others)
   pub told : latest.told ≡ false
   pub taken : j.came ≡ latest.took ++ j.input
   pub few : length j.input ≤ 4096
@@ -110,27 +110,30 @@ taken_after (Ok a) = a.taken
 taken_after (Err f) = 0
 
 -- after the events of one connection the others are as they were
-pub record Alone (st : State) (n : ℕ) (past now : List Marked) : Type 0 where
-  pub talks : (k : ℕ) → (k ≡ n → ⊥) → conversations st now k ≡ conversations st past k
+pub record Alone (sure : Bool) (st : State) (n : ℕ) (past now : List Marked) : Type 0 where
+  pub talks : (k : ℕ) → (k ≡ n → ⊥) → (cs : List Conversation) → AreTalks sure st past k cs
+      → AreTalks sure st now k cs
   pub conns : (k : ℕ) → (k ≡ n → ⊥) → (history st now).conns k ≡ (history st past).conns k
 
 -- a joined link stays joined by events of its connection alone
 abbrev pub Goes : {C S T : Type 0} → Ghosts C → C → C → Result T DiskFault → Link S → Link S → ℕ → Type 0
 Goes {C} c old new result l l' n =
-    (before : C) (st : State) (past : List Marked) (ended : List Seen) → WentOn c before old st past
-    → Joins (joint_of l) ended st past n
-    → Serves c before new st result (λ now. Alone st n past now × Joins (joint_of l') ended st now n)
-    (λ now. Alone st n past now × Joins (joint_of l') ended st now n)
+    (sure : Bool) (before : C) (st : State) (past : List Marked) (ended : List Seen) → WentOn c sure before old st past
+    → Joins sure (joint_of l) ended st past n
+    → Serves c sure before new st result (λ now. Alone sure st n past now × Joins sure (joint_of l') ended st now n)
+    (λ now. Alone sure st n past now × Joins sure (joint_of l') ended st now n)
 
 -- PLACES. One is free only once its connection is closed again
-abbrev pub PlaceJoins : {S : Type 0} → Place S → List Seen → State → List Marked → ℕ → Type 0
-PlaceJoins Free ended st past n = Pairs Served ended (conversations st past n) × IsBack st past n
-PlaceJoins (Open l) ended st past n = Joins (joint_of l) ended st past n
+abbrev pub PlaceJoins : {S : Type 0} → Bool → Place S → List Seen → State → List Marked → ℕ → Type 0
+PlaceJoins sure Free ended st past n =
+    (cs : List Conversation) × AreTalks sure st past n cs × Pairs Served ended cs × IsBack st past n
+PlaceJoins sure (Open l) ended st past n = Joins sure (joint_of l) ended st past n
 
 -- unless the disk failed
-abbrev pub PlaceFell : {S : Type 0} → Place S → List Seen → State → List Marked → ℕ → Type 0
-PlaceFell Free ended st past n = Pairs Served ended (conversations st past n)
-PlaceFell (Open l) ended st past n = Joins (joint_of l) ended st past n
+abbrev pub PlaceFell : {S : Type 0} → Bool → Place S → List Seen → State → List Marked → ℕ → Type 0
+PlaceFell sure Free ended st past n =
+    (cs : List Conversation) × AreTalks sure st past n cs × Pairs Served ended cs
+PlaceFell sure (Open l) ended st past n = Joins sure (joint_of l) ended st past n
 
 -- the bytes that wait at a place are few
 abbrev pub PlaceWaits : {S : Type 0} → Place S → Type 0
@@ -163,21 +166,22 @@ MayEnd Why.Over p = Unit {0}
 abbrev pub GoesAt : {C S T : Type 0} → Ghosts C → C → C → Result T DiskFault → Place S → Place S → List Seen → List Seen
     → ℕ → Type 0
 GoesAt {C} c old new result p p' ended ended' n =
-    (before : C) (st : State) (past : List Marked) → WentOn c before old st past
-    → PlaceJoins p (current_of n ended) st past n
-    → Serves c before new st result (λ now. Alone st n past now × PlaceJoins p' (current_of n ended') st now n)
-    (λ now. Alone st n past now × PlaceFell p' (current_of n ended') st now n)
+    (sure : Bool) (before : C) (st : State) (past : List Marked) → WentOn c sure before old st past
+    → PlaceJoins sure p (current_of n ended) st past n
+    → Serves c sure before new st result (λ now. Alone sure st n past now × PlaceJoins sure p'
+    (current_of n ended') st now n)
+    (λ now. Alone sure st n past now × PlaceFell sure p' (current_of n ended') st now n)
 
 -- the sockets of other connections are those that they were
 abbrev pub OthersStay : ℕ → List Seen → List Seen → Type 0
 OthersStay n old new = (k : ℕ) → (k ≡ n → ⊥) → current_of k new ≡ current_of k old
 
 -- EACH PLACE is joined; beyond the last one all are free
-abbrev pub AllJoin : {S : Type 0} → List (Place S) → List Seen → State → List Marked → Type 0
-AllJoin places ended st past = (n : ℕ) → PlaceJoins (get_or places n Free) (current_of n ended) st past n
+abbrev pub AllJoin : {S : Type 0} → Bool → List (Place S) → List Seen → State → List Marked → Type 0
+AllJoin sure places ended st past = (n : ℕ) → PlaceJoins sure (get_or places n Free) (current_of n ended) st past n
 
-abbrev pub AllFell : {S : Type 0} → List (Place S) → List Seen → State → List Marked → Type 0
-AllFell places ended st past = (n : ℕ) → PlaceFell (get_or places n Free) (current_of n ended) st past n
+abbrev pub AllFell : {S : Type 0} → Bool → List (Place S) → List Seen → State → List Marked → Type 0
+AllFell sure places ended st past = (n : ℕ) → PlaceFell sure (get_or places n Free) (current_of n ended) st past n
 
 abbrev pub places_of : {S : Type 0} → Server S → List (Place S)
 places_of s = s.places.items
@@ -196,19 +200,22 @@ SamePlaces old new = (n : ℕ) → get_or new n Free ≡ get_or old n Free
 abbrev pub GoesOn : {C S T : Type 0} → Ghosts C → C → C → Result T DiskFault → List (Place S) → List (Place S)
     → List Seen → List Seen → Type 0
 GoesOn {C} c old new result places places' ended ended' =
-    (before : C) (st : State) (past : List Marked) → WentOn c before old st past → AllJoin places ended st past
-    → Serves c before new st result (AllJoin places' ended' st) (AllFell places' ended' st)
+    (sure : Bool) (before : C) (st : State) (past : List Marked) → WentOn c sure before old st past
+    → AllJoin sure places ended st past
+    → Serves c sure before new st result (AllJoin sure places' ended' st) (AllFell sure places' ended' st)
 
 -- after it all connections are ended, unless the disk failed
 abbrev pub Ends : {C S T : Type 0} → Ghosts C → C → C → Result T DiskFault → List (Place S) → List (Place S) → List Seen
     → List Seen → Type 0
 Ends {C} c old new result places places' ended ended' =
-    (before : C) (st : State) (past : List Marked) → WentOn c before old st past → AllJoin places ended st past
-    → Serves c before new st result (AllServed ended' st) (AllFell places' ended' st)
+    (sure : Bool) (before : C) (st : State) (past : List Marked) → WentOn c sure before old st past
+    → AllJoin sure places ended st past
+    → Serves c sure before new st result (AllServed sure ended' st) (AllFell sure places' ended' st)
 
 -- and then their sockets were let go
 abbrev pub Finishes : {C S T : Type 0} → Ghosts C → C → C → Result T DiskFault → List (Place S) → List Seen → List Seen
     → Type 0
 Finishes {C} c old new result places ended ended' =
-    (before : C) (st : State) (past : List Marked) → WentOn c before old st past → AllJoin places ended st past
-    → Serves c before new st result (AllServed ended' st) (AllLeft ended' st)
+    (sure : Bool) (before : C) (st : State) (past : List Marked) → WentOn c sure before old st past
+    → AllJoin sure places ended st past
+    → Serves c sure before new st result (AllServed sure ended' st) (AllLeft sure ended' st)

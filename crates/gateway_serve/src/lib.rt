@@ -3,6 +3,7 @@
 
 mod buffers;
 mod idle;
+mod laws;
 mod links;
 mod places;
 mod reasons;
@@ -11,6 +12,7 @@ mod serving;
 mod sockets;
 mod stays;
 
+pub use laws::known_talks;
 pub use reasons::{Gone, Reason};
 pub use serving::{Outcome, serve_on};
 pub use sockets::{Ended, Latest};

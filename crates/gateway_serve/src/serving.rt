@@ -1,5 +1,5 @@
 //! Connections over sockets, turn by turn in one thread.
-ghost use Rattle.std.specs.Prelude.{◌≡◌, ◌⊎◌, List, [], IsErr, IfSome, length, true};
+ghost use Rattle.std.specs.Prelude.{◌≡◌, ◌⊎◌, List, [], IsErr, IfSome, length, Bool};
 ghost use Rattle.upload_rules.specs.Answers.{Counts};
 ghost use Rattle.tus_session.specs.History.{State, Marked};
 ghost use Rattle.gateway_serve.specs.Served.{Serves, AllServed, AllLeft};
@@ -370,8 +370,8 @@ fn end_each<S: Read + Write + Drop, C: Connections>(
 fn free_each<S: Read + Write + Drop>(places: &mut [Place<S>], ended: &mut Ended)
     ensures streams { AllKeep S.remaining S.contents places.old places.new ended.old.sockets ended.new.sockets }
     ensures once { AtMostOnce ended.old.sockets ended.new.sockets }
-    ensures left { (st : State) (past : List Marked) → AllFell places.old ended.old.sockets st past
-        → AllLeft ended.new.sockets st past }
+    ensures left { (sure : Bool) (st : State) (past : List Marked)
+        → AllFell sure places.old ended.old.sockets st past → AllLeft sure ended.new.sockets st past }
 {
     for (conn, place) in places.iter_mut().enumerate() {
         place.free(conn, Reason::Over, ended);
@@ -434,8 +434,9 @@ pub fn serve_on<L: OpenListener, C: Connections, T: Clock>(
 where
     L::Stream: Read + Write + OpenStream,
 
-    // It is where the history of some events is; after a disk fault only its images are known. They show
-    // the uploads after these events.
+    // It is where the history of some events is; after a disk fault only its images are known. Where the disk is known
+    // to be honest, they show the uploads after these events, and what was given of a text is the text's; over any disk
+    // that is as many bytes, and all else is the same.
     //
     // Each connection's sockets are one for each time that these events opened it, in order. The session took what
     // came from the socket, but for at most 4,096 bytes at its end, and what went to it is the prefix of what the
@@ -443,9 +444,9 @@ where
     // unless the session was told that the client is gone. Each connection is closed again. After a disk fault the
     // last two are not promised, but where the reason is that the session closed the connection, or that it was late
     // between requests or in one, all of that went.
-    ensures serves { (st : State) → C.stands gateway true st
-        → Serves C.Connections gateway result.gateway st result.served
-        (AllServed result.ended.sockets st) (AllLeft result.ended.sockets st) }
+    ensures serves { (sure : Bool) (st : State) → C.stands gateway sure st
+        → Serves C.Connections sure gateway result.gateway st result.served
+        (AllServed sure result.ended.sockets st) (AllLeft sure result.ended.sockets st) }
     ensures counts { Counts (IsErr result.served) (C.failures gateway) (C.failures result.gateway) }
 
     // Each of these sockets had a stream of its own, as it was accepted. That was read and written and nothing else:

@@ -11,45 +11,53 @@ use std::process::Abort;
 use std::time::{Clock, Duration};
 use tus_session::MOST_OPEN;
 
-/// A client's behaviour: the bytes that it sends first, the bytes that it sends at every second read after them, how
-/// many bytes it accepts before it pauses, and for how many writes it pauses. After the pause it accepts everything.
-pub(crate) type Manner<'a> = (&'a [u8], &'a [u8], usize, u32);
+/// A client's behaviour.
+#[derive(Clone, Copy, Drop)]
+pub(crate) struct Manner<'a> {
+    /// The bytes that it sends first.
+    pub(crate) says: &'a [u8],
+    /// The bytes that it sends at every second read after them.
+    pub(crate) goes_on: &'a [u8],
+    /// How many bytes it accepts before it pauses.
+    pub(crate) takes: usize,
+    /// For how many writes it pauses. After the pause it accepts everything.
+    pub(crate) pauses: u32,
+}
 
 /// A client as the server's socket shows it. `told` counts the bytes that it accepted.
 #[derive(Drop)]
 pub(crate) struct Client<'a> {
-    says: &'a [u8],
-    goes_on: &'a [u8],
-    takes: usize,
-    pauses: u32,
+    manner: Manner<'a>,
     told: &'a Cell<usize>,
 }
 
 impl Read for Client<'_> {
     fn read(&mut self, buf: &mut [u8]) -> io::Result<usize> {
-        let count = self.says.len().min(buf.len());
+        let says = self.manner.says;
+        let count = says.len().min(buf.len());
         if count == 0 {
-            self.says = self.goes_on;
+            self.manner.says = self.manner.goes_on;
             return Err(io::Error::from(ErrorKind::WouldBlock));
         }
-        buf[..count].copy_from_slice(&self.says[..count]);
-        self.says = &self.says[count..];
+        buf[..count].copy_from_slice(&says[..count]);
+        self.manner.says = &says[count..];
         Ok(count)
     }
 }
 
 impl Write for Client<'_> {
     fn write(&mut self, buf: &[u8]) -> io::Result<usize> {
-        if self.takes == 0 && self.pauses > 0 {
-            self.pauses -= 1;
+        let manner = &mut self.manner;
+        if manner.takes == 0 && manner.pauses > 0 {
+            manner.pauses -= 1;
             return Err(io::Error::from(ErrorKind::WouldBlock));
         }
-        let count = if self.pauses > 0 {
-            self.takes.min(buf.len())
+        let count = if manner.pauses > 0 {
+            manner.takes.min(buf.len())
         } else {
             buf.len()
         };
-        self.takes = self.takes.saturating_sub(count);
+        manner.takes = manner.takes.saturating_sub(count);
         self.told.set(self.told.get().saturating_add(count));
         Ok(count)
     }
@@ -89,7 +97,7 @@ impl<'a> OpenListener for Clients<'a> {
             return Err(io::Error::from(ErrorKind::WouldBlock));
         }
         self.left.set(left - 1);
-        let (says, goes_on, takes, pauses) = if left == self.all {
+        let manner = if left == self.all {
             self.first
         } else if left == 1 {
             self.last
@@ -97,10 +105,7 @@ impl<'a> OpenListener for Clients<'a> {
             self.others
         };
         let client = Client {
-            says,
-            goes_on,
-            takes,
-            pauses,
+            manner,
             told: if left == self.watched {
                 self.told
             } else {

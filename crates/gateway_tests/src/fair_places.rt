@@ -1,7 +1,7 @@
 //! Tests that a client can't keep its place for ever while another one waits: when each kind of idle or slow client is
 //! closed.
 
-use crate::clients::{Clients, Steps, served};
+use crate::clients::{Clients, Manner, Steps, served};
 use std::alloc::Global;
 use std::cell::Cell;
 use std::process::Abort;
@@ -31,12 +31,26 @@ fn is_told(rt: &impl Abort, alloc: Global, first: First, step: u64, turns: u64) 
     let told = Cell::new(0);
     let others = Cell::new(0);
     let (says, goes_on, reads) = first;
+    let asks = Manner {
+        says: OPTIONS,
+        goes_on: b"",
+        takes: 0,
+        pauses: 0,
+    };
     let clients = Clients {
         left: Cell::new(MOST_OPEN + 1),
         all: MOST_OPEN + 1,
-        first: (says, goes_on, 0, if reads { 0 } else { u32::MAX }),
-        others: (OPTIONS, b"", 0, u32::MAX),
-        last: (OPTIONS, b"", 0, 0),
+        first: Manner {
+            says,
+            goes_on,
+            takes: 0,
+            pauses: if reads { 0 } else { u32::MAX },
+        },
+        others: Manner {
+            pauses: u32::MAX,
+            ..asks
+        },
+        last: asks,
         watched: 1,
         told: &told,
         rest: &others,

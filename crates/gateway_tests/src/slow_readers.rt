@@ -1,6 +1,6 @@
 //! Clients that read late, over scripted sockets, and a server that has nothing to do.
 
-use crate::clients::{Clients, Steps, served};
+use crate::clients::{Clients, Manner, Steps, served};
 use std::alloc::Global;
 use std::cell::Cell;
 use std::process::Abort;
@@ -31,12 +31,22 @@ fn comers<'a>(
     told: &'a Cell<usize>,
     rest: &'a Cell<usize>,
 ) -> Clients<'a> {
+    let reads = Manner {
+        says: others,
+        goes_on: others,
+        takes: 10,
+        pauses: 0,
+    };
     Clients {
         left: Cell::new(count),
         all: count,
-        first: (says, others, 10, pauses),
-        others: (others, others, 10, 0),
-        last: (others, others, 10, 0),
+        first: Manner {
+            says,
+            pauses,
+            ..reads
+        },
+        others: reads,
+        last: reads,
         watched: count,
         told,
         rest,

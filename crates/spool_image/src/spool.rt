@@ -97,7 +97,8 @@ impl<D: Disk> Spool<D> {
         ensures stands { (n : ℕ) (m : Store) → IsSpool D.Disk disk n m
             → IfOk result (λ s. SpoolStands s true (at_rest m (Some n))) }
 
-        // On any disk it stands for the uploads that its memory shows.
+        // On any disk what it has in memory is a view, and it stands for the uploads that this view shows.
+        ensures view { IfOk result (λ s. (v : View) × Keeps s v) }
         ensures kept { (v : View) (m : Store) → Shows v m
             → IfOk result (λ s. Keeps s v → SpoolStands s false (at_rest m (Some v.blocks))) }
     {

@@ -1,24 +1,28 @@
 -- What is kept says what a valid view says.
 use Rattle.std.proofs.Common.{◌≡◌, ◌∙◌, ℕ, ◌<◌, List, [], Option, None, Some, false, get_or, replicate, sym, ap, subst}
-use Rattle.std.proofs.Common.{arith}
+use Rattle.std.proofs.Common.{arith, length, refl}
 use Rattle.spool_blocks.specs.Blocks.{Row}
+use Rattle.spool_blocks.specs.Chains.{OwnsOneEach}
 use Rattle.spool_pages.specs.View.{SlotRecord, View, slot_at}
 use Rattle.spool_kept.specs.Holding.{Holding, FitsTogether, HasBlocks, IsListOf, Orders}
 use Rattle.spool_kept.specs.Kept.{KeepsView, KeepsAlone}
 use Rattle.spool_kept.specs.Shows.{IsValid}
+use Rattle.upload_rules.specs.Room.{blocks_of}
 use Rattle.spool_kept.proofs.Valid.{in_use}
 
-module _ (h : Holding) (v : View) (fits : FitsTogether h) (valid : IsValid v) (blocks : v.blocks ≡ h.layout)
+module _ (h : Holding) (v : View) (fits : FitsTogether h) (count : length v.slots ≡ 512)
+    (lists : (s : ℕ) (r : SlotRecord) → slot_at v s ≡ Some r → OwnsOneEach v.rows s (blocks_of r.text_len))
+    (blocks : v.blocks ≡ h.layout)
     (version : h.version ≡ v.version) (next : h.next ≡ v.next) (indexes : h.indexes ≡ v.indexes)
     (slots : h.slots ≡ v.slots) (rows : h.blocks.rows ≡ v.rows) where
   has : (s : ℕ) (r : SlotRecord) → slot_at v s ≡ Some r → HasBlocks h.blocks.rows s r.text_len (get_or h.lists s [])
   has s r e =
-      let lt : s < 512 = let inside = in_use v.slots s r e in omega (arith, inside, valid.slot_count) in
+      let lt : s < 512 = let inside = in_use v.slots s r e in omega (arith, inside, count) in
       let here : get_or h.slots s None ≡ Some r = ap (λ (xs : List (Option SlotRecord)). get_or xs s None) slots ∙ e in
       subst (λ (o : Option SlotRecord). IsListOf h.blocks.rows s o (get_or h.lists s [])) here (fits.listed s lt)
 
-  pub keeps_said : KeepsView h v
-  keeps_said = record {
+  keeps_by : KeepsView h v
+  keeps_by = record {
     blocks = sym blocks;
     version = version;
     next = next;
@@ -29,10 +33,33 @@ module _ (h : Holding) (v : View) (fits : FitsTogether h) (valid : IsValid v) (b
     listed = λ s r e. record {
       owned = λ i lt. subst (λ (xs : List Row). get_or xs (get_or (get_or h.lists s []) i 0) None ≡ Some (s, i)) rows
           ((has s r e).owned i lt);
-      once = (valid.lists s r e).once;
+      once = (lists s r e).once;
     };
     sizes = λ s r e. (has s r e).size;
   }
 
+-- what is kept says what a valid view says
+module _ (h : Holding) (v : View) (fits : FitsTogether h) (valid : IsValid v) (blocks : v.blocks ≡ h.layout)
+    (version : h.version ≡ v.version) (next : h.next ≡ v.next) (indexes : h.indexes ≡ v.indexes)
+    (slots : h.slots ≡ v.slots) (rows : h.blocks.rows ≡ v.rows) where
+  pub keeps_said : KeepsView h v
+  keeps_said = keeps_by h v fits valid.slot_count valid.lists blocks version next indexes slots rows
+
   pub keeps_view : h.blocks.reserved ≡ replicate v.blocks false → KeepsAlone h v
   keeps_view reserved = (keeps_said, reserved)
+
+-- what is kept is what a view says, whatever was read
+pub keeps_itself : (h : Holding) → FitsTogether h
+    → ((s : ℕ) (r : SlotRecord) → get_or h.slots s None ≡ Some r → OwnsOneEach h.blocks.rows s (blocks_of r.text_len))
+    → h.blocks.reserved ≡ replicate h.layout false → (v : View) × KeepsAlone h v
+keeps_itself h fits whole reserved =
+    let v : View = record {
+      blocks = h.layout;
+      version = h.version;
+      next = h.next;
+      indexes = h.indexes;
+      slots = h.slots;
+      rows = h.blocks.rows;
+      texts = λ s. [];
+    } in
+    (v, keeps_by h v fits fits.slot_count whole refl refl refl refl refl refl, reserved)

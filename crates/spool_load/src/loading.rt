@@ -88,6 +88,9 @@ pub fn read<D: Disk>(alloc: Global, disk: &mut D, found: Found) -> Result<Kept, 
     ensures said { D.honest disk.old → (bytes : ℕ → ℕ) → Still bytes (D.current disk.old) (D.unsynced disk.old)
         → (v : View) → IsValid v → IsFoundOf v found → Says bytes v → Loads result (λ kept. KeepsAlone kept v) }
 
+    // On any disk what is then in memory is a view.
+    ensures view { IfOk result (λ kept. (v : View) × KeepsAlone kept v) }
+
     // What is read is valid, and is what the bytes encode.
     ensures valid { D.honest disk.old → (bytes : ℕ → ℕ) → Still bytes (D.current disk.old) (D.unsynced disk.old)
         → SaysBlocks (D.size disk.old) bytes found.layout

@@ -36,6 +36,9 @@ pub fn load<D: Disk>(alloc: Global, disk: &mut D) -> Result<Kept, OpenFault>
     ensures said { D.honest disk.old → (v : View) → IsValid v → IsViewOf (D.current disk.old) v
         → 4096 * all_pages v.blocks ≤ D.size disk.old → LoadsAs result (λ kept. KeepsAlone kept v) }
 
+    // On any disk what is then in memory is a view.
+    ensures view { IfOk result (λ kept. (v : View) × KeepsAlone kept v) }
+
     // What is in memory is what a read gives, and it is valid. Each error has its reason.
     ensures valid { D.honest disk.old → IfOk result (OpenedFrom (D.size disk.old) (D.current disk.old)) }
     ensures refused { D.honest disk.old → IfErr result (RefusedFor (D.size disk.old) (D.current disk.old)) }

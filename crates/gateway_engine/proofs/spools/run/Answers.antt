@@ -1,4 +1,4 @@
-use Rattle.std.proofs.Common.{◌≤◌, ◌*◌, ℕ, [], ◌∷◌, Some, Ok, Err, inl, refl, sym, subst}
+use Rattle.std.proofs.Common.{◌≤◌, ◌*◌, ℕ, true, false, [], ◌∷◌, Some, Ok, Err, inl, refl, sym, subst}
 use Rattle.spool_journal.specs.Image.{all_pages}
 use Rattle.spool_image.specs.Spool.{disk_of, size_of}
 use Rattle.spool_image.specs.contracts.spool.SpoolUploads.TheImpl.Laws.{durable-law}
@@ -6,10 +6,10 @@ use Rattle.spool_image.proofs.Opening.{opened_exactly, refused_exactly}
 use Rattle.upload_rules.specs.World.{at_rest}
 use Rattle.tus_session.specs.History.{beginning}
 use Rattle.gateway_engine.specs.Faults.{run_fault}
-use Rattle.gateway_engine.specs.RanOn.{HasRunOn}
+use Rattle.gateway_engine.specs.RanOn.{HasRunOn, Writes}
 use Rattle.gateway_engine.proofs.Exits.{some_script}
 use Rattle.gateway_engine.proofs.OnDisk.{all_show, broke_on, fault_told, opened_still, ran_on, refused_on, unopened_on}
-use Rattle.gateway_engine.proofs.OnDisk.{view_room}
+use Rattle.gateway_engine.proofs.OnDisk.{opened_so, view_room, writes_all, writes_most}
 use Rattle.gateway_engine.proofs.spools.run.Goals as goal
 
 pub returns-in-Err-clause-runs : goal.returns-in-Err-clause-runs
@@ -36,7 +36,7 @@ returns-in-Ok-run_over-clause-runs g c n m is =
     let held = g.W.CountedWrite.contents c.run_over.new.writer in
     let prefix = g.W.CountedWrite.contents c.args.writer.now in
     let stands = c.in-Ok.ensures.stands n m is in
-    let has = c.in-Ok-run_over.ensures.output m (Some n) stands in (
+    let has = c.in-Ok-run_over.ensures.output true m (Some n) stands in (
       has.0,
       has.1,
       subst (λ d. HasRunOn g.D.Disk disk (Ok d) held prefix n (beginning m (Some n)) has.0)
@@ -65,7 +65,7 @@ returns-in-Err-run_over-clause-runs g c n m is =
     let held = g.W.CountedWrite.contents c.run_over.new.writer in
     let prefix = g.W.CountedWrite.contents c.args.writer.now in
     let stands = c.in-Ok.ensures.stands n m is in
-    let has = c.in-Err-run_over.ensures.output m (Some n) stands in (
+    let has = c.in-Err-run_over.ensures.output true m (Some n) stands in (
       has.0,
       has.1,
       subst (λ f. HasRunOn g.D.Disk disk (Err (c.into_disk-in-Err-run_over.result, f)) held prefix n
@@ -85,6 +85,35 @@ returns-in-Err-run_over-clause-runs g c n m is =
           (record { counts_now = g.met.D.Disk.counts_now; only_now = g.met.D.Disk.only_now }) now
           (at_rest st.world.store st.world.blocks) (st.world.store ∷ []) rests (inl refl)).1)
           held prefix has.0 fault has.2)),
+    )
+
+pub returns-in-Ok-run_over-clause-writes : goal.returns-in-Ok-run_over-clause-writes
+returns-in-Ok-run_over-clause-writes g c =
+    let kept = c.in-Ok.ensures.view in (
+      kept.0,
+      λ m shown.
+          let has = c.in-Ok-run_over.ensures.output false m (Some kept.0.blocks)
+          (c.in-Ok.ensures.kept kept.0 m shown kept.1) in
+          (has.0, has.1, writes_all _ _ _ c.into_disk.result _ _ _ has.0 has.2),
+    )
+
+pub returns-in-Err-run_over-clause-writes : goal.returns-in-Err-run_over-clause-writes
+returns-in-Err-run_over-clause-writes g c =
+    let kept = c.in-Ok.ensures.view in
+    let disk = c.into_disk-in-Err-run_over.result in
+    let held = g.W.CountedWrite.contents c.run_over.new.writer in
+    let prefix = g.W.CountedWrite.contents c.args.writer.now in
+    opened_so c.into_disk-in-Err-run_over.result c.in-Err-run_over.fault c.from.result c.from.ensures (
+      kept.0,
+      λ m shown.
+          let has = c.in-Err-run_over.ensures.output false m (Some kept.0.blocks)
+          (c.in-Ok.ensures.kept kept.0 m shown kept.1) in (
+            has.0,
+            has.1,
+            subst (λ f. Writes (Err (disk, f)) held prefix
+                (beginning m (Some kept.0.blocks)) has.0) (sym c.from.ensures)
+                (writes_most _ _ _ c.into_disk-in-Err-run_over.result _ _ _ has.0 c.in-Err-run_over.fault has.2),
+          ),
     )
 
 pub returns-in-Err-run_over-clause-io : goal.returns-in-Err-run_over-clause-io

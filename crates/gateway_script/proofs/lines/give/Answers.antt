@@ -8,13 +8,13 @@ use Rattle.gateway_script.proofs.Reaching.{reach_both, went_after, once_fails, g
 use Rattle.gateway_script.proofs.lines.give.Goals as goal
 
 pub returns-in_err-taken-clause-does : goal.returns-in_err-taken-clause-does
-returns-in_err-taken-clause-does g c = λ before st r prefix at.
-    let i = c.loop-left.invariant.2 before st r prefix at in
+returns-in_err-taken-clause-does g c = λ sure before st r prefix at.
+    let i = c.loop-left.invariant.2 sure before st r prefix at in
     let n = c.args.conn in
     let k : ℕ = c.loop-left.left - 1 in
     let rest = c.loop-left.rest.now in
     let step : c.loop-left.left ≡ suc k = omega (arith, c.loop-left-test.true) in
-    let v = view g.C.Connections before c.give_once.new.core st
+    let v = view g.C.Connections sure before c.give_once.new.core st
     (g.W.CountedWrite.contents c.give_once.new.writer) prefix in
     let p = err_from_is_err_and c.from_residual.result c.from_residual.ensures.1 in
     let fault = c.in_err-taken.field-0.0 in
@@ -23,21 +23,22 @@ returns-in_err-taken-clause-does g c = λ before st r prefix at.
     (subst (λ k. Reaches (give_within (length c.args.bytes.now) n c.args.bytes.now) r (give_within k n rest) i.0) step
     i.1)
     (once_fails v fault k n rest i.0
-    (c.in_err-taken.ensures.does before st i.0 prefix k (some_list _ rest c.is_empty.ensures c.if-not-is_empty.true)
+    (c.in_err-taken.ensures.does sure before st i.0 prefix k
+        (some_list _ rest c.is_empty.ensures c.if-not-is_empty.true)
     i.2)))
 
 pub returns-in_default-clause-does : goal.returns-in_default-clause-does
-returns-in_default-clause-does g c = λ before st r prefix at.
-    let i = c.loop-left.invariant.2 before st r prefix at in
+returns-in_default-clause-does g c = λ sure before st r prefix at.
+    let i = c.loop-left.invariant.2 sure before st r prefix at in
     let n = c.args.conn in
     let k : ℕ = c.loop-left.left - 1 in
     let rest = c.loop-left.rest.now in
     let step : c.loop-left.left ≡ suc k = omega (arith, c.loop-left-test.true) in
-    let v = view g.C.Connections before c.give_once.new.core st
+    let v = view g.C.Connections sure before c.give_once.new.core st
     (g.W.CountedWrite.contents c.give_once.new.writer) prefix in
     let p : GivenOnce v (Ok None) k n rest i.0 =
     subst (λ o. GivenOnce v (Ok o) k n rest i.0) c.in_default.is
-    (c.in_ok-taken.ensures.does before st i.0 prefix k (some_list _ rest c.is_empty.ensures c.if-not-is_empty.true)
+    (c.in_ok-taken.ensures.does sure before st i.0 prefix k (some_list _ rest c.is_empty.ensures c.if-not-is_empty.true)
     i.2) in (
       p.0,
       reach_both (give_within (length c.args.bytes.now) n c.args.bytes.now) (give_within (suc k) n rest) (λ x. x) r i.0
@@ -51,17 +52,18 @@ pub loop-left-preserved : goal.loop-left-preserved
 loop-left-preserved g c = (
   uncounted (λ fails. absurd (cc)) c.in_ok-taken.ensures.counts ∙ c.loop-left.invariant.0,
   uncounted (λ fails. absurd (cc)) c.in_ok-taken.ensures.io ∙ c.loop-left.invariant.1,
-  λ before st r prefix at.
-      let i = c.loop-left.invariant.2 before st r prefix at in
+  λ sure before st r prefix at.
+      let i = c.loop-left.invariant.2 sure before st r prefix at in
       let n = c.args.conn in
       let k : ℕ = c.loop-left.left - 1 in
       let rest = c.loop-left.rest.now in
       let step : c.loop-left.left ≡ suc k = omega (arith, c.loop-left-test.true) in
-      let v = view g.C.Connections before c.give_once.new.core st
+      let v = view g.C.Connections sure before c.give_once.new.core st
       (g.W.CountedWrite.contents c.give_once.new.writer) prefix in
       let p : GivenOnce v (Ok (Some c.in-Some.taken)) k n rest i.0 =
       subst (λ o. GivenOnce v (Ok o) k n rest i.0) c.in-Some.is
-      (c.in_ok-taken.ensures.does before st i.0 prefix k (some_list _ rest c.is_empty.ensures c.if-not-is_empty.true)
+      (c.in_ok-taken.ensures.does sure before st i.0 prefix k
+          (some_list _ rest c.is_empty.ensures c.if-not-is_empty.true)
       i.2) in (
         p.0,
         reach_both (give_within (length c.args.bytes.now) n c.args.bytes.now) (give_within (suc k) n rest)
@@ -75,8 +77,8 @@ loop-left-preserved g c = (
 )
 
 pub returns-else-not-is_empty-clause-does : goal.returns-else-not-is_empty-clause-does
-returns-else-not-is_empty-clause-does g c = λ before st r prefix at.
-    let i = c.loop-left.invariant.2 before st r prefix at in
+returns-else-not-is_empty-clause-does g c = λ sure before st r prefix at.
+    let i = c.loop-left.invariant.2 sure before st r prefix at in
     let n = c.args.conn in
     let k : ℕ = c.loop-left.left in
     let none : c.loop-left.rest.now ≡ [] =
@@ -89,8 +91,8 @@ returns-else-not-is_empty-clause-does g c = λ before st r prefix at.
     )
 
 pub returns-after-loop-left-clause-does : goal.returns-after-loop-left-clause-does
-returns-after-loop-left-clause-does g c = λ before st r prefix at.
-    let i = c.loop-left.invariant.2 before st r prefix at in
+returns-after-loop-left-clause-does g c = λ sure before st r prefix at.
+    let i = c.loop-left.invariant.2 sure before st r prefix at in
     let n = c.args.conn in
     let none : c.loop-left.left ≡ 0 = omega (arith, c.loop-left-test.false) in (
       i.0,

@@ -9,33 +9,33 @@ use Rattle.gateway_script.proofs.runs.cut_all.Goals as goal
 use Rattle.tus_session.specs.History.{most_open}
 
 pub returns-in_err-cut_open-clause-does : goal.returns-in_err-cut_open-clause-does
-returns-in_err-cut_open-clause-does g c = λ before st r prefix at.
-    let i = c.loop-left.invariant.3 before st r prefix at in
+returns-in_err-cut_open-clause-does g c = λ sure before st r prefix at.
+    let i = c.loop-left.invariant.3 sure before st r prefix at in
     let k : ℕ = c.loop-left.left - 1 in
     let n : ℕ = most_open - c.loop-left.left in
     let step : c.loop-left.left ≡ suc k = omega (arith, c.loop-left-test.true) in
-    let v = view g.C.Connections before c.cut_open.new.core st
+    let v = view g.C.Connections sure before c.cut_open.new.core st
     (g.W.CountedWrite.contents c.cut_open.new.writer) prefix in
     let p = err_from_is_err_and c.from_residual.result c.from_residual.ensures.1 in
     let fault = c.in_err-cut_open.field-0.0 in
     rw (p.1, p.2) (went_after v (Err fault) (cut_from most_open 0) (cut_from (suc k) n) r i.0
     (subst (λ k. Reaches (cut_from most_open 0) r (cut_from k n) i.0) step i.1)
-    (cut_fails v fault k n i.0 (c.in_err-cut_open.ensures.does before st i.0 prefix k i.2)))
+    (cut_fails v fault k n i.0 (c.in_err-cut_open.ensures.does sure before st i.0 prefix k i.2)))
 
 pub loop-left-preserved : goal.loop-left-preserved
 loop-left-preserved g c = (
   omega (arith, c.loop-left.invariant.0),
   uncounted (λ fails. absurd (cc)) c.in_ok-cut_open.ensures.counts ∙ c.loop-left.invariant.1,
   uncounted (λ fails. absurd (cc)) c.in_ok-cut_open.ensures.io ∙ c.loop-left.invariant.2,
-  λ before st r prefix at.
-      let i = c.loop-left.invariant.3 before st r prefix at in
+  λ sure before st r prefix at.
+      let i = c.loop-left.invariant.3 sure before st r prefix at in
       let k : ℕ = c.loop-left.left - 1 in
       let n : ℕ = most_open - c.loop-left.left in
       let step : c.loop-left.left ≡ suc k = omega (arith, c.loop-left-test.true) in
       let next : n + 1 ≡ most_open - k = omega (arith, c.loop-left-test.true, c.loop-left.invariant.0) in
-      let v = view g.C.Connections before c.cut_open.new.core st
+      let v = view g.C.Connections sure before c.cut_open.new.core st
       (g.W.CountedWrite.contents c.cut_open.new.writer) prefix in
-      let p : CutOne v (Ok (tt {0})) k n i.0 = c.in_ok-cut_open.ensures.does before st i.0 prefix k i.2 in (
+      let p : CutOne v (Ok (tt {0})) k n i.0 = c.in_ok-cut_open.ensures.does sure before st i.0 prefix k i.2 in (
         p.0,
         reach_both (cut_from most_open 0) (cut_from (suc k) n) (cut_from k (most_open - k)) r i.0 p.0
             (subst (λ k. Reaches (cut_from most_open 0) r (cut_from k n) i.0) step i.1)
@@ -45,8 +45,8 @@ loop-left-preserved g c = (
 )
 
 pub returns-clause-does : goal.returns-clause-does
-returns-clause-does g c = λ before st r prefix at.
-    let i = c.loop-left.invariant.3 before st r prefix at in
+returns-clause-does g c = λ sure before st r prefix at.
+    let i = c.loop-left.invariant.3 sure before st r prefix at in
     let none : c.loop-left.left ≡ 0 = omega (arith, c.loop-left-test.false) in (
       i.0,
       reach_both (cut_from most_open 0) (cut_from 0 most_open) (λ x. x) r i.0 i.0

@@ -12,35 +12,35 @@ wanted : (line text : List ℕ) (o : Order) → text ≡ before 10 line → o �
 wanted line text o is asks = asks ∙ ap (λ t. order_of (bared t)) is
 
 pub returns-then-too_long-clause-does : goal.returns-then-too_long-clause-does
-returns-then-too_long-clause-does g c = λ before st r prefix lines at.
-    line_bad (view g.C.Connections before c.args.core.now st (g.W.CountedWrite.contents c.args.writer.now) prefix)
+returns-then-too_long-clause-does g c = λ sure before st r prefix lines at.
+    line_bad (view g.C.Connections sure before c.args.core.now st (g.W.CountedWrite.contents c.args.writer.now) prefix)
     c.args.number c.args.start c.args.line.now lines r at
     (or_first _ (is_bad (order_in c.args.line.now)) (sym c.too_long.ensures ∙ c.if-too_long.true))
 
 pub returns-then-is_no_order-clause-does : goal.returns-then-is_no_order-clause-does
-returns-then-is_no_order-clause-does g c = λ before st r prefix lines at.
+returns-then-is_no_order-clause-does g c = λ sure before st r prefix lines at.
     let line = c.args.line.now in
-    line_bad (view g.C.Connections before c.args.core.now st (g.W.CountedWrite.contents c.args.writer.now) prefix)
+    line_bad (view g.C.Connections sure before c.args.core.now st (g.W.CountedWrite.contents c.args.writer.now) prefix)
     c.args.number c.args.start line lines r at
     (or_second (is_long c.args.start line) _
     (ap is_bad (sym (wanted c.args.line.now c.prefix.result.now _ c.prefix.ensures c.in_ok-order.ensures))
     ∙ (sym c.is_no_order.ensures ∙ c.if-is_no_order.true)))
 
 pub returns-clause-does : goal.returns-clause-does
-returns-clause-does g c = λ before st r prefix lines at.
+returns-clause-does g c = λ sure before st r prefix lines at.
     let line = c.args.line.now in
-    line_ran (view g.C.Connections before c.obey.new.core st (g.W.CountedWrite.contents c.obey.new.writer) prefix)
+    line_ran (view g.C.Connections sure before c.obey.new.core st (g.W.CountedWrite.contents c.obey.new.writer) prefix)
     c.args.number c.args.start line lines r (order_shown c.in_ok-order.order)
     (wanted c.args.line.now c.prefix.result.now _ c.prefix.ensures c.in_ok-order.ensures) at.up
     (or_neither (is_long c.args.start line) (is_bad (order_in line)) (sym c.too_long.ensures ∙ c.if-too_long.false)
     (ap is_bad (sym (wanted c.args.line.now c.prefix.result.now _ c.prefix.ensures c.in_ok-order.ensures))
     ∙ (sym c.is_no_order.ensures ∙ c.if-is_no_order.false)))
-    (c.in_ok-obey.ensures.does before st r prefix at)
+    (c.in_ok-obey.ensures.does sure before st r prefix at)
 
 pub returns-in_err-obey-clause-does : goal.returns-in_err-obey-clause-does
-returns-in_err-obey-clause-does g c = λ before st r prefix lines at.
+returns-in_err-obey-clause-does g c = λ sure before st r prefix lines at.
     let line = c.args.line.now in
-    let v = view g.C.Connections before c.obey.new.core st (g.W.CountedWrite.contents c.obey.new.writer) prefix in
+    let v = view g.C.Connections sure before c.obey.new.core st (g.W.CountedWrite.contents c.obey.new.writer) prefix in
     let p = err_from_is_err_and c.from_residual-in_err-obey.result c.from_residual-in_err-obey.ensures.1 in
     rw (p.1, p.2) (line_stops v c.in_err-obey.field-0.0 c.args.number c.args.start line lines r
     (order_shown c.in_ok-order.order)
@@ -48,11 +48,11 @@ returns-in_err-obey-clause-does g c = λ before st r prefix lines at.
     (or_neither (is_long c.args.start line) (is_bad (order_in line)) (sym c.too_long.ensures ∙ c.if-too_long.false)
     (ap is_bad (sym (wanted c.args.line.now c.prefix.result.now _ c.prefix.ensures c.in_ok-order.ensures))
     ∙ (sym c.is_no_order.ensures ∙ c.if-is_no_order.false)))
-    (c.in_err-obey.ensures.does before st r prefix at))
+    (c.in_err-obey.ensures.does sure before st r prefix at))
 
 pub returns-in_err-order-clause-does : goal.returns-in_err-order-clause-does
-returns-in_err-order-clause-does g c = λ before st r prefix lines at.
+returns-in_err-order-clause-does g c = λ sure before st r prefix lines at.
     let p = err_from_is_err_and c.from_residual.result c.from_residual.ensures.1 in
     rw (p.1, p.2) (line_wants
-    (view g.C.Connections before c.args.core.now st (g.W.CountedWrite.contents c.args.writer.now) prefix)
+    (view g.C.Connections sure before c.args.core.now st (g.W.CountedWrite.contents c.args.writer.now) prefix)
     c.args.number c.args.start c.args.line.now lines r at)

@@ -8,14 +8,14 @@ use Rattle.gateway_serve.proofs.Lost.{ended_once}
 use Rattle.gateway_serve.proofs.serving.end_each.Goals as goal
 
 pub returns-in-Err-clause-serves : goal.returns-in-Err-clause-serves
-returns-in-Err-clause-serves g c = λ before st past went joins.
-    let s = c.loop-conn.invariant.1 before st past went joins in
+returns-in-Err-clause-serves g c = λ sure before st past went joins.
+    let s = c.loop-conn.invariant.1 sure before st past went joins in
     let told : Result (Unit {0}) DiskFault = Err c.in-Err.fault in
     let inside : c.loop-conn.conn < length c.loop-conn.places =
     omega (arith, c.loop-conn-test.true, c.loop-conn.auto.places) in
     among_all g.C.Connections c.loop-conn.gateway c.end.new.gateway told c.loop-conn.places c.loop-conn.conn
     c.index-places-conn.result c.end.new.self c.loop-conn.ended.sockets c.end.new.ended.sockets
-    c.in-Err.ensures.serves c.end.ensures.others inside before st s.0 s.1 s.2
+    c.in-Err.ensures.serves c.end.ensures.others inside sure before st s.0 s.1 s.2
 
 pub returns-in-Err-clause-streams : goal.returns-in-Err-clause-streams
 returns-in-Err-clause-streams g c = λ have had.
@@ -28,7 +28,7 @@ returns-in-Err-clause-streams g c = λ have had.
 pub loop-conn-init : goal.loop-conn-init
 loop-conn-init g c = (
   refl,
-  λ before st past went joins. (past, went, joins),
+  λ sure before st past went joins. (past, went, joins),
   λ have had. (have, had),
   λ k lt. absurd (omega (arith, lt)),
   none,
@@ -39,12 +39,12 @@ loop-conn-preserved g c =
     let inside : c.loop-conn.conn < length c.loop-conn.places =
     omega (arith, c.loop-conn-test.true, c.loop-conn.auto.places) in (
       uncounted (λ fails. absurd (cc)) c.in-Ok.ensures.counts ∙ c.loop-conn.invariant.0,
-      λ before st past went joins.
-          let s = c.loop-conn.invariant.1 before st past went joins in
+      λ sure before st past went joins.
+          let s = c.loop-conn.invariant.1 sure before st past went joins in
           let told : Result (Unit {0}) DiskFault = Ok tt in
           among_all g.C.Connections c.loop-conn.gateway c.end.new.gateway told c.loop-conn.places c.loop-conn.conn
           c.index-places-conn.result c.end.new.self c.loop-conn.ended.sockets c.end.new.ended.sockets
-          c.in-Ok.ensures.serves c.end.ensures.others inside before st s.0 s.1 s.2,
+          c.in-Ok.ensures.serves c.end.ensures.others inside sure before st s.0 s.1 s.2,
       λ have had.
           let s = c.loop-conn.invariant.2 have had in
           among_keep g.S.Read.remaining g.S.Write.contents c.loop-conn.places c.loop-conn.conn
@@ -57,13 +57,13 @@ loop-conn-preserved g c =
     )
 
 pub returns-clause-serves : goal.returns-clause-serves
-returns-clause-serves g c = λ before st past went joins.
-    let s = c.loop-conn.invariant.1 before st past went joins in
+returns-clause-serves g c = λ sure before st past went joins.
+    let s = c.loop-conn.invariant.1 sure before st past went joins in
     let most : length c.loop-conn.places ≤ c.loop-conn.conn =
     omega (arith, c.loop-conn-test.false, c.loop-conn.auto.places) in (
       s.0,
       s.1,
-      all_served c.loop-conn.places c.loop-conn.ended.sockets st s.0
+      all_served sure c.loop-conn.places c.loop-conn.ended.sockets st s.0
           (λ k lt. c.loop-conn.invariant.3 k (omega (arith, lt, most))) s.2,
     )
 

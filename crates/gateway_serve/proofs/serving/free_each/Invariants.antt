@@ -1,4 +1,4 @@
-use Rattle.std.proofs.Common.{List}
+use Rattle.std.proofs.Common.{Bool, List}
 use Rattle.tus_session.specs.History.{State, Marked}
 use Rattle.gateway_serve.specs.Joined.{AllFell}
 use Rattle.gateway_serve.specs.Streams.{AllKeep}
@@ -8,7 +8,7 @@ use Rattle.gateway_serve.proofs.serving.free_each.Given as goal
 
 abbrev pub invariant-loop-conn : goal.invariant-loop-conn
 invariant-loop-conn g l =
-    ((st : State) (past : List Marked) → AllFell l.fn.places l.fn.ended.sockets st past
-    → HalfLeft l.conn l.places l.ended.sockets st past)
+    ((sure : Bool) (st : State) (past : List Marked) → AllFell sure l.fn.places l.fn.ended.sockets st past
+    → HalfLeft sure l.conn l.places l.ended.sockets st past)
     × AllKeep g.S.Read.remaining g.S.Write.contents l.fn.places l.places l.fn.ended.sockets l.ended.sockets
     × EndedOnce l.fn.ended.sockets l.conn l.ended.sockets

@@ -9,23 +9,23 @@ use Rattle.gateway_serve.proofs.Carries.{among_keep}
 use Rattle.gateway_serve.proofs.serving.turn_each.Goals as goal
 
 pub returns-then-round-clause-serves : goal.returns-then-round-clause-serves
-returns-then-round-clause-serves g c = λ before st past went joins.
-    let s = c.loop-conn.invariant.1 before st past went joins in (
+returns-then-round-clause-serves g c = λ sure before st past went joins.
+    let s = c.loop-conn.invariant.1 sure before st past went joins in (
       s.0,
       s.1,
-      subst (λ places. AllJoin places c.loop-conn.ended.sockets st s.0)
+      subst (λ places. AllJoin sure places c.loop-conn.ended.sockets st s.0)
           (sym (set-get_or c.loop-conn.places c.loop-conn.conn c.index-places-conn.result)) s.2,
     )
 
 pub returns-in-Err-clause-serves : goal.returns-in-Err-clause-serves
-returns-in-Err-clause-serves g c = λ before st past went joins.
-    let s = c.loop-conn.invariant.1 before st past went joins in
+returns-in-Err-clause-serves g c = λ sure before st past went joins.
+    let s = c.loop-conn.invariant.1 sure before st past went joins in
     let told : Result Turned DiskFault = Err c.in-Err.fault in
     let inside : c.loop-conn.conn < length c.loop-conn.places =
     omega (arith, c.loop-conn-test.true, c.loop-conn.auto.places) in
     among_all g.C.Connections c.loop-conn.gateway c.turn.new.gateway told c.loop-conn.places c.loop-conn.conn
     c.index-places-conn.result c.turn.new.self c.loop-conn.ended.sockets c.turn.new.ended.sockets
-    c.in-Err.ensures.serves c.turn.ensures.others inside before st s.0 s.1 s.2
+    c.in-Err.ensures.serves c.turn.ensures.others inside sure before st s.0 s.1 s.2
 
 pub returns-in-Err-clause-streams : goal.returns-in-Err-clause-streams
 returns-in-Err-clause-streams g c = λ have had.
@@ -41,14 +41,14 @@ returns-in-Err-clause-reasons g c = λ all. c.turn.ensures.reasons (c.loop-conn.
 pub loop-conn-preserved : goal.loop-conn-preserved
 loop-conn-preserved g c = (
   uncounted (λ fails. absurd (cc)) c.in-Ok.ensures.counts ∙ c.loop-conn.invariant.0,
-  λ before st past went joins.
-      let s = c.loop-conn.invariant.1 before st past went joins in
+  λ sure before st past went joins.
+      let s = c.loop-conn.invariant.1 sure before st past went joins in
       let told : Result Turned DiskFault = Ok c.in-Ok.turned in
       let inside : c.loop-conn.conn < length c.loop-conn.places =
       omega (arith, c.loop-conn-test.true, c.loop-conn.auto.places) in
       among_all g.C.Connections c.loop-conn.gateway c.turn.new.gateway told c.loop-conn.places c.loop-conn.conn
       c.index-places-conn.result c.turn.new.self c.loop-conn.ended.sockets c.turn.new.ended.sockets
-      c.in-Ok.ensures.serves c.turn.ensures.others inside before st s.0 s.1 s.2,
+      c.in-Ok.ensures.serves c.turn.ensures.others inside sure before st s.0 s.1 s.2,
   λ have had.
       let s = c.loop-conn.invariant.2 have had in
       let inside : c.loop-conn.conn < length c.loop-conn.places =

@@ -143,3 +143,6 @@ returns-in_err-kept-clause-counts g c =
     let second = no_failure c.load_slots.ensures.counts (ok_no_fault _ _ c.in_ok-slots.was) in
     let third = no_failure c.load_blocks.ensures.counts (ok_no_fault _ _ c.in_ok-blocks.was) in
     search rules
+
+pub returns-clause-view : goal.returns-clause-view
+returns-clause-view g c = c.in_ok-kept.ensures.view c.in_ok-blocks.ensures.reserved

@@ -1,54 +1,51 @@
-use Rattle.std.proofs.Common.{ℕ, true, List, Result, Ok, Err}
+use Rattle.std.proofs.Common.{ℕ, List, Result, Ok, Err}
 use Rattle.spool_disk.specs.declared.disk.DiskFault.{DiskFault}
 use Rattle.tus_session.specs.History.{Came, Marked}
-use Rattle.tus_session.proofs.Added.{adds_all}
 use Rattle.gateway_serve.specs.Joined.{Alone, Joins, joint_of}
-use Rattle.gateway_serve.proofs.After.{served}
+use Rattle.gateway_serve.proofs.After.{surely, served}
 use Rattle.gateway_serve.proofs.Talks.{alone_step}
 use Rattle.gateway_serve.proofs.Joints.{came_link, came_down}
 use Rattle.gateway_serve.proofs.links.Link.came.Goals as goal
 
 pub returns-in-Ok-clause-serves : goal.returns-in-Ok-clause-serves
-returns-in-Ok-clause-serves g c = λ before st past ended went joins.
+returns-in-Ok-clause-serves g c = λ sure before st past ended went joins.
     let n = c.args.conn in
     let piece = c.left.result.now in
-    let gives = c.came-answer.ensures.gives true _ went.stands in
-    let adds = adds_all c.came-answer.result gives.0 _ _ _ gives.2 in
-    served g.C.Connections before c.args.gateway.now c.came-answer.new.gateway st past (Came n piece) went
-    (λ ms among. g.met.C.Connections.durable c.args.gateway.now _ ms went.stands among)
-    (λ (now : List Marked). Alone st n past now
-    × Joins (joint_of (record c.args.self.now {
+    let gives = c.came-answer.ensures.gives sure _ went.stands in
+    served g.C.Connections sure before c.args.gateway.now c.came-answer.new.gateway st past (Came n piece) went
+    (λ yes ms among. g.met.C.Connections.durable c.args.gateway.now _ ms (surely went yes) among)
+    (λ (now : List Marked). Alone sure st n past now
+    × Joins sure (joint_of (record c.args.self.now {
       input = c.take.new.self;
       output = c.came-answer.new.self;
       stage = c.in-Ok.next.stage;
     })) ended st now n)
     (λ now. Unit {0})
     c.came-answer.result (Ok c.in-Ok.next) c.in-Ok.ensures.fault gives.1.keeps
-    (c.came-answer.ensures.crash _ went.stands) c.came-answer.ensures.falls
+    (λ yes. c.came-answer.ensures.crash _ (surely went yes)) c.came-answer.ensures.falls
     (λ ok. (
-      alone_step st past (Came n piece) _,
-      came_link ended st past n c.came-answer.result gives.0
+      alone_step sure st past (Came n piece) _,
+      came_link sure ended st past n c.came-answer.result gives.0
           (joint_of c.args.self.now) piece c.take.new.self c.came-answer.new.self c.in-Ok.next.stage c.in-Ok.next.taken
           ok c.left.ensures
-          gives.1.answer adds c.in-Ok.ensures.stage c.in-Ok.ensures.taken c.take.ensures joins,
+          gives.1.answer gives.2 c.in-Ok.ensures.stage c.in-Ok.ensures.taken c.take.ensures joins,
     )) (λ fails. tt)
 
 pub returns-in-Err-clause-serves : goal.returns-in-Err-clause-serves
-returns-in-Err-clause-serves g c = λ before st past ended went joins.
+returns-in-Err-clause-serves g c = λ sure before st past ended went joins.
     let n = c.args.conn in
     let piece = c.left.result.now in
     let told : Result ℕ DiskFault = Err c.in-Err.fault in
-    let gives = c.came-answer.ensures.gives true _ went.stands in
-    let adds = adds_all c.came-answer.result gives.0 _ _ _ gives.2 in
-    served g.C.Connections before c.args.gateway.now c.came-answer.new.gateway st past (Came n piece) went
-    (λ ms among. g.met.C.Connections.durable c.args.gateway.now _ ms went.stands among)
-    (λ now. Unit {0}) (λ (now : List Marked). Alone st n past now
-    × Joins (joint_of (record c.args.self.now { output = c.came-answer.new.self })) ended st now n)
+    let gives = c.came-answer.ensures.gives sure _ went.stands in
+    served g.C.Connections sure before c.args.gateway.now c.came-answer.new.gateway st past (Came n piece) went
+    (λ yes ms among. g.met.C.Connections.durable c.args.gateway.now _ ms (surely went yes) among)
+    (λ now. Unit {0}) (λ (now : List Marked). Alone sure st n past now
+    × Joins sure (joint_of (record c.args.self.now { output = c.came-answer.new.self })) ended st now n)
     c.came-answer.result told c.in-Err.ensures.fault gives.1.keeps
-    (c.came-answer.ensures.crash _ went.stands) c.came-answer.ensures.falls
+    (λ yes. c.came-answer.ensures.crash _ (surely went yes)) c.came-answer.ensures.falls
     (λ ok. tt)
     (λ fails. (
-      alone_step st past (Came n piece) _,
-      came_down ended st past n c.came-answer.result gives.0
-          (joint_of c.args.self.now) piece c.came-answer.new.self fails c.left.ensures gives.1.answer adds joins,
+      alone_step sure st past (Came n piece) _,
+      came_down sure ended st past n c.came-answer.result gives.0
+          (joint_of c.args.self.now) piece c.came-answer.new.self fails c.left.ensures gives.1.answer gives.2 joins,
     ))

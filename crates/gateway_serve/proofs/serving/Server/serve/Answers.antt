@@ -26,13 +26,13 @@ returns-in-Err-clause-streams g c = λ have had.
     (subst (AllHave g.S.Read.remaining g.S.Write.contents) (sym c.deref_mut.ensures.value) a.0) a.1).1
 
 pub returns-in-Err-clause-serves : goal.returns-in-Err-clause-serves
-returns-in-Err-clause-serves g c = λ before st past went joins.
-    let s = c.in-Err.ensures.serves before st past went joins in
+returns-in-Err-clause-serves g c = λ sure before st past went joins.
+    let s = c.in-Err.ensures.serves sure before st past went joins in
     let now : List Marked = (s.1, Failed) ∷ s.0 in (
       s.0,
       s.1,
       s.2,
-      c.free_each.ensures.left st now
-          (subst (λ places. AllFell places (ended_of c.take_turns.new.self) st now) (sym c.deref_mut.ensures.value)
+      c.free_each.ensures.left sure st now
+          (subst (λ places. AllFell sure places (ended_of c.take_turns.new.self) st now) (sym c.deref_mut.ensures.value)
           s.3),
     )

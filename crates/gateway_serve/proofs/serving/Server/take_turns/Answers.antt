@@ -16,15 +16,15 @@ returns-clause-streams g c = λ have had.
     (subst (AllHave g.S.Read.remaining g.S.Write.contents) (sym same) b.0, b.1)
 
 pub returns-clause-serves : goal.returns-clause-serves
-returns-clause-serves g c = λ before st past went joins.
-    let s = c.loop-left.invariant.1 before st past went joins in
+returns-clause-serves g c = λ sure before st past went joins.
+    let s = c.loop-left.invariant.1 sure before st past went joins in
     let ended = c.end_each.new.ended.sockets in
     let same = with_items_is c.loop-left.self.places c.end_each.new.places
     (omega (arith, c.end_each.auto.places, c.deref_mut.ensures.len)) in
-    subst (λ places. Serves g.C.Connections before c.end_each.new.gateway st c.end_each.result
-    (AllServed ended st) (AllFell places ended st)) (sym same)
-    (c.end_each.ensures.serves before st s.0 s.1
-    (subst (λ places. AllJoin places (ended_of c.loop-left.self) st s.0) (sym c.deref_mut.ensures.value) s.2))
+    subst (λ places. Serves g.C.Connections sure before c.end_each.new.gateway st c.end_each.result
+    (AllServed sure ended st) (AllFell sure places ended st)) (sym same)
+    (c.end_each.ensures.serves sure before st s.0 s.1
+    (subst (λ places. AllJoin sure places (ended_of c.loop-left.self) st s.0) (sym c.deref_mut.ensures.value) s.2))
 
 pub returns-clause-reasons : goal.returns-clause-reasons
 returns-clause-reasons g c = λ all. (

@@ -15,12 +15,12 @@ returns-clause-streams g c = λ have had.
     (subst (AllHave g.S.Read.remaining g.S.Write.contents) (sym same) b.0, b.1)
 
 pub returns-clause-serves : goal.returns-clause-serves
-returns-clause-serves g c = λ before st past went joins.
-    let s = c.in_ok-accept.ensures.serves before st past went joins in
+returns-clause-serves g c = λ sure before st past went joins.
+    let s = c.in_ok-accept.ensures.serves sure before st past went joins in
     let ended = c.turn_each-taken.new.ended.sockets in
     let same = with_items_is c.accept.new.self.places c.turn_each-taken.new.places
     (omega (arith, c.turn_each-taken.auto.places, c.deref_mut.ensures.len)) in
-    subst (λ places. Serves g.C.Connections before c.turn_each-taken.new.gateway st c.turn_each-taken.result
-    (AllJoin places ended st) (AllFell places ended st)) (sym same)
-    (c.turn_each-taken.ensures.serves before st s.0 s.1
-    (subst (λ places. AllJoin places (ended_of c.accept.new.self) st s.0) (sym c.deref_mut.ensures.value) s.2))
+    subst (λ places. Serves g.C.Connections sure before c.turn_each-taken.new.gateway st c.turn_each-taken.result
+    (AllJoin sure places ended st) (AllFell sure places ended st)) (sym same)
+    (c.turn_each-taken.ensures.serves sure before st s.0 s.1
+    (subst (λ places. AllJoin sure places (ended_of c.accept.new.self) st s.0) (sym c.deref_mut.ensures.value) s.2))

@@ -48,6 +48,9 @@ returns-in-Ok-clause-stands g c n m is =
     (λ _. c.in-Ok.ensures.honest.0 is.honest) (λ _. is.shows.is) said is.shows.shows
     (λ _. c.in-Ok.ensures.settled is.honest))
 
+pub returns-in-Ok-clause-view : goal.returns-in-Ok-clause-view
+returns-in-Ok-clause-view g c = c.in-Ok.ensures.view
+
 pub returns-in-Ok-clause-kept : goal.returns-in-Ok-clause-kept
 returns-in-Ok-clause-kept g c v m shows keeps =
     stands_opened g.D.Disk c.load.new.disk (g.D.Disk.current c.args.disk) c.in-Ok.kept c.new.result.items m v
