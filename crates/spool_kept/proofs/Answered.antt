@@ -1,6 +1,6 @@
 -- What is kept tells of the uploads that a view shows.
-use Rattle.std.proofs.Common.{◌≡◌, inl, inr, ℕ, ◌<◌, ◌≤◌, List, [], Option, None, Some, MatchOption, length}
-use Rattle.std.proofs.Common.{get_or, refl, sym, ◌∙◌, ap, subst, arith}
+use Rattle.std.proofs.Common.{◌≡◌, inl, inr, ℕ, ◌<◌, ◌≤◌, List, [], Option, None, Some, MatchOption, length, get_or}
+use Rattle.std.proofs.Common.{refl, sym, ◌∙◌, ap, subst, arith}
 use Rattle.std.proofs.lemmas.Bool.{cases_lt, cases_eq}
 use Rattle.std.proofs.lemmas.Option.{same_Some}
 use Rattle.enc_model.specs.Indexes.{IndexSet}
@@ -17,10 +17,11 @@ use Rattle.spool_kept.specs.declared.order.NumberedSlot.{NumberedSlot}
 use Rattle.spool_kept.specs.Holding.{Holding, FitsTogether, IsUsedBy, Lists, IsPlaceFor, numbered, number_at}
 use Rattle.spool_kept.specs.Kept.{KeepsView}
 use Rattle.spool_kept.specs.Records.{said_of, IsUnpacked, KeepsOf}
-use Rattle.spool_kept.specs.Shows.{Shows}
+use Rattle.spool_kept.specs.Shows.{Shows, IsTold}
 use Rattle.spool_kept.proofs.Numbered.{above_is, above_none}
 use Rattle.spool_kept.proofs.Valid.{in_use}
 use Rattle.spool_kept.proofs.Told.{keeps}
+use Rattle.spool_kept.proofs.ChangedSlots.{clash, one_value}
 
 pub kept_none : (x : IndexSet) (n : ℕ) (o : Option Upload) → o ≡ None → KeepsOf x n o None
 kept_none x n o e = subst (λ (p : Option Upload). KeepsOf x n p None) (sym e) tt
@@ -33,15 +34,11 @@ pub kept_tells : (x : IndexSet) (n : ℕ) (o : Option Upload) (r : Option Record
     → TellsOf x (with_number n o) r
 kept_tells x n None None k = tt
 kept_tells x n (Some u) (Some r) k = k.tells
-kept_tells x n None (Some r) k = absurd k
-kept_tells x n (Some u) None k = absurd k
+kept_tells x n u r k = absurd k
 
 pub match_is_none : {A X : Type 0} (P : A → Type 0) (o : Option A) → o ≡ None → X → MatchOption o X P
 match_is_none P None e x = x
-match_is_none P (Some a) e x = absurd (some_none e)
-  where
-    some_none : {A : Type 0} {a : A} → Some a ≡ None → ⊥
-    some_none e = cc
+match_is_none P (Some a) e x = clash e refl
 
 pub text_there : (m : Store) (o : Option Upload) (u : Upload) (text : List ℕ) → o ≡ Some u → text ≡ text_of m.indexes u
     → (no_such o ≡ None) × (text_at m o ≡ text)
@@ -50,9 +47,6 @@ text_there m (Some w) u text there is = (refl, ap (text_of m.indexes) (same_Some
 
 pub same_read : (text : List ℕ) (at n : ℕ) (old new : List ℕ) → IsPieceRead text at n old new → IsRead text at n old new
 same_read text at n old new is = record { count = is.count; bytes = is.bytes }
-
-pub same_used : {q r : SlotRecord} {o : Option SlotRecord} → o ≡ Some q → o ≡ Some r → q ≡ r
-same_used e f = cc
 
 -- the slot of a number, by the order
 pub used_of : (h : Holding) → FitsTogether h → (number : ℕ) (o : Option ℕ)
@@ -63,11 +57,7 @@ used_of h fits number None free = λ s used.
     free s (subst (λ (n : ℕ). Lists h.order n s) used.is (fits.ordered.all s used.used lt used.there))
 used_of h fits number (Some s) there = fits.ordered.names number s there
 
-module _ (h : Holding) (v : View) (m : Store) (kept : KeepsView h v) (shows : Shows v m) where
-  -- a slot that is told of
-  pub slot_there : (s : ℕ) (q : SlotRecord) → get_or h.slots s None ≡ Some q → slot_at v s ≡ Some q
-  slot_there s q e = ap (λ (xs : List (Option SlotRecord)). get_or xs s None) (sym kept.slots) ∙ e
-
+module _ {h : Holding} {v : View} {m : Store} (kept : KeepsView h v) (shows : Shows v m) where
   pub no_upload : (n : ℕ) → ((s : ℕ) → IsUsedBy h.slots s n → ⊥) → upload_of m n ≡ None
   no_upload n free = go (upload_of m n) refl
     where
@@ -75,40 +65,35 @@ module _ (h : Holding) (v : View) (m : Store) (kept : KeepsView h v) (shows : Sh
       go None e = e
       go (Some u) e =
           let has = shows.all n u e in
-          absurd (free has.slot (record {
-            used = has.used;
-            there = ap (λ (xs : List (Option SlotRecord)). get_or xs has.slot None) kept.slots ∙ has.there;
-            is = has.number;
-          }))
+          let there = ap (λ (xs : List (Option SlotRecord)). get_or xs has.slot None) kept.slots ∙ has.there in
+          absurd (free has.slot (record { used = has.used; there = there; is = has.number }))
 
-  pub found : (s : ℕ) (q : SlotRecord) (n : ℕ) → get_or h.slots s None ≡ Some q → q.number ≡ n → (r : Record)
-      → said_of r ≡ q → IsUnpacked r → (u : Upload) × (upload_of m n ≡ Some u) × Keeps m.indexes n r u
-  found s q n e number r said unpacked =
-      let told = shows.told s q (slot_there s q e) in (
-        told.upload,
-        subst (λ (k : ℕ). find k m.uploads ≡ Some told.upload) number told.there,
-        keeps m.indexes q
-            (v.texts s) told.upload told.tells r said unpacked n number,
-      )
+  -- the slot of a number tells of its upload
+  module _ {s n : ℕ} {q : SlotRecord} (here : get_or h.slots s None ≡ Some q) (used : IsUsedBy h.slots s n) where
+    there : slot_at v s ≡ Some q
+    there = ap (λ (xs : List (Option SlotRecord)). get_or xs s None) (sym kept.slots) ∙ here
 
-  -- the text on a slot's blocks is its upload's
-  pub text_told : (bytes : ℕ → ℕ) → Says bytes v → (s : ℕ) (q : SlotRecord) (n : ℕ) → get_or h.slots s None ≡ Some q
-      → q.number ≡ n
-      → (u : Upload) → upload_of m n ≡ Some u → text_on bytes (text_page h.layout) (get_or h.lists s [])
-      q.text_len ≡ text_of m.indexes u
-  text_told bytes says s q n e number u found_there =
-      let there = slot_there s q e in
-      let told = shows.told s q there in
-      let list = get_or h.lists s [] in
-      let upload : upload_of m n ≡ Some told.upload =
-      subst (λ (k : ℕ). find k m.uploads ≡ Some told.upload) number told.there in
-      let same : text_on bytes (text_page v.blocks) list q.text_len ≡ text_of m.indexes told.upload =
-      shown bytes (text_page v.blocks) v.rows s q.text_len list (kept.listed s q there) (kept.sizes s q there)
-      ∙ sym (says.texts s q there) ∙ told.tells.text in
-      let here : text_on bytes (text_page h.layout) list q.text_len ≡ text_of m.indexes told.upload =
-      subst (λ (b : ℕ). text_on bytes (text_page b) list q.text_len ≡ text_of m.indexes told.upload)
-      (sym kept.blocks) same in
-      here ∙ ap (text_of m.indexes) (same_Some told.upload u (sym upload ∙ found_there))
+    abbrev told : IsTold m q (v.texts s)
+    told = shows.told s q there
+
+    number : q.number ≡ n
+    number = ap (λ (r : SlotRecord). r.number) (one_value here used.there) ∙ used.is
+
+    upload_is : upload_of m n ≡ Some told.upload
+    upload_is = ap (λ (k : ℕ). find k m.uploads) (sym number) ∙ told.there
+
+    pub found : {r : Record} → said_of r ≡ q → IsUnpacked r
+        → (u : Upload) × (upload_of m n ≡ Some u) × Keeps m.indexes n r u
+    found {r = r} said unpacked =
+        (told.upload, upload_is, keeps m.indexes q (v.texts s) told.upload told.tells r said unpacked n number)
+
+    -- and the text on its blocks is its upload's
+    pub text_told : (bytes : ℕ → ℕ) → Says bytes v → (u : Upload) → upload_of m n ≡ Some u
+        → text_on bytes (text_page h.layout) (get_or h.lists s []) q.text_len ≡ text_of m.indexes u
+    text_told bytes says u found_there = rw kept.blocks
+        (shown bytes (text_page v.blocks) v.rows s q.text_len (get_or h.lists s []) (kept.listed s q there)
+        (kept.sizes s q there) ∙ sym (says.texts s q there) ∙ told.tells.text
+        ∙ ap (text_of m.indexes) (same_Some told.upload u (sym upload_is ∙ found_there)))
 
   -- each upload stands in the order
   pub listed : (j : ℕ) (w : Upload) → find j m.uploads ≡ Some w

@@ -1,9 +1,6 @@
 -- A draft whose text has ended: why it isn't put after its upload's, and that it may be.
-use Rattle.std.proofs.Common.{Result, Err, IfOk, ◌≡◌, inl, inr, ℕ, ◌<◌, ◌≤◌, ◌+◌, ◌-◌, ◌/◌, ◌^◌, Bool, true}
-use Rattle.std.proofs.Common.{false, List, Option, None, Some, length, get_or, set, min, refl, sym, ◌∙◌, ap, subst}
-use Rattle.std.proofs.Common.{arith}
-use Rattle.std.proofs.lemmas.Bool.{cases_lt}
-use Rattle.std.proofs.lemmas.List.{get_or_past}
+use Rattle.std.proofs.Common.{Result, Err, IfOk, ◌≡◌, inl, inr, ℕ, ◌≤◌, ◌+◌, ◌-◌, ◌/◌, ◌^◌, Bool, true, false, List}
+use Rattle.std.proofs.Common.{Option, None, Some, length, get_or, set, min, refl, sym, ◌∙◌, ap, subst, arith}
 use Rattle.enc_model.specs.Indexes.{IndexSet}
 use Rattle.spool_blocks.specs.Blocks.{Row, Held}
 use Rattle.spool_disk.specs.declared.disk.Disk.{Ghosts}
@@ -11,7 +8,7 @@ use Rattle.spool_disk.specs.Views.{Lasts}
 use Rattle.spool_disk.proofs.Firm.{lasts_more}
 use Rattle.spool_journal.specs.Image.{journal_pages, text_page}
 use Rattle.spool_drafts.specs.Drafts.{EndsAs, EndsAfter, Holds, Carries, IsPlaced, IsWhole, committed_len_of, list_of}
-use Rattle.spool_drafts.specs.Drafts.{tail_of, offset_of, came_of, declare_of, open_text}
+use Rattle.spool_drafts.specs.Drafts.{tail_of, offset_of, came_of, open_text}
 use Rattle.spool_drafts.specs.Effect.{Effect, RunsShort}
 use Rattle.spool_drafts.specs.declared.draft.DraftEnd.{DraftEnd}
 use Rattle.spool_drafts.specs.declared.draft.SpoolDraft.{SpoolDraft}
@@ -22,7 +19,6 @@ use Rattle.spool_texts.specs.Drafts.{IsReserved, bytes_with}
 use Rattle.spool_texts.specs.TextOn.{AllBelow}
 use Rattle.upload_rules.specs.Answers.{Answers}
 use Rattle.upload_rules.specs.Calls.{commit_refusal}
-use Rattle.upload_rules.specs.Drafts.{draft_at}
 use Rattle.upload_rules.specs.Lengths.{is_length, known_or, longest}
 use Rattle.upload_rules.specs.Room.{is_short, wants}
 use Rattle.upload_rules.specs.Store.{Upload, find, is_complete, patched, with_length}
@@ -31,7 +27,6 @@ use Rattle.upload_rules.proofs.Commits.{complete_patched}
 use Rattle.upload_rules.specs.declared.errors.UploadError.{UploadError}
 use Rattle.upload_rules.specs.declared.errors.UploadError.TheVariants.{NoMemory, DiskFault, Refused}
 use Rattle.upload_rules.specs.declared.errors.UploadRefusal.TheVariants as refusals
-use Rattle.upload_rules.proofs.Patches.{draft_of}
 use Rattle.spool_kept.specs.Committing.{HasSameCount, IsCommit, IsFound}
 use Rattle.spool_kept.specs.Drafting.{DraftsHold, DraftStands, OnlyReserves}
 use Rattle.spool_kept.specs.Extending.{IsPending, MayExtend}
@@ -40,16 +35,22 @@ use Rattle.spool_kept.specs.Shows.{ImageShows, IsRecordOf}
 use Rattle.spool_kept.specs.Stored.{Stored}
 use Rattle.spool_kept.specs.declared.committing.Found.{Found}
 use Rattle.spool_kept.specs.declared.extending.Longer.{Longer}
-use Rattle.spool_kept.proofs.Appended.{told_upload}
+use Rattle.spool_kept.proofs.SlotChange.{told_upload}
 use Rattle.spool_kept.proofs.CommitRefusals as rules
 use Rattle.spool_kept.proofs.CommitTexts as texts
-use Rattle.spool_kept.proofs.DraftLonger.{fit_longer, holds_all, lacks, moved, some_draft}
-use Rattle.spool_kept.proofs.Drafted.{IsChanged, changed_in}
+use Rattle.spool_kept.proofs.DraftLonger.{WentOn, fit_longer, holds_all, lacks, moved, put_on}
+use Rattle.spool_kept.proofs.CommitHead as head
 
 -- other reserved blocks
 pub only_blocks : (h : Holding) (blocks : Held) → blocks.rows ≡ h.blocks.rows
     → OnlyReserves h (record h { blocks = blocks })
 only_blocks h blocks rows = record { same = refl; rows = rows }
+
+-- the same of what is kept, told otherwise
+pub on_kept : {D : Type 0} {sure : Bool} {disk : Ghosts D} {d : D} {h k : Holding} {drafts : List (Option SpoolDraft)}
+    {number : ℕ} {o : SpoolDraft} {w : World} {p : Patch} → k ≡ h → IsCommit sure disk d h drafts number o w p
+    → IsCommit sure disk d k drafts number o w p
+on_kept same is = rw same is
 
 -- the slot's upload may become what the text of a draft that is after it ends in
 pub may : (h : Holding) (slot : ℕ) (declared : Option ℕ) (accepted : ℕ) (list : List ℕ) (end : DraftEnd)
@@ -77,8 +78,8 @@ placed_still n o o' len tail is = record {
   few = omega (arith, len, is.few);
 }
 
-module _ {D : Type 0} {sure : Bool} (disk : Ghosts D) (d d' : D) (h h' : Holding) (only : OnlyReserves h h')
-    (drafts : List (Option SpoolDraft)) (number : ℕ) (o o' : SpoolDraft) (w : World) (p : Patch)
+module _ {D : Type 0} {sure : Bool} {disk : Ghosts D} {d d' : D} {h h' : Holding} (only : OnlyReserves h h')
+    {drafts : List (Option SpoolDraft)} {number : ℕ} {o : SpoolDraft} (o' : SpoolDraft) {w : World} {p : Patch}
     (is : IsCommit sure disk d h drafts number o w p)
     (effect : Effect disk (journal_pages h.layout) (list_of o) (list_of o') d d' h.blocks h'.blocks) where
   abbrev first : ℕ
@@ -97,7 +98,7 @@ module _ {D : Type 0} {sure : Bool} (disk : Ghosts D) (d d' : D) (h h' : Holding
   -- THE DISK
 
   pub stored_after : (disk.honest d → disk.honest d') → Stored sure disk d' h' w.store
-  stored_after honest = moved disk d d' h h' w.store h.layout s only honest effect.own unowned refl
+  stored_after honest = moved d' s only honest effect.own unowned refl
       (λ known. (effect.writes (s.honest known)).writes)
 
   pub quiet_after : sure ≡ true → Lasts disk d d' (λ image. ImageShows h.layout image w.store)
@@ -110,38 +111,33 @@ module _ {D : Type 0} {sure : Bool} (disk : Ghosts D) (d d' : D) (h h' : Holding
 
   -- THE DRAFT
 
-  pub own_draft : DraftStands (sure ≡ true) w.store.indexes (disk.current d) (text_page h.layout) h.slots h.blocks.rows
+  own_draft : DraftStands (sure ≡ true) w.store.indexes (disk.current d) (text_page h.layout) h.slots h.blocks.rows
       w.store p o
-  own_draft =
-      let R = DraftStands (sure ≡ true) w.store.indexes (disk.current d) (text_page h.layout) h.slots h.blocks.rows
-      w.store in
-      let at = draft_of R p (find number w.patches) (draft_at drafts number) is.patch (is.stands.stands.each number) in
-      subst (R p) (some_draft at.0 o (sym at.1 ∙ is.here)) at.2
+  own_draft = head.own_draft (record { stands = is.stands; patch = is.patch; here = is.here })
 
   held : Holds w.store.indexes p o
   held = own_draft.holds
 
   -- what its slot's record tells of its upload
-  module _ (found : Found) (finds : IsFound h.slots o found) where
+  module _ {found : Found} (finds : IsFound h.slots o found) where
     abbrev has : HasSameCount h.slots o found.slot
     has = finds.same
 
     there : get_or s.view.slots found.slot None ≡ Some finds.same.used
     there = ap (λ (xs : List (Option SlotRecord)). get_or xs found.slot None) (sym s.keeps.slots) ∙ has.there
 
-    pub told : IsRecordOf w.store.indexes finds.same.used (s.view.texts found.slot) (with_length p.began is.still.0)
+    told : IsRecordOf w.store.indexes finds.same.used (s.view.texts found.slot) (with_length p.began is.still.0)
     told = told_upload s.view w.store s.shows found.slot has.used there (with_length p.began is.still.0)
         (ap (λ (k : ℕ). find k w.store.uploads) (has.number ∙ held.number) ∙ is.still.1)
 
     -- its length then
-    pub declared_is : found.declared ≡ known_or (known_or p.began.declared is.still.0) p.declare
-    declared_is = finds.declared ∙ ap (λ (k : Option ℕ). known_or k (declare_of o)) told.declared
-        ∙ ap (known_or (known_or p.began.declared is.still.0)) held.declare
+    declared_is : found.declared ≡ known_or (known_or p.began.declared is.still.0) p.declare
+    declared_is = rw (finds.declared, told.declared, held.declare) refl
 
     reached_is : offset_of o + came_of o ≡ reached p
     reached_is = omega (arith, held.offset, held.came)
 
-    pub within : reached p ≤ longest (known_or (known_or p.began.declared is.still.0) p.declare)
+    within : reached p ≤ longest (known_or (known_or p.began.declared is.still.0) p.declare)
     within = subst (λ (k : Option ℕ). reached p ≤ longest k) declared_is (omega (arith, reached_is, finds.within))
 
     done_is : completes w.store p ≡ is_length found.declared (reached p)
@@ -153,7 +149,7 @@ module _ {D : Type 0} {sure : Bool} (disk : Ghosts D) (d d' : D) (h h' : Holding
     whole_is = complete_patched (with_length p.began is.still.0) p.declare p.body
         ∙ ap (λ (k : Option ℕ). is_length k (reached p)) (sym declared_is) ∙ sym done_is
 
-    module _ (accepted : ℕ) (sum : accepted ≡ min (offset_of o + came_of o) (2 ^ 64 - 1)) where
+    module _ {accepted : ℕ} (sum : accepted ≡ min (offset_of o + came_of o) (2 ^ 64 - 1)) where
       pub all_came : accepted ≡ reached p
       all_came = omega (arith, sum, reached_is, finds.within, finds.fits)
 
@@ -166,7 +162,7 @@ module _ {D : Type 0} {sure : Bool} (disk : Ghosts D) (d d' : D) (h h' : Holding
       open_began : is_complete p.began ≡ false
       open_began = texts.open_before p.began is.still.0 is.still.2
 
-      module _ (done : Bool) (done_says : done ≡ is_length found.declared accepted)
+      module _ {done : Bool} (done_says : done ≡ is_length found.declared accepted)
           (result : Result DraftEnd UploadError) where
         done_then : done ≡ completes w.store p
         done_then = done_says ∙ completes_is
@@ -200,35 +196,19 @@ module _ {D : Type 0} {sure : Bool} (disk : Ghosts D) (d d' : D) (h h' : Holding
 
   module _ (placed : IsPlaced h.layout o') (reserved : IsReserved h'.blocks (list_of o'))
       (size : length h.blocks.reserved ≡ length h.blocks.rows) where
-    inside : number < length drafts
-    inside = elim (cases_lt number (length drafts))
-        [ inl lt ↦ lt | inr ge ↦ absurd (let n = get_or_past drafts number None ge in let e = is.here in cc) ]
+    abbrev on : WentOn h.blocks h'.blocks drafts number o o' (set drafts number (Some o'))
+    on = put_on number o' is.here effect.grasp
 
-    abbrev pub mid : List (Option SpoolDraft)
-    mid = set drafts number (Some o')
-
-    pub changed_mid : IsChanged drafts number (Some o') (set drafts number (Some o'))
-    changed_mid = changed_in drafts (set drafts number (Some o')) number o' inside refl
-
-    pub fit_mid : DraftsHold h.layout h'.blocks (set drafts number (Some o'))
-    fit_mid = fit_longer h.layout h.blocks drafts is.fits number o is.here h'.blocks (set drafts number (Some o')) o'
-        effect.own effect.grasp changed_mid reserved placed
+    fit_mid : DraftsHold h.layout h'.blocks (set drafts number (Some o'))
+    fit_mid = fit_longer is.fits on reserved placed
 
     roomy : (done : Bool) → p.short ≡ false → length (list_of o') ≡ wants w.store.indexes p done
         → is_short w number p done ≡ false
-    roomy done =
-        holds_all w (disk.current d) (disk.current d') first h.layout h.slots h.blocks h'.blocks drafts
-        (set drafts number (Some o')) is.stands.stands is.fits number o o' is.here effect.own effect.grasp
-        changed_mid
-        only.rows s.view s.shows s.keeps.rows size fit_mid p done
+    roomy = holds_all is.stands.stands is.fits on only.rows s.shows s.keeps.rows size fit_mid p
 
     short : (done : Bool) → RunsShort h.blocks h'.blocks (list_of o) (wants w.store.indexes p done)
         → is_short w number p done ≡ true
-    short done =
-        lacks w (disk.current d) (disk.current d') first h.layout h.slots h.blocks h'.blocks drafts
-        (set drafts number (Some o')) is.stands.stands is.fits number o o' is.here effect.own effect.grasp
-        changed_mid
-        only.rows s.view s.shows s.keeps.rows size fit_mid p done
+    short = lacks is.stands.stands is.fits on only.rows s.shows s.keeps.rows size fit_mid p
 
     stays_short : (done : Bool) → p.short ≡ true → is_short w number p done ≡ true
     unfolding is_short
@@ -249,12 +229,7 @@ module _ {D : Type 0} {sure : Bool} (disk : Ghosts D) (d d' : D) (h h' : Holding
           ]),
       tt,
     )
-    refused done (Refused refusals.NoSuch) ends = absurd ends
-    refused done (Refused refusals.Offset) ends = absurd ends
-    refused done (Refused refusals.TooLong) ends = absurd ends
-    refused done (Refused refusals.Slots) ends = absurd ends
-    refused done (Refused refusals.TooLarge) ends = absurd ends
-    refused done (Refused refusals.LengthSet) ends = absurd ends
+    refused done e ends = absurd ends
 
     pub not_ended : {T : Type 0} (done : T → Type 0) (r : Result T UploadError) (e : UploadError) → r ≡ Err e
         → (ended : Result DraftEnd UploadError) → ended ≡ Err e
@@ -265,7 +240,7 @@ module _ {D : Type 0} {sure : Bool} (disk : Ghosts D) (d d' : D) (h h' : Holding
         (refused done e (subst (λ (q : Result DraftEnd UploadError). EndsAs w.store.indexes p (completes w.store p) o o'
         h.blocks h'.blocks q) was ends))
 
-    module _ (end : DraftEnd) (whole : IsWhole w.store.indexes p (completes w.store p) o' end) (found : Found)
+    module _ (end : DraftEnd) (whole : IsWhole w.store.indexes p (completes w.store p) o' end) {found : Found}
         (finds : IsFound h.slots o found) where
       pub allowed : commit_refusal w number p ≡ None
       allowed = rules.allowed w number p is.allowed is.changes whole.encodable
@@ -297,10 +272,10 @@ module _ {D : Type 0} {sure : Bool} (disk : Ghosts D) (d d' : D) (h h' : Holding
           };
           upload = with_length p.began is.still.0;
           there = is.still.1;
-          added = texts.more w.store.indexes p is.still.0 o' end is.still.2 (within found finds) held.small
-              (completes w.store p) (whole_is found finds) whole;
-          extension = texts.extension w.store.indexes p is.still.0 o' end is.still.2 (within found finds) held.small
-              (completes w.store p) (whole_is found finds) whole longer (disk.current e)
-              (text_page h'.layout) (declared ∙ declared_is found finds) accepted len is_state written;
+          added = texts.more w.store.indexes p is.still.0 o' end is.still.2 (within finds) held.small
+              (completes w.store p) (whole_is finds) whole;
+          extension = texts.extension w.store.indexes p is.still.0 o' end is.still.2 (within finds) held.small
+              (completes w.store p) (whole_is finds) whole longer (disk.current e)
+              (text_page h'.layout) (declared ∙ declared_is finds) accepted len is_state written;
         };
       }

@@ -2,34 +2,31 @@
 use Rattle.std.proofs.Common.{◌≡◌, ℕ, List, Option, None, Some, get_or, set, refl, sym, ◌∙◌, ap, subst}
 use Rattle.spool_blocks.specs.Blocks.{Held}
 use Rattle.spool_drafts.specs.Drafts.{IsPlaced, list_of}
-use Rattle.spool_drafts.specs.Effect.{Regrasps}
 use Rattle.spool_drafts.specs.declared.draft.SpoolDraft.{SpoolDraft}
 use Rattle.spool_pages.specs.View.{SlotRecord}
 use Rattle.spool_texts.specs.Drafts.{GivesBack, IsReserved}
-use Rattle.upload_rules.specs.Drafts.{draft_at}
 use Rattle.spool_kept.specs.Drafting.{DraftsFit, DraftsHold, OnlyReserves}
 use Rattle.spool_kept.specs.Extending.{Advances, HandsOn, IsLonger, longer_record}
 use Rattle.spool_kept.specs.Holding.{Holding}
 use Rattle.spool_kept.specs.declared.extending.Longer.{Longer}
 use Rattle.spool_kept.proofs.DraftSpent.{fit_given, fit_handed, rows_handed}
 use Rattle.spool_kept.proofs.OfUploads.{fits_put, fits_spent}
+use Rattle.spool_kept.proofs.DraftLonger.{WentOn}
 
 -- the draft was ended: it may have reserved more
-module _ (h mid : Holding) (only : OnlyReserves h mid) (drafts : List (Option SpoolDraft)) (fit : DraftsFit h drafts)
-    (number : ℕ) (o o' : SpoolDraft) (here : draft_at drafts number ≡ Some o) (own : List ℕ)
-    (grasp : Regrasps h.blocks mid.blocks (list_of o) (list_of o') own) (reserved : IsReserved mid.blocks (list_of o'))
-    (placed : IsPlaced h.layout o') where
+module _ {h mid : Holding} (only : OnlyReserves h mid) {drafts : List (Option SpoolDraft)} (fit : DraftsFit h drafts)
+    {number : ℕ} {o o' : SpoolDraft} (on : WentOn h.blocks mid.blocks drafts number o o' (set drafts number (Some o')))
+    (reserved : IsReserved mid.blocks (list_of o')) (placed : IsPlaced h.layout o') where
   -- its blocks are given back
   pub fits_given : (h' : Holding) (blocks : Held) → h' ≡ mid → GivesBack h'.blocks blocks (list_of o')
       → DraftsFit (record h' { blocks = blocks }) (set drafts number None)
   fits_given h' blocks same gives =
       let is = same ∙ only.same in
-      let given = subst (λ (k : Holding). GivesBack k.blocks blocks (list_of o')) same gives in
       fits_spent h (record h' { blocks = blocks }) drafts (set drafts number None) number refl
       (ap (λ (k : Holding). k.next) is) (ap (λ (k : Holding). k.slots) is)
       (subst (λ (n : ℕ). DraftsHold n blocks (set drafts number None)) (sym (ap (λ (k : Holding). k.layout) is))
-      (fit_given h.layout h.blocks mid.blocks drafts fit.blocks number o o' here own grasp reserved placed blocks
-      given))
+      (fit_given fit.blocks on reserved placed blocks
+      (subst (λ (k : Holding). GivesBack k.blocks blocks (list_of o')) same gives)))
       fit
 
   -- they are the longer upload's
@@ -39,7 +36,6 @@ module _ (h mid : Holding) (only : OnlyReserves h mid) (drafts : List (Option Sp
       → DraftsFit h' (set drafts number None)
   fits_handed h' longer used more list there grows hands_more longer_more =
       let slots = ap (λ (k : Holding). k.slots) only.same in
-      let hands = subst (HandsOn mid.blocks.reserved h'.blocks.reserved) list hands_more in
       let is = subst (λ (xs : List ℕ). IsLonger mid used longer xs h') list longer_more in
       fits_put h h' drafts number longer used (ap (λ (xs : List (Option SlotRecord)). get_or xs longer.slot None)
       (sym slots) ∙ there) grows
@@ -47,6 +43,7 @@ module _ (h mid : Holding) (only : OnlyReserves h mid) (drafts : List (Option Sp
       (is.slots ∙ ap (λ (xs : List (Option SlotRecord)). set xs longer.slot (Some (longer_record used longer))) slots)
       (subst (λ (n : ℕ). DraftsHold n h'.blocks (set drafts number None))
       (sym (is.layout ∙ ap (λ (k : Holding). k.layout) only.same))
-      (fit_handed h.layout h.blocks mid.blocks drafts fit.blocks number o o' here own grasp reserved placed h'.blocks
-      hands (rows_handed mid h' used longer (list_of o') is)))
+      (fit_handed fit.blocks on reserved placed h'.blocks
+      (subst (HandsOn mid.blocks.reserved h'.blocks.reserved) list hands_more)
+      (rows_handed mid h' used longer (list_of o') is)))
       fit

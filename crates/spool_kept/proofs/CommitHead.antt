@@ -1,7 +1,6 @@
 -- What a commit finds of its draft's upload.
-use Rattle.std.proofs.Common.{Result, Err, IsErrOf, refl, inl, inr, ◌↔◌, ◌⊎◌, ◌≡◌, ◌≤◌, ◌<◌, ◌&&◌, ℕ, ◌+◌, Bool}
-use Rattle.std.proofs.Common.{true, false, if◌then◌else◌, List, [], ◌∷◌, Option, None, Some, length, get_or, sym, ◌∙◌}
-use Rattle.std.proofs.Common.{ap}
+use Rattle.std.proofs.Common.{Result, Err, IsErrOf, refl, inl, inr, ◌↔◌, ◌⊎◌, ◌≡◌, ◌≤◌, ◌<◌, ◌&&◌, ℕ, ◌+◌, Bool, true}
+use Rattle.std.proofs.Common.{false, if◌then◌else◌, List, [], ◌∷◌, Option, None, Some, length, get_or, sym, ◌∙◌, ap}
 use Rattle.std.proofs.Common.{subst, arith, eqb-true}
 use Rattle.std.proofs.lemmas.Bool.{ne_eqb}
 use Rattle.spool_disk.specs.declared.disk.Disk.{Ghosts}
@@ -10,23 +9,20 @@ use Rattle.spool_drafts.specs.Drafts.{Holds, came_of, declare_of, number_of, off
 use Rattle.spool_drafts.specs.declared.draft.SpoolDraft.{SpoolDraft}
 use Rattle.spool_pages.specs.View.{SlotRecord}
 use Rattle.upload_rules.specs.Calls.{commit_refusal, committed, committed_store, declares, declares_at, dropped}
-use Rattle.upload_rules.specs.Calls.{is_empty}
-use Rattle.upload_rules.specs.Calls.{is_idle, length_refusal, text_stays, upload_refusal}
+use Rattle.upload_rules.specs.Calls.{is_empty, is_idle, length_refusal, text_stays, upload_refusal}
 use Rattle.upload_rules.specs.Drafts.{draft_at}
 use Rattle.upload_rules.specs.Lengths.{is_length, is_new, is_too_large, known_or, longest}
-use Rattle.upload_rules.specs.Store.{Upload, Store, find, is_complete, patched_store, upload_of, with_length}
+use Rattle.upload_rules.specs.Store.{Upload, Store, find, is_complete, patched_store, upload_of}
 use Rattle.upload_rules.specs.World.{Patch, World, completes, length_then, reached}
 use Rattle.upload_rules.specs.declared.errors.UploadError.{UploadError}
 use Rattle.upload_rules.specs.declared.errors.UploadError.TheVariants.{Refused}
 use Rattle.upload_rules.specs.declared.errors.UploadRefusal.{UploadRefusal}
-use Rattle.upload_rules.specs.declared.errors.UploadRefusal.TheVariants.{NoSuch, Offset, TooLong, Unencodable, Slots}
-use Rattle.upload_rules.specs.declared.errors.UploadRefusal.TheVariants.{TooLarge, Full, LengthSet}
+use Rattle.upload_rules.specs.declared.errors.UploadRefusal.TheVariants.{NoSuch, Offset, TooLong, Unencodable, Full}
+use Rattle.upload_rules.specs.declared.errors.UploadRefusal.TheVariants.{LengthSet}
 use Rattle.upload_rules.proofs.Patches.{draft_of}
 use Rattle.upload_rules.proofs.Refusals.{no_such_upload, other_offset}
 use Rattle.upload_rules.proofs.Same.{same_upload}
-use Rattle.spool_kept.specs.Committing.{Finds, HasOtherCount, HasOtherLength, HasSameCount, IsCommit, IsFound}
-use Rattle.spool_kept.specs.Committing.{MayDeclare}
-use Rattle.spool_kept.specs.Committing.{with_length_at}
+use Rattle.spool_kept.specs.Committing.{Finds, HasOtherCount, HasSameCount, IsCommit, IsFound, with_length_at}
 use Rattle.spool_kept.specs.Drafting.{DraftStands, DraftsHold, IsStillOpen, StandsFor}
 use Rattle.spool_kept.specs.Holding.{Holding, IsUsedBy}
 use Rattle.spool_kept.specs.Shows.{IsTold}
@@ -34,13 +30,10 @@ use Rattle.spool_kept.specs.declared.committing.Found.{Found}
 use Rattle.spool_kept.proofs.Answered.{no_upload}
 use Rattle.spool_kept.proofs.CommitRefusals.{by_length, nothing_committed, nothing_refused, refused_by_length}
 use Rattle.spool_kept.proofs.CommitRefusals.{store_declared}
-use Rattle.spool_kept.proofs.DraftLonger.{some_draft}
+use Rattle.std.proofs.lemmas.Option.{same_Some}
+use Rattle.std.proofs.lemmas.List.{nil_from_length}
 
 -- WHAT A PATCH BRINGS
-
-nothing_in : (body : List ℕ) → length body ≡ 0 → body ≡ []
-nothing_in [] e = refl
-nothing_in (b ∷ body) e = absurd (omega (arith, e))
 
 full_of : (body : List ℕ) → 0 < length body → is_empty body ≡ false
 full_of [] lt = absurd (omega (arith, lt))
@@ -70,11 +63,11 @@ text_left : (m : Store) (p : Patch) → length p.body ≡ 0 → (declares m p �
 text_left m p none open_still = by_declare (declares m p) refl
   where
     by_declare : (b : Bool) → declares m p ≡ b → text_stays m p ≡ true
-    by_declare true new = rw (new, open_still new, nothing_in p.body none) refl
-    by_declare false old = rw (old, nothing_in p.body none) refl
+    by_declare true new = rw (new, open_still new, nil_from_length p.body none) refl
+    by_declare false old = rw (old, nil_from_length p.body none) refl
 
 idle_patch : (m : Store) (p : Patch) → declares m p ≡ false → length p.body ≡ 0 → is_idle m p ≡ true
-idle_patch m p old none = rw (old, nothing_in p.body none) refl
+idle_patch m p old none = rw (old, nil_from_length p.body none) refl
 
 -- WHAT IS FOUND
 
@@ -100,34 +93,36 @@ found_open slots o found finds goes = by_known finds.same.used.declared refl
               ∙ ap (λ (k : Option ℕ). is_new k (declare_of o)) is in cc)
         ]
 
--- the slot's upload may get the length alone
-pub may_declare : (slots : List (Option SlotRecord)) (o : SpoolDraft) (found : Found) → IsFound slots o found
-    → found.stays ≡ true → found.declares ≡ true → MayDeclare slots found.slot found.declared
-may_declare slots o found finds stays new =
-    let left = finds.stays stays in
-    record {
-      used = finds.same.used;
-      there = finds.same.there;
-      unknown = (new_length finds.same.used.declared (declare_of o) (sym finds.declares ∙ new)).0;
-      within = omega (arith, finds.within, left.0, finds.same.count);
-      incomplete = ap (is_length found.declared) finds.same.count ∙ left.1 new;
-    }
+-- the draft of a number stands for a patch
+pub record IsOpen {D : Type 0} (sure : Bool) (disk : Ghosts D) (d : D) (h : Holding)
+    (drafts : List (Option SpoolDraft)) (number : ℕ) (o : SpoolDraft) (w : World) (p : Patch) : Type 0 where
+  pub stands : StandsFor sure disk d h drafts w
+  pub patch : find number w.patches ≡ Some p
+  pub here : draft_at drafts number ≡ Some o
 
-module _ {D : Type 0} {sure : Bool} (disk : Ghosts D) (d : D) (h : Holding) (drafts : List (Option SpoolDraft))
-    (number : ℕ) (o : SpoolDraft) (w : World) (p : Patch) (s : StandsFor sure disk d h drafts w)
-    (patch : find number w.patches ≡ Some p) (here : draft_at drafts number ≡ Some o) where
+pub opened : {D : Type 0} {sure : Bool} {disk : Ghosts D} {d : D} {h : Holding} {drafts : List (Option SpoolDraft)}
+    (number : ℕ) {o : SpoolDraft} {w : World} {p : Patch} → StandsFor sure disk d h drafts w
+    → find number w.patches ≡ Some p → Some o ≡ draft_at drafts number → IsOpen sure disk d h drafts number o w p
+opened number stands patch taken = record { stands = stands; patch = patch; here = sym taken }
+
+module _ {D : Type 0} {sure : Bool} {disk : Ghosts D} {d : D} {h : Holding} {drafts : List (Option SpoolDraft)}
+    {number : ℕ} {o : SpoolDraft} {w : World} {p : Patch} (k : IsOpen sure disk d h drafts number o w p) where
+  pub own_draft : DraftStands (sure ≡ true) w.store.indexes (disk.current d) (text_page h.layout) h.slots h.blocks.rows
+      w.store p o
+  own_draft =
+      let R = DraftStands (sure ≡ true) w.store.indexes (disk.current d) (text_page h.layout) h.slots h.blocks.rows
+      w.store in
+      let at = draft_of R p (find number w.patches) (draft_at drafts number) k.patch (k.stands.stands.each number) in
+      subst (R p) (same_Some at.0 o (sym at.1 ∙ k.here)) at.2
+
   held : Holds w.store.indexes p o
-  held =
-      let R = DraftStands (sure ≡ true) w.store.indexes (disk.current d)
-      (text_page h.layout) h.slots h.blocks.rows w.store in
-      let at = draft_of R p (find number w.patches) (draft_at drafts number) patch (s.stands.each number) in
-      (subst (R p) (some_draft at.0 o (sym at.1 ∙ here)) at.2).holds
+  held = own_draft.holds
 
   -- what a slot's record tells
-  pub told : (slot : ℕ) (used : SlotRecord) → get_or h.slots slot None ≡ Some used
-      → IsTold w.store used (s.stored.view.texts slot)
-  told slot used there = s.stored.shows.told slot used (ap (λ (xs : List (Option SlotRecord)). get_or xs slot None)
-      (sym s.stored.keeps.slots) ∙ there)
+  told : (slot : ℕ) (used : SlotRecord) → get_or h.slots slot None ≡ Some used
+      → IsTold w.store used (k.stands.stored.view.texts slot)
+  told slot used there = k.stands.stored.shows.told slot used
+      (ap (λ (xs : List (Option SlotRecord)). get_or xs slot None) (sym k.stands.stored.keeps.slots) ∙ there)
 
   upload_there : (used : SlotRecord) (u : Upload) → used.number ≡ number_of o
       → find used.number w.store.uploads ≡ Some u → upload_of w.store p.number ≡ Some u
@@ -136,46 +131,33 @@ module _ {D : Type 0} {sure : Bool} (disk : Ghosts D) (d : D) (h : Holding) (dra
   reached_is : offset_of o + came_of o ≡ reached p
   reached_is = omega (arith, held.offset, held.came)
 
-  module _ (slot : ℕ) (same : HasSameCount h.slots o slot) where
-    abbrev is : IsTold w.store same.used (s.stored.view.texts slot)
+  module _ {slot : ℕ} (same : HasSameCount h.slots o slot) where
+    abbrev is : IsTold w.store same.used (k.stands.stored.view.texts slot)
     is = told slot same.used same.there
 
-    abbrev pub upload : Upload
-    upload = is.upload
-
-    pub there : upload_of w.store p.number ≡ Some upload
+    there : upload_of w.store p.number ≡ Some is.upload
     there = upload_there same.used is.upload same.number is.there
 
-    as_long : length upload.accepted ≡ length p.began.accepted
+    as_long : length is.upload.accepted ≡ length p.began.accepted
     as_long = sym is.tells.accepted ∙ same.count ∙ held.offset
 
-    -- what is known of the length, in the record and of the upload
+    -- the length is refused by what is known of it in the record as by what is known of the upload
     length_is : length_refusal same.used.declared (declare_of o) (offset_of o + came_of o) ≡ length_refusal
-        upload.declared p.declare (reached p)
+        is.upload.declared p.declare (reached p)
     length_is =
         ap (λ (k : Option ℕ). length_refusal k (declare_of o) (offset_of o + came_of o)) is.tells.declared
-        ∙ ap (λ (k : Option ℕ). length_refusal upload.declared k (offset_of o + came_of o)) held.declare
-        ∙ ap (length_refusal upload.declared p.declare) reached_is
+        ∙ ap (λ (k : Option ℕ). length_refusal is.upload.declared k (offset_of o + came_of o)) held.declare
+        ∙ ap (length_refusal is.upload.declared p.declare) reached_is
 
-    pub new_is : is_new same.used.declared (declare_of o) ≡ is_new upload.declared p.declare
-    new_is = ap (λ (k : Option ℕ). is_new k (declare_of o)) is.tells.declared ∙ ap (is_new upload.declared) held.declare
-
-    pub known_is : known_or same.used.declared (declare_of o) ≡ known_or upload.declared p.declare
-    known_is =
-        ap (λ (k : Option ℕ). known_or k (declare_of o)) is.tells.declared ∙ ap (known_or upload.declared) held.declare
-
-    pub refused_so : (e : UploadRefusal)
+    refused_so : (e : UploadRefusal)
         → length_refusal same.used.declared (declare_of o) (offset_of o + came_of o) ≡ Some e
         → commit_refusal w number p ≡ Some e
-    refused_so e refused = refused_by_length w number p upload e there as_long (sym length_is ∙ refused)
-
-    -- the upload is as it was when the patch began, but for a length
-    pub since : (declare : Option ℕ) × (upload ≡ with_length p.began declare)
-    since = same_upload w number p upload s.stands.grown patch there as_long
+    refused_so e refused = refused_by_length w number p is.upload e there as_long (sym length_is ∙ refused)
 
   pub head_refused : (e : UploadRefusal) → Finds h.slots o (Err e) → commit_refusal w number p ≡ Some e
   head_refused NoSuch free =
-      no_such_upload w number p (no_upload h s.stored.view w.store s.stored.keeps s.stored.shows p.number
+      let stored = k.stands.stored in
+      no_such_upload w number p (no_upload stored.keeps stored.shows p.number
       (λ slot used. free slot (subst (IsUsedBy h.slots slot) (sym held.number) used)))
   head_refused Offset other =
       let is = told other.slot other.used.used other.used.there in
@@ -186,29 +168,30 @@ module _ {D : Type 0} {sure : Bool} (disk : Ghosts D) (d : D) (h : Holding) (dra
         number = other.used.is;
         count = is.tells.accepted ∙ same ∙ sym held.offset;
       }))
-  head_refused TooLong other = refused_so other.slot other.same TooLong other.refused
-  head_refused LengthSet other = refused_so other.slot other.same LengthSet other.refused
-  head_refused Unencodable found = absurd found
-  head_refused Slots found = absurd found
-  head_refused TooLarge found = absurd found
-  head_refused Full found = absurd found
+  head_refused TooLong other = refused_so other.same TooLong other.refused
+  head_refused LengthSet other = refused_so other.same LengthSet other.refused
+  head_refused e found = absurd found
 
-  module _ (found : Found) (finds : IsFound h.slots o found) where
+  module _ {found : Found} (finds : IsFound h.slots o found) where
     abbrev u : Upload
-    u = upload found.slot finds.same
+    u = (is finds.same).upload
 
-    here_is : upload_of w.store p.number ≡ Some (upload found.slot finds.same)
-    here_is = there found.slot finds.same
+    here_is : upload_of w.store p.number ≡ Some u
+    here_is = there finds.same
 
     allows : upload_refusal p (upload_of w.store p.number) ≡ None
-    allows = ap (upload_refusal p) here_is ∙ by_length p u (as_long found.slot finds.same)
-        ∙ sym (length_is found.slot finds.same) ∙ finds.allowed
+    allows = ap (upload_refusal p) here_is ∙ by_length p u (as_long finds.same) ∙ sym (length_is finds.same)
+        ∙ finds.allowed
 
     declares_is : declares w.store p ≡ found.declares
-    declares_is = ap (declares_at p) here_is ∙ sym (new_is found.slot finds.same) ∙ sym finds.declares
+    declares_is = ap (declares_at p) here_is ∙ sym (finds.declares
+        ∙ ap (λ (k : Option ℕ). is_new k (declare_of o)) (is finds.same).tells.declared
+        ∙ ap (is_new u.declared) held.declare)
 
-    declared_is : found.declared ≡ known_or (upload found.slot finds.same).declared p.declare
-    declared_is = finds.declared ∙ known_is found.slot finds.same
+    declared_is : found.declared ≡ known_or u.declared p.declare
+    declared_is = finds.declared
+        ∙ ap (λ (k : Option ℕ). known_or k (declare_of o)) (is finds.same).tells.declared
+        ∙ ap (known_or u.declared) held.declare
 
     completes_is : completes w.store p ≡ is_length found.declared (reached p)
     completes_is = ap (λ (v : Option Upload). is_length (length_then p v) (reached p)) here_is
@@ -222,8 +205,7 @@ module _ {D : Type 0} {sure : Bool} (disk : Ghosts D) (d : D) (h : Holding) (dra
         | inl some ↦ text_changes w.store p (omega (arith, held.came, some))
         | inr whole ↦
             let all : reached p ≡ offset_of o =
-            all_there found.declared (offset_of o) (reached p) whole.1
-            (subst (λ (n : ℕ). n ≤ longest found.declared) reached_is finds.within)
+            all_there found.declared (offset_of o) (reached p) whole.1 (omega (arith, reached_is, finds.within))
             (omega (arith, reached_is)) in
             text_ends w.store p (declares_is ∙ whole.0)
             (completes_is ∙ ap (is_length found.declared) all ∙ whole.1)
@@ -231,22 +213,20 @@ module _ {D : Type 0} {sure : Bool} (disk : Ghosts D) (d : D) (h : Holding) (dra
 
       still : IsStillOpen w.store p
       still =
-          let was = since found.slot finds.same in (
+          let tells = (is finds.same).tells in
+          let was = same_upload w number p u k.stands.stands.grown k.patch here_is (as_long finds.same) in (
             was.0,
             here_is ∙ ap (λ (v : Upload). Some v) was.1,
             subst (λ (v : Upload). is_complete v ≡ false) was.1
-                (subst (λ (k : Option ℕ). is_length k (length u.accepted) ≡ false) (is found.slot
-                finds.same).tells.declared
-                (subst (λ (n : ℕ). is_length finds.same.used.declared n ≡ false)
-                (is found.slot finds.same).tells.accepted (found_open h.slots o found finds goes))),
+                (rw (← tells.declared, ← tells.accepted) (found_open h.slots o found finds goes)),
           )
 
       pub commits : DraftsHold h.layout h.blocks drafts → IsCommit sure disk d h drafts number o w p
       commits fits = record {
-        stands = s;
+        stands = k.stands;
         fits = fits;
-        here = here;
-        patch = patch;
+        here = k.here;
+        patch = k.patch;
         still = still;
         allowed = allows;
         changes = changes;
@@ -281,11 +261,9 @@ module _ {D : Type 0} {sure : Bool} (disk : Ghosts D) (d : D) (h : Holding) (dra
 
       -- a length is
       module _ (new : found.declares ≡ true) where
-        unknown : finds.same.used.declared ≡ None
-        unknown = (new_length finds.same.used.declared (declare_of o) (sym finds.declares ∙ new)).0
-
         length_declared : found.declared ≡ p.declare
         length_declared =
+            let unknown = (new_length finds.same.used.declared (declare_of o) (sym finds.declares ∙ new)).0 in
             finds.declared ∙ ap (λ (k : Option ℕ). known_or k (declare_of o)) unknown ∙ held.declare
 
         pub length_small : is_too_large found.declared ≡ false
@@ -295,7 +273,7 @@ module _ {D : Type 0} {sure : Bool} (disk : Ghosts D) (d : D) (h : Holding) (dra
         store_is =
             store_declared w.store p (declares_is ∙ new)
             ∙ ap (λ (k : Option ℕ). patched_store w.store p.number k p.body) (sym length_declared)
-            ∙ ap (patched_store w.store p.number found.declared) (nothing_in p.body no_body)
+            ∙ ap (patched_store w.store p.number found.declared) (nil_from_length p.body no_body)
 
         pub length_stands : committed w number p ≡ with_length_at (dropped w number) p.number found.declared
         length_stands = ap (λ (m : Store). record (dropped w number) { store = m }) store_is
@@ -320,50 +298,47 @@ IsOtherFor slots o result = IsErrOf result (Refused Offset) ↔ HasOtherCount sl
 abbrev pub IsExactFor : {T : Type 0} → List (Option SlotRecord) → SpoolDraft → Result T UploadError → Type 0
 IsExactFor slots o result = IsGoneFor slots o result × IsOtherFor slots o result
 
-same_refusal : {T : Type 0} (e f : UploadRefusal) → IsErrOf {T = T} {E = UploadError} (Err (Refused e)) (Refused f)
-    → e ≡ f
-same_refusal e f is = cc
-
-by_length_exactly : {T : Type 0} (slots : List (Option SlotRecord)) (o : SpoolDraft) (e : UploadRefusal)
-    → HasOtherLength slots o e → (e ≡ NoSuch → ⊥) → (e ≡ Offset → ⊥) → IsExactFor {T = T} slots o (Err (Refused e))
-by_length_exactly slots o e other not_gone not_offset = (
+-- with the same count it is refused with neither
+same_exactly : {T : Type 0} (slots : List (Option SlotRecord)) (o : SpoolDraft) (slot : ℕ)
+    (result : Result T UploadError)
+    → HasSameCount slots o slot → (IsErrOf result (Refused NoSuch) → ⊥) → (IsErrOf result (Refused Offset) → ⊥)
+    → IsExactFor slots o result
+same_exactly slots o slot result has not_gone not_other = (
   (
-    λ refused. absurd (not_gone (same_refusal e NoSuch refused)),
-    λ gone. absurd (gone other.slot (record {
-      used = other.same.used;
-      there = other.same.there;
-      is =
-          other.same.number;
-    })),
+    λ refused. absurd (not_gone refused),
+    λ gone. absurd (gone slot (record { used = has.used; there = has.there; is = has.number })),
   ),
-  (λ refused. absurd (not_offset (same_refusal e Offset refused)), λ has. absurd (has.none other.slot other.same)),
+  (λ refused. absurd (not_other refused), λ other. absurd (other.none slot has)),
 )
 
-pub refused_exactly : {T : Type 0} (slots : List (Option SlotRecord)) (o : SpoolDraft) (e : UploadRefusal)
+done_exactly : {T : Type 0} (slots : List (Option SlotRecord)) (o : SpoolDraft) (slot : ℕ)
+    (result : Result T UploadError) → HasSameCount slots o slot
+    → ((e : UploadRefusal) → IsErrOf result (Refused e) → (e ≡ Unencodable) ⊎ (e ≡ Full)) → IsExactFor slots o result
+done_exactly slots o slot result has late = same_exactly slots o slot result has
+    (λ refused. elim (late NoSuch refused) [ inl e ↦ cc | inr e ↦ cc ])
+    (λ refused. elim (late Offset refused) [ inl e ↦ cc | inr e ↦ cc ])
+
+refused_exactly : {T : Type 0} (slots : List (Option SlotRecord)) (o : SpoolDraft) (e : UploadRefusal)
     → Finds slots o (Err e) → IsExactFor {T = T} slots o (Err (Refused e))
 refused_exactly slots o NoSuch free =
     ((λ refused. free, λ gone. refl), (λ refused. absurd cc, λ other. absurd (free other.slot other.used)))
 refused_exactly slots o Offset other =
     ((λ refused. absurd cc, λ gone. absurd (gone other.slot other.used)), (λ refused. other, λ there. refl))
-refused_exactly slots o TooLong other = by_length_exactly slots o TooLong other (λ e. cc) (λ e. cc)
-refused_exactly slots o LengthSet other = by_length_exactly slots o LengthSet other (λ e. cc) (λ e. cc)
-refused_exactly slots o Unencodable found = absurd found
-refused_exactly slots o Slots found = absurd found
-refused_exactly slots o TooLarge found = absurd found
-refused_exactly slots o Full found = absurd found
+refused_exactly slots o TooLong other =
+    same_exactly slots o other.slot (Err (Refused TooLong)) other.same (λ e. cc) (λ e. cc)
+refused_exactly slots o LengthSet other =
+    same_exactly slots o other.slot (Err (Refused LengthSet)) other.same (λ e. cc) (λ e. cc)
+refused_exactly slots o e found = absurd found
 
--- with the same count it is refused with neither
-pub done_exactly : {T : Type 0} (slots : List (Option SlotRecord)) (o : SpoolDraft) (slot : ℕ)
-    (result : Result T UploadError)
-    → HasSameCount slots o slot
-    → ((e : UploadRefusal) → IsErrOf result (Refused e) → (e ≡ Unencodable) ⊎ (e ≡ Full)) → IsExactFor slots o result
-done_exactly slots o slot result has late = (
-  (
-    λ refused. absurd (elim (late NoSuch refused) [ inl e ↦ cc | inr e ↦ cc ]),
-    λ gone. absurd (gone slot (record { used = has.used; there = has.there; is = has.number })),
-  ),
-  (
-    λ refused. absurd (elim (late Offset refused) [ inl e ↦ cc | inr e ↦ cc ]),
-    λ other. absurd (other.none slot has),
-  ),
-)
+-- the draft that was taken is the one of its number
+module _ {T : Type 0} {slots : List (Option SlotRecord)} {o o' : SpoolDraft} {there : Option SpoolDraft}
+    (taken : Some o ≡ there) (here : there ≡ Some o') where
+  pub done_for : {slot : ℕ} (result : Result T UploadError) → HasSameCount slots o slot
+      → ((e : UploadRefusal) → IsErrOf result (Refused e) → (e ≡ Unencodable) ⊎ (e ≡ Full))
+      → IsExactFor slots o' result
+  done_for {slot = slot} result has late = subst (λ (d : SpoolDraft). IsExactFor slots d result)
+      (same_Some o o' (taken ∙ here)) (done_exactly slots o slot result has late)
+
+  pub refused_for : (e : UploadRefusal) → Finds slots o (Err e) → IsExactFor {T = T} slots o' (Err (Refused e))
+  refused_for e finds = subst (λ (d : SpoolDraft). IsExactFor {T = T} slots d (Err (Refused e)))
+      (same_Some o o' (taken ∙ here)) (refused_exactly slots o e finds)

@@ -1,9 +1,9 @@
 -- A commit's draft is spent: what the disk and what is kept stand for then.
 use Rattle.std.proofs.Common.{Result, Ok, Err, IfOk, ◌≡◌, ◌≢◌, ◌⊎◌, inl, inr, Bool, true, false, ◌&&◌, if◌then◌else◌, ℕ}
-use Rattle.std.proofs.Common.{◌*◌, ◌<◌, ◌≤◌}
-use Rattle.std.proofs.Common.{List, [], ◌∷◌, Option, None, Some, length, get_or, set, refl, sym, ◌∙◌, ap, subst, arith}
+use Rattle.std.proofs.Common.{◌*◌, ◌<◌, ◌≤◌, List, [], ◌∷◌, Option, None, Some, length, get_or, set, refl, sym, ◌∙◌, ap}
+use Rattle.std.proofs.Common.{subst, arith}
 use Rattle.enc_model.specs.Indexes.{IndexSet}
-use Rattle.spool_blocks.specs.Blocks.{Row, Held}
+use Rattle.spool_blocks.specs.Blocks.{Held}
 use Rattle.spool_disk.specs.declared.disk.Disk.{Ghosts}
 use Rattle.spool_disk.specs.Views.{Lasts}
 use Rattle.spool_disk.proofs.Firm.{lasts_more, lasts_on}
@@ -17,7 +17,7 @@ use Rattle.spool_room.specs.Holdings.{IsInSome}
 use Rattle.spool_texts.specs.Drafts.{GivesBack, IsReserved}
 use Rattle.upload_rules.specs.Answers.{Answers, IsLate}
 use Rattle.upload_rules.specs.Calls.{commit_outcome, commit_refusal, committed, committed_store, declares, dropped}
-use Rattle.upload_rules.specs.Calls.{is_empty, outcome}
+use Rattle.upload_rules.specs.Calls.{is_empty, outcome, text_stays}
 use Rattle.upload_rules.specs.Drafts.{DraftOf, draft_at}
 use Rattle.upload_rules.specs.Grown.{IsGrown}
 use Rattle.upload_rules.specs.Lengths.{is_length}
@@ -31,16 +31,17 @@ use Rattle.upload_rules.proofs.Commits.{complete_patched}
 use Rattle.upload_rules.proofs.Growing.{grown_dropped, grown_put}
 use Rattle.spool_kept.specs.Committing.{IsCommit, with_length_at}
 use Rattle.spool_kept.specs.Drafting.{DraftStands, DraftsStand, IsOwnedBy, OnlyReserves, StandsFor, lists_at}
-use Rattle.spool_kept.specs.Extending.{HandsOn, IsAppend, IsLonger}
+use Rattle.spool_kept.specs.Extending.{HandsOn, IsAppend, IsLonger, longer_record}
 use Rattle.spool_kept.specs.Holding.{Holding}
 use Rattle.spool_kept.specs.Shows.{ImageShows}
 use Rattle.spool_kept.specs.Stored.{ShowsEither, Stored}
 use Rattle.spool_kept.specs.declared.extending.Longer.{Longer}
 use Rattle.spool_kept.proofs.CommitRefusals as rules
-use Rattle.spool_kept.proofs.DraftLonger.{held_both, other_stands}
-use Rattle.spool_kept.proofs.DraftSpent.{all_given, all_handed, inside_of, open_before, other_upload, owned_declared}
-use Rattle.spool_kept.proofs.DraftSpent.{rows_handed, stand_spent, tail_still}
-use Rattle.spool_kept.proofs.Drafted.{IsChanged, changed_in, stored_on}
+use Rattle.spool_kept.proofs.DraftLonger.{WentOn, held_both, other_stands, put_on}
+use Rattle.spool_kept.proofs.DraftSpent.{all_given, all_handed, open_before, other_upload, owned_declared, rows_handed}
+use Rattle.spool_kept.proofs.DraftSpent.{stand_spent, others_longer}
+use Rattle.spool_kept.proofs.Drafted.{stored_on, reserves_only}
+use Rattle.spool_kept.proofs.SlotChange.{owned_still}
 
 -- THE STORES THAT A CRASH MAY LEAVE
 
@@ -49,26 +50,26 @@ pub outcome_is : (w : World) (d : ℕ) (p : Patch) → commit_refusal w d p ≡ 
 outcome_is w d p allowed m is =
     ap (λ (e : Option UploadRefusal). outcome e w.store (committed_store w.store p)) allowed ∙ is
 
-module _ {D : Type 0} (disk : Ghosts D) (d d' : D) (n : ℕ) (m : Store) where
-  pub as_before : (after : Store) → Lasts disk d d' (λ image. ImageShows n image m)
-      → Lasts disk d d' (ShowsEither n m after)
-  as_before after lasts = lasts_more lasts (λ image is. inl is)
-
-  pub either_then : (d'' : D) (after after' : Store) → after' ≡ after → Lasts disk d d' (λ image. ImageShows n image m)
-      → (n' : ℕ) → n' ≡ n → Lasts disk d' d'' (ShowsEither n' m after) → Lasts disk d d'' (ShowsEither n m after')
-  either_then d'' after after' same lasts n' size next =
-      let further = subst (λ (k : ℕ). Lasts disk d' d'' (ShowsEither k m after)) size next in
-      subst (λ (s : Store). Lasts disk d d'' (ShowsEither n m s)) (sym same) (lasts_on (as_before after lasts) further)
+-- a call that leaves the old store, and after it one that leaves the old or the new one
+pub crash_then : {D : Type 0} {disk : Ghosts D} {d d' d'' : D} {n n' : ℕ} (w : World) (number : ℕ) (p : Patch)
+    → commit_refusal w number p ≡ None → text_stays w.store p ≡ false
+    → Lasts disk d d' (λ image. ImageShows n image w.store) → n' ≡ n
+    → Lasts disk d' d'' (ShowsEither n' w.store (patched_store w.store p.number p.declare p.body))
+    → Lasts disk d d'' (ShowsEither n w.store (commit_outcome w number p))
+crash_then {disk = disk} {d = d} {d' = d'} {d'' = d''} {n = n} w number p allowed changes lasts size next =
+    let after = patched_store w.store p.number p.declare p.body in
+    subst (λ (m : Store). Lasts disk d d'' (ShowsEither n w.store m))
+    (sym (outcome_is w number p allowed after (rules.store_changed w.store p changes)))
+    (lasts_on (lasts_more lasts (λ image is. inl is))
+    (subst (λ (k : ℕ). Lasts disk d' d'' (ShowsEither k w.store after)) size next))
 
 -- THE TEXT CHANGES
 
 some_or_all : (declared done : Bool) (body : List ℕ) → (if declared && done then false else is_empty body) ≡ false
     → (0 < length body) ⊎ (done ≡ true)
 some_or_all true true body changes = inr refl
-some_or_all true false [] changes = absurd cc
-some_or_all true false (b ∷ body) changes = inl (omega arith)
-some_or_all false done [] changes = absurd cc
-some_or_all false done (b ∷ body) changes = inl (omega arith)
+some_or_all declared done (b ∷ body) changes = inl (omega arith)
+some_or_all declared done [] changes = absurd cc
 
 -- THE ANSWER
 
@@ -95,8 +96,8 @@ pub on_disk : {D : Type 0} {sure : Bool} (disk : Ghosts D) (d d' : D) (h : Holdi
     (w : World) → d' ≡ d → StandsFor sure disk d h drafts w → StandsFor sure disk d' h drafts w
 on_disk {sure = sure} disk d d' h drafts w same stands = subst (λ e. StandsFor sure disk e h drafts w) (sym same) stands
 
-module _ {D : Type 0} {sure : Bool} (disk : Ghosts D) (d d' : D) (h h' : Holding) (only : OnlyReserves h h')
-    (drafts : List (Option SpoolDraft)) (number : ℕ) (o o' : SpoolDraft) (w : World) (p : Patch)
+module _ {D : Type 0} {sure : Bool} {disk : Ghosts D} {d d' : D} {h h' : Holding} (only : OnlyReserves h h')
+    {drafts : List (Option SpoolDraft)} {number : ℕ} {o : SpoolDraft} (o' : SpoolDraft) {w : World} {p : Patch}
     (is : IsCommit sure disk d h drafts number o w p)
     (effect : Effect disk (journal_pages h.layout) (list_of o) (list_of o') d d' h.blocks h'.blocks)
     (reserved : IsReserved h'.blocks (list_of o')) (placed : IsPlaced h.layout o') where
@@ -106,8 +107,8 @@ module _ {D : Type 0} {sure : Bool} (disk : Ghosts D) (d d' : D) (h h' : Holding
   abbrev x : IndexSet
   x = w.store.indexes
 
-  changed_mid : IsChanged drafts number (Some o') (set drafts number (Some o'))
-  changed_mid = changed_in drafts (set drafts number (Some o')) number o' (inside_of drafts number o is.here) refl
+  abbrev on : WentOn h.blocks h'.blocks drafts number o o' (set drafts number (Some o'))
+  on = put_on number o' is.here effect.grasp
 
   -- the other drafts after the call
   others : (e : ℕ) → number ≢ e → (r : Patch) (a : SpoolDraft) → draft_at drafts e ≡ Some a
@@ -115,40 +116,30 @@ module _ {D : Type 0} {sure : Bool} (disk : Ghosts D) (d d' : D) (h h' : Holding
       (text_page h.layout) h.slots h.blocks.rows w.store r a
       → DraftStands (sure ≡ true) w.store.indexes (disk.current d')
       (text_page h.layout) h.slots h'.blocks.rows w.store r a
-  others =
-      other_stands w.store.indexes (disk.current d) (disk.current d') (text_page h.layout) h.layout h.slots
-      h.blocks h'.blocks w drafts (set drafts number (Some o')) is.stands.stands is.fits number o o' is.here
-      effect.own effect.grasp changed_mid only.rows (λ known.
-      (effect.writes (is.stands.stored.honest known)).writes.outside)
+  others = other_stands (disk.current d') is.stands.stands is.fits on only.rows
+      (λ known. (effect.writes (is.stands.stored.honest known)).writes.outside)
 
   -- its blocks are given back
-  pub stands_dropped : (h'' : Holding) → OnlyReserves h' h'' → GivesBack h'.blocks h''.blocks (list_of o')
-      → Stored sure disk d' h' w.store → StandsFor sure disk d' h'' (set drafts number None) (dropped w number)
-  stands_dropped h'' only' gives stored = record {
-    stored = stored_on disk d' h' h'' w.store only' stored;
-    stands = subst (λ (k : ℕ × List (Option SlotRecord)). DraftsStand (sure ≡ true) w.store.indexes (disk.current d')
-        (text_page k.0) k.1 h''.blocks (dropped w number) (set drafts number None)) (sym fields) here;
-  }
-    where
-      fields : ◌≡◌ {A = ℕ × List (Option SlotRecord)} (h''.layout, h''.slots) (h.layout, h.slots)
-      fields = ap (λ (k : Holding). (k.layout, k.slots)) only'.same ∙ ap (λ (k : Holding). (k.layout, k.slots))
-          only.same
-
-      rows : h''.blocks.rows ≡ h'.blocks.rows
-      rows = gives.rows
-
-      here : DraftsStand (sure ≡ true) w.store.indexes (disk.current d') (text_page h.layout) h.slots h''.blocks
-          (dropped w number) (set drafts number None)
-      here =
-          stand_spent w.store.indexes (disk.current d) (disk.current d') (text_page h.layout) h.slots h.slots
-          h.blocks h''.blocks w w.store drafts number is.stands.stands
-          (λ e other r a found there s. subst
-          (λ (z : List Row). DraftStands (sure ≡ true) w.store.indexes (disk.current d') (text_page h.layout) h.slots z
-          w.store r a) (sym rows) (others e other r a there s))
-          (grown_dropped w is.stands.stands.grown number is.stands.stands.apart)
-          (omega (arith, ap length rows, ap length only.rows))
-          (all_given h.layout h.blocks h'.blocks drafts is.fits number o o' is.here effect.own effect.grasp reserved
-          placed is.stands.stands.all h''.blocks gives)
+  pub stands_dropped : {inside : Holding} {blocks : Held} → inside ≡ h' → GivesBack inside.blocks blocks (list_of o')
+      → Stored sure disk d' h' w.store
+      → StandsFor sure disk d' (record inside { blocks = blocks }) (set drafts number None) (dropped w number)
+  stands_dropped {inside = inside} {blocks = blocks} same given stored =
+      let h'' : Holding = record inside { blocks = blocks } in
+      let gives : GivesBack h'.blocks blocks (list_of o') =
+      subst (λ (k : Holding). GivesBack k.blocks blocks (list_of o')) same given in
+      let here : DraftsStand (sure ≡ true) w.store.indexes (disk.current d') (text_page h.layout) h.slots blocks
+      (dropped w number) (set drafts number None) = stand_spent (disk.current d') h.slots blocks w.store number
+      is.stands.stands (λ e other r a found there s. rw gives.rows (others e other r a there s))
+      (grown_dropped w is.stands.stands.grown number is.stands.stands.apart)
+      (omega (arith, ap length gives.rows, ap length only.rows))
+      (all_given is.fits on reserved placed is.stands.stands.all blocks gives) in
+      let fields : ◌≡◌ {A = ℕ × List (Option SlotRecord)} (inside.layout, inside.slots) (h.layout, h.slots) =
+      ap (λ (k : Holding). (k.layout, k.slots)) (same ∙ only.same) in
+      record {
+        stored = stored_on disk d' h' h'' w.store (reserves_only h' inside h'' same refl given.rows) stored;
+        stands = subst (λ (k : ℕ × List (Option SlotRecord)). DraftsStand (sure ≡ true) w.store.indexes
+            (disk.current d') (text_page k.0) k.1 blocks (dropped w number) (set drafts number None)) (sym fields) here;
+      }
 
   completes_is : completes w.store p ≡ is_complete (patched (with_length p.began is.still.0) p.declare p.body)
   completes_is = ap (λ (v : Option Upload). is_length (length_then p v) (reached p)) is.still.1
@@ -159,8 +150,8 @@ module _ {D : Type 0} {sure : Bool} (disk : Ghosts D) (d d' : D) (h h' : Holding
       [ inl some ↦ inl some | inr all ↦ inr (sym completes_is ∙ all) ]
 
   -- its blocks are its upload's
-  module _ (longer : Longer) (append : IsAppend sure disk d' h' w.store p.number p.declare p.body longer (list_of o'))
-      (used : SlotRecord) (d'' : D) (h'' : Holding) (is_longer : IsLonger h' used longer (list_of o') h'')
+  module _ {longer : Longer} (append : IsAppend sure disk d' h' w.store p.number p.declare p.body longer (list_of o'))
+      {used : SlotRecord} {d'' : D} {h'' : Holding} (is_longer : IsLonger h' used longer (list_of o') h'')
       (hands : HandsOn h'.blocks.reserved h''.blocks.reserved (list_of o'))
       (texts : sure ≡ true → (q : ℕ) → 4096 * text_page h'.layout ≤ q → disk.current d'' q ≡ disk.current d' q)
       (stored : Stored sure disk d'' h'' (patched_store w.store p.number p.declare p.body)) where
@@ -200,8 +191,8 @@ module _ {D : Type 0} {sure : Bool} (disk : Ghosts D) (d d' : D) (h h' : Holding
               ∙ mid.carries known (other_number still).1 kept;
           tail = λ still.
               let away = other_number still in
-              tail_still h' h'' used longer (list_of o') is_longer reserved.no_owner p.number r.number (tail_of a)
-              append.used away.0
+              owned_still (Some (longer_record used longer)) is_longer.slots
+              (others_longer is_longer reserved.no_owner) append.used away.0
               (subst (λ (k : List (Option SlotRecord)). IsOwnedBy k h'.blocks.rows r.number (tail_of a))
               (sym slots_same) (mid.tail away.1));
         }
@@ -209,11 +200,9 @@ module _ {D : Type 0} {sure : Bool} (disk : Ghosts D) (d d' : D) (h h' : Holding
     here : DraftsStand (sure ≡ true) w.store.indexes (disk.current d'') (text_page h.layout) h''.slots h''.blocks
         (record w { store = after; patches = without number w.patches }) (set drafts number None)
     here =
-        stand_spent w.store.indexes (disk.current d) (disk.current d'') (text_page h.layout) h.slots h''.slots
-        h.blocks h''.blocks w after drafts number is.stands.stands put_stands grown
+        stand_spent (disk.current d'') h''.slots h''.blocks after number is.stands.stands put_stands grown
         (omega (arith, (rows_handed h' h'' used longer (list_of o') is_longer).size, ap length only.rows))
-        (all_handed h.layout h.blocks h'.blocks drafts is.fits number o o' is.here effect.own effect.grasp reserved
-        placed is.stands.stands.all h''.blocks hands)
+        (all_handed is.fits on reserved placed is.stands.stands.all h''.blocks hands)
 
     pub stands_committed : StandsFor sure disk d'' h'' (set drafts number None) (committed w number p)
     stands_committed =
@@ -230,9 +219,9 @@ module _ {D : Type 0} {sure : Bool} (disk : Ghosts D) (d d' : D) (h h' : Holding
 -- ITS LENGTH ALONE
 
 -- an upload gets its length, while all drafts stay
-module _ {D : Type 0} {sure : Bool} (disk : Ghosts D) (d d' d'' : D) (h h' : Holding)
-    (drafts : List (Option SpoolDraft)) (w : World) (stands : StandsFor sure disk d h drafts w) (longer : Longer)
-    (used : SlotRecord) (n : ℕ) (there : get_or h.slots longer.slot None ≡ Some used) (declare : Option ℕ)
+module _ {D : Type 0} {sure : Bool} {disk : Ghosts D} {d d' d'' : D} {h h' : Holding}
+    {drafts : List (Option SpoolDraft)} {w : World} (stands : StandsFor sure disk d h drafts w) {longer : Longer}
+    {used : SlotRecord} {n : ℕ} (there : get_or h.slots longer.slot None ≡ Some used) {declare : Option ℕ}
     (append : IsAppend sure disk d' h w.store n declare [] longer []) (unknown : append.upload.declared ≡ None)
     (is_longer : IsLonger h used longer [] h') (only : sure ≡ true → OnlyWrites disk (journal_pages h.layout) [] d d')
     (texts : sure ≡ true → (q : ℕ) → 4096 * text_page h.layout ≤ q → disk.current d'' q ≡ disk.current d' q)

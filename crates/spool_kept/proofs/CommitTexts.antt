@@ -1,13 +1,11 @@
 -- A draft's whole text after its upload's.
-use Rattle.std.proofs.Common.{◌≡◌, inl, inr, ℕ, ◌<◌, ◌≤◌, ◌+◌, ◌-◌, ◌*◌, ◌/◌, ◌%◌, ◌++◌, Bool, false, List, []}
-use Rattle.std.proofs.Common.{◌∷◌, Option, None, Some, length, drop, refl, sym, ◌∙◌, ap, subst, arith, length-append}
-use Rattle.std.proofs.Common.{length-drop}
+use Rattle.std.proofs.Common.{◌≡◌, inl, inr, ℕ, ◌≤◌, ◌+◌, ◌-◌, ◌*◌, ◌/◌, ◌++◌, Bool, false, List, [], Option, None}
+use Rattle.std.proofs.Common.{Some, length, drop, refl, sym, ◌∙◌, ap, subst, arith, length-append, length-drop}
 use Rattle.std.proofs.lemmas.Bool.{cases_lt}
-use Rattle.std.proofs.lemmas.List.{drop-append-le}
+use Rattle.std.proofs.lemmas.List.{drop-append-le, nil_from_length}
 use Rattle.enc_model.specs.Indexes.{IndexSet}
 use Rattle.enc_stream.specs.StateBytes.{IsValid}
 use Rattle.upload_rules.specs.Lengths.{is_length, is_too_large, known_or, longest}
-use Rattle.upload_rules.specs.Room.{wants}
 use Rattle.upload_rules.specs.States.{state_with, transcoder_with}
 use Rattle.upload_rules.specs.Store.{Upload, text_of, text_with, with_length, patched, is_complete}
 use Rattle.upload_rules.specs.World.{Patch, reached, patch_text}
@@ -18,7 +16,7 @@ use Rattle.spool_drafts.specs.declared.draft.DraftEnd.{DraftEnd}
 use Rattle.spool_drafts.specs.declared.draft.SpoolDraft.{SpoolDraft}
 use Rattle.spool_drafts.proofs.Patches.{value_before}
 use Rattle.spool_room.specs.Holdings.{added}
-use Rattle.spool_room.proofs.Needs.{wants_some, wants_none}
+use Rattle.spool_room.proofs.Needs.{wants_some}
 use Rattle.spool_texts.specs.TextOn.{text_on}
 use Rattle.spool_kept.specs.Extending.{IsExtension, full_bytes}
 use Rattle.spool_kept.specs.declared.extending.Longer.{Longer}
@@ -26,10 +24,6 @@ use Rattle.spool_kept.specs.declared.extending.Longer.{Longer}
 patch_text_is : (x : IndexSet) (p : Patch) (done : Bool) → patch_text x p done ≡ text_with x p.began p.body done
 unfolding patch_text
 patch_text_is x p done = refl
-
-nil_of : (xs : List ℕ) → length xs ≡ 0 → xs ≡ []
-nil_of [] e = refl
-nil_of (b ∷ xs) e = absurd (omega (arith, e))
 
 -- A LENGTH THAT WAS DECLARED SINCE
 
@@ -91,15 +85,6 @@ module _ (x : IndexSet) (p : Patch) (since : Option ℕ) (o : SpoolDraft) (end :
     | inr none' ↦ omega (arith, none')
   ]
 
-  some_added : 0 < length (list_of o) → wants x p
-      done ≡ (length (text_of x p.began) % 4096 + length more + 4095) / 4096
-  some_added listed = elim (cases_lt 0 (length more)) [
-    | inl lt ↦ (let wanted = wants_some x p done whole.encodable (omega (arith, added_is, lt)) in omega
-        (arith, wanted, added_is))
-    | inr none ↦ absurd (let wanted = wants_none x p done (omega (arith, added_is, none)) in omega
-        (arith, wanted, listed, whole.listed))
-  ]
-
   -- THE BYTES
 
   pub extension : {sure : Type 0} (longer : Longer) (current : ℕ → ℕ) (first : ℕ)
@@ -126,7 +111,7 @@ module _ (x : IndexSet) (p : Patch) (since : Option ℕ) (o : SpoolDraft) (end :
             (whole_patched x u p.declare p.body ∙ ap (text_with x u p.body) is_done) ∙ fine;
         text = grown.1;
         text_len = omega (arith, total, same_len, ap length grown.1, length-append (text_of x u) more);
-        nothing = λ none. nil_of more (none_added none);
+        nothing = λ none. nil_from_length more (none_added none);
         content = λ known listed.
             subst (λ (xs : List ℕ). text_on current first (list_of o) (longer.text_len - full_bytes (length xs)) ≡ drop
             (full_bytes (length xs)) xs ++ more) (sym same_text) (

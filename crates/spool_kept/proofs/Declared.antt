@@ -1,6 +1,5 @@
 -- A length alone: what it makes of an upload whose text stays.
-use Rattle.std.proofs.Common.{◌≡◌, ◌∙◌, ◌≤◌, ◌+◌, ◌++◌, ℕ, Bool, false, List, [], Option, None, Some, length}
-use Rattle.std.proofs.Common.{get_or}
+use Rattle.std.proofs.Common.{◌≡◌, ◌∙◌, ◌≤◌, ◌+◌, ◌++◌, ℕ, Bool, false, List, [], Option, None, Some, length, get_or}
 use Rattle.std.proofs.Common.{refl, sym, ap, subst, arith}
 use Rattle.std.proofs.lemmas.List.{append-nil}
 use Rattle.enc_stream.specs.StateBytes.{IsValid}
@@ -31,9 +30,9 @@ named r slot declared = record {
 }
 
 -- the slot's record, told otherwise
-abbrev pub may_as : (slots : List (Option SlotRecord)) (slot : ℕ) (declared : Option ℕ) (r : SlotRecord)
+abbrev pub may_as : {slots : List (Option SlotRecord)} {slot : ℕ} {declared : Option ℕ} (r : SlotRecord)
     → (may : MayDeclare slots slot declared) → r ≡ may.used → MayDeclare slots slot declared
-may_as slots slot declared r may is = record {
+may_as {declared = declared} r may is = record {
   used = r;
   there = may.there ∙ ap (λ (q : SlotRecord). Some q) (sym is);
   unknown = ap (λ (q : SlotRecord). q.declared) is ∙ may.unknown;
@@ -41,23 +40,16 @@ may_as slots slot declared r may is = record {
   incomplete = ap (λ (q : SlotRecord). is_length declared q.accepted) is ∙ may.incomplete;
 }
 
-pub only_declares : (slots : List (Option SlotRecord)) (slot : ℕ) (declared : Option ℕ)
-    → (may : MayDeclare slots slot declared) → OnlyDeclares may.used (named may.used slot declared)
-only_declares slots slot declared may =
-    record { unknown = may.unknown; accepted = refl; text_len = refl; state = refl }
+pub only_declares : {slots : List (Option SlotRecord)} {slot : ℕ} {declared : Option ℕ}
+    (may : MayDeclare slots slot declared) → OnlyDeclares may.used (named may.used slot declared)
+only_declares may = record { unknown = may.unknown; accepted = refl; text_len = refl; state = refl }
 
-module _ {D : Type 0} {sure : Bool} (disk : Ghosts D) (d : D) (h : Holding) (m : Store) (n slot : ℕ)
-    (declared : Option ℕ) (stored : Stored sure disk d h m) (may : MayDeclare h.slots slot declared)
+module _ {D : Type 0} {sure : Bool} {disk : Ghosts D} {d : D} {h : Holding} {m : Store} {n slot : ℕ}
+    {declared : Option ℕ} (stored : Stored sure disk d h m) (may : MayDeclare h.slots slot declared)
     (used : IsUsedBy h.slots slot n) (small : is_too_large declared ≡ false) where
-  pub told : IsTold m may.used (stored.view.texts slot)
+  abbrev told : IsTold m may.used (stored.view.texts slot)
   told = stored.shows.told slot may.used
       (ap (λ (xs : List (Option SlotRecord)). get_or xs slot None) (sym stored.keeps.slots) ∙ may.there)
-
-  abbrev u : Upload
-  u = told.upload
-
-  abbrev after : Upload
-  after = patched told.upload declared []
 
   number_is : may.used.number ≡ n
   number_is = ap (λ (r : SlotRecord). r.number) (one_value may.there used.there) ∙ used.is
@@ -69,7 +61,7 @@ module _ {D : Type 0} {sure : Bool} (disk : Ghosts D) (d : D) (h : Holding) (m :
   unknown = sym told.tells.declared ∙ may.unknown
 
   known_is : known_or told.upload.declared declared ≡ declared
-  known_is = ap (λ (k : Option ℕ). known_or k declared) unknown
+  known_is = rw unknown refl
 
   -- whatever upload is in the store is that one
   pub unknown_of : (v : Upload) → upload_of m n ≡ Some v → v.declared ≡ None

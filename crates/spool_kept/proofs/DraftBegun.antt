@@ -1,31 +1,30 @@
 -- A draft more, at the least number that is free.
-use Rattle.std.proofs.Common.{◌≡◌, Result, Ok, Err, ℕ, ◌<◌, List, [], ◌∷◌, Option, None, Some, false, length}
-use Rattle.std.proofs.Common.{refl, sym, ◌∙◌, ap, subst, arith, eq-eqb}
+use Rattle.std.proofs.Common.{◌≡◌, Result, Ok, Err, ℕ, List, [], ◌∷◌, Option, None, Some, length, refl, sym, ◌∙◌, ap}
+use Rattle.std.proofs.Common.{subst, arith, eq-eqb, Bool, true}
 use Rattle.std.proofs.lemmas.Bool.{ne_eqb}
-use Rattle.std.proofs.Common.{Bool, true}
 use Rattle.spool_blocks.specs.Blocks.{Held}
 use Rattle.spool_disk.specs.declared.disk.Disk.{Ghosts}
 use Rattle.spool_journal.specs.Image.{text_page}
 use Rattle.spool_drafts.specs.Drafts.{IsPlaced as IsTailPlaced, list_of, tail_of}
 use Rattle.spool_drafts.specs.declared.draft.SpoolDraft.{SpoolDraft}
-use Rattle.spool_pages.specs.View.{View}
 use Rattle.upload_rules.specs.declared.errors.UploadRefusal.{UploadRefusal}
 use Rattle.upload_rules.specs.Answers.{IsLate}
 use Rattle.upload_rules.specs.Calls.{begin_refusal, begin_refusal_at, begun, begun_at, first_patch}
 use Rattle.upload_rules.specs.Drafts.{DraftOf, draft_at, IsPlaced}
-use Rattle.upload_rules.specs.Store.{Upload, Store, find, upload_of}
+use Rattle.upload_rules.specs.Store.{Upload, find, upload_of}
 use Rattle.upload_rules.specs.World.{Patch, World, is_there, free_number}
 use Rattle.upload_rules.proofs.FreeNumbers.{is_free}
 use Rattle.upload_rules.proofs.Growing.{grown_begun}
 use Rattle.upload_rules.proofs.Patches.{patch_there, begun_stand}
 use Rattle.spool_kept.specs.Holding.{Holding}
-use Rattle.spool_kept.specs.Shows.{Shows}
 use Rattle.spool_kept.specs.Drafting.{list_in, lists_at, DraftsHold, DraftStands, DraftsStand, IsOwnedBy, StandsFor}
 use Rattle.spool_kept.specs.Drafting.{CarriesFor, OpensFor}
 use Rattle.spool_kept.proofs.DraftLists.{in_other, none_in_nothing, nothing_reserved}
 use Rattle.spool_kept.proofs.Drafted.{IsChanged, changed_lists, fit_changed}
+use Rattle.std.proofs.lemmas.Option.{same_Some}
+use Rattle.spool_kept.proofs.Created.{number_below}
 
-module _ (old new : List (Option SpoolDraft)) (place : ℕ) (o : SpoolDraft) (placed : IsPlaced old o place new) where
+module _ {old new : List (Option SpoolDraft)} {place : ℕ} {o : SpoolDraft} (placed : IsPlaced old o place new) where
   pub changed_more : IsChanged old place (Some o) new
   changed_more = record {
     here = placed.after place ∙ rw (eq-eqb place place refl) refl;
@@ -35,27 +34,15 @@ module _ (old new : List (Option SpoolDraft)) (place : ℕ) (o : SpoolDraft) (pl
   pub fit_begun : (n : ℕ) (h : Held) → DraftsHold n h old → list_of o ≡ [] → IsTailPlaced n o → DraftsHold n h new
   fit_begun n h fit none tailed =
       fit_changed n h h old new place (Some o) fit changed_more (nothing_reserved h (list_of o) none)
-      (λ e other. fit.reserved e) (λ a e. subst (IsTailPlaced n) (some_same o a e) tailed)
+      (λ e other. fit.reserved e) (λ a e. subst (IsTailPlaced n) (same_Some o a e) tailed)
       (λ e other. none_in_nothing (list_of o) (lists_at old e) none)
-    where
-      some_same : (a b : SpoolDraft) → Some a ≡ Some b → a ≡ b
-      some_same a b e = ap (λ o. elim o as (λ _. SpoolDraft) [ None ↦ a | Some r ↦ r ]) e
 
   -- no draft has the number
   free_list : lists_at old place ≡ []
   free_list = ap list_in placed.free
 
--- the numbers of uploads are below the next one
-below_next : (v : View) (m : Store) (n : ℕ) (u : Upload) → Shows v m → upload_of m n ≡ Some u → n < m.next
-below_next v m n u shows there =
-    let has = shows.all n u there in
-    omega (arith, has.number, (shows.valid.records has.slot has.used has.there).below, shows.next)
-
-module _ {D : Type 0} {sure : Bool} (disk : Ghosts D) (d : D) (h : Holding) (old : List (Option SpoolDraft)) (w : World)
+module _ {D : Type 0} {sure : Bool} {disk : Ghosts D} {d : D} {h : Holding} {old : List (Option SpoolDraft)} {w : World}
     (s : StandsFor sure disk d h old w) (n offset count : ℕ) (declare : Option ℕ) where
-  first : ℕ
-  first = text_page h.layout
-
   abbrev Opens : Option Upload → Result SpoolDraft UploadRefusal → Type 0
   Opens u r = OpensFor w.store n offset count declare u r
 
@@ -73,22 +60,12 @@ module _ {D : Type 0} {sure : Bool} (disk : Ghosts D) (d : D) (h : Holding) (old
       → IsLate (begin_refusal w n offset count declare)
   begin_late u o there opens = subst IsLate (sym (begin_allowed u o there opens)) tt
 
-  module _ (new : List (Option SpoolDraft)) (place : ℕ) (o : SpoolDraft) (placed : IsPlaced old o place new)
+  module _ {new : List (Option SpoolDraft)} {place : ℕ} {o : SpoolDraft} (placed : IsPlaced old o place new)
       (none : list_of o ≡ []) (owned : IsOwnedBy h.slots h.blocks.rows n (tail_of o))
       (carries : sure ≡ true → CarriesFor w.store n count declare (disk.current d) (text_page h.layout) o) where
     abbrev Stands : Patch → SpoolDraft → Type 0
     Stands = DraftStands (sure ≡ true) w.store.indexes (disk.current d)
         (text_page h.layout) h.slots h.blocks.rows w.store
-
-    number_free : place ≡ free_number w
-    number_free = sym (is_free w place
-        (λ k lt. (patch_there Stands (find k w.patches) (draft_at old k) (s.stands.each k)).1 (placed.least k lt))
-        (not_there (find place w.patches) (draft_at old place) (s.stands.each place) placed.free))
-      where
-        not_there : (q : Option Patch) (a : Option SpoolDraft) → DraftOf Stands q a → a ≡ None → is_there q ≡ false
-        not_there None a h e = refl
-        not_there (Some p) None h e = absurd h
-        not_there (Some p) (Some o) h e = absurd cc
 
     nothing_there : find place w.patches ≡ None
     nothing_there = go (find place w.patches) (draft_at old place) (s.stands.each place) placed.free
@@ -98,13 +75,18 @@ module _ {D : Type 0} {sure : Bool} (disk : Ghosts D) (d : D) (h : Holding) (old
         go (Some p) None h e = absurd h
         go (Some p) (Some o) h e = absurd cc
 
+    number_free : place ≡ free_number w
+    number_free = sym (is_free w place
+        (λ k lt. (patch_there Stands (find k w.patches) (draft_at old k) (s.stands.each k)).1 (placed.least k lt))
+        (ap is_there nothing_there))
+
     stand_begun : (u : Upload) → upload_of w.store n ≡ Some u → Opens (Some u) (Ok o)
         → DraftsStand (sure ≡ true) w.store.indexes (disk.current d) (text_page h.layout) h.slots h.blocks
         (record w { patches = (place, first_patch n count declare u) ∷ w.patches }) new
     stand_begun u there opens = record {
       each = begun_stand Stands w.patches old new s.stands.each place (first_patch n count declare u) o placed record {
         holds = opens.1;
-        below = below_next s.stored.view w.store n u s.stored.shows there;
+        below = number_below s.stored.view w.store s.stored.shows n u there;
         carries = λ known still. carries known u there;
         tail = λ still. owned;
       };
@@ -113,8 +95,8 @@ module _ {D : Type 0} {sure : Bool} (disk : Ghosts D) (d : D) (h : Holding) (old
       limit = s.stands.limit;
       all = λ b reserved.
           in_other (lists_at old) (lists_at new) place (list_of o)
-          (changed_lists old new place (Some o) (changed_more old new place o placed)) b (s.stands.all b reserved)
-          (λ i lt e. omega (arith, lt, ap length (free_list old new place o placed)));
+          (changed_lists old new place (Some o) (changed_more placed)) b (s.stands.all b reserved)
+          (λ i lt e. omega (arith, lt, ap length (free_list placed)));
     }
 
     pub begins : (u : Option Upload) → upload_of w.store n ≡ u → Opens u (Ok o) → (place ≡ free_number w)

@@ -1,47 +1,38 @@
 -- A draft that is spent after a call on it: its blocks are given back, or its upload's.
-use Rattle.std.proofs.Common.{◌≡◌, ◌≢◌, ◌⊎◌, inl, inr, ℕ, zero, suc, ◌/◌, ◌≤◌, ◌<◌, true, false, List, [], ◌∷◌}
-use Rattle.std.proofs.Common.{Option}
-use Rattle.std.proofs.Common.{None, Some, length, get_or, set, refl, sym, ◌∙◌, ap, subst, arith, length-append}
+use Rattle.std.proofs.Common.{◌≡◌, ◌≢◌, ◌⊎◌, inl, inr, ℕ, ◌/◌, ◌≤◌, ◌<◌, true, false, List, [], Option, None, Some}
+use Rattle.std.proofs.Common.{length, get_or, set, refl, sym, ◌∙◌, ap, subst, arith, length-append}
 use Rattle.std.proofs.lemmas.Bool.{both_ways, cases_eq, cases_lt}
-use Rattle.std.proofs.lemmas.List.{get_or_past}
+use Rattle.std.proofs.lemmas.List.{set-set}
 use Rattle.std.proofs.lemmas.Option.{same_Some}
 use Rattle.enc_model.specs.Indexes.{IndexSet}
 use Rattle.spool_blocks.specs.Blocks.{Row, Held}
-use Rattle.spool_blocks.specs.Chains.{Owns}
 use Rattle.spool_drafts.specs.Drafts.{IsPlaced, list_of}
-use Rattle.spool_drafts.specs.Effect.{Regrasps}
 use Rattle.spool_drafts.specs.declared.draft.SpoolDraft.{SpoolDraft}
 use Rattle.spool_pages.specs.View.{SlotRecord}
 use Rattle.spool_room.specs.Holdings.{IsInSome}
 use Rattle.spool_texts.specs.Drafts.{GivesBack, IsReserved}
 use Rattle.spool_texts.specs.Written.{NoneOf}
-use Rattle.upload_rules.specs.Drafts.{DraftOf, draft_at}
+use Rattle.upload_rules.specs.Drafts.{draft_at}
 use Rattle.upload_rules.specs.Grown.{GrewFrom, IsGrown}
 use Rattle.upload_rules.specs.Lengths.{is_length}
 use Rattle.upload_rules.specs.Store.{Store, Upload, find, is_complete, patched, replaced, upload_of, with_length}
 use Rattle.upload_rules.specs.Store.{without}
 use Rattle.upload_rules.specs.World.{Patch, World}
 use Rattle.upload_rules.proofs.Finds.{find_replaced_other, find_replaced_same, find_without_other, find_without_same}
-use Rattle.upload_rules.proofs.Patches.{apart_without, carried}
+use Rattle.upload_rules.proofs.Patches.{apart_without}
 use Rattle.upload_rules.proofs.Same.{same_upload}
 use Rattle.spool_kept.specs.Drafting.{DraftStands, DraftsHold, DraftsStand, IsOwnedBy, IsStillOpen, list_in, lists_at}
 use Rattle.spool_kept.specs.Extending.{HandsOn, IsLonger, longer_record}
 use Rattle.spool_kept.specs.Holding.{Holding, IsUsedBy}
 use Rattle.spool_kept.specs.declared.extending.Longer.{Longer}
-use Rattle.spool_kept.proofs.ChangedSlots.{clash, in_use, one_value, slot_else, slot_here}
+use Rattle.spool_kept.proofs.ChangedSlots.{clash, one_value, slot_else, slot_here}
 use Rattle.spool_kept.proofs.DraftLists.{IsOut, in_other, kept_out, none_in_nothing, nothing_reserved}
-use Rattle.spool_kept.proofs.DraftLonger.{all_longer, fit_longer, held_both}
-use Rattle.spool_kept.proofs.Drafted.{IsChanged, changed_in, changed_lists, changed_out, fit_changed, fit_dropped}
+use Rattle.spool_kept.proofs.DraftLonger.{WentOn, all_longer, each_other, fit_longer}
+use Rattle.spool_kept.proofs.Drafted.{IsChanged, changed_lists, changed_out, fit_changed, fit_dropped}
 use Rattle.spool_kept.proofs.HandedOver.{others_same}
-
-set_set : {A : Type 0} (xs : List A) (i : ℕ) (a b : A) → set (set xs i a) i b ≡ set xs i b
-set_set [] i a b = refl
-set_set (x ∷ xs) zero a b = refl
-set_set (x ∷ xs) (suc i) a b = ap (λ l. x ∷ l) (set_set xs i a b)
-
-pub inside_of : (old : List (Option SpoolDraft)) (d : ℕ) (o : SpoolDraft) → draft_at old d ≡ Some o → d < length old
-inside_of old d o here = elim (cases_lt d (length old))
-    [ inl lt ↦ lt | inr ge ↦ absurd (let n = get_or_past old d None ge in cc) ]
+use Rattle.spool_kept.proofs.Valid.{in_use}
+use Rattle.spool_kept.proofs.SlotChange.{same_others}
+use Rattle.spool_kept.specs.Changed.{SameOthers}
 
 -- BLOCKS
 
@@ -70,24 +61,17 @@ handed_keeps h h' list other hands rows is apart = record {
   distinct = is.distinct;
 }
 
-module _ (n : ℕ) (h h' : Held) (old : List (Option SpoolDraft)) (fit : DraftsHold n h old) (d : ℕ) (o o' : SpoolDraft)
-    (here : draft_at old d ≡ Some o) (own : List ℕ)
-    (grasp : Regrasps h h' (list_of o) (list_of o') own) (reserved : IsReserved h' (list_of o'))
+module _ {n : ℕ} {h h' : Held} {old : List (Option SpoolDraft)} {d : ℕ} {o o' : SpoolDraft} (fit : DraftsHold n h old)
+    (on : WentOn h h' old d o o' (set old d (Some o'))) (reserved : IsReserved h' (list_of o'))
     (placed : IsPlaced n o') where
-  abbrev mid : List (Option SpoolDraft)
-  mid = set old d (Some o')
-
-  changed_mid : IsChanged old d (Some o') (set old d (Some o'))
-  changed_mid = changed_in old (set old d (Some o')) d o' (inside_of old d o here) refl
-
   fit_mid : DraftsHold n h' (set old d (Some o'))
-  fit_mid = fit_longer n h old fit d o here h' (set old d (Some o')) o' own grasp changed_mid reserved placed
+  fit_mid = fit_longer fit on reserved placed
 
   gone : set old d None ≡ set (set old d (Some o')) d None
-  gone = sym (set_set old d (Some o') None)
+  gone = sym (set-set old d (Some o') None)
 
   list_mid : lists_at (set old d (Some o')) d ≡ list_of o'
-  list_mid = ap list_in changed_mid.here
+  list_mid = ap list_in on.changed.here
 
   mid_out : IsChanged (set old d (Some o')) d None (set old d None)
   mid_out = changed_out (set old d (Some o')) (set old d None) d gone
@@ -105,15 +89,12 @@ module _ (n : ℕ) (h h' : Held) (old : List (Option SpoolDraft)) (fit : DraftsH
       (λ a e. absurd cc) (λ e other. none_in_nothing [] (lists_at (set old d (Some o')) e) refl)
 
   module _ (all : (b : ℕ) → get_or h.reserved b false ≡ true → IsInSome (lists_at old) b) where
-    all_mid : (b : ℕ) → get_or h'.reserved b false ≡ true → IsInSome (lists_at (set old d (Some o'))) b
-    all_mid = all_longer n h old fit d o here h' (set old d (Some o')) o' own grasp changed_mid all
-
     -- a block that is reserved after is another draft's
     still_in : (b : ℕ) → IsOut (list_of o') b → get_or h'.reserved b false ≡ true
         → IsInSome (lists_at (set old d None)) b
     still_in b out was =
         in_other (lists_at (set old d (Some o'))) (lists_at (set old d None)) d []
-        (changed_lists (set old d (Some o')) (set old d None) d None mid_out) b (all_mid b was)
+        (changed_lists (set old d (Some o')) (set old d None) d None mid_out) b (all_longer fit on all b was)
         (subst (λ (xs : List ℕ). IsOut xs b) (sym list_mid) out)
 
     pub all_given : (h'' : Held) → GivesBack h' h'' (list_of o') → (b : ℕ) → get_or h''.reserved b false ≡ true
@@ -130,25 +111,9 @@ module _ (n : ℕ) (h h' : Held) (old : List (Option SpoolDraft)) (fit : DraftsH
 
 -- THE OTHER DRAFTS
 
-each_spent : (R S : Patch → SpoolDraft → Type 0) (ps : List (ℕ × Patch)) (old : List (Option SpoolDraft)) (d : ℕ)
-    → find d (without d ps) ≡ None
-    → ((e : ℕ) → DraftOf R (find e ps) (draft_at old e))
-    → ((e : ℕ) → d ≢ e → (r : Patch) (a : SpoolDraft) → find e ps ≡ Some r → draft_at old e ≡ Some a → R r a → S r a)
-    → (e : ℕ) → DraftOf S (find e (without d ps)) (draft_at (set old d None) e)
-each_spent R S ps old d none all weaker e =
-    let out = changed_out old (set old d None) d refl in
-    elim (cases_eq d e) [
-      | inl same ↦ carried S (find e (without d ps)) None (draft_at (set old d None) e) None
-          (subst (λ k. find k (without d ps) ≡ None) same none)
-          (subst (λ k. draft_at (set old d None) k ≡ None) same out.here) tt
-      | inr other ↦ carried S (find e (without d ps)) (find e ps) (draft_at (set old d None) e) (draft_at old e)
-          (find_without_other d e ps other) (out.others e other)
-          (held_both R S (find e ps) (draft_at old e) (weaker e other) (all e))
-    ]
-
-pub stand_spent : {sure : Type 0} (x : IndexSet) (current current' : ℕ → ℕ) (first : ℕ)
-    (records records' : List (Option SlotRecord)) (h h' : Held) (w : World) (m : Store) (old : List (Option SpoolDraft))
-    (d : ℕ) → DraftsStand sure x current first records h w old
+pub stand_spent : {sure : Type 0} {x : IndexSet} {current : ℕ → ℕ} (current' : ℕ → ℕ) {first : ℕ}
+    {records : List (Option SlotRecord)} (records' : List (Option SlotRecord)) {h : Held} (h' : Held) {w : World}
+    (m : Store) {old : List (Option SpoolDraft)} (d : ℕ) → DraftsStand sure x current first records h w old
     → ((e : ℕ) → d ≢ e → (r : Patch) (a : SpoolDraft) → find e w.patches ≡ Some r → draft_at old e ≡ Some a
     → DraftStands sure x current first records h.rows w.store r a
     → DraftStands sure x current' first records' h'.rows m r a)
@@ -156,11 +121,12 @@ pub stand_spent : {sure : Type 0} (x : IndexSet) (current current' : ℕ → ℕ
     → ((b : ℕ) → get_or h'.reserved b false ≡ true → IsInSome (lists_at (set old d None)) b)
     → DraftsStand sure x current' first records' h' (record w { store = m; patches = without d w.patches })
     (set old d None)
-stand_spent {sure = sure} x current current' first records records' h h' w m old d stand weaker grown size all =
-    record {
-      each = each_spent (DraftStands sure x current first records h.rows w.store)
-          (DraftStands sure x current' first records' h'.rows m)
-          w.patches old d (find_without_same d w.patches stand.apart) stand.each weaker;
+stand_spent {sure = sure} {x = x} {current = current} current' {first = first} {records = records} records' {h = h} h'
+    {w = w} m {old = old} d stand weaker grown size all = record {
+      each = each_other (DraftStands sure x current first records h.rows w.store)
+          (DraftStands sure x current' first records' h'.rows m) w.patches (without d w.patches)
+          (find_without_same d w.patches stand.apart) (λ e. find_without_other d e w.patches)
+          (changed_out old (set old d None) d refl) stand.each weaker tt;
       apart = apart_without d w.patches stand.apart;
       grown = grown;
       limit = stand.limit ∙ ap (λ (n : ℕ). Some n) (sym size);
@@ -243,34 +209,18 @@ module _ (w : World) (grown : IsGrown w) (n : ℕ) (u : Upload) (upload : upload
     | inr other ↦ other_number r other still
   ]
 
-module _ (h new : Holding) (used : SlotRecord) (longer : Longer) (more : List ℕ) (is : IsLonger h used longer more new)
-    (no_owner : (i : ℕ) → i < length more → get_or h.blocks.rows (get_or more i 0) None ≡ None) where
-  owned_still : (b s k : ℕ) → s ≢ longer.slot → Owns h.blocks.rows b s k → Owns new.blocks.rows b s k
-  owned_still b s k other owns = elim (cases_lt 0 (length more)) [
-    | inl some ↦ (others_same h.blocks.rows longer.slot (used.text_len / 4096) more new.blocks.rows (is.rows some)
-        no_owner).still b s k other owns
-    | inr none ↦ ap (λ (c : Held). get_or c.rows b None) (is.same (omega (arith, none))) ∙ owns
-  ]
-
-  -- another upload's blocks stay its own
-  pub tail_still : (n k : ℕ) (list : List ℕ) → IsUsedBy h.slots longer.slot n → n ≢ k
-      → IsOwnedBy h.slots h.blocks.rows k list → IsOwnedBy new.slots new.blocks.rows k list
-  tail_still n k list slot apart owned =
-      let other : owned.slot ≢ longer.slot = λ same.
-      apart (sym slot.is ∙ ap (λ (r : SlotRecord). r.number)
-      (one_value slot.there (ap (λ (s : ℕ). get_or h.slots s None) (sym same) ∙ owned.used.there))
-      ∙ owned.used.is) in
-      record {
-        slot = owned.slot;
-        used = record {
-          used = owned.used.used;
-          there = ap (λ (xs : List (Option SlotRecord)). get_or xs owned.slot None) is.slots
-              ∙ slot_else h.slots longer.slot (longer_record used longer) owned.slot other ∙ owned.used.there;
-          is = owned.used.is;
-        };
-        owned = λ i lt. let own =
-            owned.owned i lt in (own.0, owned_still (get_or list i 0) owned.slot own.0 other own.1);
-      }
+-- the other slots own what they did
+pub others_longer : {h new : Holding} {used : SlotRecord} {longer : Longer} {more : List ℕ}
+    → IsLonger h used longer more new
+    → ((i : ℕ) → i < length more → get_or h.blocks.rows (get_or more i 0) None ≡ None)
+    → SameOthers longer.slot h.blocks.rows new.blocks.rows
+others_longer {h = h} {new = new} {used = used} {longer = longer} {more = more} is no_owner =
+    elim (cases_lt 0 (length more)) [
+      | inl some ↦ others_same h.blocks.rows longer.slot (used.text_len / 4096) more new.blocks.rows (is.rows some)
+          no_owner
+      | inr none ↦ same_others longer.slot h.blocks.rows new.blocks.rows
+          (ap (λ (b : Held). b.rows) (is.same (omega (arith, none))))
+    ]
 
 -- where only its record is another, an upload's blocks stay its own
 pub owned_declared : (h new : Holding) (used : SlotRecord) (longer : Longer) (k : ℕ) (list : List ℕ)
@@ -289,14 +239,14 @@ owned_declared h new used longer k list there is owned = record {
       | inl same ↦ record {
         used = longer_record used longer;
         there = ap (λ (s : ℕ). get_or (set h.slots longer.slot (Some (longer_record used longer))) s None) same
-            ∙ slot_here h.slots longer.slot (longer_record used longer) (in_use h.slots longer.slot used there);
+            ∙ slot_here h.slots longer.slot (Some (longer_record used longer)) (in_use h.slots longer.slot used there);
         is = ap (λ (r : SlotRecord). r.number)
             (one_value there (ap (λ (s : ℕ). get_or h.slots s None) (sym same) ∙ owned.used.there))
             ∙ owned.used.is;
       }
       | inr other ↦ record {
         used = owned.used.used;
-        there = slot_else h.slots longer.slot (longer_record used longer) owned.slot other ∙ owned.used.there;
+        there = slot_else h.slots longer.slot (Some (longer_record used longer)) owned.slot other ∙ owned.used.there;
         is = owned.used.is;
       }
     ]

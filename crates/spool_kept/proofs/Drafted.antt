@@ -1,11 +1,10 @@
 -- Open drafts, where one of them changes.
-use Rattle.std.proofs.Common.{◌≡◌, ◌≢◌, Result, Ok, Err, IfOk, ◌≤◌, inl, inr, ℕ, ◌<◌, List, [], Option, None}
-use Rattle.std.proofs.Common.{Some, length, get_or, set, refl, sym, ◌∙◌, ap, subst, arith, get_or-set_same}
-use Rattle.std.proofs.Common.{get_or-set_other}
+use Rattle.std.proofs.Common.{◌≡◌, ◌≢◌, Result, Ok, Err, IfOk, ◌≤◌, inl, inr, ℕ, ◌<◌, List, [], Option, None, Some}
+use Rattle.std.proofs.Common.{length, get_or, set, refl, sym, ◌∙◌, ap, subst, arith, get_or-set_same, get_or-set_other}
+use Rattle.std.proofs.Common.{Bool, true}
 use Rattle.std.proofs.lemmas.Bool.{cases_eq, cases_lt}
 use Rattle.std.proofs.lemmas.List.{get_or_past, length-set}
 use Rattle.std.proofs.lemmas.Option.{same_Some}
-use Rattle.std.proofs.Common.{Bool, true}
 use Rattle.spool_blocks.specs.Blocks.{Row, Held}
 use Rattle.spool_blocks.specs.Chains.{Owns}
 use Rattle.spool_disk.specs.declared.disk.Disk.{Ghosts}
@@ -34,6 +33,7 @@ use Rattle.spool_kept.specs.Drafting.{list_in, lists_at, DraftsHold, OnlyReserve
 use Rattle.spool_kept.specs.Drafting.{CarriesFor, StandsFor}
 use Rattle.spool_kept.proofs.DraftLists.{IsSwapped, all_reserved, all_apart, in_other, none_in_nothing, given_keeps}
 use Rattle.spool_kept.proofs.DraftLists.{kept_out, nothing_reserved}
+use Rattle.spool_kept.proofs.Valid.{in_use}
 
 -- ANOTHER DRAFT AT ONE NUMBER
 
@@ -66,10 +66,6 @@ changed_in old new d o lt is = record {
   others = λ e other. ap (λ (xs : List (Option SpoolDraft)). draft_at xs e) is
       ∙ get_or-set_other old d e (Some o) None (λ s. other (sym s));
 }
-
-pub list_here : (drafts : List (Option SpoolDraft)) (d : ℕ) (o : SpoolDraft) → draft_at drafts d ≡ Some o
-    → lists_at drafts d ≡ list_of o
-list_here drafts d o is = ap list_in is
 
 -- the drafts fit where the changed one does
 pub fit_changed : (n : ℕ) (h h' : Held) (old new : List (Option SpoolDraft)) (d : ℕ) (o : Option SpoolDraft)
@@ -157,29 +153,36 @@ reserves_only old inside new is same rows = record {
   rows = rows ∙ ap (λ (h : Holding). h.blocks.rows) is;
 }
 
-pub drops : {D : Type 0} {sure : Bool} (disk : Ghosts D) (d : D) (old new : Holding)
-    (drafts drafts' : List (Option SpoolDraft)) (number : ℕ) (w : World) → OnlyReserves old new
+pub drops : {D : Type 0} {sure : Bool} {disk : Ghosts D} {d : D} {old new : Holding}
+    {drafts drafts' : List (Option SpoolDraft)} (number : ℕ) {w : World} → OnlyReserves old new
     → drafts' ≡ set drafts number None → GivesBack old.blocks new.blocks (lists_at drafts number)
     → StandsFor sure disk d old drafts w → StandsFor sure disk d new drafts' (dropped w number)
-drops {sure = sure} disk d old new drafts drafts' number w same is gives s = record {
-  stored = stored_on disk d old new w.store same s.stored;
-  stands = subst (λ (h : Holding). DraftsStand (sure ≡ true) w.store.indexes (disk.current d)
-      (text_page h.layout) h.slots
-      new.blocks (dropped w number) drafts') (sym same.same)
-      (stand_dropped old.layout old.blocks new.blocks drafts drafts' number is w.store.indexes (disk.current d)
-      (text_page old.layout) old.slots w gives s.stands);
-}
+drops {sure = sure} {disk = disk} {d = d} {old = old} {new = new} {drafts = drafts} {drafts' = drafts'} number {w = w} same
+    is gives s = record {
+      stored = stored_on disk d old new w.store same s.stored;
+      stands = subst (λ (h : Holding). DraftsStand (sure ≡ true) w.store.indexes (disk.current d)
+          (text_page h.layout) h.slots new.blocks (dropped w number) drafts') (sym same.same)
+          (stand_dropped old.layout old.blocks new.blocks drafts drafts' number is w.store.indexes (disk.current d)
+          (text_page old.layout) old.slots w gives s.stands);
+    }
+
+-- a draft was taken, and its blocks were given back
+pub dropped_out : {D : Type 0} {sure : Bool} {disk : Ghosts D} {d : D} {old inside : Holding} {blocks : Held}
+    {drafts drafts' : List (Option SpoolDraft)} (number : ℕ) {o : SpoolDraft} {w : World} → inside ≡ old
+    → Some o ≡ draft_at drafts number → drafts' ≡ set drafts number None → GivesBack inside.blocks blocks (list_of o)
+    → StandsFor sure disk d old drafts w
+    → StandsFor sure disk d (record inside { blocks = blocks }) drafts' (dropped w number)
+dropped_out {old = old} {inside = inside} {blocks = blocks} {drafts = drafts} number is there after gives =
+    drops number (reserves_only old inside (record inside { blocks = blocks }) is refl gives.rows) after
+    (subst (λ (h : Holding). GivesBack h.blocks blocks (lists_at drafts number)) is
+    (subst (GivesBack inside.blocks blocks) (ap list_in there) gives))
 
 -- A DRAFT MORE
-
-row_there : (rows : List Row) (b : ℕ) (o : ℕ × ℕ) → get_or rows b None ≡ Some o → b < length rows
-row_there rows b o e = elim (cases_lt b (length rows))
-    [ inl lt ↦ lt | inr ge ↦ absurd (let n = get_or_past rows b None ge in cc) ]
 
 few_owned : (rows : List Row) (s : ℕ) (list : List ℕ)
     → ((i : ℕ) → i < length list → get_or rows (get_or list i 0) None ≡ Some (s, i)) → length list ≤ length rows
 few_owned rows s list owned =
-    few_distinct (length rows) list (λ i lt. row_there rows (get_or list i 0) (s, i) (owned i lt))
+    few_distinct (length rows) list (λ i lt. in_use rows (get_or list i 0) (s, i) (owned i lt))
     (λ i k lt lt' e. let same : ◌≡◌ {A = Row} (Some (s, i)) (Some (s, k)) = sym (owned i (omega (arith, lt, lt')))
     ∙ ap (λ (b : ℕ). get_or rows b None) e ∙ owned k lt' in omega (arith, lt, ordinal s i k same))
   where

@@ -1,40 +1,44 @@
 -- A longer upload, as the disk is to say it.
-use Rattle.std.proofs.Common.{◌≡◌, inl, inr, ◌⊎◌, ℕ, zero, suc, ◌∷◌, ◌+◌, ◌-◌, ◌/◌, ◌%◌, ◌^◌, ◌<◌, ◌≤◌, List, [], ◌++◌}
-use Rattle.std.proofs.Common.{Option, None, Some, false, length, length-append, get_or, set, drop, refl, sym, ◌∙◌, ap}
-use Rattle.std.proofs.Common.{subst}
-use Rattle.std.proofs.Common.{arith}
+use Rattle.std.proofs.Common.{◌≡◌, inl, inr, ◌⊎◌, ℕ, zero, suc, ◌∷◌, ◌+◌, ◌-◌, ◌/◌, ◌<◌, ◌≤◌, List, [], ◌++◌, Option}
+use Rattle.std.proofs.Common.{None, Some, false, length, length-append, get_or, set, drop, refl, sym, ◌∙◌, ap, subst}
+use Rattle.std.proofs.Common.{arith, Bool, true}
 use Rattle.std.proofs.lemmas.Bool.{cases_lt, both_ways, lt-ltb}
 use Rattle.std.proofs.lemmas.List.{append-nil}
-use Rattle.std.proofs.Common.{Bool, true}
+use Rattle.std.proofs.lemmas.Option.{same_Some}
 use Rattle.enc_model.specs.Transcode.{Transcoder}
 use Rattle.enc_stream.specs.StateBytes.{state_bytes, padded, phase_bytes, shift_number}
+use Rattle.upload_rules.proofs.Finds.{find_replaced_same, find_replaced_other}
 use Rattle.upload_rules.specs.Lengths.{is_too_large, known_or, longest}
 use Rattle.upload_rules.specs.Room.{blocks_of}
-use Rattle.upload_rules.specs.Store.{Upload, Store, find, upload_of, text_of, patched, patched_store}
+use Rattle.upload_rules.specs.Slots.{IsRising}
+use Rattle.upload_rules.specs.Store.{Upload, Store, find, replaced, patched, patched_at, patched_store, text_of}
 use Rattle.spool_blocks.specs.Blocks.{Row, Held}
 use Rattle.spool_disk.specs.declared.disk.Disk.{Ghosts}
 use Rattle.spool_disk.specs.Views.{Lasts}
-use Rattle.spool_disk.proofs.Firm.{lasts_more}
 use Rattle.spool_journal.specs.Image.{text_page}
+use Rattle.spool_journal.specs.Texts.{text_shown}
 use Rattle.spool_pages.specs.Changes.{SameRowsBut, ChangesButRows, Changes, with_record}
 use Rattle.spool_pages.proofs.Resting.{rests_says}
 use Rattle.spool_pages.specs.Rests.{Rests, Unowned, HasTexts}
 use Rattle.spool_pages.specs.View.{SlotRecord, View, slot_at, IsViewOf}
 use Rattle.spool_texts.specs.Drafts.{IsReserved}
 use Rattle.spool_texts.specs.TextOn.{text_on}
-use Rattle.spool_kept.specs.Changed.{HandsOver, appended_view}
-use Rattle.spool_kept.specs.Extending.{MayExtend, IsAppend, IsLonger, IsExtension, full_bytes, longer_record}
+use Rattle.spool_kept.specs.Changed.{HandsOver, appended_view, texts_with}
+use Rattle.spool_kept.specs.Extending.{MayExtend, IsAppend, IsLonger, full_bytes, longer_record}
 use Rattle.spool_kept.specs.declared.extending.Longer.{Longer}
 use Rattle.spool_kept.specs.Holding.{Holding, FitsTogether}
-use Rattle.spool_kept.specs.Kept.{KeepsView}
 use Rattle.spool_kept.specs.Shows.{IsRecordOf, IsValidRecord, Shows}
 use Rattle.spool_kept.specs.Stored.{Stored, ShowsEither}
-use Rattle.spool_kept.proofs.ChangedSlots.{one_value}
-use Rattle.spool_kept.proofs.Appended.{told_upload, append_without_text}
-use Rattle.spool_kept.proofs.AppendedTexts.{handed_shows, handed_texts, texts_without_text}
-use Rattle.spool_kept.proofs.HandedOver.{room_for, rows_but_last}
+use Rattle.spool_kept.proofs.AppendedTexts.{text_longer}
+use Rattle.spool_kept.proofs.ChangedSlots.{one_value, text_else, text_here}
+use Rattle.spool_kept.proofs.Entries.{numbers_replaced}
+use Rattle.spool_kept.proofs.HandedOver.{listed_now, others_same, owns_one_each, room_for, rows_but_last}
 use Rattle.spool_kept.proofs.Keeps.{keeps_said}
+use Rattle.spool_kept.proofs.SlotChange.{HasRows, IsChange, changed_shows, changed_texts, lasts_either, same_others}
+use Rattle.spool_kept.proofs.SlotChange.{told_upload}
 use Rattle.spool_kept.proofs.Told.{told_state}
+use Rattle.spool_kept.proofs.Valid.{in_use}
+use Rattle.spool_blocks.specs.Chains.{OwnsOneEach}
 
 -- a length that isn't too large
 pub small_is : (declare : Option ℕ) → is_too_large declare ≡ false → longest declare ≤ 1073741824
@@ -58,289 +62,231 @@ padded_length (suc n) (b ∷ bytes) = ap (λ (k : ℕ). suc k) (padded_length n 
 
 pub state_length : (t : Transcoder) → length (state_bytes t) ≡ 32
 state_length t =
-    omega (
-      arith,
-      length-append (padded 12 (phase_bytes t.phase)) (padded 16 (shift_number t.shift ∷ [])),
-      padded_length
-          12 (phase_bytes t.phase),
-      padded_length 16 (shift_number t.shift ∷ []),
-    )
+    let long = length-append (padded 12 (phase_bytes t.phase)) (padded 16 (shift_number t.shift ∷ [])) in
+    omega (arith, long, padded_length 12 (phase_bytes t.phase), padded_length 16 (shift_number t.shift ∷ []))
 
-module _ (h new : Holding) (v : View) (m : Store) (keeps : KeepsView h v) (shows : Shows v m) (longer : Longer)
-    (more : List ℕ) (may : MayExtend h longer more) (reserved : IsReserved h.blocks more)
-    (is : (r : SlotRecord) → get_or h.slots longer.slot None ≡ Some r → IsLonger h r longer more new)
-    (state_size : length longer.state ≡ 32) where
-  slot : ℕ
-  slot = longer.slot
+module _ {D : Type 0} {sure : Bool} {disk : Ghosts D} {d : D} {h new : Holding} {longer : Longer} {more : List ℕ}
+    (may : MayExtend h longer more) (reserved : IsReserved h.blocks more) (is : IsLonger h may.used longer more new)
+    {m : Store} {n : ℕ} {declare : Option ℕ} {bytes : List ℕ}
+    (append : IsAppend sure disk d h m n declare bytes longer more) where
+  abbrev s : Stored sure disk d h m
+  s = append.stored
 
-  there : slot_at v longer.slot ≡ Some may.used
-  there = ap (λ (xs : List (Option SlotRecord)). get_or xs longer.slot None) (sym keeps.slots) ∙ may.there
-
-  longer_is : IsLonger h may.used longer more new
-  longer_is = is may.used may.there
-
-  no_owner : Unowned v.rows more
-  no_owner = subst (λ (rows : List Row). Unowned rows more) keeps.rows reserved.no_owner
-
-  hands : 0 < length more → HandsOver v.rows longer.slot (may.used.text_len / 4096) more new.blocks.rows
-  hands some = subst (λ (rows : List Row). HandsOver rows longer.slot (may.used.text_len / 4096) more new.blocks.rows)
-      keeps.rows (longer_is.rows some)
-
-  same_rows : length more ≡ 0 → new.blocks.rows ≡ v.rows
-  same_rows none = ap (λ (b : Held). b.rows) (longer_is.same none) ∙ keeps.rows
-
-  room : may.used.text_len / 4096 + length more ≤ 65536
-  room =
-      let below = subst (λ (rows : List Row). (i : ℕ) → i < length more → get_or more i 0 < length rows) keeps.rows
-      reserved.below in
-      let all = room_for v.rows longer.slot (may.used.text_len / 4096) (get_or h.lists longer.slot []) more
-      (keeps.listed longer.slot may.used there).owned (omega (arith, keeps.sizes longer.slot may.used there))
-      no_owner below reserved.distinct in
-      omega (arith, all, shows.valid.row_count, shows.valid.most)
-
-  -- the rows that the change is to write
-  pub rows_none : length more ≡ 0 → SameRowsBut [] v.rows new.blocks.rows
-  rows_none none b not = ap (λ (rows : List Row). get_or rows b None) (same_rows none)
-
-  pub rows_some : 0 < length more → SameRowsBut
-      (more ++ drop (may.used.text_len / 4096) (get_or h.lists longer.slot [])) v.rows new.blocks.rows
-  rows_some some =
-      rows_but_last v.rows longer.slot (may.used.text_len / 4096) more new.blocks.rows (hands some) no_owner
-      (blocks_of may.used.text_len) (get_or h.lists longer.slot [])
-      (shows.valid.lists longer.slot may.used there) (keeps.listed longer.slot may.used there)
-      (keeps.sizes longer.slot may.used there)
-
-  module _ {sure : Type 0} (n : ℕ) (number : may.used.number ≡ n) (u : Upload) (found : upload_of m n ≡ Some u)
-      (declare : Option ℕ) (bytes added : List ℕ) (current : ℕ → ℕ)
-      (ext : IsExtension sure m.indexes u declare bytes added longer more current (text_page h.layout)) where
-    found' : find may.used.number m.uploads ≡ Some u
-    found' = ap (λ (k : ℕ). find k m.uploads) number ∙ found
-
-    told : IsRecordOf m.indexes may.used (v.texts longer.slot) u
-    told = told_upload v m shows longer.slot may.used there u found'
-
-    text : List ℕ
-    text = v.texts longer.slot ++ added
-
-    tells : IsRecordOf m.indexes (longer_record may.used longer) (v.texts longer.slot ++ added) (patched u declare
-        bytes)
-    tells = record {
-      declared = ext.declared;
-      accepted = ext.accepted;
-      metadata = told.metadata;
-      text_len = ext.text_len;
-      text = ap (λ (xs : List ℕ). xs ++ added) told.text ∙ sym ext.text;
-      encodable = ext.encodable;
-      valid = ext.valid;
-      state = ext.state;
-    }
-
-    text_fits : {k : ℕ} → IsValidRecord k may.used → longer.text_len < 2 ^ 64
-    text_fits old = elim (cases_lt 0 (length more)) [
-      | inl some ↦ omega (arith, may.blocks some, room)
-      | inr none ↦ omega (arith, may.same (omega (arith, none)), old.text_fits)
-    ]
-
-    record_valid : IsValidRecord m.next (longer_record may.used longer)
-    record_valid =
-        let old = subst (λ (k : ℕ). IsValidRecord k may.used) shows.next
-        (shows.valid.records longer.slot may.used there) in
-        record {
-          some = old.some;
-          below = old.below;
-          accepted = omega (arith, ext.accepted, ext.few, ap longest ext.declared);
-          declared = subst (λ (k : Option ℕ). longest k ≤ 1073741824) (sym ext.declared)
-              (known_small u.declared declare
-              (subst (λ (k : Option ℕ). longest k ≤ 1073741824) told.declared old.declared) ext.small);
-          text_fits = text_fits old;
-          state_size = state_size;
-          state = told_state m.indexes (longer_record may.used longer) (v.texts longer.slot ++ added)
-              (patched u declare bytes) tells;
-          metadata_size = old.metadata_size;
-          printable = old.printable;
-        }
-
-    grown : may.used.text_len ≤ longer.text_len
-    grown = omega (
-      arith,
-      told.text_len,
-      ext.text_len,
-      ap (λ (xs : List ℕ). length xs) ext.text,
-      length-append
-          (text_of m.indexes u) added,
-    )
-
-    more_len : ℕ
-    more_len = longer.text_len - (may.used.text_len - may.used.text_len % 4096)
-
-    view : View
-    view = appended_view v longer.slot (longer_record may.used longer) new.blocks.rows (v.texts longer.slot ++ added)
-
-    module _ (some : 0 < length more) where
-      more_size : length more ≡ blocks_of (longer.text_len - (may.used.text_len - may.used.text_len % 4096))
-      more_size = omega (arith, grown, may.blocks some)
-
-      total : longer.text_len ≡ may.used.text_len - may.used.text_len
-          % 4096 + (longer.text_len - (may.used.text_len - may.used.text_len % 4096))
-      total = omega (arith, grown)
-
-      content : sure → text_on current (text_page v.blocks) more (longer.text_len - full_bytes may.used.text_len) ≡ drop
-          (full_bytes may.used.text_len) (v.texts longer.slot) ++ added
-      content known =
-          let P : ℕ → Type 0 = λ k. text_on current (text_page v.blocks) more (longer.text_len - full_bytes k) ≡ drop
-          (full_bytes k) (v.texts longer.slot) ++ added in
-          let Q : List ℕ → Type 0 =
-          λ xs. text_on current (text_page v.blocks) more
-          (longer.text_len - full_bytes (length (text_of m.indexes u))) ≡ drop
-          (full_bytes (length (text_of m.indexes u))) xs ++ added in
-          subst P (sym told.text_len) (subst Q (sym told.text)
-          (subst (λ (k : ℕ). text_on current (text_page k) more
-          (longer.text_len - full_bytes (length (text_of m.indexes u))) ≡ drop
-          (full_bytes (length (text_of m.indexes u))) (text_of m.indexes u) ++ added) keeps.blocks
-          (ext.content known some)))
-
-      shows_some : Shows (appended_view v longer.slot (longer_record may.used longer) new.blocks.rows
-          (v.texts longer.slot ++ added)) (patched_store m may.used.number declare bytes)
-      shows_some =
-          handed_shows v m shows longer.slot may.used (longer_record may.used longer) there new.blocks.rows
-          (v.texts longer.slot ++ added) (get_or h.lists longer.slot []) more
-          (longer.text_len - (may.used.text_len - may.used.text_len % 4096))
-          (keeps.listed longer.slot may.used there) (keeps.sizes longer.slot may.used there) (hands some) no_owner
-          more_size total u declare bytes refl found' tells record_valid room
-
-      texts_some : sure → HasTexts current v → HasTexts current
-          (appended_view v longer.slot (longer_record may.used longer) new.blocks.rows (v.texts longer.slot ++ added))
-      texts_some known texts =
-          handed_texts v m shows longer.slot may.used (longer_record may.used longer) there new.blocks.rows
-          (v.texts longer.slot ++ added) (get_or h.lists longer.slot []) more
-          (longer.text_len - (may.used.text_len - may.used.text_len % 4096))
-          (keeps.listed longer.slot may.used there) (keeps.sizes longer.slot may.used there) (hands some) no_owner
-          more_size total current added texts (content known) refl
-
-    module _ (none : length more ≡ 0) where
-      text_same : v.texts longer.slot ++ added ≡ v.texts longer.slot
-      text_same = ap (λ (xs : List ℕ). v.texts longer.slot ++ xs) (ext.nothing none) ∙ append-nil (v.texts longer.slot)
-
-      shows_none : Shows (appended_view v longer.slot (longer_record may.used longer) new.blocks.rows
-          (v.texts longer.slot ++ added)) (patched_store m may.used.number declare bytes)
-      shows_none =
-          append_without_text v m shows longer.slot may.used (longer_record may.used longer) there refl new.blocks.rows
-          (v.texts longer.slot ++ added) u declare bytes found' tells record_valid (same_rows none) (may.same none)
-
-      texts_none : HasTexts current v → HasTexts current
-          (appended_view v longer.slot (longer_record may.used longer) new.blocks.rows (v.texts longer.slot ++ added))
-      texts_none texts =
-          texts_without_text v m shows longer.slot may.used (longer_record may.used longer) there new.blocks.rows
-          (v.texts longer.slot ++ added) current texts (same_rows none) (may.same none) text_same
-
-    pub extended_shows : Shows
-        (appended_view v longer.slot (longer_record may.used longer) new.blocks.rows (v.texts longer.slot ++ added))
-        (patched_store m n declare bytes)
-    extended_shows = subst (λ (k : ℕ). Shows
-        (appended_view v longer.slot (longer_record may.used longer) new.blocks.rows (v.texts longer.slot ++ added))
-        (patched_store m k declare bytes)) number (elim (cases_lt 0 (length more)) [
-          | inl some ↦ shows_some some
-          | inr none ↦ shows_none (omega (arith, none))
-        ])
-
-    pub extended_texts : sure → HasTexts current v → HasTexts current
-        (appended_view v longer.slot (longer_record may.used longer) new.blocks.rows (v.texts longer.slot ++ added))
-    extended_texts known texts = elim (cases_lt 0 (length more)) [
-      | inl some ↦ texts_some some known texts
-      | inr none ↦ texts_none (omega (arith, none)) texts
-    ]
-
-    pub extended_keeps : FitsTogether new → KeepsView new
-        (appended_view v longer.slot (longer_record may.used longer) new.blocks.rows (v.texts longer.slot ++ added))
-    extended_keeps fits' =
-        keeps_said new (appended_view v longer.slot (longer_record may.used longer) new.blocks.rows
-        (v.texts longer.slot ++ added)) fits' extended_shows.valid
-        (sym keeps.blocks ∙ sym longer_is.layout) (longer_is.version ∙ keeps.version) (longer_is.next ∙ keeps.next)
-        (longer_is.indexes ∙ keeps.indexes)
-        (longer_is.slots ∙ ap (λ (xs : List (Option SlotRecord)). set xs longer.slot
-        (Some (longer_record may.used longer))) keeps.slots) refl
-
-  -- with another text for the slot the pages make the same of a view
-  pub changes_text : (pages : List (ℕ × List ℕ)) (rows : List Row) (shown : List ℕ)
-      → ChangesButRows pages v (record (with_record v longer.slot (longer_record may.used longer)) { rows = rows })
-      → ChangesButRows pages v (appended_view v longer.slot (longer_record may.used longer) rows shown)
-  changes_text pages rows shown is' = record {
-    blocks = is'.blocks;
-    indexes = is'.indexes;
-    state = is'.state;
-    slots = is'.slots;
-    rows = is'.rows;
-  }
-
--- AS THE DISK HOLDS IT
-
-module _ {D : Type 0} {sure : Bool} (disk : Ghosts D) (old : D) (h new : Holding) (fits' : FitsTogether new)
-    (longer : Longer) (more : List ℕ) (may : MayExtend h longer more) (reserved : IsReserved h.blocks more)
-    (is : (r : SlotRecord) → get_or h.slots longer.slot None ≡ Some r → IsLonger h r longer more new)
-    (state_size : length longer.state ≡ 32) (m : Store) (n : ℕ) (declare : Option ℕ) (bytes : List ℕ)
-    (append : IsAppend sure disk old h m n declare bytes longer more) where
   abbrev pub before : View
   before = append.stored.view
+
+  abbrev used : SlotRecord
+  used = may.used
+
+  -- its record, its rows and its text then
+  abbrev now : SlotRecord
+  now = longer_record may.used longer
+
+  abbrev rows : List Row
+  rows = new.blocks.rows
+
+  abbrev text : List ℕ
+  text = append.stored.view.texts longer.slot ++ append.added
+
+  abbrev upload : Upload
+  upload = patched append.upload declare bytes
 
   abbrev pub after : View
   after = appended_view append.stored.view longer.slot (longer_record may.used longer) new.blocks.rows
       (append.stored.view.texts longer.slot ++ append.added)
 
-  number : may.used.number ≡ n
+  there : slot_at before longer.slot ≡ Some used
+  there = ap (λ (xs : List (Option SlotRecord)). get_or xs longer.slot None) (sym s.keeps.slots) ∙ may.there
+
+  number : used.number ≡ n
   number = ap (λ (r : SlotRecord). r.number) (one_value may.there append.used.there) ∙ append.used.is
 
+  told : IsRecordOf m.indexes used (before.texts longer.slot) append.upload
+  told = told_upload before m s.shows longer.slot used there append.upload
+      (ap (λ (k : ℕ). find k m.uploads) number ∙ append.there)
+
+  -- THE ROWS
+
+  no_owner : Unowned before.rows more
+  no_owner = subst (λ (old : List Row). Unowned old more) s.keeps.rows reserved.no_owner
+
+  hands : 0 < length more → HandsOver before.rows longer.slot (used.text_len / 4096) more rows
+  hands some = subst (λ (old : List Row). HandsOver old longer.slot (used.text_len / 4096) more rows) s.keeps.rows
+      (is.rows some)
+
+  same_rows : length more ≡ 0 → rows ≡ before.rows
+  same_rows none = ap (λ (b : Held). b.rows) (is.same none) ∙ s.keeps.rows
+
+  room : used.text_len / 4096 + length more ≤ 65536
+  room =
+      let below = subst (λ (old : List Row). (i : ℕ) → i < length more → get_or more i 0 < length old) s.keeps.rows
+      reserved.below in
+      let all = room_for before.rows longer.slot (used.text_len / 4096) (get_or h.lists longer.slot []) more
+      (s.keeps.listed longer.slot used there).owned (omega (arith, s.keeps.sizes longer.slot used there))
+      no_owner below reserved.distinct in
+      omega (arith, all, s.shows.valid.row_count, s.shows.valid.most)
+
+  rows_now : HasRows before longer.slot (Some now) rows
+  rows_now = elim (cases_lt 0 (length more)) [
+    | inl some ↦
+        let one = owns_one_each before.rows longer.slot (used.text_len / 4096) more rows (hands some) no_owner
+        (blocks_of used.text_len) (omega arith) (s.shows.valid.lists longer.slot used there) in
+        record {
+          size = (hands some).size;
+          others = others_same before.rows longer.slot (used.text_len / 4096) more rows (hands some) no_owner;
+          blocks = subst (OwnsOneEach rows longer.slot) (sym (may.blocks some)) one;
+          owners = λ b i owns. (now, refl, omega (arith, one.only b i owns, room));
+        }
+    | inr over ↦
+        let none : length more ≡ 0 = omega (arith, over) in
+        let same = same_rows none in
+        record {
+          size = ap length same;
+          others = same_others longer.slot before.rows rows same;
+          blocks = subst (λ (k : ℕ). OwnsOneEach rows longer.slot (blocks_of k)) (sym (may.same none))
+              (subst (λ (xs : List Row). OwnsOneEach xs longer.slot (blocks_of used.text_len)) (sym same)
+              (s.shows.valid.lists longer.slot used there));
+          owners = λ b i owns.
+              let was = ap (λ (xs : List Row). get_or xs b None) (sym same) ∙ owns in
+              (now, refl, (s.shows.valid.owners b longer.slot i was).fits);
+        }
+  ]
+
+  -- THE RECORD
+
+  tells : IsRecordOf m.indexes now text upload
+  tells = record {
+    declared = append.extension.declared;
+    accepted = append.extension.accepted;
+    metadata = told.metadata;
+    text_len = append.extension.text_len;
+    text = ap (λ (xs : List ℕ). xs ++ append.added) told.text ∙ sym append.extension.text;
+    encodable = append.extension.encodable;
+    valid = append.extension.valid;
+    state = append.extension.state;
+  }
+
+  record_valid : IsValidRecord before.next now
+  record_valid =
+      let old = s.shows.valid.records longer.slot used there in
+      let ext = append.extension in
+      record {
+        some = old.some;
+        below = old.below;
+        accepted = omega (arith, ext.accepted, ext.few, ap longest ext.declared);
+        declared = rw ext.declared (known_small append.upload.declared declare
+            (subst (λ (k : Option ℕ). longest k ≤ 1073741824) told.declared old.declared) ext.small);
+        text_fits = elim (cases_lt 0 (length more)) [
+          | inl some ↦ omega (arith, may.blocks some, room)
+          | inr none ↦ omega (arith, may.same (omega (arith, none)), old.text_fits)
+        ];
+        state_size = ap length may.state.is ∙ state_length may.state.after;
+        state = told_state m.indexes now text upload tells;
+        metadata_size = old.metadata_size;
+        printable = old.printable;
+      }
+
+  -- THE TEXT
+
+  text_now : sure ≡ true → HasTexts (disk.current d) before
+      → text ≡ text_shown (disk.current d) (text_page before.blocks) rows longer.slot longer.text_len
+  text_now known texts = elim (cases_lt 0 (length more)) [
+    | inl some ↦
+        let was = texts longer.slot used there in
+        let size = s.keeps.sizes longer.slot used there in
+        let list = get_or h.lists longer.slot [] in
+        let grown : used.text_len ≤ longer.text_len = omega (
+          arith,
+          told.text_len,
+          append.extension.text_len,
+          ap (λ (xs : List ℕ). length xs) append.extension.text,
+          length-append (text_of m.indexes append.upload) append.added,
+        ) in
+        let content : text_on (disk.current d) (text_page before.blocks) more
+        (longer.text_len - full_bytes used.text_len) ≡ drop (full_bytes used.text_len) (before.texts longer.slot)
+        ++ append.added = rw (told.text_len, told.text, ← s.keeps.blocks) (append.extension.content known some) in
+        ap (λ (xs : List ℕ). xs ++ append.added) was
+        ∙ sym (text_longer (disk.current d) (text_page before.blocks) before.rows rows longer.slot used.text_len list
+        (s.keeps.listed longer.slot used there) size (longer.text_len - full_bytes used.text_len) longer.text_len more
+        append.added (listed_now before.rows longer.slot (used.text_len / 4096) more rows (hands some) no_owner list
+        (omega (arith, size)) (s.keeps.listed longer.slot used there)) (omega (arith, grown, may.blocks some))
+        (content ∙ ap (λ (xs : List ℕ). drop (full_bytes used.text_len) xs ++ append.added) was)
+        (omega (arith, grown)))
+    | inr over ↦
+        let none : length more ≡ 0 = omega (arith, over) in
+        ap (λ (xs : List ℕ). before.texts longer.slot ++ xs) (append.extension.nothing none)
+        ∙ append-nil (before.texts longer.slot) ∙ texts longer.slot used there
+        ∙ ap (λ (xs : List Row). text_shown (disk.current d) (text_page before.blocks) xs longer.slot used.text_len)
+        (sym (same_rows none))
+        ∙ ap (text_shown (disk.current d) (text_page before.blocks) rows longer.slot) (sym (may.same none))
+  ]
+
+  -- ALL OF IT
+
+  extends : IsChange before m longer.slot n (Some now) rows (texts_with before longer.slot text) before.next m.next
+      (replaced n upload m.uploads)
+  extends = record {
+    within = omega (arith, in_use before.slots longer.slot used there, s.shows.valid.slot_count);
+    own = λ q e. ap (λ (r : SlotRecord). r.number) (one_value e there) ∙ number;
+    apart = λ t q other e same. other (s.shows.valid.distinct t longer.slot q used e there (sym same ∙ sym number));
+    more = omega arith;
+    most = s.shows.valid.next_most;
+    next_is = s.shows.next;
+    has = rows_now;
+    texts_else = text_else before longer.slot text;
+    uploads_else = λ k other. find_replaced_other n k upload m.uploads other;
+    rising = subst IsRising (sym (numbers_replaced n upload m.uploads)) s.shows.rising;
+    now = record {
+      number = number;
+      valid = record_valid;
+      upload = upload;
+      there = find_replaced_same n append.upload upload m.uploads append.there;
+      tells = subst (λ (xs : List ℕ). IsRecordOf m.indexes now xs upload)
+          (sym (text_here before longer.slot text longer.slot refl)) tells;
+    };
+    gone = λ u e. (now, refl);
+  }
+
   pub after_shows : Shows after (patched_store m n declare bytes)
-  after_shows = extended_shows h new append.stored.view m append.stored.keeps append.stored.shows longer more may
-      reserved is state_size n number append.upload append.there declare bytes append.added (disk.current old)
-      append.extension
+  after_shows = subst (λ (o : Option Upload). Shows after (patched_at m n declare bytes o)) (sym append.there)
+      (changed_shows s.shows extends)
 
-  pub after_texts : sure ≡ true → HasTexts (disk.current old) after
+  pub after_texts : sure ≡ true → HasTexts (disk.current d) after
   after_texts known =
-      extended_texts h new append.stored.view m append.stored.keeps append.stored.shows longer more may reserved is
-      state_size n number append.upload append.there declare bytes append.added (disk.current old) append.extension
-      known (rests_says (append.stored.rests known)).texts
+      let texts = (rests_says (s.rests known)).texts in
+      changed_texts s.shows extends (disk.current d) texts (λ q e. text_here before longer.slot text longer.slot refl
+      ∙ text_now known texts ∙ ap (λ (r : SlotRecord). text_shown (disk.current d) (text_page before.blocks) rows
+      longer.slot r.text_len) (same_Some now q e))
 
-  pub after_stored : (d : D) → (disk.honest old → disk.honest d)
-      → (sure ≡ true → Rests after (disk.current d) (disk.unsynced d))
-      → Stored sure disk d new (patched_store m n declare bytes)
-  after_stored d honest rests = record {
-    honest = λ known. honest (append.stored.honest known);
+  pub after_stored : (d' : D) → FitsTogether new → (disk.honest d → disk.honest d')
+      → (sure ≡ true → Rests after (disk.current d') (disk.unsynced d'))
+      → Stored sure disk d' new (patched_store m n declare bytes)
+  after_stored d' fits honest rests = record {
+    honest = λ known. honest (s.honest known);
     view = after;
     rests = rests;
-    keeps = extended_keeps h new append.stored.view m append.stored.keeps append.stored.shows longer more may reserved
-        is state_size n number append.upload append.there declare bytes append.added (disk.current old) append.extension
-        fits';
+    keeps = keeps_said new after fits after_shows.valid (sym s.keeps.blocks ∙ sym is.layout)
+        (is.version ∙ s.keeps.version) (is.next ∙ s.keeps.next) (is.indexes ∙ s.keeps.indexes)
+        (is.slots ∙ ap (λ (xs : List (Option SlotRecord)). set xs longer.slot (Some now)) s.keeps.slots) refl;
     shows = after_shows;
   }
 
-  pub after_lasts : (d : D) → Lasts disk old d (λ image. IsViewOf image before ⊎ IsViewOf image after)
-      → Lasts disk old d (ShowsEither h.layout m (patched_store m n declare bytes))
-  after_lasts d lasts = lasts_more lasts (λ image shown. elim shown [
-    | inl was ↦ inl (record {
-      view = append.stored.view;
-      blocks = sym append.stored.keeps.blocks;
-      is = was;
-      shows = append.stored.shows;
-    })
-    | inr now ↦ inr (record { view = after; blocks = sym append.stored.keeps.blocks; is = now; shows = after_shows })
-  ])
+  pub after_lasts : (d' : D) → Lasts disk d d' (λ image. IsViewOf image before ⊎ IsViewOf image after)
+      → Lasts disk d d' (ShowsEither h.layout m (patched_store m n declare bytes))
+  after_lasts d' = lasts_either disk d d' s after after_shows refl
 
-  module _ (blank filled : List (ℕ × List ℕ))
-      (but : (v : View) → v.blocks ≡ h.layout → v.version ≡ h.version → v.slots ≡ h.slots → (r : SlotRecord)
+  pub after_changes : (blank filled : List (ℕ × List ℕ))
+      → ((v : View) → v.blocks ≡ h.layout → v.version ≡ h.version → v.slots ≡ h.slots → (r : SlotRecord)
       → get_or h.slots longer.slot None ≡ Some r → (rows : List Row)
       → (length more ≡ 0 → SameRowsBut [] v.rows rows)
       → (0 < length more → SameRowsBut (more ++ drop (r.text_len / 4096) (get_or h.lists longer.slot [])) v.rows rows)
       → ChangesButRows blank v (record (with_record v longer.slot (longer_record r longer)) { rows = rows }))
-      (fill : (v v' : View) → v.blocks ≡ new.layout → ChangesButRows blank v v' → v'.rows ≡ new.blocks.rows
-      → Changes filled v v') where
-    pub after_changes : Changes filled before after
-    after_changes =
-        let v = append.stored.view in
-        let keeps = append.stored.keeps in
-        let shows = append.stored.shows in
-        let pages = but v (sym keeps.blocks) (sym keeps.version) (sym keeps.slots) may.used may.there new.blocks.rows
-        (rows_none h new v m keeps shows longer more may reserved is state_size)
-        (rows_some h new v m keeps shows longer more may reserved is state_size) in
-        fill v after (sym keeps.blocks ∙ sym (is may.used may.there).layout)
-        (changes_text h new v m keeps shows longer more may reserved is state_size blank new.blocks.rows
-        (v.texts longer.slot ++ append.added) pages) refl
+      → ((v v' : View) → v.blocks ≡ new.layout → ChangesButRows blank v v' → v'.rows ≡ new.blocks.rows
+      → Changes filled v v') → Changes filled before after
+  after_changes blank filled but fill =
+      let pages = but before (sym s.keeps.blocks) (sym s.keeps.version) (sym s.keeps.slots) used may.there rows
+      (λ none b not. ap (λ (xs : List Row). get_or xs b None) (same_rows none))
+      (λ some. rows_but_last before.rows longer.slot (used.text_len / 4096) more rows (hands some) no_owner
+      (blocks_of used.text_len) (get_or h.lists longer.slot []) (s.shows.valid.lists longer.slot used there)
+      (s.keeps.listed longer.slot used there) (s.keeps.sizes longer.slot used there)) in
+      fill before after (sym s.keeps.blocks ∙ sym is.layout) (assumption pages) refl

@@ -1,8 +1,7 @@
 -- The drafts, where an upload was taken away and its drafts forgot its last block.
 use Rattle.std.proofs.Common.{◌≡◌, ℕ, List, Option, None, Some, refl, sym, ◌∙◌, ap, subst, arith, inl, inr, true}
-use Rattle.std.proofs.Common.{length, get_or}
+use Rattle.std.proofs.Common.{length, get_or, Bool}
 use Rattle.std.proofs.lemmas.Bool.{cases_eq}
-use Rattle.std.proofs.Common.{Bool}
 use Rattle.enc_model.specs.Indexes.{IndexSet}
 use Rattle.spool_blocks.specs.Blocks.{Held}
 use Rattle.spool_disk.specs.declared.disk.Disk.{Ghosts}
@@ -15,28 +14,26 @@ use Rattle.spool_texts.specs.Written.{NoneOf}
 use Rattle.upload_rules.specs.Drafts.{DraftOf, draft_at}
 use Rattle.upload_rules.specs.Store.{find, upload_of}
 use Rattle.upload_rules.specs.World.{Patch, World}
-use Rattle.spool_kept.specs.Drafting.{DraftStands, DraftsFit, DraftsHold, DraftsStand, IsOfUpload}
-use Rattle.spool_kept.specs.Drafting.{StandsFor, list_in, lists_at}
+use Rattle.spool_kept.specs.Drafting.{DraftStands, DraftsFit, DraftsHold, DraftsStand, IsOfUpload, StandsFor, list_in}
+use Rattle.spool_kept.specs.Drafting.{lists_at}
 use Rattle.spool_kept.specs.Holding.{Holding, IsUsedBy}
 use Rattle.spool_kept.specs.Terminating.{EachForgets, ForgetsOf, ForgetsTail, IsTakenOut}
-use Rattle.spool_kept.proofs.ChangedSlots.{clash, in_use}
+use Rattle.spool_kept.proofs.ChangedSlots.{clash, slot_is}
 use Rattle.spool_kept.proofs.OfDeleted.{hold_still}
-use Rattle.spool_kept.proofs.TakenOut.{was_there}
+use Rattle.spool_kept.proofs.Valid.{in_use}
 
 -- each draft comes of one that was there
 pub draft_was : (number : ℕ) (old new : Option SpoolDraft) → ForgetsOf number old new → (o' : SpoolDraft)
     → new ≡ Some o' → (o : SpoolDraft) × (old ≡ Some o) × ForgetsTail number o o'
 draft_was number None None forgets o' e = clash refl e
-draft_was number None (Some o) forgets o' e = absurd forgets
-draft_was number (Some o) None forgets o' e = absurd forgets
 draft_was number (Some o) (Some q) forgets o' e =
     (o, refl, subst (λ (x : Option SpoolDraft). ForgetsOf number (Some o) x) e forgets)
+draft_was number o q forgets o' e = absurd forgets
 
 list_of_forgotten : (number : ℕ) (old new : Option SpoolDraft) → ForgetsOf number old new → list_in new ≡ list_in old
 list_of_forgotten number None None forgets = refl
-list_of_forgotten number None (Some o) forgets = absurd forgets
-list_of_forgotten number (Some o) None forgets = absurd forgets
 list_of_forgotten number (Some o) (Some q) forgets = forgets.same_list
+list_of_forgotten number o q forgets = absurd forgets
 
 module _ (number : ℕ) (old new : List (Option SpoolDraft)) (forgets : EachForgets number old new) where
   lists_same : (d : ℕ) → lists_at new d ≡ lists_at old d
@@ -75,11 +72,10 @@ module _ (number : ℕ) (old new : List (Option SpoolDraft)) (forgets : EachForg
         → DraftOf (DraftStands sure x current first slots h.rows w.store) q o
         → DraftOf (DraftStands sure x current first slots h.rows w.store) q o'
     each_of None None None forgot s = tt
-    each_of None None (Some o') forgot s = absurd forgot
-    each_of None (Some o) o' forgot s = absurd s
-    each_of (Some p) None o' forgot s = absurd s
-    each_of (Some p) (Some o) None forgot s = absurd forgot
     each_of (Some p) (Some o) (Some o') forgot s = stands_of p o o' forgot s
+    each_of None None (Some o') forgot s = absurd forgot
+    each_of (Some p) (Some o) None forgot s = absurd forgot
+    each_of q o o' forgot s = absurd s
 
     stand_forgotten : DraftsStand sure x current first slots h w old → DraftsStand sure x current first slots h w new
     stand_forgotten stand = record {
@@ -97,9 +93,9 @@ module _ (number : ℕ) (old new : List (Option SpoolDraft)) (forgets : EachForg
           };
     }
 
-  pub stands_forgotten : {D : Type 0} {sure : Bool} (disk : Ghosts D) (d : D) (h : Holding) (w : World)
+  pub stands_forgotten : {D : Type 0} {sure : Bool} {disk : Ghosts D} {d : D} {h : Holding} {w : World}
       → upload_of w.store number ≡ None → StandsFor sure disk d h old w → StandsFor sure disk d h new w
-  stands_forgotten {sure = sure} disk d h w gone stands = record {
+  stands_forgotten {sure = sure} {disk = disk} {d = d} {h = h} {w = w} gone stands = record {
     stored = stands.stored;
     stands = stand_forgotten (sure ≡ true) w.store.indexes (disk.current d) (text_page h.layout) h.slots h.blocks w gone
         stands.stands;
@@ -107,7 +103,7 @@ module _ (number : ℕ) (old new : List (Option SpoolDraft)) (forgets : EachForg
 
 -- WHATEVER THE DISK SAID
 
-module _ (h h' : Holding) (slot number : ℕ) (used : IsUsedBy h.slots slot number) (out : IsTakenOut h slot h')
+module _ {h h' : Holding} {slot number : ℕ} (used : IsUsedBy h.slots slot number) (out : IsTakenOut h slot h')
     (old new : List (Option SpoolDraft)) (forgets : EachForgets number old new) (fit : DraftsFit h old) where
   still_of : (o o' : SpoolDraft) → ForgetsTail number o o' → IsOfUpload h.slots o → IsOfUpload h'.slots o'
   still_of o o' forgot is = record {
@@ -117,8 +113,11 @@ module _ (h h' : Holding) (slot number : ℕ) (used : IsUsedBy h.slots slot numb
   }
     where
       was : (s : ℕ) (r : SlotRecord) → get_or h'.slots s None ≡ Some r → get_or h.slots s None ≡ Some r
-      was s r e = (was_there h.slots slot (in_use h.slots slot used.used used.there) s r
-          (ap (λ (xs : List (Option SlotRecord)). get_or xs s None) (sym out.slots) ∙ e)).1
+      was s r e = elim (slot_is h.slots slot None s r (in_use h.slots slot used.used used.there)
+          (ap (λ (xs : List (Option SlotRecord)). get_or xs s None) (sym out.slots) ∙ e)) [
+            | inl here ↦ clash refl here.1
+            | inr there ↦ there.1
+          ]
 
   pub fits_after : DraftsFit h' new
   fits_after = record {

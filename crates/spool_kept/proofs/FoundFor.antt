@@ -1,7 +1,6 @@
 -- What is read of the upload that a commit is for.
 use Rattle.std.proofs.Common.{◌≡◌, ◌∙◌, ◌⊎◌, ◌≤◌, ◌<◌, ◌+◌, ◌^◌, inl, inr, ℕ, Bool, true, false, List, Option, None}
-use Rattle.std.proofs.Common.{Some}
-use Rattle.std.proofs.Common.{Err, get_or, sym, ap, subst, arith}
+use Rattle.std.proofs.Common.{Some, Err, get_or, sym, ap, subst, arith}
 use Rattle.spool_drafts.specs.Drafts.{came_of, declare_of, number_of, offset_of}
 use Rattle.spool_drafts.specs.declared.draft.SpoolDraft.{SpoolDraft}
 use Rattle.spool_pages.specs.View.{SlotRecord}
@@ -9,14 +8,14 @@ use Rattle.upload_rules.specs.Calls.{length_refusal}
 use Rattle.upload_rules.specs.Lengths.{is_length, is_new, known_or, longest}
 use Rattle.upload_rules.specs.declared.errors.UploadRefusal.{UploadRefusal}
 use Rattle.upload_rules.specs.declared.records.Record.{Record}
-use Rattle.spool_kept.specs.Committing.{Finds, HasSameCount, IsFound}
+use Rattle.spool_kept.specs.Committing.{Finds, HasSameCount, IsFound, HasOtherLength}
 use Rattle.spool_kept.specs.Holding.{IsUsedBy}
 use Rattle.spool_kept.specs.Records.{IsUnpacked, said_of}
 use Rattle.spool_kept.proofs.ChangedSlots.{one_value}
 use Rattle.spool_kept.proofs.CommitRefusals.{length_refused}
 
 -- the slot's record was read, and it has the count that the draft began at
-module _ (slots : List (Option SlotRecord)) (o : SpoolDraft) (slot : ℕ) (r : Record)
+module _ {slots : List (Option SlotRecord)} (o : SpoolDraft) {slot : ℕ} (r : Record)
     (there : get_or slots slot None ≡ Some (said_of r)) (used : IsUsedBy slots slot (number_of o))
     (count : r.accepted ≡ offset_of o) where
   abbrev pub same : HasSameCount slots o slot
@@ -28,7 +27,7 @@ module _ (slots : List (Option SlotRecord)) (o : SpoolDraft) (slot : ℕ) (r : R
   }
 
   -- so many bytes came, and this length
-  module _ (declare : Option ℕ) (declare_is : declare ≡ declare_of o) (came : ℕ) (came_is : came ≡ came_of o) where
+  module _ {declare : Option ℕ} (declare_is : declare ≡ declare_of o) {came : ℕ} (came_is : came ≡ came_of o) where
     refusal_is : length_refusal r.declared (declare_of o) (offset_of o + came_of o) ≡ length_refusal r.declared declare
         (r.accepted + came)
     refusal_is =
@@ -37,24 +36,18 @@ module _ (slots : List (Option SlotRecord)) (o : SpoolDraft) (slot : ℕ) (r : R
 
     pub refused : (e : UploadRefusal) → length_refusal r.declared declare (r.accepted + came) ≡ Some e
         → Finds slots o (Err e)
-    refused e is = elim (length_refused r.declared declare (r.accepted + came) e is) [
-      | inl set ↦ subst (λ (f : UploadRefusal). Finds slots o (Err f)) (sym set) (record {
-        slot = slot;
-        same = same;
-        refused = refusal_is ∙ is ∙ ap (λ (f : UploadRefusal). Some f) set;
-      })
-      | inr long ↦ subst (λ (f : UploadRefusal). Finds slots o (Err f)) (sym long) (record {
-        slot = slot;
-        same = same;
-        refused = refusal_is ∙ is ∙ ap (λ (f : UploadRefusal). Some f) long;
-      })
-    ]
+    refused e is =
+        let length_so : HasOtherLength slots o e = record { slot = slot; same = same; refused = refusal_is ∙ is } in
+        elim (length_refused r.declared declare (r.accepted + came) e is) [
+          | inl set ↦ rw set (subst (HasOtherLength slots o) set length_so)
+          | inr long ↦ rw long (subst (HasOtherLength slots o) long length_so)
+        ]
 
     -- the length is allowed
-    module _ (declared : Option ℕ) (declared_is : declared ≡ known_or r.declared declare)
+    module _ {declared : Option ℕ} (declared_is : declared ≡ known_or r.declared declare)
         (within : r.accepted + came ≤ longest declared)
         (allowed : length_refusal r.declared declare (r.accepted + came) ≡ None) (fits : longest declared < 2 ^ 64)
-        (unpacked : IsUnpacked r) (declares : Bool) (declares_is : declares ≡ is_new r.declared declare) where
+        (unpacked : IsUnpacked r) {declares : Bool} (declares_is : declares ≡ is_new r.declared declare) where
       pub found : (stays : Bool)
           → (stays ≡ true → (came ≡ 0) × (declares ≡ true → is_length declared r.accepted ≡ false))
           → (stays ≡ false → (0 < came) ⊎ ((declares ≡ true) × (is_length declared r.accepted ≡ true)))

@@ -1,7 +1,6 @@
 -- Rows after a slot's last blocks became free and others became the slot's.
-use Rattle.std.proofs.Common.{◌≡◌, ◌≢◌, inl, inr, ◌⊎◌, ℕ, zero, suc, ◌+◌, ◌-◌, ◌<◌, ◌≤◌, List, [], ◌∷◌, ◌++◌, None}
-use Rattle.std.proofs.Common.{Some, length, get_or, take, drop, refl, sym, ◌∙◌, ap, subst, arith, length-append}
-use Rattle.std.proofs.Common.{length-take, length-drop}
+use Rattle.std.proofs.Common.{◌≡◌, ◌≢◌, inl, inr, ◌⊎◌, ℕ, ◌+◌, ◌-◌, ◌<◌, ◌≤◌, List, ◌++◌, None, Some, length, get_or}
+use Rattle.std.proofs.Common.{take, drop, refl, sym, ◌∙◌, ap, subst, arith, length-append, length-take, length-drop}
 use Rattle.std.proofs.lemmas.Bool.{cases_eq, cases_lt}
 use Rattle.std.proofs.lemmas.List.{get_or_append_left, get_or-append_right, get_or-append-add, get_or-take, get_or-drop}
 use Rattle.spool_blocks.specs.Blocks.{Row}
@@ -14,24 +13,7 @@ use Rattle.spool_pages.specs.Fits.{FitsRow}
 use Rattle.spool_pages.specs.Rests.{Unowned}
 use Rattle.spool_kept.specs.Changed.{SameOthers, HandsOver}
 use Rattle.spool_kept.proofs.ChangedSlots.{clash, one_value}
-
--- the block isn't on the list
-abbrev pub NotOn : List ℕ → ℕ → Type 0
-NotOn list b = (i : ℕ) → i < length list → get_or list i 0 ≢ b
-
-pub on_or_not : (list : List ℕ) (b : ℕ) → ((i : ℕ) × (i < length list) × (get_or list i 0 ≡ b)) ⊎ NotOn list b
-on_or_not [] b = inr (λ i lt. absurd (omega (arith, lt)))
-on_or_not (x ∷ list) b = elim (cases_eq x b) [
-  | inl same ↦ inl (0, omega arith, same)
-  | inr other ↦ elim (on_or_not list b) [
-    | inl there ↦ inl (suc there.0, omega (arith, there.1), there.2)
-    | inr not ↦ inr (not_first other not)
-  ]
-]
-  where
-    not_first : x ≢ b → NotOn list b → NotOn (x ∷ list) b
-    not_first other not zero lt = other
-    not_first other not (suc i) lt = not i (omega (arith, lt))
+use Rattle.spool_kept.proofs.DraftLists.{IsOut, cases_in}
 
 -- who owns a block of it
 pub same_owner : {row : Row} {s k t i : ℕ} → row ≡ Some (s, k) → row ≡ Some (t, i) → (s ≡ t) × (k ≡ i)
@@ -42,7 +24,7 @@ same_owner {s = s} {k = k} {t = t} {i = i} own more =
 module _ (old : List Row) (slot first : ℕ) (more : List ℕ) (new : List Row) (hands : HandsOver old slot first more new)
     (no_owner : Unowned old more) where
   -- a block that was owned isn't handed over
-  not_more : (b s i : ℕ) → Owns old b s i → NotOn more b
+  not_more : (b s i : ℕ) → Owns old b s i → IsOut more b
   not_more b s i owns k lt same = clash (no_owner k lt) (ap (λ (n : ℕ). get_or old n None) same ∙ owns)
 
   -- and keeps its row, but for the slot's last ones
@@ -54,14 +36,15 @@ module _ (old : List Row) (slot first : ℕ) (more : List ℕ) (new : List Row) 
   pub row_was : (b s i : ℕ) → Owns new b s i
       → ((j : ℕ) × (j < length more) × (get_or more j 0 ≡ b) × (s ≡ slot) × (i ≡ first + j)) ⊎ (Owns old b s
       i × (s ≡ slot → i < first))
-  row_was b s i owns = elim (on_or_not more b) [
+  row_was b s i owns = elim (cases_in more b) [
     | inl there ↦
-        let same = same_owner owns (ap (λ (n : ℕ). get_or new n None) (sym there.2) ∙ hands.listed there.0 there.1) in
-        inl (there.0, there.1, there.2, same.0, same.1)
+        let same = same_owner owns (ap (λ (n : ℕ). get_or new n None) (sym there.here) ∙ hands.listed there.at
+        there.below) in
+        inl (there.at, there.below, there.here, same.0, same.1)
     | inr not ↦ inr (by_row not (get_or old b None) refl)
   ]
     where
-      low_or : NotOn more b → (t k : ℕ) → Owns old b t k → (t ≢ slot) ⊎ (k < first)
+      low_or : IsOut more b → (t k : ℕ) → Owns old b t k → (t ≢ slot) ⊎ (k < first)
       low_or not t k own = elim (cases_eq t slot) [
         | inl same ↦ elim (cases_lt k first) [
           | inl lt ↦ inr lt
@@ -70,7 +53,7 @@ module _ (old : List Row) (slot first : ℕ) (more : List ℕ) (new : List Row) 
         | inr other ↦ inl other
       ]
 
-      by_row : NotOn more b → (o : Row) → get_or old b None ≡ o → Owns old b s i × (s ≡ slot → i < first)
+      by_row : IsOut more b → (o : Row) → get_or old b None ≡ o → Owns old b s i × (s ≡ slot → i < first)
       by_row not None e = clash (hands.kept b not (λ k from own. clash e own) ∙ e) owns
       by_row not (Some o) e =
           let stays : (o.0 ≢ slot) ⊎ (o.1 < first) = low_or not o.0 o.1 e in
@@ -169,7 +152,7 @@ module _ (old : List Row) (slot first : ℕ) (more : List ℕ) (new : List Row) 
 
   -- the rows differ only where a list has the blocks that were handed over and the slot's last ones
   pub rows_but : (n : ℕ) (list changed : List ℕ) → OwnsOneEach old slot n → IsListed old slot list → length list ≡ n
-      → ((b : ℕ) → NotOn changed b → NotOn more b)
+      → ((b : ℕ) → IsOut changed b → IsOut more b)
       → ((i : ℕ) → first ≤ i → i < n → (k : ℕ) × (k < length changed) × (get_or changed k 0 ≡ get_or list i 0))
       → SameRowsBut changed old new
   rows_but n list changed one listed size covers tail b not = hands.kept b (covers b not) (λ k from owns.

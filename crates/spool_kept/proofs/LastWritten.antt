@@ -1,6 +1,5 @@
 -- The last bytes of a longer upload's text come onto its blocks.
-use Rattle.std.proofs.Common.{◌≡◌, ℕ, ◌+◌, ◌/◌, ◌≤◌, List, Option, length, refl, sym, subst}
-use Rattle.std.proofs.Common.{Bool, true}
+use Rattle.std.proofs.Common.{◌≡◌, ℕ, ◌+◌, ◌/◌, ◌≤◌, List, Option, length, refl, sym, subst, Bool, true}
 use Rattle.spool_blocks.specs.Blocks.{Row}
 use Rattle.spool_disk.specs.declared.disk.Disk.{Ghosts}
 use Rattle.spool_disk.specs.Views.{Lasts}
@@ -19,8 +18,8 @@ use Rattle.spool_kept.specs.Stored.{Stored}
 use Rattle.spool_kept.specs.declared.extending.Longer.{Longer}
 use Rattle.spool_kept.proofs.DraftLonger.{moved}
 
-module _ {D : Type 0} {sure : Bool} (disk : Ghosts D) (d mid : D) (h : Holding) (m : Store) (n : ℕ) (declare : Option ℕ)
-    (bytes : List ℕ) (longer : Longer) (more last : List ℕ)
+module _ {D : Type 0} {sure : Bool} {disk : Ghosts D} {d : D} (mid : D) {h : Holding} {m : Store} {n : ℕ}
+    {declare : Option ℕ} {bytes : List ℕ} {longer : Longer} {more last : List ℕ}
     (pending : IsPending sure disk d h m n declare bytes longer more last) (reserved : IsReserved h.blocks more)
     (only : sure ≡ true → OnlyWrites disk (journal_pages h.layout) more d mid) where
   abbrev s : Stored sure disk d h m
@@ -45,9 +44,6 @@ module _ {D : Type 0} {sure : Bool} (disk : Ghosts D) (d mid : D) (h : Holding) 
       more last) → IsAppend sure disk mid h m n declare bytes longer more
   appended honest written =
       pending.append mid
-      (moved disk d mid h h m h.layout s record {
-        same = refl;
-        rows = refl;
-      } honest more unowned refl (λ known. (only known).writes))
+      (moved mid s (record { same = refl; rows = refl }) honest more unowned refl (λ known. (only known).writes))
       (λ known some. subst (λ (text : List ℕ). text_on (disk.current mid) (text_page h.layout) more
       (length text) ≡ text) (pending.held known some) (written known (pending.fits some)))

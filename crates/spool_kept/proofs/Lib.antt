@@ -3,7 +3,8 @@ pub mod OwnedOnce
 pub mod ChangedSlots
 pub mod Entries
 pub mod Created
-pub mod Appended
+pub mod SlotChange
+pub mod SlotFits
 pub mod HandedOver
 pub mod AppendedTexts
 pub mod SlotsOf

@@ -1,17 +1,16 @@
 -- The upload of the least number above another.
-use Rattle.std.proofs.Common.{◌≡◌, inl, inr, ℕ, suc, ◌<◌, ◌≤◌, List, [], ◌∷◌, length, map, slice_index, Option, None}
-use Rattle.std.proofs.Common.{Some, refl, sym, ◌∙◌, subst, arith}
+use Rattle.std.proofs.Common.{◌≡◌, inl, inr, ℕ, suc, ◌<◌, ◌≤◌, List, [], ◌∷◌, length, map, slice_index, None, Some}
+use Rattle.std.proofs.Common.{refl, sym, ◌∙◌, subst, arith}
 use Rattle.std.proofs.lemmas.Bool.{cases_eq, cases_lt}
 use Rattle.std.proofs.lemmas.Bool.Decides.{nat_tests}
 use Rattle.upload_rules.specs.Store.{Upload, find}
 use Rattle.upload_rules.specs.Records.{above}
 use Rattle.upload_rules.specs.Slots.{IsRising}
+use Rattle.spool_kept.proofs.ChangedSlots.{clash}
+use Rattle.std.proofs.lemmas.Option.{same_Some}
 
 abbrev pub numbers : List (ℕ × Upload) → List ℕ
 numbers xs = map (λ (e : ℕ × Upload). e.0) xs
-
-none_is : {A X : Type 0} {a : A} {o : Option A} → o ≡ None → o ≡ Some a → X
-none_is e f = absurd cc
 
 find_here : (x : ℕ × Upload) (xs : List (ℕ × Upload)) (j : ℕ) → x.0 ≡ j → find j (x ∷ xs) ≡ Some x.1
 find_here x xs j same = grind (arith, nat_tests)
@@ -31,7 +30,7 @@ rising_tail x xs rising i k lt below = rising (suc i) (suc k) (omega (arith, lt)
 -- what is found has a place
 pub found_at : (xs : List (ℕ × Upload)) (k : ℕ) (u : Upload) → find k xs ≡ Some u
     → (i : ℕ) × (i < length (numbers xs)) × (slice_index (numbers xs) i ≡ k)
-found_at [] k u found = none_is refl found
+found_at [] k u found = clash refl found
 found_at (x ∷ xs) k u found = elim (cases_eq x.0 k) [
   | inl same ↦ (0, omega arith, same)
   | inr other ↦
@@ -49,11 +48,11 @@ found_above x xs rising k u found =
 
 pub above_is : (xs : List (ℕ × Upload)) → IsRising (numbers xs) → (n k : ℕ) (u : Upload) → n < k → find k xs ≡ Some u
     → ((j : ℕ) (w : Upload) → n < j → find j xs ≡ Some w → k ≤ j) → above n xs ≡ Some (k, u)
-above_is [] rising n k u lt found least = none_is refl found
+above_is [] rising n k u lt found least = clash refl found
 above_is (x ∷ xs) rising n k u lt found least = elim (cases_lt n x.0) [
   | inl over ↦ elim (cases_eq x.0 k) [
     | inl same ↦
-        let u_is : x.1 ≡ u = one (sym (find_here x xs k same) ∙ found) in
+        let u_is : x.1 ≡ u = same_Some x.1 u (sym (find_here x xs k same) ∙ found) in
         above_here x xs n over ∙ pair x k u same u_is
     | inr other ↦
         let le = least x.0 x.1 over (find_here x xs x.0 refl) in
@@ -68,9 +67,6 @@ above_is (x ∷ xs) rising n k u lt found least = elim (cases_lt n x.0) [
       least j w over (find_past x xs j past ∙ here))
 ]
   where
-    one : {a b : Upload} → Some a ≡ Some b → a ≡ b
-    one e = cc
-
     pair : (e : ℕ × Upload) (m : ℕ) (w : Upload) → e.0 ≡ m → e.1 ≡ w → Some e ≡ Some (m, w)
     pair e m w first second =
         subst (λ (n' : ℕ). Some e ≡ Some (n', w)) first (subst (λ (u' : Upload). Some e ≡ Some (e.0, u')) second refl)

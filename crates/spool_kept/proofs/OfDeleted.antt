@@ -1,15 +1,11 @@
 -- The drafts, where an upload was taken away.
-use Rattle.std.proofs.Common.{◌≡◌, ◌≢◌, ℕ, ◌*◌, ◌≤◌, List, Option, None, Some, get_or, refl, sym, ◌∙◌, ap, subst}
-use Rattle.std.proofs.Common.{arith}
-use Rattle.std.proofs.Common.{inl, inr, Bool, false}
+use Rattle.std.proofs.Common.{◌≡◌, ◌≢◌, ℕ, ◌*◌, ◌≤◌, List, Option, None, Some, get_or, refl, sym, ◌∙◌, ap, subst, arith}
+use Rattle.std.proofs.Common.{inl, inr, Bool, false, true}
 use Rattle.std.proofs.lemmas.Bool.{cases_eq}
-use Rattle.std.proofs.Common.{true}
 use Rattle.spool_blocks.specs.Blocks.{Held}
 use Rattle.spool_disk.specs.declared.disk.Disk.{Ghosts}
-use Rattle.spool_drafts.specs.Drafts.{tail_of}
 use Rattle.spool_drafts.specs.declared.draft.SpoolDraft.{SpoolDraft}
 use Rattle.spool_journal.specs.Image.{text_page}
-use Rattle.spool_pages.specs.View.{SlotRecord}
 use Rattle.spool_texts.specs.Drafts.{IsReserved}
 use Rattle.upload_rules.specs.Calls.{terminated}
 use Rattle.upload_rules.specs.Drafts.{draft_at}
@@ -17,16 +13,15 @@ use Rattle.upload_rules.specs.Grown.{GrewFrom, IsGrown}
 use Rattle.upload_rules.specs.Store.{Upload, deleted_store, find, others, upload_of, with_length}
 use Rattle.upload_rules.specs.World.{Patch, World}
 use Rattle.upload_rules.proofs.Deleted.{find_in_others, none_in_others}
-use Rattle.spool_kept.specs.Drafting.{DraftStands, DraftsHold, DraftsStand, IsOwnedBy, IsStillOpen, StandsFor}
-use Rattle.spool_kept.specs.Drafting.{lists_at}
+use Rattle.spool_kept.specs.Drafting.{DraftStands, DraftsHold, DraftsStand, IsStillOpen, StandsFor, lists_at}
 use Rattle.spool_kept.specs.Holding.{Holding, IsUsedBy}
 use Rattle.spool_kept.specs.Stored.{Stored}
 use Rattle.spool_kept.specs.Terminating.{FreesRows, IsTakenOut}
-use Rattle.spool_kept.proofs.ChangedSlots.{clash, one_value}
+use Rattle.spool_kept.proofs.ChangedSlots.{clash}
 use Rattle.spool_kept.proofs.DraftLonger.{held_both}
 use Rattle.spool_drafts.proofs.Stays.{bytes_same}
 use Rattle.spool_kept.proofs.Freed.{others_stay}
-use Rattle.spool_kept.proofs.TakenOut.{still_there}
+use Rattle.spool_kept.proofs.SlotChange.{owned_still}
 
 -- WHATEVER THE DISK SAID
 
@@ -78,27 +73,7 @@ still_grown w number grown = record {
     by_answer p None e grew = tt
     by_answer p (Some u) e grew = subst (GrewFrom p) (upload_was w number p.number u e).1 grew
 
-module _ (h h' : Holding) (number slot : ℕ) (used : IsUsedBy h.slots slot number) (out : IsTakenOut h slot h') where
-  -- another upload's blocks stay its own
-  owned_still : (n : ℕ) (list : List ℕ) → number ≢ n → IsOwnedBy h.slots h.blocks.rows n list
-      → IsOwnedBy h'.slots h'.blocks.rows n list
-  owned_still n list apart owned =
-      let other : owned.slot ≢ slot = λ same. apart (sym used.is ∙ ap (λ (r : SlotRecord). r.number)
-      (one_value used.there (ap (λ (s : ℕ). get_or h.slots s None) (sym same) ∙ owned.used.there)) ∙ owned.used.is) in
-      record {
-        slot = owned.slot;
-        used = record {
-          used = owned.used.used;
-          there = ap (λ (xs : List (Option SlotRecord)). get_or xs owned.slot None) out.slots
-              ∙ still_there h.slots slot owned.slot other ∙ owned.used.there;
-          is = owned.used.is;
-        };
-        owned = λ i lt.
-            let own = owned.owned i lt in
-            let stay = others_stay slot h.blocks.rows h'.blocks.rows out.rows in
-            (own.0, stay.still (get_or list i 0) owned.slot own.0 other own.1);
-      }
-
+module _ {h h' : Holding} {number slot : ℕ} (used : IsUsedBy h.slots slot number) (out : IsTakenOut h slot h') where
   module _ {sure : Type 0} (w : World) (current current' : ℕ → ℕ) (first : ℕ)
       (same : sure → (p : ℕ) → 4096 * first ≤ p → current' p ≡ current p) where
     stands_still : (p : Patch) (o : SpoolDraft) → DraftStands sure w.store.indexes current first h.slots h.blocks.rows
@@ -112,7 +87,8 @@ module _ (h h' : Holding) (number slot : ℕ) (used : IsUsedBy h.slots slot numb
           ∙ s.carries known (still_was w number p there).1 kept;
       tail = λ there.
           let was = still_was w number p there in
-          owned_still p.number (tail_of o) was.0 (s.tail was.1);
+          owned_still None out.slots (others_stay slot h.blocks.rows h'.blocks.rows out.rows) used was.0
+          (s.tail was.1);
     }
 
     pub drafts_still : (drafts : List (Option SpoolDraft)) → DraftsStand sure w.store.indexes current first h.slots
@@ -128,11 +104,11 @@ module _ (h h' : Holding) (number slot : ℕ) (used : IsUsedBy h.slots slot numb
       all = λ b is. stand.all b (ap (λ (xs : List Bool). get_or xs b false) (sym out.reserved) ∙ is);
     }
 
-  pub stands_after : {D : Type 0} {sure : Bool} (disk : Ghosts D) (d d' : D) (drafts : List (Option SpoolDraft))
-      (w : World) → StandsFor sure disk d h drafts w → Stored sure disk d' h' (deleted_store w.store number)
+  pub stands_after : {D : Type 0} {sure : Bool} {disk : Ghosts D} {d d' : D} {drafts : List (Option SpoolDraft)}
+      {w : World} → StandsFor sure disk d h drafts w → Stored sure disk d' h' (deleted_store w.store number)
       → (sure ≡ true → (p : ℕ) → 4096 * text_page h.layout ≤ p → disk.current d' p ≡ disk.current d p)
       → StandsFor sure disk d' h' drafts (terminated w number)
-  stands_after {sure = sure} disk d d' drafts w stands stored same = record {
+  stands_after {sure = sure} {disk = disk} {d = d} {d' = d'} {drafts = drafts} {w = w} stands stored same = record {
     stored = stored;
     stands = subst (λ (n : ℕ). DraftsStand (sure ≡ true) w.store.indexes (disk.current d')
         (text_page n) h'.slots h'.blocks

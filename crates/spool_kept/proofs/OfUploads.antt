@@ -1,10 +1,9 @@
 -- The drafts' uploads, whatever the disk said: what is in their slots, and what becomes of it.
 use Rattle.std.proofs.Common.{◌≡◌, inl, inr, ℕ, ◌<◌, ◌≤◌, false, List, [], Option, length-set, None, Some, IfOk, IfSome}
-use Rattle.std.proofs.Common.{MatchOption}
-use Rattle.std.proofs.Common.{Result, Ok, Err, get_or, length, set, refl, sym, ◌∙◌, ap, subst, arith}
-use Rattle.std.proofs.lemmas.Bool.{both_ways, cases_eq, cases_lt}
+use Rattle.std.proofs.Common.{MatchOption, Result, Ok, Err, get_or, length, set, refl, sym, ◌∙◌, ap, subst, arith}
+use Rattle.std.proofs.lemmas.Bool.{both_ways, cases_eq}
 use Rattle.std.proofs.lemmas.Option.{same_Some}
-use Rattle.spool_drafts.specs.Drafts.{IsAfter, declare_of, number_of, offset_of}
+use Rattle.spool_drafts.specs.Drafts.{IsAfter, declare_of, number_of, offset_of, list_of}
 use Rattle.spool_drafts.specs.declared.draft.SpoolDraft.{SpoolDraft}
 use Rattle.spool_blocks.specs.Blocks.{Held}
 use Rattle.spool_pages.specs.View.{SlotRecord}
@@ -15,35 +14,22 @@ use Rattle.upload_rules.specs.declared.errors.UploadRefusal.{UploadRefusal}
 use Rattle.upload_rules.specs.declared.records.Record.{Record}
 use Rattle.spool_kept.specs.Committing.{HasSameCount, IsAfterSlot}
 use Rattle.spool_kept.specs.Creating.{HasRoomAt, IsTakenIn}
-use Rattle.spool_kept.specs.Drafting.{DraftsFit, DraftsHold, EachDraft, IsKept, IsOfUpload, lists_at}
+use Rattle.spool_kept.specs.Drafting.{DraftsFit, DraftsHold, EachDraft, IsKept, IsOfUpload, lists_at, list_in}
 use Rattle.spool_kept.specs.Extending.{Advances, IsLonger, OnlyDeclares, longer_record}
-use Rattle.spool_kept.specs.Holding.{FitsTogether, Holding, IsUsedBy, Lists, number_at, numbered}
+use Rattle.spool_kept.specs.Holding.{FitsTogether, Holding, IsUsedBy, Lists}
 use Rattle.spool_kept.specs.declared.extending.Longer.{Longer}
-use Rattle.spool_kept.specs.declared.order.NumberedSlot.{NumberedSlot}
 use Rattle.spool_kept.proofs.Drafted.{IsChanged, changed_out, fit_dropped}
-use Rattle.spool_kept.proofs.ChangedSlots.{in_use, slot_is}
+use Rattle.spool_kept.proofs.Valid.{in_use}
+use Rattle.spool_kept.proofs.Ordered.{one_slot as ordered_slot}
+use Rattle.spool_kept.proofs.ChangedSlots.{record_is}
 
 -- ONE SLOT FOR A NUMBER
-
-number_there : (order : List NumberedSlot) (n s : ℕ) (l : Lists order n s) → number_at order l.place ≡ n
-number_there order n s l = ap (λ (e : NumberedSlot). e.number) l.here
 
 one_slot : (h : Holding) → FitsTogether h → (n s : ℕ) → Lists h.order n s → (t : ℕ) → IsUsedBy h.slots t n → t ≡ s
 one_slot h fits n s l t used =
     let lt : t < 512 = (let inside = in_use h.slots t used.used used.there in omega (arith, inside, fits.slot_count)) in
     let k = subst (λ (m : ℕ). Lists h.order m t) used.is (fits.ordered.all t used.used lt used.there) in
-    let here = number_there h.order n s l in
-    let there = number_there h.order n t k in
-    elim (cases_eq l.place k.place) [
-      | inl same ↦ ap (λ (e : NumberedSlot). e.slot) (sym k.here
-          ∙ ap (λ (i : ℕ). get_or h.order i (numbered 0 0)) (sym same) ∙ l.here)
-      | inr other ↦ elim (cases_lt l.place k.place) [
-        | inl before ↦ absurd (let rises = fits.ordered.rises l.place k.place before k.below in
-            omega (arith, rises, here, there))
-        | inr from ↦ absurd (let rises = fits.ordered.rises k.place l.place (omega (arith, from, other)) l.below in
-            omega (arith, rises, here, there))
-      ]
-    ]
+    ordered_slot h.slots h.order fits.slot_count fits.ordered n t s k l
 
 pub only_of : (h : Holding) → FitsTogether h → (n : ℕ) (found : Option ℕ)
     → MatchOption found ((s : ℕ) → Lists h.order n s → ⊥) (Lists h.order n)
@@ -109,14 +95,14 @@ module _ (slots : List (Option SlotRecord)) (longer : Longer) (used : SlotRecord
       → IsAfter longer.text_len longer.state o)
       → IsOfUpload (set slots longer.slot (Some (longer_record used longer))) o
   of_changed grows after = record {
-    grown = λ s r e at. elim (slot_is slots longer.slot (longer_record used longer) s r inside e) [
+    grown = λ s r e at. elim (record_is slots longer.slot (longer_record used longer) s r inside e) [
       | inl now ↦
           let before = is.grown longer.slot used there (ap (λ (q : SlotRecord). q.number) (sym now.1) ∙ at) in
           omega (arith, before, grows, ap (λ (q : SlotRecord). q.accepted) now.1)
       | inr old ↦ is.grown s r old.1 at
     ];
     after = λ s r e at count open_still.
-        elim (slot_is slots longer.slot (longer_record used longer) s r inside e) [
+        elim (record_is slots longer.slot (longer_record used longer) s r inside e) [
           | inl now ↦ subst (λ (q : SlotRecord). IsAfter q.text_len q.state o) (sym now.1)
               (after (ap (λ (q : SlotRecord). q.number) (sym now.1) ∙ at)
               (ap (λ (q : SlotRecord). q.accepted) (sym now.1) ∙ count)
@@ -164,11 +150,19 @@ fits_spent h h' old new d is next slots blocks fit = record {
 }
 
 -- one is spent, and its blocks are given back
-pub fits_dropped : (h : Holding) (blocks : Held) (old new : List (Option SpoolDraft)) (d : ℕ) → new ≡ set old d None
+fits_dropped : (h : Holding) (blocks : Held) (old new : List (Option SpoolDraft)) (d : ℕ) → new ≡ set old d None
     → DraftsFit h old → GivesBack h.blocks blocks (lists_at old d) → DraftsFit (record h { blocks = blocks }) new
 fits_dropped h blocks old new d is fit gives =
     fits_spent h (record h { blocks = blocks }) old new d is refl refl
     (fit_dropped h.layout h.blocks blocks old new d is fit.blocks gives) fit
+
+pub fits_out : {old inside : Holding} {blocks : Held} {drafts drafts' : List (Option SpoolDraft)} (number : ℕ)
+    {o : SpoolDraft} → inside ≡ old → Some o ≡ draft_at drafts number → drafts' ≡ set drafts number None
+    → GivesBack inside.blocks blocks (list_of o) → DraftsFit old drafts
+    → DraftsFit (record inside { blocks = blocks }) drafts'
+fits_out {inside = inside} {blocks = blocks} {drafts = drafts} {drafts' = drafts'} number is there after gives fit =
+    fits_dropped inside blocks drafts drafts' number after (subst (λ (h : Holding). DraftsFit h drafts) (sym is) fit)
+    (subst (GivesBack inside.blocks blocks) (ap list_in there) gives)
 
 -- one is spent, and its upload is longer
 pub fits_put : (h h' : Holding) (drafts : List (Option SpoolDraft)) (d : ℕ) (longer : Longer) (used : SlotRecord)
@@ -208,7 +202,7 @@ module _ (h h' : Holding) (slot : ℕ) (new : SlotRecord) (room : HasRoomAt h sl
       → r.number ≡ number_of o → get_or h.slots s None ≡ Some r
   was_there o below s r e at =
       let now = ap (λ (slots : List (Option SlotRecord)). get_or slots s None) (sym taken.slots) ∙ e in
-      elim (slot_is h.slots slot new s r slot_there now) [
+      elim (record_is h.slots slot new s r slot_there now) [
         | inl made ↦ absurd (omega (arith, ap (λ (q : SlotRecord). q.number) made.1, number, at, below))
         | inr old ↦ old.1
       ]

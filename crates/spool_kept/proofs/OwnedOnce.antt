@@ -1,6 +1,6 @@
 -- A slot that owns n blocks, among them one at each ordinal below n, owns no others.
-use Rattle.std.proofs.Common.{◌≡◌, ℕ, zero, suc, ◌+◌, ◌<◌, List, None, Some, length, get_or, slice_set}
-use Rattle.std.proofs.Common.{inl, inr, sym, ◌∙◌, subst, arith}
+use Rattle.std.proofs.Common.{◌≡◌, ℕ, zero, suc, ◌+◌, ◌<◌, List, None, Some, length, get_or, slice_set, inl, inr, sym}
+use Rattle.std.proofs.Common.{◌∙◌, subst, arith}
 use Rattle.std.proofs.lemmas.Bool.{cases_eq}
 use Rattle.spool_blocks.specs.Blocks.{Row, slot_count}
 use Rattle.spool_blocks.specs.Chains.{Owns, OwnsOneEach}

@@ -2,7 +2,7 @@
 use Rattle.std.proofs.Common.{◌≡◌, inl, inr, ℕ, zero, suc, ◌<◌, ◌≤◌, ◌==◌, if◌then◌else◌, List, Option, None, Some}
 use Rattle.std.proofs.Common.{IsSome, IfSome, MatchOption, ◌⊎◌, ◌^◌, length, get_or, slice_index, refl, sym, ◌∙◌, ap}
 use Rattle.std.proofs.Common.{subst, arith, eq-eqb}
-use Rattle.std.proofs.lemmas.Bool.{cases_eq, cases_order, ne_eqb}
+use Rattle.std.proofs.lemmas.Bool.{cases_eq, ne_eqb}
 use Rattle.upload_rules.specs.Store.{Store}
 use Rattle.spool_pages.specs.View.{SlotRecord, View}
 use Rattle.spool_kept.specs.declared.order.NumberedSlot.{NumberedSlot}
@@ -13,6 +13,7 @@ use Rattle.spool_kept.specs.Shows.{Shows}
 use Rattle.spool_kept.proofs.Answered.{listed}
 use Rattle.spool_kept.proofs.Entries.{length-numbers, found_at as number_found}
 use Rattle.spool_kept.proofs.Numbered.{numbers, found_at}
+use Rattle.spool_kept.proofs.Ordered.{one_place}
 
 -- each of n has one of k, and no two have the same
 pub pigeons : (n k : ℕ) (P : ℕ → ℕ → Type 0) → ((i : ℕ) → i < n → (j : ℕ) × (j < k) × P i j)
@@ -60,7 +61,7 @@ all_listed slots order orders full = pigeons 512 (length order) (λ s i. (get_or
     at s lt (Some r) e some = let l = orders.all s r lt e in
         (l.place, l.below, ap (λ (p : NumberedSlot). p.slot) l.here)
 
-module _ (h : Holding) (v : View) (m : Store) (kept : KeepsView h v) (shows : Shows v m) where
+module _ {h : Holding} {v : View} {m : Store} (kept : KeepsView h v) (shows : Shows v m) where
   pub not_more : length h.order ≤ length m.uploads
   not_more = subst (λ (n : ℕ). length h.order ≤ n) (length-numbers m.uploads)
       (pigeons (length h.order) (length (numbers m.uploads))
@@ -79,17 +80,7 @@ module _ (h : Holding) (v : View) (m : Store) (kept : KeepsView h v) (shows : Sh
 
       one : (a b j : ℕ) → (a < length h.order) × (slice_index (numbers m.uploads) j ≡ number_at h.order a)
           → (b < length h.order) × (slice_index (numbers m.uploads) j ≡ number_at h.order b) → a ≡ b
-      one a b j p q =
-          let first = p.0 in
-          let second = q.0 in
-          let same : number_at h.order a ≡ number_at h.order b = sym p.1 ∙ q.1 in
-          elim (cases_order a b) [
-            | inl e ↦ e
-            | inr apart ↦ elim apart [
-              | inl lt ↦ absurd (omega (arith, same, kept.ordered.rises a b lt second))
-              | inr gt ↦ absurd (omega (arith, same, kept.ordered.rises b a gt first))
-            ]
-          ]
+      one a b j p q = one_place (number_at h.order) (length h.order) kept.ordered.rises a b p.0 q.0 (sym p.1 ∙ q.1)
 
   pub not_fewer : length m.uploads ≤ length h.order
   not_fewer = subst (λ (n : ℕ). n ≤ length h.order) (length-numbers m.uploads)
@@ -101,22 +92,13 @@ module _ (h : Holding) (v : View) (m : Store) (kept : KeepsView h v) (shows : Sh
           × ((i < length (numbers m.uploads)) × (number_at h.order j ≡ slice_index (numbers m.uploads) i))
       at i lt =
           let found = number_found m.uploads i (omega (arith, lt, length-numbers m.uploads)) in
-          let place = listed h v m kept shows (slice_index (numbers m.uploads) i) found.0 found.1 in
+          let place = listed kept shows (slice_index (numbers m.uploads) i) found.0 found.1 in
           (place.0, place.1, (lt, place.2))
 
       one : (a b j : ℕ) → (a < length (numbers m.uploads)) × (number_at h.order j ≡ slice_index (numbers m.uploads) a)
           → (b < length (numbers m.uploads)) × (number_at h.order j ≡ slice_index (numbers m.uploads) b) → a ≡ b
-      one a b j p q =
-          let first = p.0 in
-          let second = q.0 in
-          let same : slice_index (numbers m.uploads) a ≡ slice_index (numbers m.uploads) b = sym p.1 ∙ q.1 in
-          elim (cases_order a b) [
-            | inl e ↦ e
-            | inr apart ↦ elim apart [
-              | inl lt ↦ absurd (omega (arith, same, shows.rising a b lt second))
-              | inr gt ↦ absurd (omega (arith, same, shows.rising b a gt first))
-            ]
-          ]
+      one a b j p q = one_place (slice_index (numbers m.uploads)) (length (numbers m.uploads)) shows.rising a b p.0 q.0
+          (sym p.1 ∙ q.1)
 
 -- A SLOT FOR A NEW UPLOAD
 
@@ -132,11 +114,11 @@ room_at h slots fits same next X (Some s) e = record {
 
 module _ (h : Holding) (slots : List (Option SlotRecord)) (fits : FitsTogether h) (same : slots ≡ h.slots)
     (room : length h.order < 512) where
-  pub few_at : (v : View) (m : Store) → KeepsView h v → Shows v m → (P : ℕ → Type 0) (o : Option ℕ)
+  pub few_at : {v : View} {m : Store} → KeepsView h v → Shows v m → (P : ℕ → Type 0) (o : Option ℕ)
       → MatchOption o ((s : ℕ) → s < 512 → IsSome (get_or slots s None)) P
       → MatchOption o ((512 ≤ length m.uploads) ⊎ (10 ^ 18 ≤ m.next)) (λ s. length m.uploads < 512)
-  few_at v m kept shows P None all =
+  few_at kept shows P None all =
       let full = all_listed h.slots h.order fits.ordered
       (λ s lt. subst (λ (xs : List (Option SlotRecord)). IsSome (get_or xs s None)) same (all s lt)) in
       absurd (omega (arith, full, room))
-  few_at v m kept shows P (Some s) e = let le = not_fewer h v m kept shows in omega (arith, le, room)
+  few_at kept shows P (Some s) e = let le = not_fewer kept shows in omega (arith, le, room)

@@ -9,7 +9,7 @@ use Rattle.spool_pages.specs.View.{SlotRecord, View, slot_at}
 use Rattle.spool_kept.specs.Shows.{IsRecordOf, Shows}
 use Rattle.spool_kept.specs.Changed.{slot_of, HasUpload}
 use Rattle.spool_kept.proofs.ChangedSlots.{clash, one_value}
-use Rattle.spool_kept.proofs.Appended.{told_upload}
+use Rattle.spool_kept.proofs.SlotChange.{told_upload}
 
 -- the first record of a number is in its slot
 pub slot_of_is : (n : ℕ) (slots : List (Option SlotRecord)) (s : ℕ) (r : SlotRecord) → get_or slots s None ≡ Some r

@@ -1,7 +1,6 @@
 -- What a record tells of an upload, and its state.
 use Rattle.std.proofs.Common.{◌≡◌, ℕ, ◌==◌, Bool, true, false, if◌then◌else◌, List, [], ◌∷◌, Option, length, refl, sym}
-use Rattle.std.proofs.Common.{◌∙◌, ap}
-use Rattle.std.proofs.Common.{subst, arith}
+use Rattle.std.proofs.Common.{◌∙◌, ap, subst, arith}
 use Rattle.std.proofs.lemmas.List.{append-nil}
 use Rattle.enc_model.specs.declared.Encoding.{Encoding}
 use Rattle.enc_model.specs.declared.Encoding.TheVariants.{Utf8, Utf16Be, Utf16Le, ShiftJis, EucJp, Iso2022Jp, Ibm866}
@@ -80,35 +79,15 @@ encoding_at n =
 pub back : (e : Encoding) → encoding_at (encoding_number e) ≡ e
 unfolding encoding_at
 back Utf8 = refl
-back Utf16Be = refl
-back Utf16Le = refl
-back ShiftJis = refl
-back EucJp = refl
-back Iso2022Jp = refl
-back Ibm866 = refl
-back Iso8859X2 = refl
-back Iso8859X5 = refl
-back Iso8859X15 = refl
-back Koi8R = refl
-back Macintosh = refl
-back Windows1250 = refl
-back Windows1251 = refl
-back Windows1252 = refl
-back Windows1253 = refl
-back Windows1254 = refl
-back Windows1255 = refl
-back Windows1256 = refl
-back Windows1257 = refl
-back Windows1258 = refl
+back e = refl
 
 pub same_encoding : (e f : Encoding) → encoding_number e ≡ encoding_number f → e ≡ f
 same_encoding e f same = sym (back e) ∙ ap encoding_at same ∙ back f
 
 pub same_mode : (a b : Mode) → mode_number a ≡ mode_number b → a ≡ b
 same_mode Html Html same = refl
-same_mode Html Fatal same = absurd (omega (arith, same))
-same_mode Fatal Html same = absurd (omega (arith, same))
 same_mode Fatal Fatal same = refl
+same_mode a b same = absurd (omega (arith, same))
 
 -- THE RECORD IN MEMORY
 

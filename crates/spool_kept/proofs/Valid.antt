@@ -4,8 +4,8 @@ use Rattle.std.proofs.Common.{length, get_or, ltb, true, sym, ◌∙◌, ap, ari
 use Rattle.std.proofs.lemmas.Bool.Decides.{nat_tests}
 use Rattle.upload_rules.specs.Lengths.{longest}
 use Rattle.upload_rules.specs.Room.{blocks_of}
-use Rattle.spool_pages.specs.View.{View, SlotRecord, Says, Stands, slot_at, slot_bytes, row_bytes, state_page}
-use Rattle.spool_pages.specs.View.{index_place, state_place, slot_place, row_place}
+use Rattle.spool_pages.specs.View.{View, SlotRecord, Says, Stands, slot_at, slot_bytes, row_bytes, index_place}
+use Rattle.spool_pages.specs.View.{slot_place, row_place}
 use Rattle.spool_pages.specs.Fits.{FitsLength, FitsSlotOf, FitsRow}
 use Rattle.enc_index.specs.Area.{area_byte}
 use Rattle.spool_journal.specs.Image.{journal_pages}
@@ -15,13 +15,11 @@ use Rattle.spool_kept.specs.Records.{FitsKept}
 use Rattle.spool_kept.specs.Holding.{AreDistinct}
 use Rattle.spool_blocks.specs.Chains.{OwnsOneEach}
 use Rattle.spool_kept.specs.Shows.{IsValid, IsValidRecord, IsOwned}
+use Rattle.spool_kept.proofs.ChangedSlots.{clash}
 
 module _ (v : View) (valid : IsValid v) (slots : List (Option SlotRecord)) (same : slots ≡ v.slots) where
   there : (s : ℕ) (o : Option SlotRecord) → get_or slots s None ≡ o → slot_at v s ≡ o
   there s o e = ap (λ (xs : List (Option SlotRecord)). get_or xs s None) (sym same) ∙ e
-
-  pub slot_valid : (s : ℕ) (r : SlotRecord) → get_or slots s None ≡ Some r → IsValidRecord v.next r
-  slot_valid s r e = valid.records s r (there s (Some r) e)
 
   pub slots_distinct : AreDistinct slots
   slots_distinct s t r q e f same_number = valid.distinct s t r q (there s (Some r) e) (there t (Some q) f) same_number
@@ -33,24 +31,12 @@ module _ (v : View) (valid : IsValid v) (slots : List (Option SlotRecord)) (same
       → k < blocks_of r.text_len
   row_below b s k r owns e = (valid.lists s r (there s (Some r) e)).only b k owns
 
-  pub row_used : (b s k : ℕ) → get_or v.rows b None ≡ Some (s, k) → get_or slots s None ≡ None → ⊥
-  row_used b s k owns free =
-      let owned : IsOwned v s k = valid.owners b s k owns in
-      let e : slot_at v s ≡ None = there s None free in
-      clash (sym owned.there ∙ e)
-    where
-      clash : {r : SlotRecord} → Some r ≡ None → ⊥
-      clash e = cc
-
 pub is_less : (a b : ℕ) → a < b → ltb a b ≡ true
 is_less a b h = grind (arith, nat_tests)
 
 -- WHERE IT STANDS, for n blocks
 
 module _ (bytes : ℕ → ℕ) (v : View) (n : ℕ) (blocks : v.blocks ≡ n) (says : Says bytes v) where
-  pub said_state : Stands bytes (state_place n) 4096 (state_page v.version v.next)
-  said_state = subst (λ (m : ℕ). Stands bytes (state_place m) 4096 (state_page v.version v.next)) blocks says.state
-
   pub said_area : (i : ℕ) → i < 90112 → bytes (index_place n + i) ≡ area_byte v.indexes i
   said_area i lt = subst (λ (m : ℕ). bytes (index_place m + i) ≡ area_byte v.indexes i) blocks (says.area i lt)
 
@@ -104,15 +90,11 @@ record_fits next most r is = (
 pub slots_fit : (v : View) → IsValid v → (s : ℕ) → FitsKept (slot_at v s)
 slots_fit v valid s = slot_from (slot_at v s) (λ r e. record_fits v.next valid.next_most r (valid.records s r e))
 
-pub in_use : (slots : List (Option SlotRecord)) (s : ℕ) (r : SlotRecord) → get_or slots s None ≡ Some r
-    → s < length slots
-in_use slots s r e = elim (cases_lt s (length slots)) [
+pub in_use : {A : Type 0} (xs : List (Option A)) (s : ℕ) (r : A) → get_or xs s None ≡ Some r → s < length xs
+in_use xs s r e = elim (cases_lt s (length xs)) [
   | inl lt ↦ lt
-  | inr over ↦ absurd (clash (sym e ∙ get_or-eq_default slots None over))
+  | inr over ↦ clash (get_or-eq_default xs None over) e
 ]
-  where
-    clash : {q : SlotRecord} → Some q ≡ None → ⊥
-    clash e = cc
 
 pub rows_fit : (v : View) → IsValid v → (b : ℕ) → FitsRow (get_or v.rows b None)
 rows_fit v valid b = row_from (get_or v.rows b None) (λ p e.

@@ -1,7 +1,6 @@
-use Rattle.std.proofs.Common.{◌≡◌, ◌∙◌, inl, inr, ℕ, Bool, true, false, not, nat_eq, Err, None}
-use Rattle.std.proofs.Common.{Some}
-use Rattle.std.proofs.Common.{ap, arith, eqb-true, get_or, refl, rules, subst, sym}
-use Rattle.std.proofs.lemmas.Bool.{both_ways}
+use Rattle.std.proofs.Common.{◌≡◌, ◌∙◌, inl, inr, ℕ, Bool, true, false, not, nat_eq, Err, None, Some, ap, arith}
+use Rattle.std.proofs.Common.{eqb-true, get_or, rules, subst, sym}
+use Rattle.std.proofs.lemmas.Bool.{both_ways, not-true, not-false}
 use Rattle.std.proofs.lemmas.Result.{err_from_is_err_and}
 use Rattle.spool_pages.specs.View.{SlotRecord}
 use Rattle.upload_rules.specs.Lengths.{is_length}
@@ -43,33 +42,23 @@ pub returns-in_err-declared : goal.returns-in_err-declared
 returns-in_err-declared c =
     let slots = c.args.kept.now.slots in
     let slot = c.in-Some.slot in
-    let r = c.record.result.now in
     let there : get_or slots slot None ≡ Some c.in-Some-record_at.used.now = search rules in
     let err = err_from_is_err_and c.from_residual.result c.from_residual.ensures.1 in
     let is : c.from_residual.result ≡ Err c.in_err-declared.field-0.0 =
     err.1 ∙ ap (λ (e : UploadRefusal). Err e) err.2 in
-    subst (Finds slots c.args.draft.now) (sym is) (lemmas.refused slots c.args.draft.now slot r
+    subst (Finds slots c.args.draft.now) (sym is) (lemmas.refused c.args.draft.now c.record.result.now
     (there ∙ ap (λ (q : SlotRecord). Some q) (sym c.record.ensures.said))
     (subst (IsUsedBy slots slot) c.number.ensures c.in-Some.ensures.used)
-    (c.if-accepted-offset.false ∙ c.offset.ensures) c.declare-declare.result c.declare-declare.ensures
-    c.came-came.result c.came-came.ensures
+    (c.if-accepted-offset.false ∙ c.offset.ensures) c.declare-declare.ensures c.came-came.ensures
     c.in_err-declared.field-0.0 c.in_err-declared.ensures)
-
-not_true : (b : Bool) → not b ≡ true → b ≡ false
-not_true true is = absurd cc
-not_true false is = refl
-
-not_false : (b : Bool) → not b ≡ false → b ≡ true
-not_false true is = refl
-not_false false is = absurd cc
 
 -- the length is new, and says that these are all
 completes_so : (declares completes whole : Bool) → declares ≡ true → completes ≡ whole
     → (not completes ≡ true → declares ≡ true → whole ≡ false)
     × (not completes ≡ false → (declares ≡ true) × (whole ≡ true))
 completes_so declares completes whole new is = (
-  λ stays also. sym is ∙ not_true completes stays,
-  λ goes. (new, sym is ∙ not_false completes goes),
+  λ stays also. sym is ∙ not-true completes stays,
+  λ goes. (new, sym is ∙ not-false completes goes),
 )
 
 no_new : (declares completes whole : Bool) → declares ≡ false → completes ≡ false
@@ -77,17 +66,16 @@ no_new : (declares completes whole : Bool) → declares ≡ false → completes 
     × (not completes ≡ false → (declares ≡ true) × (whole ≡ true))
 no_new declares completes whole old is = (
   λ stays new. absurd (both_ways declares old new),
-  λ goes. absurd (both_ways completes is (not_false completes goes)),
+  λ goes. absurd (both_ways completes is (not-false completes goes)),
 )
 
 pub returns-then-came-eq0 : goal.returns-then-came-eq0
 returns-then-came-eq0 c =
     let slots = c.args.kept.now.slots in
     let slot = c.in-Some.slot in
-    let r = c.record.result.now in
     let there : get_or slots slot None ≡ Some c.in-Some-record_at.used.now = search rules in
     let declares = c.is_new-declares.result in
-    let whole = is_length c.in_ok-declared.declared r.accepted in
+    let whole = is_length c.in_ok-declared.declared c.record.result.now.accepted in
     let ends : (not c.if-declares.completes ≡ true → declares ≡ true → whole ≡ false)
     × (not c.if-declares.completes ≡ false → (declares ≡ true) × (whole ≡ true)) = elim c.if-declares.branch [
       | then-declares w ↦ completes_so declares c.if-declares.completes whole w.if-declares.true
@@ -95,27 +83,24 @@ returns-then-came-eq0 c =
       | else-declares w ↦ no_new declares c.if-declares.completes whole w.if-declares.false
           (w.completes-is ∙ w.if-declares.false)
     ] in
-    lemmas.found slots c.args.draft.now slot r
+    lemmas.found c.args.draft.now c.record.result.now
     (there ∙ ap (λ (q : SlotRecord). Some q) (sym c.record.ensures.said))
     (subst (IsUsedBy slots slot) c.number.ensures c.in-Some.ensures.used)
-    (c.if-accepted-offset.false ∙ c.offset.ensures) c.declare-declare.result c.declare-declare.ensures
-    c.came-came.result c.came-came.ensures
-    c.in_ok-declared.declared c.in_ok-declared.ensures.0 c.in_ok-declared.ensures.1 c.in_ok-declared.ensures.2
-    (search rules) c.record.ensures.unpacked declares c.is_new-declares.ensures (not c.if-declares.completes)
+    (c.if-accepted-offset.false ∙ c.offset.ensures) c.declare-declare.ensures c.came-came.ensures
+    c.in_ok-declared.ensures.0 c.in_ok-declared.ensures.1 c.in_ok-declared.ensures.2
+    (search rules) c.record.ensures.unpacked c.is_new-declares.ensures (not c.if-declares.completes)
     (λ stays. (c.if-came-eq0.true, ends.0 stays)) (λ goes. inr (ends.1 goes))
 
 pub returns-else-came-eq0 : goal.returns-else-came-eq0
 returns-else-came-eq0 c =
     let slots = c.args.kept.now.slots in
     let slot = c.in-Some.slot in
-    let r = c.record.result.now in
     let there : get_or slots slot None ≡ Some c.in-Some-record_at.used.now = search rules in
-    lemmas.found slots c.args.draft.now slot r
+    lemmas.found c.args.draft.now c.record.result.now
     (there ∙ ap (λ (q : SlotRecord). Some q) (sym c.record.ensures.said))
     (subst (IsUsedBy slots slot) c.number.ensures c.in-Some.ensures.used)
-    (c.if-accepted-offset.false ∙ c.offset.ensures) c.declare-declare.result c.declare-declare.ensures
-    c.came-came.result c.came-came.ensures
-    c.in_ok-declared.declared c.in_ok-declared.ensures.0 c.in_ok-declared.ensures.1 c.in_ok-declared.ensures.2
-    (search rules) c.record.ensures.unpacked c.is_new-declares.result c.is_new-declares.ensures
+    (c.if-accepted-offset.false ∙ c.offset.ensures) c.declare-declare.ensures c.came-came.ensures
+    c.in_ok-declared.ensures.0 c.in_ok-declared.ensures.1 c.in_ok-declared.ensures.2
+    (search rules) c.record.ensures.unpacked c.is_new-declares.ensures
     (nat_eq c.came-came.result 0) (λ none. absurd (c.if-came-eq0.false (eqb-true c.came-came.result 0 none)))
     (λ some. inl (omega (arith, c.if-came-eq0.false)))

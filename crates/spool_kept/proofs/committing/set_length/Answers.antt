@@ -12,55 +12,45 @@ use Rattle.spool_kept.proofs.committing.set_length.Goals.{In-Ok, In-Err-DiskFaul
 abbrev done_may : (g : Over) (c : In-Ok g) → MayDeclare c.args.kept.now.slots c.args.slot c.args.declared
 done_may g c =
     let used : c.unwrap.result.now ≡ c.requires.may.used = search rules in
-    declared.may_as c.args.kept.now.slots c.args.slot c.args.declared (said_of c.record-used.result.now) c.requires.may
-    (c.record-used.ensures.said ∙ used)
+    declared.may_as (said_of c.record-used.result.now) c.requires.may (c.record-used.ensures.said ∙ used)
 
 abbrev failed_may : (g : Over) (c : In-Err-DiskFault g) → MayDeclare c.args.kept.now.slots c.args.slot c.args.declared
 failed_may g c =
     let used : c.unwrap.result.now ≡ c.requires.may.used = search rules in
-    declared.may_as c.args.kept.now.slots c.args.slot c.args.declared (said_of c.record-used.result.now) c.requires.may
-    (c.record-used.ensures.said ∙ used)
+    declared.may_as (said_of c.record-used.result.now) c.requires.may (c.record-used.ensures.said ∙ used)
 
 pub returns-in-Ok-clause-fits : goal.returns-in-Ok-clause-fits
 returns-in-Ok-clause-fits g c drafts fit =
     let m = done_may g c in
     fits_declared c.args.kept.now c.extend.new.kept drafts (declared.named m.used c.args.slot c.args.declared) m.used
-    m.there (declared.only_declares c.args.kept.now.slots c.args.slot c.args.declared m)
+    m.there (declared.only_declares m)
     (c.in-Ok.ensures.longer (λ e. cc) m.used m.there) fit
 
 pub returns-in-Err-DiskFault-clause-fits : goal.returns-in-Err-DiskFault-clause-fits
 returns-in-Err-DiskFault-clause-fits g c drafts fit =
     let m = failed_may g c in
     fits_declared c.args.kept.now c.extend.new.kept drafts (declared.named m.used c.args.slot c.args.declared) m.used
-    m.there (declared.only_declares c.args.kept.now.slots c.args.slot c.args.declared m)
+    m.there (declared.only_declares m)
     (c.in-Err-DiskFault.ensures.longer (λ e. cc) m.used m.there) fit
 
 pub returns-in-Ok-clause-crash : goal.returns-in-Ok-clause-crash
 returns-in-Ok-clause-crash g c m n stored used small =
     c.extend.ensures.crash m n c.args.declared []
-    (declared.pending g.D.Disk c.args.disk.now c.args.kept.now m n c.args.slot c.args.declared stored (done_may g c)
-    used
-    small)
+    (declared.pending stored (done_may g c) used small)
 
 pub returns-in-Err-DiskFault-clause-crash : goal.returns-in-Err-DiskFault-clause-crash
 returns-in-Err-DiskFault-clause-crash g c m n stored used small =
     c.extend.ensures.crash m n c.args.declared []
-    (declared.pending g.D.Disk c.args.disk.now c.args.kept.now m n c.args.slot c.args.declared stored (failed_may g
-    c) used
-    small)
+    (declared.pending stored (failed_may g c) used small)
 
 pub returns-in-Ok-clause-answer : goal.returns-in-Ok-clause-answer
 returns-in-Ok-clause-answer g c sure drafts w n stands used small =
     let k = done_may g c in
-    let pending = declared.pending g.D.Disk c.args.disk.now c.args.kept.now w.store n c.args.slot c.args.declared
-    stands.stored k used small in
+    let pending = declared.pending stands.stored k used small in
     let wrote = c.in-Ok.ensures.written sure w.store n c.args.declared [] pending in (
       refl,
-      stands_declared g.D.Disk c.args.disk.now wrote.mid c.extend.new.disk c.args.kept.now c.extend.new.kept drafts w
-          stands (declared.named k.used c.args.slot c.args.declared) k.used n k.there c.args.declared wrote.append
-          (declared.unknown_of g.D.Disk c.args.disk.now c.args.kept.now w.store n c.args.slot c.args.declared
-          stands.stored k used small wrote.append.upload wrote.append.there)
+      stands_declared stands k.there wrote.append
+          (declared.unknown_of stands.stored k used small wrote.append.upload wrote.append.there)
           (c.in-Ok.ensures.longer (λ e. cc) k.used k.there) (λ known. wrote.only (stands.stored.honest known))
-          wrote.texts
-          (c.in-Ok.ensures.answer sure w.store n c.args.declared [] pending),
+          wrote.texts (c.in-Ok.ensures.answer sure w.store n c.args.declared [] pending),
     )

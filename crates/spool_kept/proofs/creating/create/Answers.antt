@@ -1,82 +1,66 @@
-use Rattle.std.proofs.Common.{◌≡◌, ◌∙◌, false, ap, subst, sym, refl}
+use Rattle.std.proofs.Common.{◌≡◌, ◌∙◌, false, ap, subst, sym, refl, None, true}
 use Rattle.upload_rules.specs.Answers.{IsLate}
+use Rattle.upload_rules.specs.Calls.{create_refusal, outcome}
 use Rattle.upload_rules.specs.Lengths.{is_too_large}
-use Rattle.upload_rules.specs.Store.{New}
+use Rattle.upload_rules.specs.Store.{New, Store, created_store}
+use Rattle.upload_rules.specs.World.{at_rest}
+use Rattle.spool_disk.specs.Views.{Lasts}
 use Rattle.spool_kept.specs.Holding.{Holding}
+use Rattle.spool_kept.specs.Stored.{ShowsEither, Stored}
 use Rattle.spool_kept.proofs.MadeNew.{next_is, allowed, stored_new, crash_new}
 use Rattle.spool_kept.proofs.OfUploads.{fits_created}
+use Rattle.spool_kept.proofs.creating.create.Given.{Over}
 use Rattle.spool_kept.proofs.creating.create.Goals as goal
+use Rattle.spool_kept.proofs.creating.create.Goals.{After-change}
+
+-- the length was looked at
+small : (g : Over) (c : After-change g) → is_too_large c.args.new.declared ≡ false
+small g c = ap is_too_large (sym (ap (λ (n : New). n.declared) c.new.view_is)) ∙ sym c.is_too_large.ensures
+    ∙ c.if-is_too_large.false
 
 pub returns-in-Ok-change-clause-answer : goal.returns-in-Ok-change-clause-answer
 returns-in-Ok-change-clause-answer g c sure m stored =
-    let h = c.args.kept.now in
-    let v = stored.view in
-    let slot = c.in-Some.slot in
-    let r = c.new_record-record.result in
     let room = c.in-Some.ensures.room in
-    let small : is_too_large c.args.new.declared ≡ false =
-    ap is_too_large (sym (ap (λ (n : New). n.declared) c.new.view_is)) ∙ sym c.is_too_large.ensures
-    ∙ c.if-is_too_large.false in
-    let few = c.in-Some.ensures.few v m stored.keeps stored.shows in
+    let known_small = small g (goal.at.returns-in-Ok-change-clause-answer g c).After-change in
+    let few = c.in-Some.ensures.few stored.view m stored.keeps stored.shows in
     let is = c.new_record-record.ensures in
     let taken = c.in-Ok.ensures.taken in
-    let layout : v.blocks ≡ c.kept-2.inside.layout =
+    let layout : stored.view.blocks ≡ c.kept-2.inside.layout =
     sym (ap (λ (k : Holding). k.layout) c.kept-2.view_is ∙ taken.layout ∙ stored.keeps.blocks) in
-    let changes = c.in-Ok.ensures.changes v (sym stored.keeps.blocks) (sym stored.keeps.version)
+    let changes = c.in-Ok.ensures.changes stored.view (sym stored.keeps.blocks) (sym stored.keeps.version)
     (sym stored.keeps.slots) in (
-      allowed h v m c.args.new slot r stored.keeps stored.shows room small few is,
+      allowed c.args.new stored room known_small few is,
       (
-        ap (λ (k : Holding). k.next) c.kept.view_is ∙ next_is h v m c.args.new slot r stored.keeps stored.shows room
-            small few is,
-        stored_new h v m c.args.new slot r stored.keeps stored.shows room small few is g.D.Disk c.args.disk.now
-            c.change.new.disk stored.rests changes c.prepare_new.new.self taken
-            (λ known. c.in-Ok-change.ensures.honest.0 (stored.honest known))
+        ap (λ (k : Holding). k.next) c.kept.view_is ∙ next_is c.args.new stored room known_small few is,
+        stored_new c.args.new stored room known_small few is changes taken c.in-Ok-change.ensures.honest.0
             (λ known v' made texts.
-            c.in-Ok-change.ensures.done (stored.honest known) v v' layout (stored.rests known) made texts),
+            c.in-Ok-change.ensures.done (stored.honest known) stored.view v' layout (stored.rests known) made texts),
       ),
     )
 
-pub returns-in-Ok-change-clause-crash : goal.returns-in-Ok-change-clause-crash
-returns-in-Ok-change-clause-crash g c m stored =
-    let v = stored.view in
-    let small : is_too_large c.args.new.declared ≡ false =
-    ap is_too_large (sym (ap (λ (n : New). n.declared) c.new.view_is)) ∙ sym c.is_too_large.ensures
-    ∙ c.if-is_too_large.false in
-    let few = c.in-Some.ensures.few v m stored.keeps stored.shows in
-    let layout : v.blocks ≡ c.kept-2.inside.layout =
-    sym (ap (λ (k : Holding). k.layout) c.kept-2.view_is ∙ c.in-Ok.ensures.taken.layout ∙ stored.keeps.blocks) in
-    let changes = c.in-Ok.ensures.changes v (sym stored.keeps.blocks) (sym stored.keeps.version)
-    (sym stored.keeps.slots) in
-    crash_new c.args.kept.now v m c.args.new c.in-Some.slot c.new_record-record.result stored.keeps stored.shows
-    c.in-Some.ensures.room small few c.new_record-record.ensures g.D.Disk c.args.disk.now c.change.new.disk
-    stored.rests changes refl
-    (λ v' made texts. c.in-Ok-change.ensures.lasts (stored.honest refl) v v' layout (stored.rests refl) made texts)
-
 pub returns-clause-answer : goal.returns-clause-answer
 returns-clause-answer g c sure m stored =
-    let small : is_too_large c.args.new.declared ≡ false =
-    ap is_too_large (sym (ap (λ (n : New). n.declared) c.new.view_is)) ∙ sym c.is_too_large.ensures
-    ∙ c.if-is_too_large.false in
     let few = c.in-Some.ensures.few stored.view m stored.keeps stored.shows in
-    subst IsLate
-    (sym (allowed c.args.kept.now stored.view m c.args.new c.in-Some.slot c.new_record-record.result stored.keeps
-    stored.shows c.in-Some.ensures.room small few c.new_record-record.ensures)) tt
+    subst IsLate (sym (allowed c.args.new stored c.in-Some.ensures.room
+    (small g (goal.at.returns-clause-answer g c).After-change) few c.new_record-record.ensures)) tt
+
+crash : (g : Over) (c : After-change g) (m : Store) → Stored true g.D.Disk c.args.disk.now c.args.kept.now m
+    → Lasts g.D.Disk c.args.disk.now c.change.new.disk (ShowsEither c.args.kept.now.layout m
+    (outcome (create_refusal (at_rest m None) c.args.new) m (created_store m c.args.new)))
+crash g c m stored =
+    let layout : stored.view.blocks ≡ c.kept-2.inside.layout =
+    sym (ap (λ (k : Holding). k.layout) c.kept-2.view_is ∙ c.in-Ok.ensures.taken.layout ∙ stored.keeps.blocks) in
+    crash_new c.args.new stored c.in-Some.ensures.room (small g c)
+    (c.in-Some.ensures.few stored.view m stored.keeps stored.shows) c.new_record-record.ensures
+    (c.in-Ok.ensures.changes stored.view (sym stored.keeps.blocks) (sym stored.keeps.version) (sym stored.keeps.slots))
+    refl
+    (λ v' made texts. c.change.ensures.lasts (stored.honest refl) stored.view v' layout (stored.rests refl) made texts)
+
+pub returns-in-Ok-change-clause-crash : goal.returns-in-Ok-change-clause-crash
+returns-in-Ok-change-clause-crash g c = crash g (goal.at.returns-in-Ok-change-clause-crash g c).After-change
 
 pub returns-clause-crash : goal.returns-clause-crash
-returns-clause-crash g c m stored =
-    let v = stored.view in
-    let small : is_too_large c.args.new.declared ≡ false =
-    ap is_too_large (sym (ap (λ (n : New). n.declared) c.new.view_is)) ∙ sym c.is_too_large.ensures
-    ∙ c.if-is_too_large.false in
-    let few = c.in-Some.ensures.few v m stored.keeps stored.shows in
-    let layout : v.blocks ≡ c.kept-2.inside.layout =
-    sym (ap (λ (k : Holding). k.layout) c.kept-2.view_is ∙ c.in-Ok.ensures.taken.layout ∙ stored.keeps.blocks) in
-    let changes = c.in-Ok.ensures.changes v (sym stored.keeps.blocks) (sym stored.keeps.version)
-    (sym stored.keeps.slots) in
-    crash_new c.args.kept.now v m c.args.new c.in-Some.slot c.new_record-record.result stored.keeps stored.shows
-    c.in-Some.ensures.room small few c.new_record-record.ensures g.D.Disk c.args.disk.now c.change.new.disk
-    stored.rests changes refl
-    (λ v' made texts. c.in-Err.ensures.lasts (stored.honest refl) v v' layout (stored.rests refl) made texts)
+returns-clause-crash g c = crash g (goal.at.returns-clause-crash g c).After-change
 
 -- THE DRAFTS
 

@@ -1,27 +1,23 @@
-use Rattle.std.proofs.Common.{◌<◌, arith, ◌≡◌, ◌∙◌, ◌++◌, ap, get_or, refl, subst, sym, List, None, Some}
-use Rattle.std.proofs.lemmas.Option.{same_Some}
-use Rattle.std.proofs.Common.{true}
+use Rattle.std.proofs.Common.{◌<◌, arith, ◌≡◌, ◌∙◌, ◌++◌, ap, get_or, refl, subst, sym, List, None, Some, true}
 use Rattle.enc_model.specs.Indexes.{IndexSet}
 use Rattle.spool_journal.specs.Image.{text_page}
 use Rattle.upload_rules.specs.Calls.{longer}
-use Rattle.upload_rules.specs.Drafts.{draft_at}
 use Rattle.upload_rules.specs.Grown.{IsGrown}
-use Rattle.upload_rules.specs.Store.{find}
 use Rattle.upload_rules.proofs.Finds.{replaced_same}
 use Rattle.upload_rules.proofs.Growing.{grown_longer}
-use Rattle.upload_rules.proofs.Patches.{draft_of}
 use Rattle.spool_blocks.specs.Blocks.{Row}
 use Rattle.spool_drafts.specs.Drafts.{IsPlaced, Holds, Carries, IsLonger, number_of, with_piece, tail_of}
 use Rattle.spool_drafts.specs.declared.draft.SpoolDraft.{SpoolDraft}
-use Rattle.spool_kept.specs.Drafting.{DraftsFit, DraftsHold, IsOfUpload, DraftStands, DraftsStand, IsOwnedBy}
-use Rattle.spool_kept.specs.Drafting.{IsStillOpen, StandsFor}
+use Rattle.spool_kept.specs.Drafting.{DraftsFit, DraftsHold, IsOfUpload, DraftsStand, IsOwnedBy, IsStillOpen, StandsFor}
 use Rattle.spool_kept.proofs.Drafted.{reserves_only}
 use Rattle.spool_kept.proofs.SameView.{shows_still}
 use Rattle.spool_kept.specs.Holding.{Holding}
-use Rattle.spool_kept.proofs.DraftLonger.{answered, changed_back, fit_longer, longer_carries, longer_holds}
-use Rattle.spool_kept.proofs.DraftLonger.{longer_world, moved, ok_more, some_draft, stand_longer}
+use Rattle.spool_kept.proofs.DraftLonger.{answered, fit_longer, longer_carries, longer_holds, longer_world, moved}
+use Rattle.spool_kept.proofs.DraftLonger.{ok_more, stand_longer, went_back}
 use Rattle.spool_kept.proofs.OfUploads.{each_changed, of_longer}
 use Rattle.spool_kept.proofs.drafting.append.Goals as goal
+use Rattle.std.proofs.lemmas.Option.{same_Some}
+use Rattle.spool_kept.proofs.CommitHead.{opened, own_draft}
 
 pub append-answer-requires-clause-placed : goal.append-answer-requires-clause-placed
 append-answer-requires-clause-placed g c =
@@ -36,14 +32,11 @@ returns-clause-fits g c =
     let fit = subst (λ (h : Holding). DraftsFit h before) (sym c.kept.view_is) c.requires.fits in
     let effect = c.append-answer.ensures.effect in
     let same = c.append-answer.ensures.same in
-    let changed = changed_back before c.taken.new.drafts.items c.put_back.new.drafts.items c.args.number c.in-Some.draft
-    new here c.taken.ensures.after c.put_back.ensures in
+    let on = went_back c.args.number new here c.taken.ensures.after c.put_back.ensures effect.grasp in
     record {
-      blocks = fit_longer c.kept.inside.layout c.kept.inside.blocks before fit.blocks c.args.number c.in-Some.draft here
-          c.append-answer.new.blocks c.put_back.new.drafts.items new effect.own effect.grasp changed
-          c.append-answer.ensures.reserved c.append-answer.ensures.placed;
+      blocks = fit_longer fit.blocks on c.append-answer.ensures.reserved c.append-answer.ensures.placed;
       below = each_changed (λ (o : SpoolDraft). number_of o < c.kept.inside.next) before c.put_back.new.drafts.items
-          c.args.number (Some new) changed fit.below
+          c.args.number (Some new) on.changed fit.below
           (λ a e. omega (
             arith,
             ap number_of (same_Some new a e),
@@ -51,7 +44,7 @@ returns-clause-fits g c =
             fit.below c.args.number c.in-Some.draft here,
           ));
       uploads = each_changed (IsOfUpload c.kept.inside.slots.items) before c.put_back.new.drafts.items c.args.number
-          (Some new) changed fit.uploads
+          (Some new) on.changed fit.uploads
           (λ a e. subst (IsOfUpload c.kept.inside.slots.items) (same_Some new a e)
           (of_longer c.kept.inside.slots.items c.in-Some.draft new same.0 same.1 c.append-answer.ensures.after
           (fit.uploads c.args.number c.in-Some.draft here)));
@@ -93,16 +86,11 @@ returns-clause-answer g c sure w p s there fits =
     let fit = subst (λ (k : Holding). DraftsHold k.layout k.blocks before)
     (sym c.kept.view_is) c.requires.fits.blocks in
     let fit' = (returns-clause-fits g c).blocks in
-    let changed = changed_back before c.taken.new.drafts.items after number o new here c.taken.ensures.after
-    c.put_back.ensures in
-    let at = draft_of (DraftStands (sure ≡ true) w.store.indexes current first records h.rows w.store) p
-    (find number w.patches)
-    (draft_at before number) there (s'.stands.each number) in
-    let is = subst (DraftStands (sure ≡ true) w.store.indexes current first records h.rows w.store p)
-    (some_draft at.0 o (sym at.1 ∙ here)) at.2 in
+    let on = went_back number new here c.taken.ensures.after c.put_back.ensures effect.grasp in
+    let is = own_draft (opened number s' there c.in-Some.ensures.taken) in
     let held = subst (λ (x : IndexSet). Holds x p o) (sym ix) is.holds in
     let same = reserves_only c.args.kept.now _ _ c.kept.view_is refl c.append-answer.ensures.rows in
-    let stored = moved g.D.Disk disk disk' c.args.kept.now _ w.store c.kept.inside.layout s.stored same
+    let stored = moved disk' s.stored same
     c.append-answer.ensures.honest.0 effect.own
     (λ i lt. ap (λ (r : List Row). get_or r (get_or effect.own i 0) None)
     (sym (effect.grasp.takes.rows ∙ ap (λ (k : Holding). k.blocks.rows) c.kept.view_is ∙ s.stored.keeps.rows))
@@ -110,9 +98,7 @@ returns-clause-answer g c sure w p s there fits =
     (ap (λ (k : Holding). k.layout) c.kept.view_is) (λ known. (effect.writes (honest known)).writes) in
     let rows = c.append-answer.ensures.rows in
     let piece = c.args.piece.now in
-    let longer_stands = stand_longer w.store.indexes current current' first c.kept.inside.layout records h h' w
-    before after
-    s'.stands fit number o new here effect.own effect.grasp changed rows
+    let longer_stands = stand_longer current' s'.stands fit on rows
     (λ known. (effect.writes (honest known)).writes.outside) in
     let tail : IsStillOpen w.store p → IsOwnedBy records h'.rows p.number (tail_of new) =
     λ still. subst (IsOwnedBy records h'.rows p.number) (sym c.append-answer.ensures.same.4)
@@ -125,17 +111,13 @@ returns-clause-answer g c sure w p s there fits =
     (λ l carries.
     let q = longer w number p piece in
     let is_longer = subst (λ (x : IndexSet). IsLonger x (with_piece p piece) o new h h') ix l in
-    longer_world g.D.Disk disk' _ after w number piece p (find number w.patches) there stored
+    longer_world w number piece there stored
     (longer_stands p q there (grown_longer w s'.stands.grown number p (p.body ++ piece) q.short there) record {
-      holds = longer_holds w current current' first c.kept.inside.layout records h h' before after s'.stands fit
-          number o new
-          here effect.own effect.grasp changed rows v shows s'.stored.keeps.rows c.rows-rows.ensures.reserved fit' p
-          piece is_longer;
+      holds = longer_holds s'.stands fit on rows shows s'.stored.keeps.rows c.rows-rows.ensures.reserved fit' p piece
+          is_longer;
       below = is.below;
-      carries = λ known still. longer_carries w current current' first c.kept.inside.layout records h h' before after
-          s'.stands fit
-          number o new here effect.own effect.grasp changed rows v shows s'.stored.keeps.rows
-          c.rows-rows.ensures.reserved fit' p piece is_longer
+      carries = λ known still. longer_carries s'.stands fit on rows shows s'.stored.keeps.rows
+          c.rows-rows.ensures.reserved fit' p piece current' is_longer
           (subst (λ (x : IndexSet). Carries x current' first (with_piece p piece) new) ix (carries (known, still)));
       tail = tail;
     })))

@@ -12,8 +12,7 @@ use Rattle.spool_kept.proofs.drafting.begin.Goals as goal
 pub returns-in-Err-clause-answer : goal.returns-in-Err-clause-answer
 returns-in-Err-clause-answer g c sure disk w s =
     let opens = c.in-Err.ensures.opened s.stored.view w.store s.stored.keeps s.stored.shows in (
-      begin_refused g.D.Disk disk c.args.kept.now c.args.drafts.now.items w s c.args.number c.args.offset c.args.count
-          c.args.declare (upload_of w.store c.args.number) c.in-Err.refusal refl opens,
+      begin_refused s c.args.number c.args.offset c.args.count c.args.declare (upload_of w.store c.args.number) c.in-Err.refusal refl opens,
       s,
     )
 
@@ -24,10 +23,10 @@ returns-in-Ok-placed-clause-fits g c =
     let placed = c.in-Ok-placed.ensures.ok in
     let d = c.in-Ok-placed.number in
     let next = c.args.kept.now.next in
-    let changed = changed_more before after d c.in-Ok.draft placed in
+    let changed = changed_more placed in
     record {
-      blocks = fit_begun before after d c.in-Ok.draft placed c.args.kept.now.layout c.args.kept.now.blocks
-          c.requires.fits.blocks c.in-Ok.ensures.none c.in-Ok.ensures.placed;
+      blocks = fit_begun placed c.args.kept.now.layout c.args.kept.now.blocks c.requires.fits.blocks
+          c.in-Ok.ensures.none c.in-Ok.ensures.placed;
       below = each_changed (λ (o : SpoolDraft). number_of o < next) before after d (Some c.in-Ok.draft) changed
           c.requires.fits.below
           (λ a e. subst (λ (o : SpoolDraft). number_of o < next) (same_Some c.in-Ok.draft a e) c.in-Ok.ensures.below);
@@ -38,16 +37,11 @@ returns-in-Ok-placed-clause-fits g c =
 
 pub returns-in-Ok-placed-clause-answer : goal.returns-in-Ok-placed-clause-answer
 returns-in-Ok-placed-clause-answer g c sure disk w s =
-    let h = c.args.kept.now in
-    let before = c.args.drafts.now.items in
     let n = c.args.number in
     let opens = c.in-Ok.ensures.opened s.stored.view w.store s.stored.keeps s.stored.shows in (
-      begin_allowed g.D.Disk disk h before w s n c.args.offset c.args.count c.args.declare
-          (upload_of w.store n) c.in-Ok.draft refl opens,
-      begins g.D.Disk disk h before w s n c.args.offset c.args.count c.args.declare c.placed.new.drafts.items
-          c.in-Ok-placed.number
-          c.in-Ok.draft c.in-Ok-placed.ensures.ok
-          c.in-Ok.ensures.none c.in-Ok.ensures.owned
+      begin_allowed s n c.args.offset c.args.count c.args.declare (upload_of w.store n) c.in-Ok.draft refl opens,
+      begins s n c.args.offset c.args.count c.args.declare c.in-Ok-placed.ensures.ok c.in-Ok.ensures.none
+          c.in-Ok.ensures.owned
           (λ known. c.in-Ok.ensures.carries s.stored.view w.store (g.D.Disk.current disk) s.stored.keeps s.stored.shows
           (rests_says (s.stored.rests known)))
           (upload_of w.store n) refl opens,
@@ -55,12 +49,9 @@ returns-in-Ok-placed-clause-answer g c sure disk w s =
 
 pub returns-in-Err-placed-clause-answer : goal.returns-in-Err-placed-clause-answer
 returns-in-Err-placed-clause-answer g c sure disk w s =
-    let h = c.args.kept.now in
-    let before = c.args.drafts.now.items in
     let n = c.args.number in
     let opens = c.in-Ok.ensures.opened s.stored.view w.store s.stored.keeps s.stored.shows in (
-      begin_late g.D.Disk disk h before w s n c.args.offset c.args.count c.args.declare (upload_of w.store n)
-          c.in-Ok.draft refl opens,
-      subst (λ (drafts : List (Option SpoolDraft)). StandsFor sure g.D.Disk disk h drafts w)
+      begin_late s n c.args.offset c.args.count c.args.declare (upload_of w.store n) c.in-Ok.draft refl opens,
+      subst (λ (drafts : List (Option SpoolDraft)). StandsFor sure g.D.Disk disk c.args.kept.now drafts w)
           (sym c.in-Err-placed.ensures.err) s,
     )

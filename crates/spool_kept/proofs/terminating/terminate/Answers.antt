@@ -1,9 +1,8 @@
-use Rattle.std.proofs.Common.{◌≡◌, ◌∙◌, ◌≤◌, ◌*◌, ℕ, None, ap, subst, sym, refl}
-use Rattle.std.proofs.Common.{Bool, true}
+use Rattle.std.proofs.Common.{◌≡◌, ◌∙◌, ◌≤◌, ◌*◌, ℕ, None, ap, subst, sym, refl, Bool, true}
 use Rattle.spool_disk.specs.Views.{Lasts}
 use Rattle.spool_journal.specs.Image.{text_page}
 use Rattle.upload_rules.specs.Answers.{IsLate}
-use Rattle.upload_rules.specs.Calls.{terminate_outcome, terminate_refusal, terminated}
+use Rattle.upload_rules.specs.Calls.{terminate_outcome, terminate_refusal}
 use Rattle.upload_rules.specs.World.{World}
 use Rattle.upload_rules.proofs.Deleted.{none_in_others}
 use Rattle.spool_kept.specs.Drafting.{DraftsFit, StandsFor}
@@ -27,19 +26,13 @@ returns-in_default-clause-forgets g c _ slot used = absurd (c.in_default.ensures
 
 pub returns-in_default-clause-answer : goal.returns-in_default-clause-answer
 returns-in_default-clause-answer g c sure w stands =
-    let stored = stands.stored in (
-      refused c.args.kept.now stored.view w.store c.args.number stored.keeps stored.shows c.in_default.ensures.used,
-      stands,
-    )
+    (refused c.args.number stands.stored c.in_default.ensures.used, stands)
 
 -- A SLOT HAS IT, SO THE RULES ALLOW IT
 
 may : (g : Over) (c : In-Some g) {sure : Bool} (w : World) → StandsFor sure g.D.Disk c.args.disk.now c.args.kept.now
     c.args.drafts.now.items w → terminate_refusal w c.args.number ≡ None
-may g c w stands =
-    let stored = stands.stored in
-    allowed c.args.kept.now stored.view w.store c.args.number c.in-Some.slot stored.keeps stored.shows
-    c.in-Some.ensures.used
+may g c w stands = allowed c.args.number stands.stored c.in-Some.ensures.used
 
 pub returns-in_default-pages_without-clause-answer : goal.returns-in_default-pages_without-clause-answer
 returns-in_default-pages_without-clause-answer g c sure w stands =
@@ -67,8 +60,8 @@ returns-clause-taken_out g c _ = out_of g (goal.at.returns-clause-taken_out g c)
 
 fit : (g : Over) (c : After-forget_tails g) → DraftsFit c.take_out.new.self c.forget_tails.new.drafts.items
 fit g c =
-    fits_after c.args.kept.now c.take_out.new.self c.in-Some.slot c.args.number c.in-Some.ensures.used
-    c.take_out.ensures c.args.drafts.now.items c.forget_tails.new.drafts.items c.forget_tails.ensures c.requires.fits
+    fits_after c.in-Some.ensures.used c.take_out.ensures c.args.drafts.now.items c.forget_tails.new.drafts.items
+    c.forget_tails.ensures c.requires.fits
 
 pub returns-in-Ok-change-clause-fits : goal.returns-in-Ok-change-clause-fits
 returns-in-Ok-change-clause-fits g c = fit g (goal.at.returns-in-Ok-change-clause-fits g c).After-forget_tails
@@ -82,13 +75,11 @@ crash : (g : Over) (c : After-change g) (w : World) → StandsFor true g.D.Disk 
     c.args.drafts.now.items w → Lasts g.D.Disk c.args.disk.now c.change.new.disk
     (ShowsEither c.args.kept.now.layout w.store (terminate_outcome w c.args.number))
 crash g c w stands =
-    let stored = stands.stored in
     let layout = ap (λ (k : Holding). k.layout) (sym c.kept.view_is) in
     let rows = ap (λ (k : Holding). k.blocks.rows) (sym c.kept.view_is) ∙ sym c.rows.ensures.same in
-    crash_after g.D.Disk c.args.disk.now c.args.kept.now c.take_out.new.self w.store c.args.number c.in-Some.slot stored
-    c.in-Some.ensures.used c.take_out.ensures c.in-Ok.pages c.fill_rows.new.pages c.in-Ok.ensures.changes
+    crash_after c.args.number stands.stored c.in-Some.ensures.used c.take_out.ensures c.in-Ok.ensures.changes
     (λ v v' blocks but same. c.fill_rows.ensures.changes v v' (blocks ∙ layout) but (same ∙ rows))
-    refl c.change.new.disk (λ v v' blocks. c.change.ensures.lasts (stored.honest refl) v v' (blocks ∙ layout))
+    refl (λ v v' blocks. c.change.ensures.lasts (stands.stored.honest refl) v v' (blocks ∙ layout))
 
 pub returns-in-Ok-change-clause-crash : goal.returns-in-Ok-change-clause-crash
 returns-in-Ok-change-clause-crash g c = crash g (goal.at.returns-in-Ok-change-clause-crash g c).After-change
@@ -101,10 +92,6 @@ returns-clause-crash g c = crash g (goal.at.returns-clause-crash g c).After-chan
 pub returns-in-Ok-change-clause-answer : goal.returns-in-Ok-change-clause-answer
 returns-in-Ok-change-clause-answer g c sure w stands =
     let h = c.args.kept.now in
-    let h' = c.take_out.new.self in
-    let number = c.args.number in
-    let slot = c.in-Some.slot in
-    let used = c.in-Some.ensures.used in
     let out = c.take_out.ensures in
     let stored = stands.stored in
     let d = c.args.disk.now in
@@ -112,9 +99,8 @@ returns-in-Ok-change-clause-answer g c sure w stands =
     let layout = ap (λ (k : Holding). k.layout) (sym c.kept.view_is) in
     let same : c.kept.inside.layout ≡ h.layout = sym layout ∙ out.layout in
     let rows = ap (λ (k : Holding). k.blocks.rows) (sym c.kept.view_is) ∙ sym c.rows.ensures.same in
-    let now = stored_after g.D.Disk d h h' w.store number slot stored used out c.in-Ok.pages c.fill_rows.new.pages
-    c.in-Ok.ensures.changes
-    (λ v v' blocks but same. c.fill_rows.ensures.changes v v' (blocks ∙ layout) but (same ∙ rows)) d'
+    let now = stored_after c.args.number stored c.in-Some.ensures.used out c.in-Ok.ensures.changes
+    (λ v v' blocks but same. c.fill_rows.ensures.changes v v' (blocks ∙ layout) but (same ∙ rows))
     (subst FitsTogether c.kept.view_is c.kept.invariant) c.in-Ok-change.ensures.honest.0
     (λ known v v' blocks. c.in-Ok-change.ensures.done (stored.honest known) v v' (blocks ∙ layout)) in
     let texts : sure ≡ true → (p : ℕ) → 4096 * text_page h.layout ≤ p → g.D.Disk.current d' p ≡ g.D.Disk.current d p =
@@ -122,7 +108,6 @@ returns-in-Ok-change-clause-answer g c sure w stands =
     (c.in-Ok-change.ensures.texts (stored.honest known) stored.view (sym stored.keeps.blocks ∙ sym same)
     (stored.rests known)) in (
       may g (goal.at.returns-in-Ok-change-clause-answer g c).In-Some w stands,
-      stands_forgotten number c.args.drafts.now.items c.forget_tails.new.drafts.items c.forget_tails.ensures
-          g.D.Disk d' h' (terminated w number) (none_in_others number w.store.uploads)
-          (stands_after h h' number slot used out g.D.Disk d d' c.args.drafts.now.items w stands now texts),
+      stands_forgotten c.args.number c.args.drafts.now.items c.forget_tails.new.drafts.items c.forget_tails.ensures
+          (none_in_others c.args.number w.store.uploads) (stands_after c.in-Some.ensures.used out stands now texts),
     )

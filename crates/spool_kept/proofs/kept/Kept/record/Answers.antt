@@ -3,13 +3,13 @@ use Rattle.upload_rules.specs.Store.{upload_of}
 use Rattle.upload_rules.specs.declared.records.Record.{Record}
 use Rattle.spool_pages.specs.View.{SlotRecord}
 use Rattle.spool_kept.specs.Records.{KeepsOf}
-use Rattle.spool_kept.proofs.Answered.{found, kept_none, kept_some, kept_tells, no_upload, same_used}
+use Rattle.spool_kept.proofs.Answered.{found, kept_none, kept_some, kept_tells, no_upload}
 use Rattle.spool_kept.proofs.kept.Kept.record.Goals as goal
 
 pub returns-in_err-slot-clause-kept : goal.returns-in_err-slot-clause-kept
 returns-in_err-slot-clause-kept c v m kept shows =
     let none : option_copied c.from_residual.result ≡ None = search rules in
-    let empty = no_upload c.args.self.now v m kept shows c.args.number c.in_err-slot.ensures.used in
+    let empty = no_upload kept shows c.args.number c.in_err-slot.ensures.used in
     subst (λ (o : Option Record). KeepsOf m.indexes c.args.number (upload_of m c.args.number) o) (sym none)
     (kept_none m.indexes c.args.number (upload_of m c.args.number) empty)
 
@@ -27,10 +27,7 @@ returns-clause-kept c v m kept shows =
     let here : get_or h.slots c.in_ok-slot.slot None ≡ Some q =
     ap (λ (xs : List (Option SlotRecord)). get_or xs c.in_ok-slot.slot None) (sym same)
     ∙ sym c.in_ok-kept.ensures in
-    let used = c.in_ok-slot.ensures.used in
-    let number : q.number ≡ n = ap (λ (r : SlotRecord). r.number) (same_used here used.there) ∙ used.is in
-    let told = found h v m kept shows c.in_ok-slot.slot q n here number c.record.result.now c.record.ensures.said
-    c.record.ensures.unpacked in
+    let told = found kept shows here c.in_ok-slot.ensures.used c.record.ensures.said c.record.ensures.unpacked in
     kept_some m.indexes n (upload_of m n) told.0 c.record.result.now told.1 told.2
 
 pub returns-clause-told : goal.returns-clause-told

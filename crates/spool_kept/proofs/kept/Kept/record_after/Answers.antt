@@ -6,8 +6,9 @@ use Rattle.upload_rules.specs.Store.{Upload}
 use Rattle.spool_pages.specs.View.{SlotRecord}
 use Rattle.spool_kept.specs.declared.order.NumberedSlot.{NumberedSlot}
 use Rattle.spool_kept.specs.Holding.{numbered, IsPlaceFor, Rises}
-use Rattle.spool_kept.proofs.Answered.{found, named, none_after, some_after, same_used}
+use Rattle.spool_kept.proofs.Answered.{found, named, none_after, some_after}
 use Rattle.spool_kept.proofs.kept.Kept.record_after.Goals as goal
+use Rattle.spool_kept.proofs.ChangedSlots.{clash}
 
 pub returns-in_err-slot : goal.returns-in_err-slot
 returns-in_err-slot c v m kept shows =
@@ -20,7 +21,7 @@ returns-in_err-slot c v m kept shows =
     (c.places_to-place.ensures.place (subst Rises (sym first) kept.ordered.rises)) in
     let end = subst (λ (order : List NumberedSlot). length order ≤ place) second c.in_err-slot.ensures.lookup.3 in
     let none : option_copied c.from_residual.result ≡ None = ap option_copied c.from_residual.ensures in
-    let empty = none_after h v m kept shows n place is end in
+    let empty = none_after kept shows n place is end in
     subst (λ (o : Option (ℕ × Upload)). TellsOf m.indexes o (option_copied c.from_residual.result)) (sym empty)
     (subst (TellsOf m.indexes None) (sym none) tt)
 
@@ -38,14 +39,11 @@ returns-in_err-kept c v m kept shows =
     let inside = subst (λ (order : List NumberedSlot). place < length order) second c.in_ok-slot.ensures.lookup.3.0 in
     let here = subst (λ (order : List NumberedSlot). entry ≡ get_or order place entry) second
     c.in_ok-slot.ensures.lookup.1 in
-    let used = named h v m kept shows n place is entry.number entry.slot inside
+    let used = named kept shows n place is entry.number entry.slot inside
     (sym (here ∙ get_or_default h.order place entry (numbered 0 0) inside)) in
     let free : get_or h.slots entry.slot None ≡ None =
     ap (λ (xs : List (Option SlotRecord)). get_or xs entry.slot None) (sym third) ∙ sym c.in_err-kept.ensures in
-    absurd (clash (sym free ∙ used.there))
-  where
-    clash : {r : SlotRecord} → None ≡ Some r → ⊥
-    clash e = cc
+    clash free used.there
 
 pub returns : goal.returns
 returns c v m kept shows =
@@ -64,11 +62,9 @@ returns c v m kept shows =
     let here = subst (λ (order : List NumberedSlot). entry ≡ get_or order place entry) second
     c.in_ok-slot.ensures.lookup.1 in
     let at = sym (here ∙ get_or_default h.order place entry (numbered 0 0) inside) in
-    let used = named h v m kept shows n place is entry.number entry.slot inside at in
+    let used = named kept shows n place is entry.number entry.slot inside at in
     let said : get_or h.slots entry.slot None ≡ Some q =
     ap (λ (xs : List (Option SlotRecord)). get_or xs entry.slot None) (sym third) ∙ sym c.in_ok-kept.ensures in
-    let number : q.number ≡ entry.number = ap (λ (p : SlotRecord). p.number) (same_used said used.there) ∙ used.is in
-    let told = found h v m kept shows entry.slot q entry.number said number r c.record.ensures.said
-    c.record.ensures.unpacked in
-    let next = some_after h v m kept shows n place is entry.number entry.slot inside at told.0 told.1 in
+    let told = found kept shows said used c.record.ensures.said c.record.ensures.unpacked in
+    let next = some_after kept shows n place is entry.number entry.slot inside at told.0 told.1 in
     subst (λ (o : Option (ℕ × Upload)). TellsOf m.indexes o (Some r)) (sym next) told.2.tells

@@ -11,7 +11,7 @@ returns-then-len-clause-few c v m kept shows =
     elim c.then-len.branch [
       | then-len-via-then-len w ↦
           let few = ap (λ (k : Holding). length k.order) c.self.view_is in
-          inl (omega (arith, w.if-len.true, c.len.ensures, few, not_more h v m kept shows))
+          inl (omega (arith, w.if-len.true, c.len.ensures, few, not_more kept shows))
       | then-len-via-else-len+then-self-ge-NUMBERS_END w ↦
           let next = ap (λ (k : Holding). k.next) c.self.view_is in
           inr (omega (arith, w.if-self-ge-NUMBERS_END.true, next, kept.next, shows.next))
@@ -32,5 +32,5 @@ returns-clause-few c v m kept shows =
     let fits = subst FitsTogether c.self.view_is c.self.invariant in
     let same : c.deref.result.now ≡ h.slots = search rules in
     let few = ap (λ (k : Holding). length k.order) c.self.view_is in
-    few_at h c.deref.result.now fits same (omega (arith, c.if-len.false, c.len.ensures, few)) v m kept shows _
+    few_at h c.deref.result.now fits same (omega (arith, c.if-len.false, c.len.ensures, few)) kept shows _
     c.free_slot.result c.free_slot.ensures

@@ -11,7 +11,8 @@ use Rattle.spool_kept.specs.declared.kept.Kept.TheInside.{Inside}
 use Rattle.spool_kept.proofs.HandedOver.{room_for}
 use Rattle.spool_kept.proofs.LongerKept.{has, low, slot_few, fits_same, fits_longer}
 use Rattle.spool_kept.proofs.kept.Kept.take_over.Goals as goal
-use Rattle.spool_kept.proofs.kept.Kept.take_over.Goals.{then-not-is_empty+in_ok-replace_from, else-not-is_empty}
+use Rattle.spool_kept.proofs.kept.Kept.take_over.Goals.{After-set_record, then-not-is_empty+in_ok-replace_from}
+use Rattle.spool_kept.proofs.kept.Kept.take_over.Goals.{else-not-is_empty}
 
 pub own-requires-clause-room : goal.own-requires-clause-room
 own-requires-clause-room c =
@@ -26,6 +27,16 @@ own-requires-clause-room c =
     c.requires.reserved.no_owner c.requires.reserved.below c.requires.reserved.distinct in
     omega (arith, is, all, c.full_blocks-full.ensures.few)
 
+-- the slots, where those before were still as they had been
+slots_now : (c : After-set_record) (r : SlotRecord)
+    → get_or (the_view c.self.inside).slots c.args.longer.now.slot None ≡ Some r
+    → c.if-not-is_empty.self-inside.slots.items ≡ c.self.inside.slots.items → c.set_record.new.slots.items ≡ slice_set
+    (the_view c.self.inside).slots c.args.longer.now.slot (Some (longer_record r c.args.longer.now))
+slots_now c r there same =
+    let slot = c.args.longer.now.slot in
+    c.set_record.ensures r (ap (λ (xs : List (Option SlotRecord)). get_or xs slot None) same ∙ there)
+    ∙ ap (λ (xs : List (Option SlotRecord)). slice_set xs slot (Some (longer_record r c.args.longer.now))) same
+
 pub invariant_of-self-2 : goal.invariant_of-self-2
 invariant_of-self-2 c =
     let h = the_view c.self.inside in
@@ -36,23 +47,12 @@ invariant_of-self-2 c =
     subst (λ (k : Holding). get_or k.slots slot None ≡ Some may.used) (sym c.self.view_is) may.there in
     elim c.if-not-is_empty.branch [
       | then-not-is_empty+in_ok-replace_from w ↦
-          let same : c.if-not-is_empty.self-inside.slots.items ≡ c.self.inside.slots.items =
-          ap (λ (s : Inside). s.slots.items) w.self-inside-is in
-          let stays : get_or c.if-not-is_empty.self-inside.slots.items slot None ≡ Some may.used =
-          ap (λ (xs : List (Option SlotRecord)). get_or xs slot None) same ∙ there in
-          let slots : c.set_record.new.slots.items ≡ slice_set h.slots slot (Some r') =
-          c.set_record.ensures may.used stays ∙ ap (λ (xs : List (Option SlotRecord)). slice_set xs slot (Some r'))
-          same in
+          let slots = slots_now (goal.at.invariant_of-self-2 c).After-set_record may.used there
+          (ap (λ (s : Inside). s.slots.items) w.self-inside-is) in
           let first : w.full_blocks-full.result ≡ may.used.text_len / 4096 =
           w.full_blocks-full.ensures.full may.used may.there in
           let hands : HandsOver h.blocks.rows slot (may.used.text_len / 4096) c.args.more.now w.own.new.self.rows =
-          subst (λ (k : ℕ). HandsOver h.blocks.rows slot k c.args.more.now w.own.new.self.rows) first
-          (record {
-            size = w.own.ensures.size;
-            listed = w.own.ensures.listed;
-            freed = w.own.ensures.freed;
-            kept = w.own.ensures.kept;
-          }) in
+          rw (← first) (assumption w.own.ensures) in
           let here : w.index_mut.result.now ≡ get_or h.lists slot [] =
           w.index_mut.ensures.value ∙ get_or_default h.lists slot w.index_mut.result.now []
           (omega (arith, slot_few h c.self.invariant slot may.used there, c.self.invariant.list_count)) in
@@ -85,13 +85,8 @@ invariant_of-self-2 c =
             blocks = w.own.new.self;
           })) (sym list) now))
       | else-not-is_empty w ↦
-          let same : c.if-not-is_empty.self-inside.slots.items ≡ c.self.inside.slots.items =
-          ap (λ (s : Inside). s.slots.items) w.self-inside-is in
-          let stays : get_or c.if-not-is_empty.self-inside.slots.items slot None ≡ Some may.used =
-          ap (λ (xs : List (Option SlotRecord)). get_or xs slot None) same ∙ there in
-          let slots : c.set_record.new.slots.items ≡ slice_set h.slots slot (Some r') =
-          c.set_record.ensures may.used stays ∙ ap (λ (xs : List (Option SlotRecord)). slice_set xs slot (Some r'))
-          same in
+          let slots = slots_now (goal.at.invariant_of-self-2 c).After-set_record may.used there
+          (ap (λ (s : Inside). s.slots.items) w.self-inside-is) in
           rw w.self-inside-is (subst (λ (xs : List (Option SlotRecord)). FitsTogether (record h { slots = xs }))
           (sym slots) (fits_same h c.self.invariant slot may.used there r' refl (may.same (search rules))))
     ]
@@ -100,26 +95,14 @@ pub returns-clause-longer : goal.returns-clause-longer
 returns-clause-longer c r there =
     let h = the_view c.self.inside in
     let slot = c.args.longer.now.slot in
-    let r' = longer_record r c.args.longer.now in
     let there' : get_or h.slots slot None ≡ Some r =
     subst (λ (k : Holding). get_or k.slots slot None ≡ Some r) (sym c.self.view_is) there in
     elim c.if-not-is_empty.branch [
       | then-not-is_empty+in_ok-replace_from w ↦
-          let same : c.if-not-is_empty.self-inside.slots.items ≡ c.self.inside.slots.items =
-          ap (λ (s : Inside). s.slots.items) w.self-inside-is in
-          let stays : get_or c.if-not-is_empty.self-inside.slots.items slot None ≡ Some r =
-          ap (λ (xs : List (Option SlotRecord)). get_or xs slot None) same ∙ there' in
-          let slots : c.set_record.new.slots.items ≡ slice_set h.slots slot (Some r') =
-          c.set_record.ensures r stays ∙ ap (λ (xs : List (Option SlotRecord)). slice_set xs slot (Some r')) same in
+          let slots = slots_now c r there' (ap (λ (s : Inside). s.slots.items) w.self-inside-is) in
           let first : w.full_blocks-full.result ≡ r.text_len / 4096 = w.full_blocks-full.ensures.full r there in
           let hands : HandsOver h.blocks.rows slot (r.text_len / 4096) c.args.more.now w.own.new.self.rows =
-          subst (λ (k : ℕ). HandsOver h.blocks.rows slot k c.args.more.now w.own.new.self.rows) first
-          (record {
-            size = w.own.ensures.size;
-            listed = w.own.ensures.listed;
-            freed = w.own.ensures.freed;
-            kept = w.own.ensures.kept;
-          }) in
+          rw (← first) (assumption w.own.ensures) in
           let some : 0 < length c.args.more.now = search rules in
           rw w.self-inside-is (subst
           (λ (k : Holding). IsLonger k r c.args.longer.now c.args.more.now
@@ -137,12 +120,7 @@ returns-clause-longer c r there =
             rows = λ lt. hands;
           }))
       | else-not-is_empty w ↦
-          let same : c.if-not-is_empty.self-inside.slots.items ≡ c.self.inside.slots.items =
-          ap (λ (s : Inside). s.slots.items) w.self-inside-is in
-          let stays : get_or c.if-not-is_empty.self-inside.slots.items slot None ≡ Some r =
-          ap (λ (xs : List (Option SlotRecord)). get_or xs slot None) same ∙ there' in
-          let slots : c.set_record.new.slots.items ≡ slice_set h.slots slot (Some r') =
-          c.set_record.ensures r stays ∙ ap (λ (xs : List (Option SlotRecord)). slice_set xs slot (Some r')) same in
+          let slots = slots_now c r there' (ap (λ (s : Inside). s.slots.items) w.self-inside-is) in
           let none : length c.args.more.now ≡ 0 = search rules in
           rw w.self-inside-is (subst
           (λ (k : Holding). IsLonger k r c.args.longer.now c.args.more.now

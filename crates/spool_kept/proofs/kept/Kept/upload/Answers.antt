@@ -1,25 +1,23 @@
-use Rattle.std.proofs.Common.{rules, ◌≡◌, ◌∙◌, ◌<◌, ℕ, List, [], Option, None, Some, length, get_or, ap}
-use Rattle.std.proofs.Common.{subst, sym, arith}
+use Rattle.std.proofs.Common.{rules, ◌≡◌, ◌∙◌, ◌<◌, ℕ, List, [], Option, None, Some, length, get_or, ap, subst, sym}
+use Rattle.std.proofs.Common.{arith, refl}
 use Rattle.std.proofs.lemmas.List.{get_or_default}
 use Rattle.std.proofs.lemmas.Option.{same_Some}
-use Rattle.spool_journal.specs.Image.{text_page}
-use Rattle.spool_texts.specs.TextOn.{text_on}
 use Rattle.upload_rules.specs.Records.{Keeps}
-use Rattle.upload_rules.specs.Store.{Store, Upload, text_of, upload_of}
+use Rattle.upload_rules.specs.Store.{Store, Upload, upload_of}
 use Rattle.spool_pages.specs.View.{SlotRecord, View}
 use Rattle.spool_kept.specs.Holding.{Holding, FitsTogether, IsUsedBy}
 use Rattle.spool_kept.specs.Drafting.{IsOwnedBy}
 use Rattle.spool_kept.specs.Kept.{KeepsView}
 use Rattle.spool_kept.specs.Records.{said_of}
 use Rattle.spool_kept.specs.Shows.{Shows}
-use Rattle.spool_kept.proofs.Answered.{found, match_is_none, no_upload, same_used, text_told}
+use Rattle.spool_kept.proofs.Answered.{found, match_is_none, no_upload, text_told}
 use Rattle.spool_kept.proofs.Drafted.{few_listed, list_owned}
 use Rattle.spool_kept.proofs.kept.Kept.upload.Goals as goal
 
 pub returns-in_err-slot-clause-told : goal.returns-in_err-slot-clause-told
 returns-in_err-slot-clause-told c v m kept shows =
     match_is_none _ c.from_residual.result c.from_residual.ensures
-    (no_upload c.args.self.now v m kept shows c.args.number c.in_err-slot.ensures.used)
+    (no_upload kept shows c.args.number c.in_err-slot.ensures.used)
 
 list_is : (c : goal.After-record) → c.blocks-list.result.now ≡ get_or c.self.inside.lists.items c.in_ok-slot.slot []
 list_is c =
@@ -75,17 +73,7 @@ returns-clause-kept c =
 -- what the record tells of
 abbrev told_of : (c : goal.After-record) (v : View) (m : Store) → KeepsView c.args.self.now v → Shows v m → (u : Upload)
     × (upload_of m c.args.number ≡ Some u) × Keeps m.indexes c.args.number c.record.result.now u
-told_of c v m kept shows =
-    let h = c.args.self.now in
-    let s = c.in_ok-slot.slot in
-    let q = c.in_ok-used.used.now in
-    let n = c.args.number in
-    let same : c.deref.result.now ≡ h.slots = search rules in
-    let here : get_or h.slots s None ≡ Some q = ap (λ (xs : List (Option SlotRecord)). get_or xs s None) (sym same)
-    ∙ sym c.in_ok-used.ensures in
-    let used = c.in_ok-slot.ensures.used in
-    let number : q.number ≡ n = ap (λ (r : SlotRecord). r.number) (same_used here used.there) ∙ used.is in
-    found h v m kept shows s q n here number c.record.result.now c.record.ensures.said c.record.ensures.unpacked
+told_of c v m kept shows = found kept shows (record_there c) c.in_ok-slot.ensures.used refl c.record.ensures.unpacked
 
 pub returns-clause-told : goal.returns-clause-told
 returns-clause-told c v m kept shows =
@@ -94,19 +82,6 @@ returns-clause-told c v m kept shows =
 
 pub returns-clause-text : goal.returns-clause-text
 returns-clause-text c v m bytes kept shows says u there =
-    let h = c.args.self.now in
-    let s = c.in_ok-slot.slot in
-    let q = c.in_ok-used.used.now in
-    let n = c.args.number in
-    let same : c.deref.result.now ≡ h.slots = search rules in
-    let here : get_or h.slots s None ≡ Some q = ap (λ (xs : List (Option SlotRecord)). get_or xs s None) (sym same)
-    ∙ sym c.in_ok-used.ensures in
-    let used = c.in_ok-slot.ensures.used in
-    let number : q.number ≡ n = ap (λ (r : SlotRecord). r.number) (same_used here used.there) ∙ used.is in
-    let text = text_told h v m kept shows bytes says s q n here number u there in
-    let len : c.record.result.now.text_len ≡ q.text_len = ap (λ (r : SlotRecord). r.text_len) c.record.ensures.said in
-    let list : c.blocks-list.result.now ≡ get_or h.lists s [] = list_is c
-    ∙ ap (λ (k : Holding). get_or k.lists s []) c.self.view_is in
-    let first = text_page h.layout in
-    subst (λ (xs : List ℕ). text_on bytes first xs c.record.result.now.text_len ≡ text_of m.indexes u) (sym list)
-    (subst (λ (k : ℕ). text_on bytes first (get_or h.lists s []) k ≡ text_of m.indexes u) (sym len) text)
+    let list : c.blocks-list.result.now ≡ get_or c.args.self.now.lists c.in_ok-slot.slot [] =
+    list_is c ∙ ap (λ (k : Holding). get_or k.lists c.in_ok-slot.slot []) c.self.view_is in
+    rw list (text_told kept shows (record_there c) c.in_ok-slot.ensures.used bytes says u there)
