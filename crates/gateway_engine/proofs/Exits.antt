@@ -39,7 +39,7 @@ begins v same stands is = record {
   history = record {
     state = refl;
     output = refl;
-    images = λ yes. subst (λ c. LimitsTo (v.u.moment c) (v.u.moment v.now) (v.u.left_only c) (v.u.left_only v.now)
+    images = λ known. subst (λ c. LimitsTo (v.u.moment c) (v.u.moment v.now) (v.u.left_only c) (v.u.left_only v.now)
         (stores_of v.st [])) (sym same) (limits_none (v.u.moment v.now) (v.u.left_only v.now) (stores_of v.st []));
   };
 }
@@ -96,7 +96,7 @@ module _ {U B C : Type 0} (u : Ghosts U B) (v : View C) (before store : U) (byte
         writes = record { exits = refl; all = wrote };
         output = is.output;
         state = is.state;
-        shows = λ yes. shows yes s.past (is.images yes);
+        shows = λ known. shows known s.past (is.images known);
       } in
       subst (λ r. EndedSo u v.sure before store v.st r v.held v.prefix exit) (sym (ends_as s exit p)) now
 
@@ -116,8 +116,8 @@ module _ {U B C : Type 0} (u : Ghosts U B) (v : View C) (before store : U) (byte
     p.0 ++ [],
     record {
       ended = ended_so s Faulted p down.wrote down.history;
-      last = λ yes. subst (λ r. ShowsLast (u.moment store) (u.left_only store) v.st r.run.past)
-          (sym (ends_as s Faulted p)) (last s.past (down.last yes));
+      last = λ known. subst (λ r. ShowsLast (u.moment store) (u.left_only store) v.st r.run.past)
+          (sym (ends_as s Faulted p)) (last s.past (down.last known));
     },
   )
 
@@ -134,7 +134,7 @@ module _ {U B C : Type 0} (u : Ghosts U B) (v : View C) (before store : U) (byte
         most = p.2.replies;
       };
       rests = subst (Rests u v.sure store) p.2.history.state (closes p.0.state p.2.keeps);
-      shows = λ yes. shows yes p.0.past (p.2.history.images yes);
+      shows = λ known. shows known p.0.past (p.2.history.images known);
     },
   )
 
@@ -164,7 +164,7 @@ module _ {U B : Type 0} (u : Ghosts U B) (sure : Bool) (store : U) (held : Optio
         most = most;
       };
       rests = stands;
-      shows = λ yes. shows_since u store store st [] (durable yes)
+      shows = λ known. shows_since u store store st [] (durable known)
           (limits_none (u.moment store) (u.left_only store) (stores_of st []));
     },
   )

@@ -30,11 +30,11 @@ pub shows_last : {C : Type 0} (v : View C) (now : C) (held : Option (List ℕ)) 
     → IsHistory v r → OnDevice v r
     → Leaves v now r.state.world.store (shown_by r.state e m) → v.sure ≡ true
     → ShowsLast (v.u.moment now) (v.u.left_only now) v.st (stepped r (conn_in e) e m).past
-shows_last v now held r e m is durable leaves yes =
+shows_last v now held r e m is durable leaves known =
     last_step v.st r.past e m
     (subst (λ s. (ms : List Store) → Among s.world.store ms → v.u.left_only v.now s.world.blocks (v.u.moment v.now) ms)
-    is.state (durable yes))
-    (subst (λ s. Leaves v now s.world.store (shown_by s e m)) is.state leaves yes)
+    is.state (durable known))
+    (subst (λ s. Leaves v now s.world.store (shown_by s e m)) is.state leaves known)
 
 -- what a call wrote: what its event gave, where that is sure
 abbrev pub Wrote : {C : Type 0} → View C → Option (List ℕ) → Run → Event → Mark → Type 0
@@ -66,8 +66,8 @@ history_on v now held r e m is leaves = record {
   state = ap (λ s. (step s e m).state) is.state;
   output = ap (λ o. o ++ written (conn_in e) (step r.state e m).outcome) is.output
       ∙ ap (λ s. output_of v.st r.past ++ written (conn_in e) (step s e m).outcome) is.state;
-  images = λ yes. limits_step v.st r.past e m (is.images yes)
-      (subst (λ s. Leaves v now s.world.store (shown_by s e m)) is.state leaves yes);
+  images = λ known. limits_step v.st r.past e m (is.images known)
+      (subst (λ s. Leaves v now s.world.store (shown_by s e m)) is.state leaves known);
 }
 
 -- no event was made
@@ -76,6 +76,6 @@ pub history_same : {C : Type 0} (v : View C) (now : C) (held : Option (List ℕ)
 history_same v now held r is leaves = record {
   state = is.state;
   output = is.output;
-  images = λ yes. limits_still v.st r.past (is.images yes)
-      (subst (λ s. Leaves v now s.world.store s.world.store) is.state leaves yes);
+  images = λ known. limits_still v.st r.past (is.images known)
+      (subst (λ s. Leaves v now s.world.store s.world.store) is.state leaves known);
 }

@@ -78,7 +78,7 @@ wrote_refusal v held r e m f is appends = (
 
 -- of a call that is known to be sure
 pub surely : {C : Type 0} {v : View C} {r : Run} → IsAt v r → v.sure ≡ true → v.u.stands v.now true r.state
-surely {v = v} {r = r} at yes = subst (λ b. v.u.stands v.now b r.state) yes at.keeps
+surely {v = v} {r = r} at known = subst (λ b. v.u.stands v.now b r.state) known at.keeps
 
 -- THE RUN AFTER A CALL
 module _ {C : Type 0} (v : View C) (now : C) (held : Option (List ℕ)) (r : Run) (e : Event) (m : Mark) (at : IsAt v r)

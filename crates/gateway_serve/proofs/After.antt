@@ -18,8 +18,8 @@ use Rattle.gateway_serve.proofs.Talks.{alone_then}
 -- of connections that are known to be over an honest disk
 pub surely : {C : Type 0} {c : Ghosts C} {sure : Bool} {before now : C} {st : State} {past : List Marked}
     → WentOn c sure before now st past → sure ≡ true → c.stands now true (history st past)
-surely {c = c} {now = now} {st = st} {past = past} went yes =
-    subst (λ b. c.stands now b (history st past)) yes went.stands
+surely {c = c} {now = now} {st = st} {past = past} went known =
+    subst (λ b. c.stands now b (history st past)) known went.stands
 
 -- serving goes on after every answer but the disk fault
 abbrev pub GoesOn : {T U : Type 0} → Result T SessionError → Result U DiskFault → Type 0
@@ -49,7 +49,7 @@ module _ {C : Type 0} (c : Ghosts C) (sure : Bool) (before old now : C) (st : St
         → (Faults answer → Down ((e, mark_of answer) ∷ past)) → Serves c sure before now st told On Down
     served (Ok x) (Ok y) same keeps leaves falls on down = (
       (e, Served) ∷ past,
-      record { stands = keeps; images = λ yes. limits_step st past e Served (w.images yes) (leaves yes) },
+      record { stands = keeps; images = λ known. limits_step st past e Served (w.images known) (leaves known) },
       on
           (λ f. absurd (cc)),
     )
@@ -57,14 +57,14 @@ module _ {C : Type 0} (c : Ghosts C) (sure : Bool) (before old now : C) (st : St
         absurd (cc)
     served (Err errors.NoMemory) (Ok y) same keeps leaves falls on down = (
       (e, OutOfMemory) ∷ past,
-      record { stands = keeps; images = λ yes. limits_step st past e OutOfMemory (w.images yes) (leaves yes) },
+      record { stands = keeps; images = λ known. limits_step st past e OutOfMemory (w.images known) (leaves known) },
       on (λ f. absurd (cc)),
     )
     served (Err errors.NoMemory) (Err y) same keeps leaves falls on down =
         let f : Err errors.NoMemory ≡ Err errors.DiskFault = same.0 refl in absurd (cc)
     served (Err errors.TooMany) (Ok y) same keeps leaves falls on down = (
       (e, Served) ∷ past,
-      record { stands = keeps; images = λ yes. limits_step st past e Served (w.images yes) (leaves yes) },
+      record { stands = keeps; images = λ known. limits_step st past e Served (w.images known) (leaves known) },
       on
           (λ f. absurd (cc)),
     )
@@ -72,7 +72,7 @@ module _ {C : Type 0} (c : Ghosts C) (sure : Bool) (before old now : C) (st : St
         let f : Err errors.TooMany ≡ Err errors.DiskFault = same.0 refl in absurd (cc)
     served (Err errors.Closed) (Ok y) same keeps leaves falls on down = (
       (e, Served) ∷ past,
-      record { stands = keeps; images = λ yes. limits_step st past e Served (w.images yes) (leaves yes) },
+      record { stands = keeps; images = λ known. limits_step st past e Served (w.images known) (leaves known) },
       on
           (λ f. absurd (cc)),
     )
@@ -80,7 +80,7 @@ module _ {C : Type 0} (c : Ghosts C) (sure : Bool) (before old now : C) (st : St
         let f : Err errors.Closed ≡ Err errors.DiskFault = same.0 refl in absurd (cc)
     served (Err errors.Down) (Ok y) same keeps leaves falls on down = (
       (e, Served) ∷ past,
-      record { stands = keeps; images = λ yes. limits_step st past e Served (w.images yes) (leaves yes) },
+      record { stands = keeps; images = λ known. limits_step st past e Served (w.images known) (leaves known) },
       on
           (λ f. absurd (cc)),
     )
@@ -92,8 +92,8 @@ module _ {C : Type 0} (c : Ghosts C) (sure : Bool) (before old now : C) (st : St
       past,
       e,
       record {
-        images = λ yes. limits_step st past e Failed (w.images yes) (leaves yes);
-        last = λ yes. last_step st past e Failed (durable yes) (leaves yes);
+        images = λ known. limits_step st past e Failed (w.images known) (leaves known);
+        last = λ known. last_step st past e Failed (durable known) (leaves known);
         down = falls.falls.1 (inr refl);
       },
       down refl,

@@ -29,10 +29,10 @@ closing false true e = absurd (cc)
 closing false false e = absurd (cc)
 
 -- an answer gave these bytes, as the history has them
-gave_as : {sure : Bool} (a : Answer) (bytes given : List ℕ) (o : Outcome) (text : List ℕ)
+gave_as : (sure : Bool) (a : Answer) (bytes given : List ℕ) (o : Outcome) (text : List ℕ)
     → o ≡ Gave bytes a.taken a.closes a.more → Appends sure [] given bytes text
     → GaveAs sure o text (Gave given a.taken a.closes a.more)
-gave_as {sure = sure} a bytes given o text is appends =
+gave_as sure a bytes given o text is appends =
     subst (λ x. GaveAs sure x text (Gave given a.taken a.closes a.more)) (sym is) (given, appends, refl)
 
 module _ (sure : Bool) (ended : List Seen) (st : State) (past : List Marked) (n : ℕ) where
@@ -143,7 +143,7 @@ module _ (sure : Bool) (ended : List Seen) (st : State) (past : List Marked) (n 
       let given = given_of sure j.output output bytes _ adds in
       longer_joins (Came n j.input) Served j output (take a.taken j.input) given.0 (drop a.taken j.input)
       (is_last (stage_by a)) is (talks_here sure st past (Came n j.input) Served (is.latest ∷ is.others)
-      (Gave given.0 a.taken a.closes a.more) is.talks (gave_as a bytes given.0 _ _ same given.1))
+      (Gave given.0 a.taken a.closes a.more) is.talks (gave_as sure a bytes given.0 _ _ same given.1))
       (sym (take-append-drop a.taken j.input)) given.2
       (λ e. came_shuts (history st past) n j.input (subst Shuts (sym same) (closing a.closes a.more e)))
   came_joins (Err NoMemory) bytes j output ok same adds is =
@@ -210,7 +210,7 @@ module _ (sure : Bool) (ended : List Seen) (st : State) (past : List Marked) (n 
       let given = given_of sure j.output output bytes _ adds in
       longer_joins (More n) Served j output [] given.0 j.input (is_last (stage_by a)) is
       (talks_here sure st past (More n) Served (is.latest ∷ is.others) (Gave given.0 a.taken a.closes a.more) is.talks
-      (gave_as a bytes given.0 _ _ same given.1))
+      (gave_as sure a bytes given.0 _ _ same given.1))
       refl given.2
       (λ e. more_shuts (history st past) n (subst Shuts (sym same) (closing a.closes a.more e)))
   more_joins (Err NoMemory) bytes j output ok same adds is =

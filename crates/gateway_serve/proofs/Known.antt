@@ -12,13 +12,10 @@ known_gave (Refused f) text o gave = gave
 
 module _ (st : State) (past : List Marked) (e : Marked) (n : ℕ) (cs : List Conversation)
     (before : (cs : List Conversation) → AreTalks true st past n cs → cs ≡ conversations st past n) where
-  abbrev went_on : List Conversation → Outcome → Type 0
-  went_on earlier o =
-      let t = step (history st past) e.0 e.1 in
-      AreTalks true st past n earlier × GaveAs true t.outcome t.text o × (cs ≡ goes_on e.0 o earlier)
-
   known_on : (b : Bool)
-      → Either b ((earlier : List Conversation) × (o : Outcome) × went_on earlier o) (AreTalks true st past n cs)
+      → Either b ((earlier : List Conversation) × (o : Outcome) × AreTalks true st past n earlier
+      × GaveAs true (step (history st past) e.0 e.1).outcome (step (history st past) e.0 e.1).text o
+      × (cs ≡ goes_on e.0 o earlier)) (AreTalks true st past n cs)
       → cs ≡ (if b then goes_on e.0 (step (history st past) e.0 e.1).outcome (conversations st past n)
       else conversations st past n)
   known_on true is =

@@ -21,8 +21,8 @@ returns-in-Err g c = record {
         script.1,
         unbegun g.U.Uploads sure c.args.store (g.W.CountedWrite.contents c.args.writer.now)
             (beginning m blocks) script.0 stands
-            (λ yes ms among. g.met.U.Uploads.durable c.args.store (at_rest m blocks) ms
-            (subst (λ b. g.U.Uploads.stands c.args.store b (at_rest m blocks)) yes stands) among) c.in-Err.fault
+            (λ known ms among. g.met.U.Uploads.durable c.args.store (at_rest m blocks) ms
+            (subst (λ b. g.U.Uploads.stands c.args.store b (at_rest m blocks)) known stands) among) c.in-Err.fault
             c.in-Err.ensures.err,
       );
   counts = counts_nothing (g.U.Uploads.failures c.args.store) c.args.store c.in-Err.fault c.in-Err.ensures.err;
@@ -39,8 +39,8 @@ returns-in-Err-new-clause-output g c = λ sure m blocks stands.
       subst (λ s. HasRun g.U.Uploads sure c.args.store (Err (s, runs.NoMemory)) held held st script)
           (sym c.in-Err-new.ensures.back)
           (unbegun g.U.Uploads sure c.args.store held st script stands
-          (λ yes ms among. g.met.U.Uploads.durable c.args.store (at_rest m blocks) ms
-          (subst (λ b. g.U.Uploads.stands c.args.store b (at_rest m blocks)) yes stands) among) runs.NoMemory
+          (λ known ms among. g.met.U.Uploads.durable c.args.store (at_rest m blocks) ms
+          (subst (λ b. g.U.Uploads.stands c.args.store b (at_rest m blocks)) known stands) among) runs.NoMemory
           (inl refl)),
     )
 
@@ -58,9 +58,9 @@ returns-in-Ok-run_script-clause-output g c = λ sure m blocks stands.
       script,
       c.in-Ok.ensures.ok,
       ran u v c.args.store c.close.result script (λ s is. c.close.ensures.kept sure s is)
-          (λ yes past shown. shows_since u c.args.store c.close.result st past
+          (λ known past shown. shows_since u c.args.store c.close.result st past
           (λ ms among. g.met.U.Uploads.durable c.args.store (at_rest m blocks) ms
-          (subst (λ b. g.U.Uploads.stands c.args.store b (at_rest m blocks)) yes stands) among)
+          (subst (λ b. g.U.Uploads.stands c.args.store b (at_rest m blocks)) known stands) among)
           (shows_through u c.args.store (store_of gateway) (store_of now) c.close.result (stores_of st past)
           c.in-Ok-new.ensures.same c.close.ensures.crash shown))
           (λ past last. last_through u (store_of now) c.close.result st past c.close.ensures.crash last)
@@ -84,9 +84,9 @@ returns-clause-output g c = λ sure m blocks stands.
       script,
       c.in-Ok.ensures.ok,
       stopped u v c.args.store back script (λ s is. c.close-in-Err-run_script.ensures.kept sure s is)
-          (λ yes past shown. shows_since u c.args.store back st past
+          (λ known past shown. shows_since u c.args.store back st past
           (λ ms among. g.met.U.Uploads.durable c.args.store (at_rest m blocks) ms
-          (subst (λ b. g.U.Uploads.stands c.args.store b (at_rest m blocks)) yes stands) among)
+          (subst (λ b. g.U.Uploads.stands c.args.store b (at_rest m blocks)) known stands) among)
           (shows_through u c.args.store (store_of gateway) (store_of now) back (stores_of st past)
           c.in-Ok-new.ensures.same c.close-in-Err-run_script.ensures.crash shown))
           (λ past last. last_through u (store_of now) back st past c.close-in-Err-run_script.ensures.crash last)

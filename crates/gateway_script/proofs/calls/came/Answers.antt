@@ -16,7 +16,7 @@ returns-in-Ok-clause-does g c = λ sure before st r prefix at.
     let given : List ℕ = c.came.new.out.items in
     let none : c.new-out.result.items ≡ [] = c.new-out.ensures.items in
     told_called (view g.C.Connections sure before c.args.core.now st old prefix) c.came.new.self new r e at a given
-    (λ yes. c.in-Ok.ensures.crash r.state (surely at yes))
+    (λ known. c.in-Ok.ensures.crash r.state (surely at known))
     (subst (λ o. Gives sure s' (Ok a) o given r.state e) none (c.in-Ok.ensures.gives sure r.state at.keeps))
     (subst (λ b. Tells old new (Ok (tt {0})) c.args.conn b a.closes) c.deref.ensures.value
     c.in_ok-tell-in-Ok.ensures.tells)
@@ -32,8 +32,8 @@ returns-in_err-tell-in-Ok-clause-does g c = λ sure before st r prefix at.
     let none : c.new-out.result.items ≡ [] = c.new-out.ensures.items in
     let p = err_from_is_err_and c.from_residual.result c.from_residual.ensures.1 in
     rw (p.1, p.2) (tell_stopped (view g.C.Connections sure before c.args.core.now st old prefix) c.came.new.self new
-        r e at a
-    given (λ yes. c.in-Ok.ensures.crash r.state (surely at yes))
+    r e at a
+    given (λ known. c.in-Ok.ensures.crash r.state (surely at known))
     (subst (λ o. Gives sure s' (Ok a) o given r.state e) none (c.in-Ok.ensures.gives sure r.state at.keeps))
     c.in_err-tell-in-Ok.field-0.0
     (subst (λ b. Tells old new (Err c.in_err-tell-in-Ok.field-0.0) c.args.conn b a.closes) c.deref.ensures.value
@@ -47,9 +47,9 @@ returns-clause-does g c = λ sure before st r prefix at.
     let given : List ℕ = c.came.new.out.items in
     let none : c.new-out.result.items ≡ [] = c.new-out.ensures.items in
     refused_called (view g.C.Connections sure before c.args.core.now st
-        (g.W.CountedWrite.contents c.args.writer.now) prefix)
+    (g.W.CountedWrite.contents c.args.writer.now) prefix)
     c.came.new.self (g.W.CountedWrite.contents c.refused.new.writer) r e at f given
-    (λ yes. c.in-Err.ensures.crash r.state (surely at yes))
+    (λ known. c.in-Err.ensures.crash r.state (surely at known))
     (subst (λ o. Gives sure s' (Err f) o given r.state e) none (c.in-Err.ensures.gives sure r.state at.keeps))
     c.in_ok-refused-in-Err.ensures.refuses
 
@@ -65,9 +65,9 @@ returns-in_err-refused-in-Err-clause-does g c = λ sure before st r prefix at.
     rw (p.1, p.2)
     (refuse_stopped (view g.C.Connections sure before c.args.core.now st
     (g.W.CountedWrite.contents c.args.writer.now) prefix) c.came.new.self
-    (g.W.CountedWrite.contents c.refused.new.writer) r e at f given (λ yes. c.in-Err.ensures.crash r.state
-        (surely at yes))
+    (g.W.CountedWrite.contents c.refused.new.writer) r e at f given (λ known. c.in-Err.ensures.crash r.state
+    (surely at known))
     (subst (λ o. Gives sure s' (Err f) o given r.state e) none (c.in-Err.ensures.gives sure r.state at.keeps))
-    (λ yes ms among. g.met.C.Connections.durable c.args.core.now r.state ms (surely at yes) among)
+    (λ known ms among. g.met.C.Connections.durable c.args.core.now r.state ms (surely at known) among)
     (falling (g.C.Connections.down c.args.core.now) (g.C.Connections.down c.came.new.self) f c.in-Err.ensures.falls)
     c.in_err-refused-in-Err.field-0.0 c.in_err-refused-in-Err.ensures.refuses)

@@ -24,7 +24,7 @@ returns-in_err-taken-clause-does g c = λ sure before st r prefix at.
     i.1)
     (once_fails v fault k n rest i.0
     (c.in_err-taken.ensures.does sure before st i.0 prefix k
-        (some_list _ rest c.is_empty.ensures c.if-not-is_empty.true)
+    (some_list _ rest c.is_empty.ensures c.if-not-is_empty.true)
     i.2)))
 
 pub returns-in_default-clause-does : goal.returns-in_default-clause-does
@@ -63,7 +63,7 @@ loop-left-preserved g c = (
       let p : GivenOnce v (Ok (Some c.in-Some.taken)) k n rest i.0 =
       subst (λ o. GivenOnce v (Ok o) k n rest i.0) c.in-Some.is
       (c.in_ok-taken.ensures.does sure before st i.0 prefix k
-          (some_list _ rest c.is_empty.ensures c.if-not-is_empty.true)
+      (some_list _ rest c.is_empty.ensures c.if-not-is_empty.true)
       i.2) in (
         p.0,
         reach_both (give_within (length c.args.bytes.now) n c.args.bytes.now) (give_within (suc k) n rest)

@@ -60,7 +60,7 @@ loop-left-preserved g c = (
       let s : Run = i.0 in
       let step : c.loop-left.left ≡ suc k = omega (arith, c.loop-left-test.true) in
       let v = view g.C.Connections sure before c.more.new.core st
-          (g.W.CountedWrite.contents c.more.new.writer) prefix in
+      (g.W.CountedWrite.contents c.more.new.writer) prefix in
       let says : MoreSays v None k n s =
       subst (λ o. MoreSays v o k n s) (sym c.in_default.ensures)
       (more_says v c.in_ok-answer.answer n k s (c.in_ok-answer.ensures.does sure before st s prefix i.2)) in (

@@ -20,6 +20,6 @@ returns-in-Give-clause-does g c = λ sure before st r prefix at.
 pub returns-in-Cut-clause-does : goal.returns-in-Cut-clause-does
 returns-in-Cut-clause-does g c = λ sure before st r prefix at.
     subst (λ o. Went (view g.C.Connections sure before c.cut.new.core st
-        (g.W.CountedWrite.contents c.cut.new.writer) prefix)
+    (g.W.CountedWrite.contents c.cut.new.writer) prefix)
     c.cut.result (obeyed (order_shown o)) r) (sym c.in-Cut.is)
     (c.cut.ensures.does sure before st r prefix at)

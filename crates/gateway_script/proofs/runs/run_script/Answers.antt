@@ -71,7 +71,7 @@ returns-clause-does g c = λ sure before st r prefix at.
     let rest = c.loop-rest.rest.now in
     let none : rest ≡ [] = no_list _ rest c.is_empty.ensures c.loop-rest-test.false in
     let v = view g.C.Connections sure before c.cut_all.new.core st
-        (g.W.CountedWrite.contents c.cut_all.new.writer) prefix in
+    (g.W.CountedWrite.contents c.cut_all.new.writer) prefix in
     ends_after v (Ok (tt {0})) (run_lines 1 0 (script_lines c.args.script.now))
     (run_lines c.loop-rest.number c.loop-rest.start []) r i.0
     (subst (λ l. Reaches (run_lines 1 0 (script_lines c.args.script.now)) r
@@ -84,7 +84,7 @@ returns-in_err-cut_all-clause-does g c = λ sure before st r prefix at.
     let rest = c.loop-rest.rest.now in
     let none : rest ≡ [] = no_list _ rest c.is_empty.ensures c.loop-rest-test.false in
     let v = view g.C.Connections sure before c.cut_all.new.core st
-        (g.W.CountedWrite.contents c.cut_all.new.writer) prefix in
+    (g.W.CountedWrite.contents c.cut_all.new.writer) prefix in
     let p = err_from_is_err_and c.from_residual-in_err-cut_all.result c.from_residual-in_err-cut_all.ensures.1 in
     let fault = c.in_err-cut_all.field-0.0 in
     rw (p.1, p.2) (ends_after v (Err (script_fault fault)) (run_lines 1 0 (script_lines c.args.script.now))

@@ -13,7 +13,7 @@ returns-in-Ok-clause-serves g c = λ sure before st past ended went joins.
     let piece = c.left.result.now in
     let gives = c.came-answer.ensures.gives sure _ went.stands in
     served g.C.Connections sure before c.args.gateway.now c.came-answer.new.gateway st past (Came n piece) went
-    (λ yes ms among. g.met.C.Connections.durable c.args.gateway.now _ ms (surely went yes) among)
+    (λ known ms among. g.met.C.Connections.durable c.args.gateway.now _ ms (surely went known) among)
     (λ (now : List Marked). Alone sure st n past now
     × Joins sure (joint_of (record c.args.self.now {
       input = c.take.new.self;
@@ -22,7 +22,7 @@ returns-in-Ok-clause-serves g c = λ sure before st past ended went joins.
     })) ended st now n)
     (λ now. Unit {0})
     c.came-answer.result (Ok c.in-Ok.next) c.in-Ok.ensures.fault gives.1.keeps
-    (λ yes. c.came-answer.ensures.crash _ (surely went yes)) c.came-answer.ensures.falls
+    (λ known. c.came-answer.ensures.crash _ (surely went known)) c.came-answer.ensures.falls
     (λ ok. (
       alone_step sure st past (Came n piece) _,
       came_link sure ended st past n c.came-answer.result gives.0
@@ -38,11 +38,11 @@ returns-in-Err-clause-serves g c = λ sure before st past ended went joins.
     let told : Result ℕ DiskFault = Err c.in-Err.fault in
     let gives = c.came-answer.ensures.gives sure _ went.stands in
     served g.C.Connections sure before c.args.gateway.now c.came-answer.new.gateway st past (Came n piece) went
-    (λ yes ms among. g.met.C.Connections.durable c.args.gateway.now _ ms (surely went yes) among)
+    (λ known ms among. g.met.C.Connections.durable c.args.gateway.now _ ms (surely went known) among)
     (λ now. Unit {0}) (λ (now : List Marked). Alone sure st n past now
     × Joins sure (joint_of (record c.args.self.now { output = c.came-answer.new.self })) ended st now n)
     c.came-answer.result told c.in-Err.ensures.fault gives.1.keeps
-    (λ yes. c.came-answer.ensures.crash _ (surely went yes)) c.came-answer.ensures.falls
+    (λ known. c.came-answer.ensures.crash _ (surely went known)) c.came-answer.ensures.falls
     (λ ok. tt)
     (λ fails. (
       alone_step sure st past (Came n piece) _,

@@ -13,12 +13,12 @@ returns-in-Ok-clause-serves g c = λ sure before st past ended went joins.
     let n = c.args.conn in
     let gives = c.more.ensures.gives sure _ went.stands in
     served g.C.Connections sure before c.args.gateway.now c.more.new.gateway st past (More n) went
-    (λ yes ms among. g.met.C.Connections.durable c.args.gateway.now _ ms (surely went yes) among)
+    (λ known ms among. g.met.C.Connections.durable c.args.gateway.now _ ms (surely went known) among)
     (λ (now : List Marked). Alone sure st n past now
     × Joins sure (joint_of (record c.args.self.now { output = c.more.new.self; stage = c.in-Ok.next.stage })) ended st
     now n) (λ now. Unit {0})
     c.more.result (Ok c.in-Ok.next) c.in-Ok.ensures.fault gives.1.keeps
-    (λ yes. quiet_limits _ _ c.more.ensures.crash) c.more.ensures.falls
+    (λ known. quiet_limits _ _ c.more.ensures.crash) c.more.ensures.falls
     (λ ok. (
       alone_step sure st past (More n) _,
       more_link sure ended st past n c.more.result gives.0
@@ -32,11 +32,11 @@ returns-in-Err-clause-serves g c = λ sure before st past ended went joins.
     let told : Result ℕ DiskFault = Err c.in-Err.fault in
     let gives = c.more.ensures.gives sure _ went.stands in
     served g.C.Connections sure before c.args.gateway.now c.more.new.gateway st past (More n) went
-    (λ yes ms among. g.met.C.Connections.durable c.args.gateway.now _ ms (surely went yes) among)
+    (λ known ms among. g.met.C.Connections.durable c.args.gateway.now _ ms (surely went known) among)
     (λ now. Unit {0}) (λ (now : List Marked). Alone sure st n past now
     × Joins sure (joint_of (record c.args.self.now { output = c.more.new.self })) ended st now n)
     c.more.result told c.in-Err.ensures.fault gives.1.keeps
-    (λ yes. quiet_limits _ _ c.more.ensures.crash) c.more.ensures.falls
+    (λ known. quiet_limits _ _ c.more.ensures.crash) c.more.ensures.falls
     (λ ok. tt)
     (λ fails. (
       alone_step sure st past (More n) _,

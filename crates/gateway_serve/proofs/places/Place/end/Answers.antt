@@ -16,11 +16,11 @@ returns-clause-serves g c = λ sure before st past went joins.
     let does = c.ended.ensures.does sure _ went.stands in
     let used : c.args.self.now ≡ Free → ⊥ = λ e. let f : false ≡ true = c.if-is_free.ensures.1 e in absurd (cc) in
     served g.C.Connections sure before c.args.gateway.now c.ended.new.self st past (Ended n) went
-    (λ yes ms among. g.met.C.Connections.durable c.args.gateway.now _ ms (surely went yes) among)
+    (λ known ms among. g.met.C.Connections.durable c.args.gateway.now _ ms (surely went known) among)
     (λ (now : List Marked). Alone sure st n past now × PlaceJoins sure c.free.new.self (current_of n ended') st now n)
     (λ (now : List Marked). Alone sure st n past now × PlaceFell sure c.free.new.self (current_of n ended') st now n)
     c.ended.result c.unless_failed.result c.unless_failed.ensures does.keeps
-    (λ yes. c.ended.ensures.crash _ (surely went yes)) c.ended.ensures.falls
+    (λ known. c.ended.ensures.crash _ (surely went known)) c.ended.ensures.falls
     (λ ok. (
       alone_step sure st past (Ended n) _,
       told_place sure ended st past n c.args.reason c.args.self.now c.free.new.self ended'

@@ -26,9 +26,9 @@ returns-in-Ok-clause-serves g c = λ sure before st past went joins.
     let all = same_join sure (places_of c.args.self.now) (places_of c.next_place.new.self)
     (ended_of c.args.self.now) ended st past c.next_place.ensures.same c.next_place.ensures.ended joins in
     served g.C.Connections sure before c.args.gateway.now c.opened.new.self st past (Opened n) went
-    (λ yes ms among. g.met.C.Connections.durable c.args.gateway.now _ ms (surely went yes) among)
+    (λ known ms among. g.met.C.Connections.durable c.args.gateway.now _ ms (surely went known) among)
     _ (λ now. Unit {0}) c.opened.result told goes does.keeps
-    (λ yes. quiet_limits _ _ c.opened.ensures.crash) c.opened.ensures.falls
+    (λ known. quiet_limits _ _ c.opened.ensures.crash) c.opened.ensures.falls
     (λ ok. all_opened sure (places_of c.next_place.new.self) n ended st past c.opened.result does.answer all
     c.in-Some.ensures.free.1 c.open.result c.in-Some.ensures.free.0 c.open.ensures.none tt c.in-Ok.is)
     (λ fails. tt)
@@ -44,8 +44,8 @@ returns-in-Err-clause-serves g c = λ sure before st past went joins.
     let kept = all_unopened sure (places_of c.next_place.new.self) n ended st past answer does.answer all
     c.in-Some.ensures.free.1 c.in-Err.error refl in
     served g.C.Connections sure before c.args.gateway.now c.opened.new.self st past (Opened n) went
-    (λ yes ms among. g.met.C.Connections.durable c.args.gateway.now _ ms (surely went yes) among)
+    (λ known ms among. g.met.C.Connections.durable c.args.gateway.now _ ms (surely went known) among)
     (AllJoin sure (places_of c.next_place.new.self) ended st) (AllFell sure (places_of c.next_place.new.self) ended st)
     answer c.unless_failed.result c.unless_failed.ensures does.keeps
-    (λ yes. quiet_limits _ _ c.opened.ensures.crash) c.in-Err.ensures.falls
+    (λ known. quiet_limits _ _ c.opened.ensures.crash) c.in-Err.ensures.falls
     (λ ok. kept) (λ fails. all_fall sure (places_of c.next_place.new.self) ended st _ kept)

@@ -1,10 +1,23 @@
-use Rattle.std.proofs.Common.{sym, subst, arith}
+use Rattle.std.proofs.Common.{◌∙◌, sym, subst, arith}
 use Rattle.std.proofs.lemmas.List.{with_items_is}
 use Rattle.gateway_serve.specs.Joined.{AllJoin, AllFell, ended_of}
 use Rattle.gateway_serve.specs.Served.{Serves, AllServed}
 use Rattle.gateway_serve.specs.Streams.{AllHave}
+use Rattle.tus_session.proofs.Counting.{uncounted}
 use Rattle.gateway_serve.proofs.Lost.{none_more}
 use Rattle.gateway_serve.proofs.serving.Server.take_turns.Goals as goal
+
+pub loop-left-preserved : goal.loop-left-preserved
+loop-left-preserved g c = (
+  uncounted (λ fails. absurd (cc)) c.in_ok-turn.ensures.counts ∙ c.loop-left.invariant.0,
+  λ sure before st past went joins.
+      let s = c.loop-left.invariant.1 sure before st past went joins in
+      c.in_ok-turn.ensures.serves sure before st s.0 s.1 s.2,
+  λ have had.
+      let s = c.loop-left.invariant.2 have had in
+      c.in_ok-turn.ensures.streams s.0 s.1,
+  λ all. c.in_ok-turn.ensures.reasons (c.loop-left.invariant.3 all),
+)
 
 pub returns-clause-streams : goal.returns-clause-streams
 returns-clause-streams g c = λ have had.
