@@ -14,7 +14,7 @@ use types.Logic.{Logic}
 use contract.Lifetimes.{Lfts, Shares}
 use contract.Monad.{Fun}
 use contract.Running.{tables, tables_of}
-use valid.WpLaws.{WpFn-mono}
+use sound.WpLaws.{WpFn-mono}
 use types.Kit.{‵, raw, ◌$◌, ◌∵◌, !, qed, move, suffices, done}
 use types.Run.{no_more, returns, enter}
 use types.Part.{agg}

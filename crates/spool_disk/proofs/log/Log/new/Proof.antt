@@ -10,7 +10,7 @@ use prog.Wp.{WpFn, Tables}
 use types.Logic.{Logic}
 use contract.Monad.{Fun}
 use contract.Running.{tables, tables_of}
-use valid.WpLaws.{WpFn-mono}
+use sound.WpLaws.{WpFn-mono}
 use types.Kit.{raw, ◌$◌, ◌∵◌, !, qed, keep, join, suffices, done}
 use types.Run.{no_more, returns, enter}
 use types.Part.{agg}
