@@ -9,21 +9,21 @@ pub loop-last-preserved-then-not-is_empty : goal.loop-last-preserved-then-not-is
 loop-last-preserved-then-not-is_empty c =
     text_more c.args.bytes.now c.loop-last.rest.now c.loop-last.len c.loop-last.texts c.in-Some.last
     c.split_at.result.0.now c.split_at.result.1.now c.loop-last.invariant
-    (sym c.line_feed.ensures ∙ c.in-Some.is) c.split_at.ensures.prefix c.split_at.ensures.back
+    (sym c.line_feed.ensures ∙ c.in-Some.is) c.split_at.ensures.front c.split_at.ensures.back
     (sym c.is_empty.ensures ∙ c.if-not-is_empty.true)
 
 pub loop-last-preserved : goal.loop-last-preserved
 loop-last-preserved c =
     empty_more c.args.bytes.now c.loop-last.rest.now c.loop-last.len c.loop-last.texts c.in-Some.last
     c.split_at.result.0.now c.split_at.result.1.now c.loop-last.invariant
-    (sym c.line_feed.ensures ∙ c.in-Some.is) c.split_at.ensures.prefix c.split_at.ensures.back
+    (sym c.line_feed.ensures ∙ c.in-Some.is) c.split_at.ensures.front c.split_at.ensures.back
     (sym c.is_empty.ensures ∙ c.if-not-is_empty.false) (omega arith)
 
 pub returns-then-texts-gt0-clause-extent : goal.returns-then-texts-gt0-clause-extent
 returns-then-texts-gt0-clause-extent c =
     sym (ends_here c.args.bytes.now c.loop-last.rest.now c.loop-last.len c.loop-last.texts c.in-Some.last
     c.split_at.result.0.now c.loop-last.invariant
-    (sym c.line_feed.ensures ∙ c.in-Some.is) c.split_at.ensures.prefix (sym c.is_empty.ensures
+    (sym c.line_feed.ensures ∙ c.in-Some.is) c.split_at.ensures.front (sym c.is_empty.ensures
     ∙ c.if-not-is_empty.false)
     (omega arith))
 
