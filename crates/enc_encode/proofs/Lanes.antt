@@ -1,5 +1,6 @@
 -- What leads and trails count, and bytes, by lanes.
-use Rattle.std.proofs.Common.{ℕ, zero, suc, ◌≡◌, ◌<◌, ◌≤◌, ◌-◌, ◌+◌, ◌*◌, ◌/◌, ◌%◌, ◌^◌, false, List, [], ◌∷◌, map, length}
+use Rattle.std.proofs.Common.{ℕ, zero, suc, ◌≡◌, ◌<◌, ◌≤◌, ◌-◌, ◌+◌, ◌*◌, ◌/◌, ◌%◌, ◌^◌, false, List, [], ◌∷◌}
+use Rattle.std.proofs.Common.{map, length}
 use Rattle.std.proofs.Common.{replicate, get_or, refl, ap, ap₂, sym, ◌∙◌, subst, arith, bit_and, Fits, w8, ltb, true}
 use Rattle.std.proofs.lemmas.Bool.Decides.{nat_tests}
 use Rattle.std.proofs.lemmas.List.{length-map, get_or-map}

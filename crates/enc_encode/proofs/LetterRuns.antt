@@ -78,7 +78,7 @@ module _ (at text lanes bytes held : List ℕ) (low byte count n : ℕ) (few : F
       ap (λ k. held ++ take k bytes) more
       ∙ ap (λ z. held ++ z) (take_more bytes m 0 (omega (arith, l, most, wide)))
       ∙ sym (append_assoc held (take m bytes) (b ∷ [])) in (
-        run_more gives text rest left held (held ++ take m bytes) (held ++ take (suc m) bytes) (b ∷ []) before.1 before.0
-            first put,
+        run_more gives text rest left held (held ++ take m bytes) (held ++ take (suc m) bytes) (b ∷ []) before.1
+            before.0 first put,
         IsUtf8-past_char rest left first.c before.1 first.parts,
       )

@@ -10,6 +10,7 @@ use crate::buffer::{LANES, ROOM};
 use crate::letters::{AT_ONCE, Letters, lettered};
 use enc_index::Pointers;
 use lane_kernels::ascii_chunk;
+use std::simd::prelude::*;
 
 /// What a lead and a trail of two bytes count, beside the code point, where the lead counts 64.
 const TWO_BYTES: u32 = 0xC0 * 64 + 0x80;
@@ -63,12 +64,12 @@ fn put_singles<'a>(
 /// Puts the first so many bytes of lanes after the first so many. All lanes are stored, so that nothing depends on how
 /// many.
 #[inline(always)]
-fn store_prefix(held: &mut [u8; ROOM], from: usize, lanes: [u8; LANES], count: usize)
+fn store_prefix(held: &mut [u8; ROOM], from: usize, lanes: &[u8; LANES], count: usize)
     requires few { count ≤ LANES }
     requires room { from + LANES ≤ ROOM }
-    ensures { take (from + count) held.new ≡ take from held.old ++ take count lanes }
+    ensures { take (from + count) held.new ≡ take from held.old ++ take count lanes.now }
 {
-    held[from..from + LANES].copy_from_slice(&lanes);
+    u8x32::from_array(*lanes).copy_to_slice(&mut held[from..]);
 }
 
 /// How many of the lanes are ASCII before the first that isn't.
@@ -107,7 +108,7 @@ fn put_lanes(held: &mut [u8; ROOM], from: usize, bytes: &[u8]) -> usize
     while at + LANES <= most {
         let lanes = lanes_at(bytes, at);
         let count = ascii_in(&lanes);
-        store_prefix(held, from + at, lanes, count);
+        store_prefix(held, from + at, &lanes, count);
         if count < LANES {
             return at + count;
         }
@@ -136,12 +137,12 @@ fn put_each(held: &mut [u8; ROOM], from: usize, bytes: &[u8]) -> usize
 
 /// Puts the bytes of a few letters after the first so many, as `store_prefix` those of lanes.
 #[inline(always)]
-fn store_letters(held: &mut [u8; ROOM], from: usize, bytes: [u8; AT_ONCE], count: usize)
+fn store_letters(held: &mut [u8; ROOM], from: usize, bytes: &[u8; AT_ONCE], count: usize)
     requires few { count ≤ AT_ONCE }
     requires room { from + AT_ONCE ≤ ROOM }
-    ensures { take (from + count) held.new ≡ take from held.old ++ take count bytes }
+    ensures { take (from + count) held.new ≡ take from held.old ++ take count bytes.now }
 {
-    held[from..from + AT_ONCE].copy_from_slice(&bytes);
+    u8x16::from_array(*bytes).copy_to_slice(&mut held[from..]);
 }
 
 /// Puts the bytes of letters that a text begins with after the first so many, up to 16, where 16 may stand there and
@@ -166,7 +167,7 @@ fn put_letters<'a>(
         return (text, from);
     }
     let (bytes, count) = lettered(letters, &lanes_at(text.as_bytes(), 0));
-    store_letters(held, from, bytes, count);
+    store_letters(held, from, &bytes, count);
     (&text[2 * count..], from + count)
 }
 

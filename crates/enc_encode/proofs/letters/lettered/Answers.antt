@@ -16,5 +16,6 @@ returns-clause-long c =
 pub returns-clause-letters : goal.returns-clause-letters
 returns-clause-letters c k before =
     letter_at c.args.lanes.now _ c.args.letters.low c.args.letters.count c.told-lanes (rw c.codes.ensures refl)
-    c.bytes_at.result c.args.letters.byte k (Each1-from_get_or (λ x. x < 256) c.args.lanes.now 0 (λ i inside. c.fits-lanes i)) c.requires
+    c.bytes_at.result c.args.letters.byte k
+    (Each1-from_get_or (λ x. x < 256) c.args.lanes.now 0 (λ i inside. c.fits-lanes i)) c.requires
     (subst (λ n. k < n) c.count_below.ensures before) c.bytes_at.ensures
