@@ -18,10 +18,10 @@ pub const AT_ONCE: usize = 16;
 const FIRST: u32 = 0x410;
 
 /// What a lead and a trail of two bytes count, beside the code point, where the lead counts 64.
-const TWO_BYTES: u32 = 0xC0 * 64 + 0x80;
+pub const TWO_BYTES: u32 = 0xC0 * 64 + 0x80;
 
-/// Characters of two bytes that have bytes one after another: what lead and trail of the first count, its byte, and
-/// how many they are.
+/// Characters of two bytes that have bytes one after another, as the code points go: what lead and trail of the first
+/// count, its byte, and how many they are.
 #[derive(Clone, Copy)]
 pub struct Letters {
     pub(crate) low: u16,

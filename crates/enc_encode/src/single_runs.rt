@@ -7,13 +7,10 @@ ghost use Rattle.enc_encode.specs.Runs.{FirstGiven, RunPrefix};
 ghost use Rattle.enc_encode.specs.Singles.{FewPointers, IsSingle};
 
 use crate::buffer::{LANES, ROOM};
-use crate::letters::{AT_ONCE, Letters, lettered};
+use crate::letters::{AT_ONCE, Letters, TWO_BYTES, lettered};
 use enc_index::Pointers;
 use lane_kernels::ascii_chunk;
 use std::simd::prelude::*;
-
-/// What a lead and a trail of two bytes count, beside the code point, where the lead counts 64.
-const TWO_BYTES: u32 = 0xC0 * 64 + 0x80;
 
 /// The byte that a single-byte encoding has for a text's first character, whose first two bytes these are, where it has
 /// two bytes.

@@ -1,4 +1,4 @@
-use Rattle.std.proofs.Common.{◌≡◌, ◌<◌, ◌+◌, ◌-◌, Some, arith, subst}
+use Rattle.std.proofs.Common.{◌≡◌, ◌+◌, ◌-◌, Some, arith, subst}
 use Rattle.enc_index.specs.Entries.{found}
 use Rattle.enc_encode.proofs.letters.letters_by.Goals as goal
 
