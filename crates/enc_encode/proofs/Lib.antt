@@ -10,3 +10,5 @@ mod Given
 mod RunPrefixes
 mod Twos
 mod Puts
+mod Lanes
+mod LetterRuns

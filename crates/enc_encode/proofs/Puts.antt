@@ -1,9 +1,26 @@
 -- Bytes that were put after others, place by place.
 use Rattle.std.proofs.Common.{ℕ, suc, ◌≡◌, ◌<◌, ◌≤◌, ◌+◌, List, [], ◌∷◌, ◌++◌, sym, ◌∙◌, ap, ap₂, subst, arith}
 use Rattle.std.proofs.Common.{All, append_assoc, length, take, drop, get_or, set}
-use Rattle.std.proofs.lemmas.List.{take-take, take_more, take_more_set}
+use Rattle.std.proofs.lemmas.List.{length-take-le, take-append-le, take-take, take_more, take_more_set}
 use Rattle.std.proofs.lemmas.List.Elements.{All-append, All-cons}
-use Rattle.std.proofs.Math.Seq.{take-add, drop-cons}
+use Rattle.std.proofs.lemmas.Simd.{length-put_chunk, take_more_put_chunk}
+use Rattle.std.proofs.Math.Seq.{take-add, take-append-add, drop-cons}
+use lib.Lanes.{put_chunk}
+
+-- the first of lanes that were stored after the first so many
+pub stored : (code part more lanes : List ℕ) (from n w : ℕ) → length lanes ≡ w → n ≤ w → from ≤ length code
+    → w ≤ length part →
+    take (from + n) (take from code ++ (put_chunk 0 part lanes ++ more)) ≡ take from code ++ take n lanes
+stored code part more lanes from n w long few inside room =
+    let prefix = take from code in
+    let new = put_chunk 0 part lanes in
+    let prefix_long : length prefix ≡ from = length-take-le from code inside in
+    let new_long : length new ≡ length part = length-put_chunk 0 part lanes in
+    let whole : take w new ≡ lanes = take_more_put_chunk 0 part lanes w (omega (arith, long)) room in
+    subst (λ k. take (k + n) (prefix ++ (new ++ more)) ≡ prefix ++ take n (new ++ more)) prefix_long
+    (take-append-add prefix (new ++ more) n)
+    ∙ ap (λ z. prefix ++ z) (take-append-le n new more (omega (arith, new_long, room, few))
+    ∙ sym (take-take n w new few) ∙ ap (take n) whole)
 
 -- the first of the lanes at a place, or all
 pub ascii_more : (bytes lanes : List ℕ) (at n : ℕ) → All (λ b. b < 128) (take at bytes)

@@ -7,3 +7,4 @@ pub mod Sinks
 pub mod SinkLaws
 pub mod Singles
 pub mod Runs
+pub mod Letters

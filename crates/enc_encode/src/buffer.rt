@@ -5,6 +5,7 @@ ghost use Rattle.std.specs.Prelude.{take};
 ghost use Rattle.enc_encode.specs.Code.{bytes_of};
 ghost use Rattle.enc_encode.specs.Growth.{Appended, Stopped};
 ghost use Rattle.enc_encode.specs.Held.{Passed};
+ghost use Rattle.enc_encode.specs.Letters.{AreLetters};
 ghost use Rattle.enc_encode.specs.Runs.{FirstGiven, RunPrefix, Stays};
 ghost use Rattle.enc_encode.specs.Singles.{AreSingles, FewPointers, IsSingle};
 ghost use Rattle.enc_encode.specs.State.{shift_of};
@@ -13,6 +14,7 @@ ghost use Rattle.enc_model.specs.Indexes.{tables};
 
 use crate::append::append;
 use crate::encoders::pair;
+use crate::letters::Letters;
 use crate::shift::ShiftState;
 use crate::single_runs::{put_last_ascii, put_run};
 use crate::written::Bytes;
@@ -127,14 +129,20 @@ impl Buffer {
     /// encoding has, as far as there is room. Gives the rest of the text. The length is a local of the loop, which a
     /// register can hold.
     #[inline(always)]
-    pub fn push_singles<'a>(&mut self, pointers: &Pointers, text: &'a str) -> &'a str
-        requires { FewPointers pointers.now }
+    pub fn push_singles<'a>(
+        &mut self,
+        letters: Letters,
+        pointers: &Pointers,
+        text: &'a str,
+    ) -> &'a str
+        requires few { FewPointers pointers.now }
+        requires letters { AreLetters pointers.now letters.low letters.byte letters.count }
         ensures { RunPrefix (IsSingle pointers.now) text.now result.now self.old self.new }
     {
         let mut len = self.len;
         let mut rest = text;
         while len < ROOM {
-            let (after, end) = put_run(&mut self.bytes, len, pointers, rest);
+            let (after, end) = put_run(&mut self.bytes, len, letters, pointers, rest);
             let stops = end == len;
             len = end;
             rest = after;
@@ -183,16 +191,18 @@ impl Buffer {
         to: Encoding,
         set: &IndexSet,
         singles: Option<&Pointers>,
+        letters: Letters,
         shift: ShiftState,
         text: &'a str,
     ) -> &'a str
         requires singles { IfSome singles (λ p. AreSingles (encoder (tables set.now) to) p.now) }
         requires few { IfSome singles (λ p. FewPointers p.now) }
+        requires letters { IfSome singles (λ p. AreLetters p.now letters.low letters.byte letters.count) }
         ensures { RunPrefix (Stays (encoder (tables set.now) to) (shift_of shift)) text.now result.now self.old
             self.new }
     {
         match singles {
-            Some(pointers) => self.push_singles(pointers, text),
+            Some(pointers) => self.push_singles(letters, pointers, text),
             None => self.push_pairs(set, to, shift, text),
         }
     }

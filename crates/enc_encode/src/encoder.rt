@@ -21,6 +21,7 @@ use crate::buffer::{Buffer, LANES};
 use crate::encoders::written;
 use crate::error::EncodeError;
 use crate::iso2022::{TO_ASCII, iso2022_ascii};
+use crate::letters::letters_of;
 use crate::shift::ShiftState;
 use crate::written::Written;
 use crate::written_out::write_out;
@@ -311,13 +312,14 @@ impl Encoder {
         requires few { IfSome singles (λ p. FewPointers p.now) }
         ensures { Gave (code_from (tables set.now) self.now (chars run.now)) out.old out.new result }
     {
+        let letters = letters_of(singles);
         let mut held = Buffer::new();
         let mut shift = self.shift;
         let mut rest = run;
         while !rest.is_empty() {
             let (next, after) = self.hold_prefix(to, set, shift, rest, &mut held, out)?;
             shift = next;
-            rest = held.push_run(to, set, singles, shift, after);
+            rest = held.push_run(to, set, singles, letters, shift, after);
         }
         held.flush(out)?;
         Ok(shift)

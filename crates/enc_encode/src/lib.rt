@@ -10,6 +10,7 @@ mod encoder;
 mod encoders;
 mod error;
 mod iso2022;
+mod letters;
 mod shift;
 mod single_runs;
 mod sink;

@@ -2,15 +2,15 @@
 
 ghost use Rattle.std.specs.Prelude.{◌≡◌, ◌<◌, ◌≤◌, ◌+◌, ◌++◌, ◌∷◌, [], ℕ, List, All, IfSome, length, take, drop};
 ghost use Rattle.std.specs.Str.{IsUtf8};
+ghost use Rattle.enc_encode.specs.Letters.{AreLetters};
 ghost use Rattle.enc_encode.specs.Runs.{FirstGiven, RunPrefix};
 ghost use Rattle.enc_encode.specs.Singles.{FewPointers, IsSingle};
 
 use crate::buffer::{LANES, ROOM};
+use crate::letters::{AT_ONCE, Letters, TWO_BYTES, lettered};
 use enc_index::Pointers;
 use lane_kernels::ascii_chunk;
-
-/// What a lead and a trail of two bytes count, beside the code point, where the lead counts 64.
-const TWO_BYTES: u32 = 0xC0 * 64 + 0x80;
+use std::simd::prelude::*;
 
 /// The byte that a single-byte encoding has for a text's first character, whose first two bytes these are, where it has
 /// two bytes.
@@ -61,12 +61,12 @@ fn put_singles<'a>(
 /// Puts the first so many bytes of lanes after the first so many. All lanes are stored, so that nothing depends on how
 /// many.
 #[inline(always)]
-fn store_prefix(held: &mut [u8; ROOM], from: usize, lanes: [u8; LANES], count: usize)
+fn store_prefix(held: &mut [u8; ROOM], from: usize, lanes: &[u8; LANES], count: usize)
     requires few { count ≤ LANES }
     requires room { from + LANES ≤ ROOM }
-    ensures { take (from + count) held.new ≡ take from held.old ++ take count lanes }
+    ensures { take (from + count) held.new ≡ take from held.old ++ take count lanes.now }
 {
-    held[from..from + LANES].copy_from_slice(&lanes);
+    u8x32::from_array(*lanes).copy_to_slice(&mut held[from..]);
 }
 
 /// How many of the lanes are ASCII before the first that isn't.
@@ -105,7 +105,7 @@ fn put_lanes(held: &mut [u8; ROOM], from: usize, bytes: &[u8]) -> usize
     while at + LANES <= most {
         let lanes = lanes_at(bytes, at);
         let count = ascii_in(&lanes);
-        store_prefix(held, from + at, lanes, count);
+        store_prefix(held, from + at, &lanes, count);
         if count < LANES {
             return at + count;
         }
@@ -132,23 +132,63 @@ fn put_each(held: &mut [u8; ROOM], from: usize, bytes: &[u8]) -> usize
     at
 }
 
-/// Puts the bytes of a text's start after the first so many: of ASCII in lanes, and then of characters of two bytes
-/// that a single-byte encoding has. Gives the rest of the text, and how many bytes there are then.
+/// Puts the bytes of a few letters after the first so many, as `store_prefix` those of lanes.
 #[inline(always)]
-pub fn put_run<'a>(
+fn store_letters(held: &mut [u8; ROOM], from: usize, bytes: &[u8; AT_ONCE], count: usize)
+    requires few { count ≤ AT_ONCE }
+    requires room { from + AT_ONCE ≤ ROOM }
+    ensures { take (from + count) held.new ≡ take from held.old ++ take count bytes.now }
+{
+    u8x16::from_array(*bytes).copy_to_slice(&mut held[from..]);
+}
+
+/// Puts the bytes of letters that a text begins with after the first so many, up to 16, where 16 may stand there and
+/// there is room for them. Gives the rest of the text, and how many bytes there are then. Nothing but the places
+/// depends on how many, so that no branch waits for the end of a word.
+#[inline(always)]
+fn put_letters<'a>(
     held: &mut [u8; ROOM],
     from: usize,
+    letters: Letters,
     pointers: &Pointers,
     text: &'a str,
 ) -> (&'a str, usize)
     requires few { FewPointers pointers.now }
+    requires letters { AreLetters pointers.now letters.low letters.byte letters.count }
+    requires room { from ≤ ROOM }
+    ensures more { (from ≤ result.1) × (result.1 ≤ ROOM) }
+    ensures run { RunPrefix (IsSingle pointers.now) text.now result.0.now (take from held.old)
+        (take result.1 held.new) }
+{
+    if letters.count == 0 || text.len() < LANES || ROOM - from < AT_ONCE {
+        return (text, from);
+    }
+    let (bytes, count) = lettered(letters, &lanes_at(text.as_bytes(), 0));
+    store_letters(held, from, &bytes, count);
+    (&text[2 * count..], from + count)
+}
+
+/// Puts the bytes of a text's start after the first so many: of ASCII in lanes, of letters at once, and then of
+/// characters of two bytes that a single-byte encoding has. Gives the rest of the text, and how many bytes there are
+/// then.
+#[inline(always)]
+pub fn put_run<'a>(
+    held: &mut [u8; ROOM],
+    from: usize,
+    letters: Letters,
+    pointers: &Pointers,
+    text: &'a str,
+) -> (&'a str, usize)
+    requires few { FewPointers pointers.now }
+    requires letters { AreLetters pointers.now letters.low letters.byte letters.count }
     requires room { from ≤ ROOM }
     ensures more { (from ≤ result.1) × (result.1 ≤ ROOM) }
     ensures run { RunPrefix (IsSingle pointers.now) text.now result.0.now (take from held.old)
         (take result.1 held.new) }
 {
     let count = put_lanes(held, from, text.as_bytes());
-    put_singles(held, from + count, pointers, &text[count..])
+    let (rest, end) = put_letters(held, from + count, letters, pointers, &text[count..]);
+    put_singles(held, end, pointers, rest)
 }
 
 /// Puts the ASCII of a text's start after the first so many bytes, where it is short. Gives the rest of the text, and
