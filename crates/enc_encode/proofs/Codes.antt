@@ -14,9 +14,9 @@ use Rattle.enc_model.specs.declared.Encoding.TheVariants as encodings
 use Rattle.enc_model.specs.declared.Mode.{Mode}
 use Rattle.enc_model.specs.declared.Mode.TheVariants.{Html, Fatal}
 use Rattle.enc_model.specs.Index.{Index}
-use Rattle.enc_model.specs.Encode.{Shift, InAscii, InRoman, InJis, Written, Wrote, Again, Lacks, Encoder, Coded, led_by}
+use Rattle.enc_model.specs.Encode.{Shift, InAscii, InRoman, InJis, Written, Wrote, Restore, Unmappable, Encoder, Coded, led_by}
 use Rattle.enc_model.specs.Encode.{reference, coded, joined, all_codes, after_written, settled, code_within}
-use Rattle.enc_model.specs.Encode.{plain_code, code_of, IsNoAgain, Tables, is_jis, shift_jis_encoder, euc_jp_encoder}
+use Rattle.enc_model.specs.Encode.{plain_code, code_of, IsNoRestore, Tables, is_jis, shift_jis_encoder, euc_jp_encoder}
 use Rattle.enc_model.specs.Encode.{iso2022_encoder, single_encoder, utf8_bytes, utf8_encoder, encoder}
 use Rattle.enc_model.proofs.Coding.{ArePlain, reference_plain, coded_is}
 use Rattle.enc_model.proofs.Steady.{encoder_steady}
@@ -39,18 +39,18 @@ plain_run f s each (x ∷ r) p =
 
 -- WHERE AN ENCODER IS AT AN ERROR
 
-abbrev AtLacks : Written → (Shift → Type 0) → Type 0
-AtLacks (Lacks b s d) P = P s
-AtLacks _ P = Unit {0}
+abbrev AtUnmappable : Written → (Shift → Type 0) → Type 0
+AtUnmappable (Unmappable b s d) P = P s
+AtUnmappable _ P = Unit {0}
 
 -- at an error its state takes plain characters as they are
 abbrev HasPlain : Encoder → Type 0
-HasPlain f = (s : Shift) (c x : ℕ) → 0x20 ≤ x → x < 0x5C → AtLacks (settled f c (f s c)) (λ z. StandsFor f z x)
+HasPlain f = (s : Shift) (c x : ℕ) → 0x20 ≤ x → x < 0x5C → AtUnmappable (settled f c (f s c)) (λ z. StandsFor f z x)
 
-anywhere : (w : Written) (P : Shift → Type 0) → ((z : Shift) → P z) → AtLacks w P
+anywhere : (w : Written) (P : Shift → Type 0) → ((z : Shift) → P z) → AtUnmappable w P
 anywhere (Wrote b s) P h = tt
-anywhere (Again b s) P h = tt
-anywhere (Lacks b s d) P h = h s
+anywhere (Restore b s) P h = tt
+anywhere (Unmappable b s d) P h = h s
 
 sjis_plain : (i : Index) (z : Shift) (x : ℕ) → 0x20 ≤ x → x < 0x5C → StandsFor (shift_jis_encoder i) z x
 unfolding shift_jis_encoder
@@ -74,17 +74,17 @@ iso_plain i k InAscii x e l h = grind (arith, nat_tests)
 iso_plain i k InRoman x e l h = grind (arith, nat_tests)
 iso_plain i k InJis x e l h = absurd cc
 
-iso_out : (i k : Index) (s : Shift) (c : ℕ) → AtLacks (settled (iso2022_encoder i k) c (iso2022_encoder i k s c))
+iso_out : (i k : Index) (s : Shift) (c : ℕ) → AtUnmappable (settled (iso2022_encoder i k) c (iso2022_encoder i k s c))
     (λ z. is_jis z ≡ false)
 unfolding iso2022_encoder
 iso_out i k InAscii c = grind (arith, nat_tests)
 iso_out i k InRoman c = grind (arith, nat_tests)
 iso_out i k InJis c = grind (arith, nat_tests)
 
-weaker : (w : Written) (P Q : Shift → Type 0) → ((z : Shift) → P z → Q z) → AtLacks w P → AtLacks w Q
+weaker : (w : Written) (P Q : Shift → Type 0) → ((z : Shift) → P z → Q z) → AtUnmappable w P → AtUnmappable w Q
 weaker (Wrote b s) P Q h p = tt
-weaker (Again b s) P Q h p = tt
-weaker (Lacks b s d) P Q h p = h s p
+weaker (Restore b s) P Q h p = tt
+weaker (Unmappable b s d) P Q h p = h s p
 
 encoder_plain : (t : Tables) (e : Encoding) → HasPlain (encoder t e)
 encoder_plain t encodings.Utf8 s c x l h = tt
@@ -114,12 +114,12 @@ joined_end r = go r.fault refl
     go (Some d) e = rw e refl
 
 within_final : (f : Encoder) (mode : Mode) (w : Written)
-    → ((x : ℕ) → 0x20 ≤ x → x < 0x5C → AtLacks w (λ z. StandsFor f z x)) →
+    → ((x : ℕ) → 0x20 ≤ x → x < 0x5C → AtUnmappable w (λ z. StandsFor f z x)) →
     code_within mode (all_codes (plain_code f)) w ≡ final mode w
 within_final f mode (Wrote b s) p = refl
-within_final f mode (Again b s) p = refl
-within_final f Html (Lacks b s d) p = ap (led_by b) (plain_run f s p (reference d) (reference_plain d))
-within_final f Fatal (Lacks b s d) p = refl
+within_final f mode (Restore b s) p = refl
+within_final f Html (Unmappable b s d) p = ap (led_by b) (plain_run f s p (reference d) (reference_plain d))
+within_final f Fatal (Unmappable b s d) p = refl
 
 pub coded_one : (t : Tables) (e : Encoding) (mode : Mode) (s : Shift) (c : ℕ) →
     coded (encoder t e) mode s (c ∷ []) ≡ (let f = encoder t e in final mode (settled f c (f s c)))
@@ -132,27 +132,27 @@ coded_one t e mode s c =
 -- bytes, and then what was written led_by them
 pub final_after : (mode : Mode) (x : List ℕ) (w : Written) → final mode (after_written x w) ≡ led_by x (final mode w)
 final_after mode x (Wrote b s) = refl
-final_after mode x (Again b s) = refl
-final_after Html x (Lacks b s d) = ap (λ z. record {
+final_after mode x (Restore b s) = refl
+final_after Html x (Unmappable b s d) = ap (λ z. record {
   bytes = z;
   state = s;
   fault = None;
 }) (append_assoc x b (reference d))
-final_after Fatal x (Lacks b s d) = refl
+final_after Fatal x (Unmappable b s d) = refl
 
-settled_once : (f : Encoder) (s : Shift) (c : ℕ) (w : Written) → f s c ≡ w → IsNoAgain w → settled f c (f s c) ≡ w
+settled_once : (f : Encoder) (s : Shift) (c : ℕ) (w : Written) → f s c ≡ w → IsNoRestore w → settled f c (f s c) ≡ w
 settled_once f s c (Wrote b z) e n = rw e refl
-settled_once f s c (Again b z) e n = absurd n
-settled_once f s c (Lacks b z d) e n = rw e refl
+settled_once f s c (Restore b z) e n = absurd n
+settled_once f s c (Unmappable b z d) e n = rw e refl
 
 module _ (t : Tables) (to : Encoding) (mode : Mode) (s : Shift) (c : ℕ) where
   -- where it does not ask again
-  pub coded_once : (w : Written) → w ≡ encoder t to s c → IsNoAgain w → coded (encoder t to) mode s (c ∷ []) ≡ final
+  pub coded_once : (w : Written) → w ≡ encoder t to s c → IsNoRestore w → coded (encoder t to) mode s (c ∷ []) ≡ final
       mode w
   coded_once w e n = coded_one t to mode s c ∙ ap (final mode) (settled_once (encoder t to) s c w (sym e) n)
 
   -- where it does
-  pub coded_twice : (b : List ℕ) (z : Shift) (w : Written) → Again b z ≡ encoder t to s c → w ≡ encoder t to z c →
+  pub coded_twice : (b : List ℕ) (z : Shift) (w : Written) → Restore b z ≡ encoder t to s c → w ≡ encoder t to z c →
       coded (encoder t to) mode s (c ∷ []) ≡ led_by b (final mode w)
   coded_twice b z w e h =
       coded_one t to mode s c
@@ -160,10 +160,11 @@ module _ (t : Tables) (to : Encoding) (mode : Mode) (s : Shift) (c : ℕ) where
       ∙ final_after mode b (encoder t to z c)
       ∙ ap (λ v. led_by b (final mode v)) (sym h)
 
-pub not_again : (w : CodeWritten) → ((b : Bytes) (s : ShiftState) → w ≡ code.Again b s → ⊥) → IsNoAgain (written_of w)
+pub not_again : (w : CodeWritten) → ((b : Bytes) (s : ShiftState) → w ≡ code.Restore b s → ⊥)
+    → IsNoRestore (written_of w)
 not_again (code.Wrote b s) n = tt
-not_again (code.Again b s) n = n b s refl
-not_again (code.Lacks b s d) n = tt
+not_again (code.Restore b s) n = n b s refl
+not_again (code.Unmappable b s d) n = tt
 
 -- A RUN OF ASCII
 

@@ -2,7 +2,7 @@
 use Rattle.std.proofs.Common.{ℕ, List, Vec, Result, Ok, Err}
 use Rattle.enc_model.specs.declared.Mode.{Mode}
 use Rattle.enc_model.specs.declared.Mode.TheVariants.{Html, Fatal}
-use Rattle.enc_model.specs.Encode.{Shift, Lacks, reference, Coded, led_by}
+use Rattle.enc_model.specs.Encode.{Shift, Unmappable, reference, Coded, led_by}
 use Rattle.enc_encode.specs.Code.{final}
 use Rattle.enc_encode.specs.declared.error.EncodeError.{EncodeError}
 use Rattle.enc_encode.specs.declared.error.EncodeError.TheVariants.{NoMemory, Unencodable}
@@ -12,10 +12,11 @@ use Rattle.enc_encode.specs.Growth.{Appended, Stopped}
 use Rattle.enc_encode.proofs.Growth.{prefix, both, after_part}
 
 -- refused before an error's own bytes
-pub lacks_prefix : (mode : Mode) (b : List ℕ) (s : Shift) (d : ℕ) {Z : Type 0} {old new : Vec ℕ Z} → Stopped old b new
-    → Stopped old (final mode (Lacks b s d)).bytes new
-lacks_prefix Html b s d p = prefix (reference d) p
-lacks_prefix Fatal b s d p = p
+pub unmappable_prefix : (mode : Mode) (b : List ℕ) (s : Shift) (d : ℕ) {Z : Type 0} {old new : Vec ℕ Z}
+    → Stopped old b new
+    → Stopped old (final mode (Unmappable b s d)).bytes new
+unmappable_prefix Html b s d p = prefix (reference d) p
+unmappable_prefix Fatal b s d p = p
 
 -- led_by a part of the code
 pub gave_after : {Z : Type 0} {old mid : Vec ℕ Z} (b : List ℕ) (code : Coded) (new : Vec ℕ Z)

@@ -100,7 +100,7 @@ module _ (t : Tables) (e : EncoderState) {Z : Type 0} where
 -- the bytes that switch to another set of characters, and then those of a character
 pub twice_kept : {Z : Type 0} (t : Tables) (e : EncoderState) (to : Encoding) (s : ShiftState) (c : ℕ) (b : Bytes)
     (between : ShiftState) (more : Bytes) (next : ShiftState) → to ≡ e.to →
-    encode.Again (bytes_of b) (shift_of between) ≡ encoder t to (shift_of s) c →
+    encode.Restore (bytes_of b) (shift_of between) ≡ encoder t to (shift_of s) c →
     encode.Wrote (bytes_of more) (shift_of next) ≡ encoder t to (shift_of between) c →
     (old : Vec ℕ Z) (held : List ℕ) (mid : Vec ℕ Z) (kept : List ℕ) (new : Vec ℕ Z) (last : List ℕ)
     (r : Result ShiftState EncodeError) → Passed old held (bytes_of b) mid kept →

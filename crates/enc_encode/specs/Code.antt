@@ -6,7 +6,7 @@ use Rattle.enc_model.specs.Encode as encode
 use Rattle.enc_encode.specs.declared.written.Bytes.{Bytes}
 use Rattle.enc_encode.specs.declared.written.Bytes.TheVariants.{Zero, One, Two, Three, Four, Five}
 use Rattle.enc_encode.specs.declared.written.Written.{Written}
-use Rattle.enc_encode.specs.declared.written.Written.TheVariants.{Wrote, Again, Lacks}
+use Rattle.enc_encode.specs.declared.written.Written.TheVariants.{Wrote, Restore, Unmappable}
 use Rattle.enc_encode.specs.State.{shift_of}
 
 abbrev pub bytes_of : Bytes → List ℕ
@@ -19,12 +19,12 @@ bytes_of (Five a) = a
 
 abbrev pub written_of : Written → encode.Written
 written_of (Wrote b s) = encode.Wrote (bytes_of b) (shift_of s)
-written_of (Again b s) = encode.Again (bytes_of b) (shift_of s)
-written_of (Lacks b s c) = encode.Lacks (bytes_of b) (shift_of s) c
+written_of (Restore b s) = encode.Restore (bytes_of b) (shift_of s)
+written_of (Unmappable b s c) = encode.Unmappable (bytes_of b) (shift_of s) c
 
 -- what is written in the end: the bytes, and for an error the reference or nothing more
 abbrev pub final : Mode → encode.Written → encode.Coded
 final mode (encode.Wrote b s) = record { bytes = b; state = s; fault = None }
-final mode (encode.Again b s) = record { bytes = b; state = s; fault = None }
-final Html (encode.Lacks b s c) = record { bytes = b ++ encode.reference c; state = s; fault = None }
-final Fatal (encode.Lacks b s c) = record { bytes = b; state = s; fault = Some c }
+final mode (encode.Restore b s) = record { bytes = b; state = s; fault = None }
+final Html (encode.Unmappable b s c) = record { bytes = b ++ encode.reference c; state = s; fault = None }
+final Fatal (encode.Unmappable b s c) = record { bytes = b; state = s; fault = Some c }

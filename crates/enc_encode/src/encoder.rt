@@ -133,7 +133,7 @@ impl Encoder {
             out.new result }
     {
         match written(set, self.to, shift, c) {
-            Written::Again(bytes, next) => {
+            Written::Restore(bytes, next) => {
                 append(bytes.as_slice(), out)?;
                 write_out(self.mode, written(set, self.to, next, c), out)
             }
@@ -175,7 +175,7 @@ impl Encoder {
             out.new result }
     {
         match iso2022_ascii(shift, b) {
-            Written::Again(bytes, next) => {
+            Written::Restore(bytes, next) => {
                 append(bytes.as_slice(), out)?;
                 write_out(self.mode, iso2022_ascii(next, b), out)
             }
@@ -249,7 +249,7 @@ impl Encoder {
             held.hold(bytes, out)?;
             return Ok(next);
         }
-        if let Written::Again(bytes, between) = first {
+        if let Written::Restore(bytes, between) = first {
             if let Written::Wrote(more, next) = written(set, to, between, c) {
                 held.hold(bytes, out)?;
                 held.hold(more, out)?;

@@ -47,7 +47,7 @@ fn single_byte(set: &IndexSet, to: Encoding, shift: ShiftState, c: char) -> Writ
     }
     match set.pointer(Kind::Single(to), c) {
         Some(pointer) => Written::Wrote(Bytes::One([(pointer + 0x80) as u8]), shift),
-        None => Written::Lacks(Bytes::Zero, shift, c),
+        None => Written::Unmappable(Bytes::Zero, shift, c),
     }
 }
 
@@ -92,7 +92,7 @@ fn shift_jis(set: &IndexSet, shift: ShiftState, c: char) -> Written
                     let (lead, trail) = shift_jis_pair(pointer);
                     Written::Wrote(Bytes::Two([lead, trail]), shift)
                 }
-                None => Written::Lacks(Bytes::Zero, shift, c),
+                None => Written::Unmappable(Bytes::Zero, shift, c),
             }
         }
     }
@@ -139,7 +139,7 @@ fn euc_jp(set: &IndexSet, shift: ShiftState, c: char) -> Written
                     let (lead, trail) = pair_of_94(0xA1, pointer);
                     Written::Wrote(Bytes::Two([lead, trail]), shift)
                 }
-                None => Written::Lacks(Bytes::Zero, shift, c),
+                None => Written::Unmappable(Bytes::Zero, shift, c),
             }
         }
     }

@@ -32,8 +32,8 @@ fn lacking(shift: ShiftState, c: char) -> Written
     ensures { written_of result ≡ iso2022_pointer (shift_of shift) c None }
 {
     match shift {
-        ShiftState::Jis => Written::Lacks(TO_ASCII, ShiftState::Ascii, c),
-        _ => Written::Lacks(Bytes::Zero, shift, c),
+        ShiftState::Jis => Written::Unmappable(TO_ASCII, ShiftState::Ascii, c),
+        _ => Written::Unmappable(Bytes::Zero, shift, c),
     }
 }
 
@@ -75,10 +75,10 @@ pub fn iso2022_ascii(shift: ShiftState, b: u8) -> Written
 {
     match (shift, b) {
         (ShiftState::Ascii | ShiftState::Roman, 0x0E | 0x0F | 0x1B) => {
-            Written::Lacks(Bytes::Zero, shift, '\u{FFFD}')
+            Written::Unmappable(Bytes::Zero, shift, '\u{FFFD}')
         }
         (ShiftState::Jis, _) | (ShiftState::Roman, 0x5C | 0x7E) => {
-            Written::Again(TO_ASCII, ShiftState::Ascii)
+            Written::Restore(TO_ASCII, ShiftState::Ascii)
         }
         _ => Written::Wrote(Bytes::One([b]), shift),
     }
@@ -96,7 +96,7 @@ pub fn iso2022_jp(set: &IndexSet, shift: ShiftState, c: char) -> Written
         (ShiftState::Roman, '\u{A5}') => Written::Wrote(Bytes::One([0x5C]), shift),
         (ShiftState::Roman, '\u{203E}') => Written::Wrote(Bytes::One([0x7E]), shift),
         (_, '\u{A5}' | '\u{203E}') => {
-            Written::Again(Bytes::Three([0x1B, 0x28, 0x4A]), ShiftState::Roman)
+            Written::Restore(Bytes::Three([0x1B, 0x28, 0x4A]), ShiftState::Roman)
         }
         _ => looked_up(set, shift, c),
     }

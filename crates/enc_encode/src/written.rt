@@ -38,7 +38,7 @@ pub enum Written {
     /// the character's bytes
     Wrote(Bytes, ShiftState),
     /// bytes after which it wants the character again
-    Again(Bytes, ShiftState),
+    Restore(Bytes, ShiftState),
     /// bytes, and then the error for this character
-    Lacks(Bytes, ShiftState, char),
+    Unmappable(Bytes, ShiftState, char),
 }

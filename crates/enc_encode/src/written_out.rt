@@ -14,11 +14,11 @@ pub fn write_out(mode: Mode, written: Written, out: &mut Vec<u8>) -> Result<Shif
     ensures { Gave (final mode (written_of written)) out.old out.new result }
 {
     match written {
-        Written::Wrote(bytes, next) | Written::Again(bytes, next) => {
+        Written::Wrote(bytes, next) | Written::Restore(bytes, next) => {
             append(bytes.as_slice(), out)?;
             Ok(next)
         }
-        Written::Lacks(bytes, next, c) => {
+        Written::Unmappable(bytes, next, c) => {
             append(bytes.as_slice(), out)?;
             match mode {
                 Mode::Html => append_reference(c, out)?,

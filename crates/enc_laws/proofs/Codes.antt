@@ -2,18 +2,18 @@
 use Rattle.std.proofs.Common.{ℕ, ◌≡◌, List, [], ◌∷◌, ◌++◌, None, refl, sym, ◌∙◌, ap}
 use Rattle.enc_model.specs.declared.Mode.{Mode}
 use Rattle.enc_model.specs.declared.Mode.TheVariants.{Html, Fatal}
-use Rattle.enc_model.specs.Encode.{Shift, Written, Wrote, Again, Lacks, Encoder, Coded, led_by, went, reference}
+use Rattle.enc_model.specs.Encode.{Shift, Written, Wrote, Restore, Unmappable, Encoder, Coded, led_by, went, reference}
 use Rattle.enc_model.specs.Encode.{coded_within, coded, joined, all_codes, after_written, settled, code_within}
-use Rattle.enc_model.specs.Encode.{plain_code, code_of, IsWrote, IsNoAgain, IsSteady}
+use Rattle.enc_model.specs.Encode.{plain_code, code_of, IsWrote, IsNoRestore, IsSteady}
 use Rattle.enc_model.proofs.Coding.{ArePlain, all_codes_append, coded_is, joined_after, joined_more, code_after}
 use Rattle.enc_model.proofs.Coding.{reference_plain}
 
 -- WHAT AN ENCODER GIVES
 
-settled_same : (f : Encoder) (c : ℕ) (x : List ℕ) (w : Written) → IsNoAgain (after_written x w) → settled f c w ≡ w
+settled_same : (f : Encoder) (c : ℕ) (x : List ℕ) (w : Written) → IsNoRestore (after_written x w) → settled f c w ≡ w
 settled_same f c x (Wrote b s) n = refl
-settled_same f c x (Again b s) n = absurd n
-settled_same f c x (Lacks b s d) n = refl
+settled_same f c x (Restore b s) n = absurd n
+settled_same f c x (Unmappable b s d) n = refl
 
 module _ (f : Encoder) (steady : IsSteady f) (mode : Mode) where
   plain_one : (w : Written) → IsWrote w →
@@ -23,8 +23,8 @@ module _ (f : Encoder) (steady : IsSteady f) (mode : Mode) where
         fault = None;
       }) w
   plain_one (Wrote b s) i = refl
-  plain_one (Again b s) i = absurd i
-  plain_one (Lacks b s d) i = absurd i
+  plain_one (Restore b s) i = absurd i
+  plain_one (Unmappable b s d) i = absurd i
 
   plain_codes : (r : List ℕ) (s : Shift) → ArePlain r → all_codes (code_of f mode) s r ≡ all_codes (plain_code f) s r
   plain_codes [] s p = refl
@@ -42,20 +42,21 @@ module _ (f : Encoder) (steady : IsSteady f) (mode : Mode) where
     abbrev rest : Shift → Coded
     rest next = all_codes (code_of f mode) next cs
 
-    lacks_case : (m : Mode) (b : List ℕ) (s : Shift) (d : ℕ) → m ≡ mode →
-        joined (code_within m (all_codes (plain_code f)) (Lacks b s d)) rest ≡ went m (coded f mode) c cs (Lacks b s d)
-    lacks_case Fatal b s d e = refl
-    lacks_case Html b s d e =
+    unmappable_case : (m : Mode) (b : List ℕ) (s : Shift) (d : ℕ) → m ≡ mode →
+        joined (code_within m (all_codes (plain_code f)) (Unmappable b s d)) rest ≡ went m (coded f mode) c cs
+        (Unmappable b s d)
+    unmappable_case Fatal b s d e = refl
+    unmappable_case Html b s d e =
         let ref = reference d in
         joined_after b (all_codes (plain_code f) s ref) rest
         ∙ ap (λ z. led_by b (joined z rest)) (sym (plain_codes ref s (reference_plain d)))
         ∙ ap (led_by b) (sym (all_codes_append (code_of f mode) s ref cs) ∙ sym (coded_is f steady mode s (ref ++ cs)))
 
-    more_case : (w : Written) → IsNoAgain (settled f c w) →
+    more_case : (w : Written) → IsNoRestore (settled f c w) →
         joined (code_within mode (all_codes (plain_code f)) (settled f c w)) rest ≡ went mode (coded f mode) c cs w
     more_case (Wrote b s) n = ap (led_by b) (sym (coded_is f steady mode s cs))
-    more_case (Lacks b s d) n = lacks_case mode b s d refl
-    more_case (Again b s) n =
+    more_case (Unmappable b s d) n = unmappable_case mode b s d refl
+    more_case (Restore b s) n =
         let go = all_codes (plain_code f) in
         ap (λ z. joined z rest) (code_after mode go b (f s c))
         ∙ joined_after b (code_within mode go (f s c)) rest

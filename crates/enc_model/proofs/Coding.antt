@@ -5,9 +5,9 @@ use Rattle.std.proofs.Common.{◌%◌, ◌==◌, if◌then◌else◌}
 use Rattle.std.specs.Fmt.{decimal, digits, digits_onto, digit_glyph}
 use Rattle.enc_model.specs.declared.Mode.{Mode}
 use Rattle.enc_model.specs.declared.Mode.TheVariants.{Html, Fatal}
-use Rattle.enc_model.specs.Encode.{Shift, Written, Wrote, Again, Lacks, Encoder, Coded, led_by, went, reference}
+use Rattle.enc_model.specs.Encode.{Shift, Written, Wrote, Restore, Unmappable, Encoder, Coded, led_by, went, reference}
 use Rattle.enc_model.specs.Encode.{coded_within, coded, joined, all_codes, after_written, settled, code_within}
-use Rattle.enc_model.specs.Encode.{plain_code, code_of, IsWrote, IsNoAgain, IsSteady}
+use Rattle.enc_model.specs.Encode.{plain_code, code_of, IsWrote, IsNoRestore, IsSteady}
 
 led_by_led_by : (x y : List ℕ) (r : Coded) → led_by x (led_by y r) ≡ led_by (x ++ y) r
 led_by_led_by x y r = simp append_assoc
@@ -47,19 +47,19 @@ all_codes_append g s (c ∷ a) b =
 pub code_after : (mode : Mode) (go : Shift → List ℕ → Coded) (x : List ℕ) (w : Written) →
     code_within mode go (after_written x w) ≡ led_by x (code_within mode go w)
 code_after mode go x (Wrote b s) = refl
-code_after mode go x (Again b s) = refl
-code_after Html go x (Lacks b s d) = sym (led_by_led_by x b (go s (reference d)))
-code_after Fatal go x (Lacks b s d) = refl
+code_after mode go x (Restore b s) = refl
+code_after Html go x (Unmappable b s d) = sym (led_by_led_by x b (go s (reference d)))
+code_after Fatal go x (Unmappable b s d) = refl
 
-no_again_after : (x : List ℕ) (w : Written) → IsNoAgain (after_written x w) → IsNoAgain w
-no_again_after x (Wrote b s) n = tt
-no_again_after x (Again b s) n = n
-no_again_after x (Lacks b s d) n = tt
+no_restore_after : (x : List ℕ) (w : Written) → IsNoRestore (after_written x w) → IsNoRestore w
+no_restore_after x (Wrote b s) n = tt
+no_restore_after x (Restore b s) n = n
+no_restore_after x (Unmappable b s d) n = tt
 
 wrote_after : (x : List ℕ) (w : Written) → IsWrote (after_written x w) → IsWrote w
 wrote_after x (Wrote b s) n = tt
-wrote_after x (Again b s) n = n
-wrote_after x (Lacks b s d) n = n
+wrote_after x (Restore b s) n = n
+wrote_after x (Unmappable b s d) n = n
 
 -- characters that are never an error
 abbrev pub ArePlain : List ℕ → Type 0
@@ -106,8 +106,8 @@ module _ (f : Encoder) (steady : IsSteady f) (mode : Mode) where
   one_fault : (w : Written)
       → (code_within Html (λ next cs. record { bytes = []; state = next; fault = None }) w).fault ≡ None
   one_fault (Wrote b s) = refl
-  one_fault (Again b s) = refl
-  one_fault (Lacks b s d) = refl
+  one_fault (Restore b s) = refl
+  one_fault (Unmappable b s d) = refl
 
   joined_none : (r : Coded) (m : Shift → Coded) → r.fault ≡ None → joined r m ≡ led_by r.bytes (m r.state)
   joined_none r m e = rw e refl
@@ -135,8 +135,8 @@ module _ (f : Encoder) (steady : IsSteady f) (mode : Mode) where
       let rest = all_codes (plain_code f) s r in
       led_by_led_by prefix b (coded_within j f mode s (r ++ cs)) ∙ ap (led_by (prefix ++ b)) (ih s h)
       ∙ led_by_led_by (prefix ++ b) rest.bytes x
-  plain_wrote c r cs prefix (Again b s) j x w ih h = absurd w
-  plain_wrote c r cs prefix (Lacks b s d) j x w ih h = absurd w
+  plain_wrote c r cs prefix (Restore b s) j x w ih h = absurd w
+  plain_wrote c r cs prefix (Unmappable b s d) j x w ih h = absurd w
 
   plain_case : (c : ℕ) (r cs : List ℕ) (w : Written) (i : ℕ) (x : Coded) → IsWrote (settled f c w) → 2 * length r ≤ i →
       ((j : ℕ) (s : Shift) → 2 * length r ≤ j
@@ -153,9 +153,9 @@ module _ (f : Encoder) (steady : IsSteady f) (mode : Mode) where
   plain_case c r cs (Wrote b s) i x w l ih h =
       plain_wrote c r cs [] (Wrote b s) (suc i) x tt (λ s z. ih (suc i) s (omega arith) z)
       (λ m k. h m (omega (arith, k)))
-  plain_case c r cs (Again b s) i x w l ih h =
+  plain_case c r cs (Restore b s) i x w l ih h =
       plain_wrote c r cs b (f s c) i x (wrote_after b (f s c) w) (λ s z. ih i s l z) (λ m k. h m (omega (arith, k)))
-  plain_case c r cs (Lacks b s d) i x w l ih h = absurd w
+  plain_case c r cs (Unmappable b s d) i x w l ih h = absurd w
 
   -- a run of them
   plain_run : (r : List ℕ) (s : Shift) (cs : List ℕ) (n : ℕ) (x : Coded) → ArePlain r → 2 * length r ≤ n →
@@ -181,15 +181,15 @@ module _ (f : Encoder) (steady : IsSteady f) (mode : Mode) where
       (λ m k. ih r.state m (omega (arith, k, short)))
       ∙ sym (joined_none r (λ next. all_codes (code_of f mode) next cs) (plain_fault (reference d) s))
 
-  own_case : (c : ℕ) (cs : List ℕ) (w : Written) (n : ℕ) → IsNoAgain w → 134 + 136 * length cs ≤ n →
+  own_case : (c : ℕ) (cs : List ℕ) (w : Written) (n : ℕ) → IsNoRestore w → 134 + 136 * length cs ≤ n →
       ((z : Shift) (m : ℕ) → 136 * length cs ≤ m → coded_within m f mode z cs ≡ all_codes (code_of f mode) z cs) →
       went mode (coded_within n f mode) c cs w
       ≡ joined (code_within mode (all_codes (plain_code f)) w) (λ next. all_codes (code_of f mode) next cs)
   own_case c cs (Wrote b s) n a l ih = ap (led_by b) (ih s n (omega arith))
-  own_case c cs (Again b s) n a l ih = absurd a
-  own_case c cs (Lacks b s d) n a l ih =
-      elim mode as (λ y. went y (coded_within n f mode) c cs (Lacks b s d) ≡ joined
-      (code_within y (all_codes (plain_code f)) (Lacks b s d)) (λ next. all_codes (code_of f mode) next cs)) [
+  own_case c cs (Restore b s) n a l ih = absurd a
+  own_case c cs (Unmappable b s d) n a l ih =
+      elim mode as (λ y. went y (coded_within n f mode) c cs (Unmappable b s d) ≡ joined
+      (code_within y (all_codes (plain_code f)) (Unmappable b s d)) (λ next. all_codes (code_of f mode) next cs)) [
         | Html ↦
             let r = all_codes (plain_code f) s (reference d) in
             ap (led_by b) (reference_run d s cs n l ih) ∙ sym
@@ -197,19 +197,19 @@ module _ (f : Encoder) (steady : IsSteady f) (mode : Mode) where
         | Fatal ↦ refl
       ]
 
-  code_case : (c : ℕ) (cs : List ℕ) (w : Written) (n : ℕ) → IsNoAgain (settled f c w) → 135 + 136 * length cs ≤ n →
+  code_case : (c : ℕ) (cs : List ℕ) (w : Written) (n : ℕ) → IsNoRestore (settled f c w) → 135 + 136 * length cs ≤ n →
       ((z : Shift) (m : ℕ) → 136 * length cs ≤ m → coded_within m f mode z cs ≡ all_codes (code_of f mode) z cs) →
       went mode (coded_within n f mode) c cs w
       ≡ joined (code_within mode (all_codes (plain_code f)) (settled f c w))
       (λ next. all_codes (code_of f mode) next cs)
   unfolding coded_within
   code_case c cs (Wrote b s) n a l ih = own_case c cs (Wrote b s) n tt (omega arith) ih
-  code_case c cs (Lacks b s d) n a l ih = own_case c cs (Lacks b s d) n tt (omega arith) ih
-  code_case c cs (Again b s) zero a l ih = absurd (omega arith)
-  code_case c cs (Again b s) (suc i) a l ih =
+  code_case c cs (Unmappable b s d) n a l ih = own_case c cs (Unmappable b s d) n tt (omega arith) ih
+  code_case c cs (Restore b s) zero a l ih = absurd (omega arith)
+  code_case c cs (Restore b s) (suc i) a l ih =
       let w = f s c in
       let more = λ (next : Shift). all_codes (code_of f mode) next cs in
-      ap (led_by b) (own_case c cs w i (no_again_after b w a) (omega arith) ih)
+      ap (led_by b) (own_case c cs w i (no_restore_after b w a) (omega arith) ih)
       ∙ sym (joined_after b (code_within mode (all_codes (plain_code f)) w) more)
       ∙ ap (λ r. joined r more) (sym (code_after mode (all_codes (plain_code f)) b w))
 

@@ -4,11 +4,11 @@ use Rattle.std.proofs.lemmas.Bool.Decides.{nat_tests}
 use Rattle.enc_model.specs.declared.Encoding.{Encoding}
 use Rattle.enc_model.specs.declared.Encoding.TheVariants as encodings
 use Rattle.enc_model.specs.Index.{Index}
-use Rattle.enc_model.specs.Encode.{Shift, InAscii, InRoman, InJis, settled, IsWrote, IsNoAgain, IsSteady}
+use Rattle.enc_model.specs.Encode.{Shift, InAscii, InRoman, InJis, settled, IsWrote, IsNoRestore, IsSteady}
 use Rattle.enc_model.specs.Encode.{shift_jis_encoder, euc_jp_encoder, iso2022_encoder, single_encoder, utf8_encoder}
 use Rattle.enc_model.specs.Encode.{encoder, Tables}
 
-sjis_once : (i : Index) (s : Shift) (c : ℕ) → IsNoAgain (settled (shift_jis_encoder i) c (shift_jis_encoder i s c))
+sjis_once : (i : Index) (s : Shift) (c : ℕ) → IsNoRestore (settled (shift_jis_encoder i) c (shift_jis_encoder i s c))
 unfolding shift_jis_encoder
 sjis_once i s c = grind (arith, nat_tests)
 
@@ -17,7 +17,7 @@ sjis_ascii : (i : Index) (s : Shift) (c : ℕ) → 0x20 ≤ c → c < 0x5C → I
 unfolding shift_jis_encoder
 sjis_ascii i s c l h = grind (arith, nat_tests)
 
-euc_once : (i : Index) (s : Shift) (c : ℕ) → IsNoAgain (settled (euc_jp_encoder i) c (euc_jp_encoder i s c))
+euc_once : (i : Index) (s : Shift) (c : ℕ) → IsNoRestore (settled (euc_jp_encoder i) c (euc_jp_encoder i s c))
 unfolding euc_jp_encoder
 euc_once i s c = grind (arith, nat_tests)
 
@@ -33,13 +33,13 @@ iso_ascii i k InAscii c l h = grind (arith, nat_tests)
 iso_ascii i k InRoman c l h = grind (arith, nat_tests)
 iso_ascii i k InJis c l h = grind (arith, nat_tests)
 
-iso_once : (i k : Index) (s : Shift) (c : ℕ) → IsNoAgain (settled (iso2022_encoder i k) c (iso2022_encoder i k s c))
+iso_once : (i k : Index) (s : Shift) (c : ℕ) → IsNoRestore (settled (iso2022_encoder i k) c (iso2022_encoder i k s c))
 unfolding iso2022_encoder
 iso_once i k InAscii c = grind (arith, nat_tests)
 iso_once i k InRoman c = grind (arith, nat_tests)
 iso_once i k InJis c = grind (arith, nat_tests)
 
-single_once : (i : Index) (s : Shift) (c : ℕ) → IsNoAgain (settled (single_encoder i) c (single_encoder i s c))
+single_once : (i : Index) (s : Shift) (c : ℕ) → IsNoRestore (settled (single_encoder i) c (single_encoder i s c))
 unfolding single_encoder
 single_once i s c = grind (arith, nat_tests)
 

@@ -24,8 +24,8 @@ pub data Shift : Type 0 where
 -- error with this code point. Each has the next state.
 pub data Written : Type 0 where
   Wrote : List ℕ → Shift → Written
-  Again : List ℕ → Shift → Written
-  Lacks : List ℕ → Shift → ℕ → Written
+  Restore : List ℕ → Shift → Written
+  Unmappable : List ℕ → Shift → ℕ → Written
 
 -- An encoder answers to a state and a code point.
 abbrev pub Encoder : Type 0
@@ -34,7 +34,7 @@ Encoder = Shift → ℕ → Written
 -- The bytes, or an error for c.
 abbrev pub known : Shift → ℕ → Option (List ℕ) → Written
 known s c (Some bytes) = Wrote bytes s
-known s c None = Lacks [] s c
+known s c None = Unmappable [] s c
 
 -- The bytes of a pointer, if there is one.
 abbrev pub mapped : Option ℕ → (ℕ → List ℕ) → Option (List ℕ)
@@ -112,7 +112,7 @@ abbrev pub iso2022_pointer : Shift → ℕ → Option ℕ → Written
 iso2022_pointer s c (Some p) =
     let bytes = (p / 94 + 0x21) ∷ (p % 94 + 0x21) ∷ [] in
     Wrote (if is_jis s then bytes else 0x1B ∷ 0x24 ∷ 0x42 ∷ bytes) InJis
-iso2022_pointer s c None = if is_jis s then Lacks to_ascii InAscii c else Lacks [] s c
+iso2022_pointer s c None = if is_jis s then Unmappable to_ascii InAscii c else Unmappable [] s c
 
 -- Half-width katakana become full-width, by the katakana index.
 abbrev pub widened : Index → ℕ → Option ℕ
@@ -126,13 +126,13 @@ iso2022_wide jis0208 s c None = iso2022_pointer s c None
 -- The ISO-2022-JP encoder (12.2.2).
 unfoldable pub iso2022_encoder : Index → Index → Encoder
 iso2022_encoder jis0208 katakana s c =
-    if not (is_jis s) && ((c == 0x0E) || (c == 0x0F) || (c == 0x1B)) then Lacks [] s 0xFFFD
+    if not (is_jis s) && ((c == 0x0E) || (c == 0x0F) || (c == 0x1B)) then Unmappable [] s 0xFFFD
     else if is_ascii s && nat_lt c 0x80 then Wrote (c ∷ []) s
     else if is_roman s && nat_lt c 0x80 && not ((c == 0x5C) || (c == 0x7E)) then Wrote (c ∷ []) s
     else if is_roman s && (c == 0xA5) then Wrote (0x5C ∷ []) s
     else if is_roman s && (c == 0x203E) then Wrote (0x7E ∷ []) s
-    else if nat_lt c 0x80 && not (is_ascii s) then Again to_ascii InAscii
-    else if ((c == 0xA5) || (c == 0x203E)) && not (is_roman s) then Again (0x1B ∷ 0x28 ∷ 0x4A ∷ []) InRoman
+    else if nat_lt c 0x80 && not (is_ascii s) then Restore to_ascii InAscii
+    else if ((c == 0xA5) || (c == 0x203E)) && not (is_roman s) then Restore (0x1B ∷ 0x28 ∷ 0x4A ∷ []) InRoman
     else iso2022_wide jis0208 s (minus c) (widened katakana (minus c))
 
 -- The bytes at the end: ISO-2022-JP returns to ASCII.
@@ -175,9 +175,9 @@ led_by bytes coded = record { bytes = bytes ++ coded.bytes; state = coded.state;
 -- The run goes on after an encoder's answer to c, before cs.
 abbrev pub went : Mode → (Shift → List ℕ → Coded) → ℕ → List ℕ → Written → Coded
 went mode go c cs (Wrote bytes s) = led_by bytes (go s cs)
-went mode go c cs (Again bytes s) = led_by bytes (go s (c ∷ cs))
-went Html go c cs (Lacks bytes s d) = led_by bytes (go s (reference d ++ cs))
-went Fatal go c cs (Lacks bytes s d) = record { bytes = bytes; state = s; fault = Some d }
+went mode go c cs (Restore bytes s) = led_by bytes (go s (c ∷ cs))
+went Html go c cs (Unmappable bytes s d) = led_by bytes (go s (reference d ++ cs))
+went Fatal go c cs (Unmappable bytes s d) = record { bytes = bytes; state = s; fault = Some d }
 
 -- The run over a whole list, in at most n calls. The characters of a reference are put first.
 unfoldable pub coded_within : ℕ → Encoder → Mode → Shift → List ℕ → Coded
@@ -204,21 +204,21 @@ all_codes g s (c ∷ cs) = joined (g s c) (λ next. all_codes g next cs)
 -- The answer after these bytes.
 abbrev pub after_written : List ℕ → Written → Written
 after_written prefix (Wrote bytes s) = Wrote (prefix ++ bytes) s
-after_written prefix (Again bytes s) = Again (prefix ++ bytes) s
-after_written prefix (Lacks bytes s d) = Lacks (prefix ++ bytes) s d
+after_written prefix (Restore bytes s) = Restore (prefix ++ bytes) s
+after_written prefix (Unmappable bytes s d) = Unmappable (prefix ++ bytes) s d
 
 -- The answer of an encoder that reads the code point again at most once.
 abbrev pub settled : Encoder → ℕ → Written → Written
-settled f c (Again bytes s) = after_written bytes (f s c)
+settled f c (Restore bytes s) = after_written bytes (f s c)
 settled f c (Wrote bytes s) = Wrote bytes s
-settled f c (Lacks bytes s d) = Lacks bytes s d
+settled f c (Unmappable bytes s d) = Unmappable bytes s d
 
 -- The code of one code point.
 abbrev pub code_within : Mode → (Shift → List ℕ → Coded) → Written → Coded
 code_within mode go (Wrote bytes s) = record { bytes = bytes; state = s; fault = None }
-code_within mode go (Again bytes s) = record { bytes = bytes; state = s; fault = None }
-code_within Html go (Lacks bytes s d) = led_by bytes (go s (reference d))
-code_within Fatal go (Lacks bytes s d) = record { bytes = bytes; state = s; fault = Some d }
+code_within mode go (Restore bytes s) = record { bytes = bytes; state = s; fault = None }
+code_within Html go (Unmappable bytes s d) = led_by bytes (go s (reference d))
+code_within Fatal go (Unmappable bytes s d) = record { bytes = bytes; state = s; fault = Some d }
 
 -- The code of a character of a reference, which is never an error.
 abbrev pub plain_code : Encoder → Shift → ℕ → Coded
@@ -234,13 +234,13 @@ IsWrote (Wrote bytes s) = Unit {0}
 IsWrote _ = ⊥
 
 -- The code point isn't read again.
-abbrev pub IsNoAgain : Written → Type 0
-IsNoAgain (Again bytes s) = ⊥
-IsNoAgain _ = Unit {0}
+abbrev pub IsNoRestore : Written → Type 0
+IsNoRestore (Restore bytes s) = ⊥
+IsNoRestore _ = Unit {0}
 
 -- A steady encoder reads a code point again at most once, and encodes all that a reference consists of.
 pub record IsSteady (f : Encoder) : Type 0 where
-  pub once : (s : Shift) (c : ℕ) → IsNoAgain (settled f c (f s c))
+  pub once : (s : Shift) (c : ℕ) → IsNoRestore (settled f c (f s c))
   pub ascii : (s : Shift) (c : ℕ) → 0x20 ≤ c → c < 0x5C → IsWrote (settled f c (f s c))
 
 -- The bytes of the end are appended, unless there was a fault.

@@ -6,14 +6,14 @@ use Rattle.enc_model.specs.declared.Encoding.TheVariants.{Utf8, Utf16Be, Utf16Le
 use Rattle.enc_model.specs.declared.Mode.{Mode}
 use Rattle.enc_model.specs.declared.Mode.TheVariants.{Html, Fatal}
 use Rattle.enc_model.specs.Index.{Index}
-use Rattle.enc_model.specs.Encode.{Tables, Shift, InAscii, Encoder, Written, Wrote, Again, Lacks, Coded, coded}
+use Rattle.enc_model.specs.Encode.{Tables, Shift, InAscii, Encoder, Written, Wrote, Restore, Unmappable, Coded, coded}
 use Rattle.enc_model.specs.Encode.{coded_within, went, reference, encoder, shift_jis_encoder, euc_jp_encoder}
 use Rattle.enc_model.specs.Encode.{single_encoder}
 
 abbrev shift_after : Written → Shift
 shift_after (Wrote bytes s) = s
-shift_after (Again bytes s) = s
-shift_after (Lacks bytes s c) = s
+shift_after (Restore bytes s) = s
+shift_after (Unmappable bytes s c) = s
 
 -- it leaves its state as it is
 abbrev IsStill : Encoder → Type 0
@@ -23,9 +23,9 @@ went_still : (mode : Mode) (go : Shift → List ℕ → Coded) (c : ℕ) (cs : L
     → ((s : Shift) (cs : List ℕ) → (go s cs).state ≡ s) →
     (went mode go c cs w).state ≡ shift_after w
 went_still mode go c cs (Wrote bytes s) h = h s cs
-went_still mode go c cs (Again bytes s) h = h s (c ∷ cs)
-went_still Html go c cs (Lacks bytes s d) h = h s (reference d ++ cs)
-went_still Fatal go c cs (Lacks bytes s d) h = refl
+went_still mode go c cs (Restore bytes s) h = h s (c ∷ cs)
+went_still Html go c cs (Unmappable bytes s d) h = h s (reference d ++ cs)
+went_still Fatal go c cs (Unmappable bytes s d) h = refl
 
 within_still : (f : Encoder) → IsStill f → (mode : Mode) (n : ℕ) (s : Shift) (cs : List ℕ)
     → (coded_within n f mode s cs).state ≡ s

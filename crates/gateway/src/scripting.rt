@@ -52,7 +52,7 @@ fn fault_of(fault: RunFault) -> Fault {
     match fault {
         RunFault::Open(fault) => Fault::from(fault),
         RunFault::NoMemory => Fault::NoMemory,
-        RunFault::DiskFault => Fault::Device,
+        RunFault::DiskFault => Fault::DiskFault,
         RunFault::Script(line) => Fault::Script(line),
         RunFault::Io => Fault::Io,
     }

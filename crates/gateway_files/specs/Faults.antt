@@ -14,7 +14,7 @@ use Rattle.gateway_files.specs.declared.faults.Fault.TheVariants as faults
 -- THE PROGRAM'S REFUSALS, each with its number and its name. A disk fault is none
 abbrev pub refusal_of : Fault → Option (ℕ × List ℕ)
 refusal_of faults.NoMemory = Some (0, codes "NoMemory")
-refusal_of faults.Device = None
+refusal_of faults.DiskFault = None
 refusal_of faults.Damaged = Some (2, codes "Damaged")
 refusal_of (faults.Index file (lines.Line line)) = Some (3, codes "Line")
 refusal_of (faults.Index file (lines.Range line)) = Some (4, codes "Range")
@@ -54,13 +54,13 @@ line_of fault = said (refusal_of fault) (place_of fault)
 
 -- and its status: 3 for the disk, 2 for each refusal
 abbrev pub status_of : Fault → ℕ
-status_of faults.Device = 3
+status_of faults.DiskFault = 3
 status_of fault = 2
 
 -- WHAT THE CALLS BELOW REFUSE, as the program says it
 abbrev pub open_fault : OpenFault → Fault
 open_fault opens.NotASpool = faults.NotASpool
-open_fault opens.DiskFault = faults.Device
+open_fault opens.DiskFault = faults.DiskFault
 open_fault opens.Damaged = faults.Damaged
 open_fault opens.Version = faults.Version
 open_fault opens.NoMemory = faults.NoMemory
@@ -68,7 +68,7 @@ open_fault opens.NoMemory = faults.NoMemory
 abbrev pub format_fault : FormatError → Fault
 format_fault formats.AlreadySpool = faults.AlreadySpool
 format_fault formats.Size = faults.Size
-format_fault formats.DiskFault = faults.Device
+format_fault formats.DiskFault = faults.DiskFault
 
 abbrev pub upgrade_fault : UpgradeError → Fault
 upgrade_fault (upgrades.Open fault) = open_fault fault

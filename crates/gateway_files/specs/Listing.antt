@@ -2,7 +2,7 @@
 use Rattle.std.specs.Prelude.{◌≡◌, ◌⊎◌, ℕ, Result, Ok, Err}
 use Rattle.spool_load.specs.Refusals.{HasOtherVersion, IsDamaged, IsNoSpool}
 use Rattle.gateway_files.specs.declared.faults.Fault.{Fault}
-use Rattle.gateway_files.specs.declared.faults.Fault.TheVariants.{NoMemory, Device, Damaged, NotASpool, Version, Io}
+use Rattle.gateway_files.specs.declared.faults.Fault.TheVariants.{NoMemory, DiskFault, Damaged, NotASpool, Version, Io}
 
 -- what a refusal says of the disk
 abbrev pub ListRefusedFor : ℕ → (ℕ → ℕ) → Fault → Type 0
@@ -10,14 +10,14 @@ ListRefusedFor size current NotASpool = IsNoSpool size current
 ListRefusedFor size current Version = HasOtherVersion size current
 ListRefusedFor size current Damaged = IsDamaged size current
 ListRefusedFor size current NoMemory = Unit {0}
-ListRefusedFor size current Device = Unit {0}
+ListRefusedFor size current DiskFault = Unit {0}
 ListRefusedFor size current Io = Unit {0}
 ListRefusedFor size current fault = ⊥
 
 -- refused with this fault, or for memory or by the disk
 abbrev pub RefusesListAs : {T : Type 0} → Result T Fault → Fault → Type 0
 RefusesListAs (Ok t) fault = ⊥
-RefusesListAs (Err f) fault = (f ≡ fault) ⊎ (f ≡ NoMemory) ⊎ (f ≡ Device)
+RefusesListAs (Err f) fault = (f ≡ fault) ⊎ (f ≡ NoMemory) ⊎ (f ≡ DiskFault)
 
 -- why lines aren't written: for memory, or for the writer
 abbrev pub IsWriteFault : Fault → Type 0
@@ -26,4 +26,4 @@ IsWriteFault f = (f ≡ NoMemory) ⊎ (f ≡ Io)
 -- listed, or out of memory, or refused by the disk or the writer
 abbrev pub Lists : {T : Type 0} → Result T Fault → Type 0
 Lists (Ok t) = Unit {0}
-Lists (Err f) = IsWriteFault f ⊎ (f ≡ Device)
+Lists (Err f) = IsWriteFault f ⊎ (f ≡ DiskFault)

@@ -72,7 +72,7 @@ pub fn delete_on<D: Disk + Drop, W: Write>(
     ensures version { D.honest disk → HasOtherVersion (D.size disk) (D.current disk)
         → RefusesListAs result.1 Fault.Version }
     ensures damaged { D.honest disk → IsDamaged (D.size disk) (D.current disk) → RefusesListAs result.1 Fault.Damaged }
-    ensures counts { Counts (result.1 ≡ Err Fault.Device) (D.failures disk) (D.failures result.0) }
+    ensures counts { Counts (result.1 ≡ Err Fault.DiskFault) (D.failures disk) (D.failures result.0) }
 {
     match Spool::open(alloc, disk) {
         Ok(mut spool) => {
@@ -100,7 +100,7 @@ fn delete_uploads<W: Write, U: Uploads>(
         → LimitsTo (U.moment uploads.old) (U.moment uploads.new) (U.left_only uploads.old) (U.left_only uploads.new)
         (stages w.store numbers.now) }
     ensures refused { IfErr result IsChangeFault }
-    ensures counts { Fails (IsErrOf result Fault.Device) (U.failures uploads.old) (U.failures uploads.new) }
+    ensures counts { Fails (IsErrOf result Fault.DiskFault) (U.failures uploads.old) (U.failures uploads.new) }
 {
     let mut all = true;
     for number in numbers {
@@ -126,7 +126,7 @@ fn delete_one<W: Write, U: Uploads>(
         → Limits (U.moment uploads.old) (U.moment uploads.new) (U.left_only uploads.old) (U.left_only uploads.new)
         w.store (deleted_store w.store number) }
     ensures refused { IfErr result IsChangeFault }
-    ensures counts { Fails (IsErrOf result Fault.Device) (U.failures uploads.old) (U.failures uploads.new) }
+    ensures counts { Fails (IsErrOf result Fault.DiskFault) (U.failures uploads.old) (U.failures uploads.new) }
 {
     let there = terminate(uploads, number)?;
     say_deleted(writer, number, there)?;
@@ -143,13 +143,13 @@ fn terminate<U: Uploads>(uploads: &mut U, number: u64) -> Result<bool, Fault>
         → Limits (U.moment uploads.old) (U.moment uploads.new) (U.left_only uploads.old) (U.left_only uploads.new)
         w.store (deleted_store w.store number) }
     ensures refused { IfErr result IsChangeFault }
-    ensures counts { Fails (IsErrOf result Fault.Device) (U.failures uploads.old) (U.failures uploads.new) }
+    ensures counts { Fails (IsErrOf result Fault.DiskFault) (U.failures uploads.old) (U.failures uploads.new) }
 {
     match uploads.terminate(number) {
         Ok(()) => Ok(true),
         Err(UploadError::Refused(_)) => Ok(false),
         Err(UploadError::NoMemory) => Err(Fault::NoMemory),
-        Err(UploadError::DiskFault) => Err(Fault::Device),
+        Err(UploadError::DiskFault) => Err(Fault::DiskFault),
     }
 }
 

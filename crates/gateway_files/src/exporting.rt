@@ -85,7 +85,7 @@ pub fn export_on<D: Disk + Drop, F: Folder, W: Write>(
     ensures version { D.honest disk → HasOtherVersion (D.size disk) (D.current disk)
         → RefusesListAs result.1 Fault.Version }
     ensures damaged { D.honest disk → IsDamaged (D.size disk) (D.current disk) → RefusesListAs result.1 Fault.Damaged }
-    ensures counts { Counts (result.1 ≡ Err Fault.Device) (D.failures disk) (D.failures result.0) }
+    ensures counts { Counts (result.1 ≡ Err Fault.DiskFault) (D.failures disk) (D.failures result.0) }
 {
     match Spool::open(alloc, disk) {
         Ok(mut spool) => {
@@ -112,7 +112,7 @@ fn export_uploads<W: Write, F: Folder, U: Uploads>(
     ensures crash { Quiet (U.moment uploads.old) (U.moment uploads.new) (U.left_only uploads.old)
         (U.left_only uploads.new) }
     ensures refused { IfErr result IsChangeFault }
-    ensures counts { Fails (IsErrOf result Fault.Device) (U.failures uploads.old) (U.failures uploads.new) }
+    ensures counts { Fails (IsErrOf result Fault.DiskFault) (U.failures uploads.old) (U.failures uploads.new) }
 {
     let jobs = plan(alloc, uploads, all)?;
     let done = do_jobs(writer, folder, uploads, &jobs)?;
@@ -141,7 +141,7 @@ fn do_jobs<W: Write, F: Folder, U: Uploads>(
     ensures crash { Quiet (U.moment uploads.old) (U.moment uploads.new) (U.left_only uploads.old)
         (U.left_only uploads.new) }
     ensures refused { IfErr result IsChangeFault }
-    ensures counts { Fails (IsErrOf result Fault.Device) (U.failures uploads.old) (U.failures uploads.new) }
+    ensures counts { Fails (IsErrOf result Fault.DiskFault) (U.failures uploads.old) (U.failures uploads.new) }
 {
     let mut done = Done {
         exported: 0,
@@ -182,7 +182,7 @@ fn do_job<'j, W: Write, F: Folder, U: Uploads>(
     ensures crash { Quiet (U.moment uploads.old) (U.moment uploads.new) (U.left_only uploads.old)
         (U.left_only uploads.new) }
     ensures refused { IfErr result IsChangeFault }
-    ensures counts { Fails (IsErrOf result Fault.Device) (U.failures uploads.old) (U.failures uploads.new) }
+    ensures counts { Fails (IsErrOf result Fault.DiskFault) (U.failures uploads.old) (U.failures uploads.new) }
 {
     let outcome = export_job(folder, uploads, job)?;
     say_outcome(writer, job.number, outcome)?;
@@ -202,7 +202,7 @@ fn export_job<'j, F: Folder, U: Uploads>(
     ensures crash { Quiet (U.moment uploads.old) (U.moment uploads.new) (U.left_only uploads.old)
         (U.left_only uploads.new) }
     ensures refused { IfErr result IsChangeFault }
-    ensures counts { Fails (IsErrOf result Fault.Device) (U.failures uploads.old) (U.failures uploads.new) }
+    ensures counts { Fails (IsErrOf result Fault.DiskFault) (U.failures uploads.old) (U.failures uploads.new) }
 {
     let Some(name) = &job.name else {
         return Ok(Outcome::Incomplete);
@@ -230,7 +230,7 @@ fn write_text<F: Folder, U: Uploads>(
     ensures crash { Quiet (U.moment uploads.old) (U.moment uploads.new) (U.left_only uploads.old)
         (U.left_only uploads.new) }
     ensures refused { IfErr result IsChangeFault }
-    ensures counts { Fails (IsErrOf result Fault.Device) (U.failures uploads.old) (U.failures uploads.new) }
+    ensures counts { Fails (IsErrOf result Fault.DiskFault) (U.failures uploads.old) (U.failures uploads.new) }
 {
     let mut file = file;
     let copied = copy_text(&mut file, uploads, number);

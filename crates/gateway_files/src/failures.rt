@@ -130,7 +130,7 @@ impl<'a> Failure<'a> {
         ensures { fault_in result ≡ fault }
     {
         match (fault, disk.error()) {
-            (Fault::Device, Some(error)) => Failure::new(fault, Task::UseSpool(path), error),
+            (Fault::DiskFault, Some(error)) => Failure::new(fault, Task::UseSpool(path), error),
             _ => Failure::from(fault),
         }
     }

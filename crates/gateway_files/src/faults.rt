@@ -15,7 +15,7 @@ pub enum Fault {
     /// Out of memory.
     NoMemory,
     /// The disk failed.
-    Device,
+    DiskFault,
     /// The bytes of the file are none that are ever written to a spool.
     Damaged,
     /// A line of this index file isn't of the form, is out of range, or gives a pointer again.
@@ -69,7 +69,7 @@ impl Fault {
         ensures { option_map row result ≡ refusal_of self }
     {
         Some(match self {
-            Fault::Device => return None,
+            Fault::DiskFault => return None,
             Fault::NoMemory | Fault::Index(_, ReadError::NoMemory) => (0, "NoMemory"),
             Fault::Damaged => (2, "Damaged"),
             Fault::Index(_, ReadError::Line(_)) => (3, "Line"),
@@ -94,7 +94,7 @@ impl Fault {
         ensures { result ≡ status_of self }
     {
         match self {
-            Fault::Device => 3,
+            Fault::DiskFault => 3,
             _ => 2,
         }
     }
@@ -127,10 +127,10 @@ impl From<io::Error> for Fault {
 impl From<DiskFault> for Fault {
     ghost use Rattle.gateway_files.specs.declared.faults.Fault.{Fault};
 
-    ghost from_gives = { λ _ fault. fault ≡ Fault.Device };
+    ghost from_gives = { λ _ fault. fault ≡ Fault.DiskFault };
 
     fn from(_fault: DiskFault) -> Self {
-        Fault::Device
+        Fault::DiskFault
     }
 }
 
@@ -143,7 +143,7 @@ impl From<FormatError> for Fault {
         match error {
             FormatError::AlreadySpool => Fault::AlreadySpool,
             FormatError::Size => Fault::Size,
-            FormatError::DiskFault => Fault::Device,
+            FormatError::DiskFault => Fault::DiskFault,
         }
     }
 }
@@ -156,7 +156,7 @@ impl From<OpenFault> for Fault {
     fn from(fault: OpenFault) -> Self {
         match fault {
             OpenFault::NotASpool => Fault::NotASpool,
-            OpenFault::DiskFault => Fault::Device,
+            OpenFault::DiskFault => Fault::DiskFault,
             OpenFault::Damaged => Fault::Damaged,
             OpenFault::Version => Fault::Version,
             OpenFault::NoMemory => Fault::NoMemory,

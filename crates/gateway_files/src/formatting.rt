@@ -71,7 +71,7 @@ pub fn is_spool_on<D: Disk>(disk: &mut D, indexes: &IndexSet) -> Result<bool, Fa
     // No spool has 0 text blocks, so none is made: what is refused before that is a spool.
     match format(disk, 0, indexes) {
         Err(FormatError::AlreadySpool) => Ok(true),
-        Err(FormatError::DiskFault) => Err(Fault::Device),
+        Err(FormatError::DiskFault) => Err(Fault::DiskFault),
         _ => Ok(false),
     }
 }

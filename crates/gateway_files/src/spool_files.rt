@@ -9,7 +9,7 @@ use std::io::ErrorKind;
 pub fn open_spool<'a>(rt: &HostRuntime, path: &'a str) -> Result<FileDisk, Failure<'a>> {
     match FileDisk::try_open(rt, path) {
         Ok(disk) => Ok(disk),
-        Err(error) => Err(Failure::new(Fault::Device, Task::OpenSpool(path), error)),
+        Err(error) => Err(Failure::new(Fault::DiskFault, Task::OpenSpool(path), error)),
     }
 }
 
@@ -21,7 +21,7 @@ pub(crate) fn find_spool<'a>(
     match FileDisk::try_open(rt, path) {
         Ok(disk) => Ok(Some(disk)),
         Err(error) if error.kind() == ErrorKind::NotFound => Ok(None),
-        Err(error) => Err(Failure::new(Fault::Device, Task::MakeSpool(path), error)),
+        Err(error) => Err(Failure::new(Fault::DiskFault, Task::MakeSpool(path), error)),
     }
 }
 
@@ -33,6 +33,6 @@ pub(crate) fn make_spool<'a>(
 ) -> Result<FileDisk, Failure<'a>> {
     match FileDisk::try_create(rt, path, len) {
         Ok(disk) => Ok(disk),
-        Err(error) => Err(Failure::new(Fault::Device, Task::MakeSpool(path), error)),
+        Err(error) => Err(Failure::new(Fault::DiskFault, Task::MakeSpool(path), error)),
     }
 }

@@ -307,8 +307,8 @@ done_leaves size before image from here = record {
   is = rests_image image from.rests here;
 }
 
-not_device : (e : UpgradeError) → e ≡ upgrades.AlreadyNew → e ≡ upgrades.Open opens.DiskFault → ⊥
-not_device e new device = cc
+not_disk_fault : (e : UpgradeError) → e ≡ upgrades.AlreadyNew → e ≡ upgrades.Open opens.DiskFault → ⊥
+not_disk_fault e new device = cc
 
 pub refused_leaves : {current : ℕ → ℕ} {unsynced : ℕ → Type 0} (e : UpgradeError) (v : View) (image : ℕ → ℕ) → IsValid v
     → ((v.version ≡ Two) × (e ≡ upgrades.AlreadyNew)) ⊎ (e ≡ upgrades.Open opens.NoMemory)
@@ -320,7 +320,7 @@ refused_leaves e v image valid (inl new) rests here =
       view = v;
       valid = valid;
       new = new.0;
-      is = rests_image image (rests (not_device e new.1)) here;
+      is = rests_image image (rests (not_disk_fault e new.1)) here;
     })
 refused_leaves e v image valid (inr (inl is)) rests here =
     subst (λ (x : UpgradeError). UpgradeLeaves (Some x) image) (sym is) tt

@@ -26,7 +26,7 @@ use Rattle.gateway_script.specs.Runs.{Refuses, CutOne, Ends, LineRan}
 use Rattle.gateway_script.proofs.Turns.{Falling, done_went, refused_went}
 use Rattle.gateway_script.proofs.Reaching.{reach_both, reach_none, stops_after}
 use Rattle.gateway_script.proofs.Passing.{passes_by, passes_on, passes_as, cut_adds, lines_add, first_same}
-use Rattle.gateway_script.proofs.Seen.{current_after, Leaves, OnDevice, history_same}
+use Rattle.gateway_script.proofs.Seen.{current_after, Leaves, AreOnDisk, history_same}
 
 -- WHETHER A CONNECTION IS OPEN, BY WHAT ITS END IS ANSWERED
 closed_case : (st : State) (c : ℕ) (o : Option Conn) → (ended_at st c o).outcome ≡ Refused errors.Closed
@@ -165,7 +165,7 @@ cut_skipped v now k n r at leaves does =
 
 pub cut_refused : {C : Type 0} (v : View C) (now : C) (held : Option (List ℕ)) (k n : ℕ) (r : Run) (f : SessionError)
     (result : Result (Unit {0}) CallFault)
-    → IsAt v r → OnDevice v r
+    → IsAt v r → AreOnDisk v r
     → Leaves v now r.state.world.store (shown_by r.state (Ended n) (mark_of {T = Unit {0}} (Err f)))
     → Does (v.u.stands now v.sure) (Err f) r.state (Ended n) → Falling v now f
     → (f ≡ errors.Closed → ⊥) → Refuses v.held held result n f → CutOne (current_after v now held) result k n r

@@ -21,13 +21,13 @@ Leaves v now before after = v.sure ≡ true →
     Limits (v.u.moment v.now) (v.u.moment now) (v.u.left_only v.now) (v.u.left_only now) before after
 
 -- the uploads of a run are on the disk, where it is known to be honest
-abbrev pub OnDevice : {C : Type 0} → View C → Run → Type 0
-OnDevice v r = v.sure ≡ true → (ms : List Store) → Among r.state.world.store ms
+abbrev pub AreOnDisk : {C : Type 0} → View C → Run → Type 0
+AreOnDisk v r = v.sure ≡ true → (ms : List Store) → Among r.state.world.store ms
     → v.u.left_only v.now r.state.world.blocks
     (v.u.moment v.now) ms
 
 pub shows_last : {C : Type 0} (v : View C) (now : C) (held : Option (List ℕ)) (r : Run) (e : Event) (m : Mark)
-    → IsHistory v r → OnDevice v r
+    → IsHistory v r → AreOnDisk v r
     → Leaves v now r.state.world.store (shown_by r.state e m) → v.sure ≡ true
     → ShowsLast (v.u.moment now) (v.u.left_only now) v.st (stepped r (conn_in e) e m).past
 shows_last v now held r e m is durable leaves known =

@@ -17,7 +17,7 @@ use Rattle.gateway_script.specs.Runs.{View, with_marks, stepped, Calls, Called, 
 use Rattle.gateway_script.specs.Runs.{run_past, Went, Refuses, Tells}
 use Rattle.gateway_script.proofs.Outputs.{appends_both, appends_nothing}
 use Rattle.gateway_script.proofs.Passing.{passes_by, first_same}
-use Rattle.gateway_script.proofs.Seen.{current_after, Leaves, OnDevice, Wrote, history_on, last_of, shows_last}
+use Rattle.gateway_script.proofs.Seen.{current_after, Leaves, AreOnDisk, Wrote, history_on, last_of, shows_last}
 use Rattle.gateway_script.proofs.Seen.{written_on}
 
 -- a call is the step with its mark
@@ -95,7 +95,8 @@ module _ {C : Type 0} (v : View C) (now : C) (held : Option (List ℕ)) (r : Run
   }
 
   -- the disk failed: nothing was written
-  goes_down : OnDevice v r → held ≡ v.held → v.u.down now ≡ true → (step r.state e m).outcome ≡ Refused errors.DiskFault
+  goes_down : AreOnDisk v r → held ≡ v.held → v.u.down now ≡ true
+      → (step r.state e m).outcome ≡ Refused errors.DiskFault
       → IsDown (current_after v now held) (stepped r (conn_in e) e m)
   goes_down durable same fell is = record {
     wrote = written_on v held r e m at.history at.wrote (wrote_refusal v held r e m errors.DiskFault is
@@ -162,7 +163,7 @@ stops_at v fault r n e m is = (
 
 pub refused_went : {C : Type 0} (v : View C) (now : C) (held : Option (List ℕ)) (r : Run) (e : Event) (f : SessionError)
     (result : Result (Unit {0}) CallFault)
-    → IsAt v r → OnDevice v r → Leaves v now r.state.world.store (shown_by r.state e (mark_of {T = Unit {0}} (Err f)))
+    → IsAt v r → AreOnDisk v r → Leaves v now r.state.world.store (shown_by r.state e (mark_of {T = Unit {0}} (Err f)))
     → Does (v.u.stands now v.sure) (Err f) r.state e → Falling v now f
     → Refuses v.held held result (conn_in e) f
     → Went (current_after v now held) result (λ x. (call x (conn_in e) e).run) r
@@ -247,7 +248,7 @@ module _ {C : Type 0} (v : View C) (now : C) (held : Option (List ℕ)) (r : Run
             (no_fault f refuses.1) (wrote_refusal v held r e m f gives.1.answer refuses.0),
       )
 
-      pub refuse_stopped : OnDevice v r → Falling v now f → (fault : CallFault)
+      pub refuse_stopped : AreOnDisk v r → Falling v now f → (fault : CallFault)
           → Refuses v.held held (Err fault) (conn_in e) f
           → Called (current_after v now held) (Err fault) (conn_in e) e r
       refuse_stopped durable fell faults.DiskFault refuses =

@@ -64,7 +64,7 @@ impl Story<'_> {
         let (disk, fault, written) = ran(self.alloc, self.talk, disk);
         self.check(rt, disk.into_inner(), &written);
         assert!(rt; fault.is_some() || written == self.talk.wanted);
-        is_device(rt, fault, call)
+        is_disk_fault(rt, fault, call)
     }
 
     /// Lets each call fail in turn, until the run ends before the failing call.
@@ -88,7 +88,7 @@ impl Story<'_> {
         let (disk, fault, written) = ran(self.alloc, self.talk, disk);
         let left = stopped(rt, self.alloc, disk.into_inner().crash(kind), call % 16);
         self.check(rt, left.crash(kind), &written);
-        is_device(rt, fault, call)
+        is_disk_fault(rt, fault, call)
     }
 
     /// Lets the disk fail from each call on in turn, until the run ends before it.
@@ -127,7 +127,7 @@ fn stopped(rt: &impl Abort, alloc: Global, disk: MemoryDisk, calls: u64) -> Memo
 }
 
 /// Whether a run was refused. Fails the test if it was refused for anything but a disk fault.
-fn is_device(rt: &impl Abort, fault: Option<RunFault>, call: u64) -> bool {
+fn is_disk_fault(rt: &impl Abort, fault: Option<RunFault>, call: u64) -> bool {
     match fault {
         Some(fault) => {
             let device = fault == RunFault::DiskFault

@@ -147,7 +147,7 @@ fn cut_body_counts_up_to_the_cut_and_a_close_is_told(rt: HostRuntime) {
 
 /// The disk fails at the first call after the spool is open, and the client gets no reply.
 #[test]
-fn nothing_is_told_after_a_fault_of_the_device(rt: HostRuntime) {
+fn nothing_is_told_after_a_disk_fault(rt: HostRuntime) {
     let alloc = rt.alloc();
     let listener = listen(&rt);
     let mut client = client(&rt, &listener, POST);

@@ -44,7 +44,7 @@ fn failures_are_told(rt: HostRuntime) {
             "refused: 5 Twice index-ibm866.txt 7\n",
         ),
         (Fault::AlreadySpool, 2, "refused: 13 AlreadySpool\n"),
-        (Fault::Device, 3, "device fault\n"),
+        (Fault::DiskFault, 3, "device fault\n"),
     ] {
         tells(&rt, alloc, Failure::from(fault), status, said);
     }

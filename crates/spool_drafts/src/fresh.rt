@@ -43,7 +43,7 @@ pub(crate) fn finished(
     ensures same { (state : List ℕ) → IsState state → GoesOn state fresh.now
         → IfOk result (λ end. SameEncodings state end.0) }
     ensures growing { IsOk result → IsGrowing fresh.now }
-    ensures no_device { IsErrOf result UploadError.DiskFault → ⊥ }
+    ensures no_disk_fault { IsErrOf result UploadError.DiskFault → ⊥ }
     ensures refusal { (e : Refusal) → IsErrOf result (UploadError.Refused e) → e ≡ UploadRefusal.Unencodable }
 {
     without_text(Vec::new(alloc), fresh).ended(indexes, completes)

@@ -204,7 +204,7 @@ impl Growth {
         requires reserved { IsReserved blocks.old (list_on self.old.on) }
         requires roomy { self.old.short ≡ false }
         requires begun { self.old.on ≡ None → length bytes.now ≡ 0 }
-        ensures no_device { IsErrOf result UploadError.DiskFault → ⊥ }
+        ensures no_disk_fault { IsErrOf result UploadError.DiskFault → ⊥ }
         ensures same { (self.new.text_len ≡ self.old.text_len) × (self.new.tail ≡ self.old.tail) }
         ensures grasps { (own : List ℕ)
             × Regrasps blocks.old blocks.new (list_on self.old.on) (list_on self.new.on) own }

@@ -165,13 +165,13 @@ unfound_upgrade size current NoMemory why = absurd why
 unfound_upgrade size current DiskFault why = tt
 
 -- a spool that a read shows is found, unless the disk fails
-pub unfound_device : {T : Type 0} (size : ℕ) (current : ℕ → ℕ) (e : OpenFault) (P : T → Type 0)
+pub unfound_disk_fault : {T : Type 0} (size : ℕ) (current : ℕ → ℕ) (e : OpenFault) (P : T → Type 0)
     → LoadsAs {T = T} (Err e) P → NotFoundFor size current e → e ≡ DiskFault
-unfound_device size current NotASpool P h why = absurd h
-unfound_device size current faults.Version P h why = absurd h
-unfound_device size current Damaged P h why = absurd h
-unfound_device size current NoMemory P h why = absurd why
-unfound_device size current DiskFault P h why = refl
+unfound_disk_fault size current NotASpool P h why = absurd h
+unfound_disk_fault size current faults.Version P h why = absurd h
+unfound_disk_fault size current Damaged P h why = absurd h
+unfound_disk_fault size current NoMemory P h why = absurd why
+unfound_disk_fault size current DiskFault P h why = refl
 
 pub loads_upgrades : {T : Type 0} (U : Type 0) (version : Version) (e : OpenFault) (P : T → Type 0)
     → LoadsAs {T = T} (Err e) P

@@ -57,7 +57,8 @@ pub record WentOn (h h' : Held) (old : List (Option SpoolDraft)) (d : ℕ) (o o'
   pub grasp : Regrasps h h' (list_of o) (list_of o') own
 
 -- put in its place
-abbrev pub put_on : {h h' : Held} {old : List (Option SpoolDraft)} (d : ℕ) {o : SpoolDraft} (o' : SpoolDraft) {own : List ℕ}
+abbrev pub put_on : {h h' : Held} {old : List (Option SpoolDraft)} (d : ℕ) {o : SpoolDraft}
+    (o' : SpoolDraft) {own : List ℕ}
     → draft_at old d ≡ Some o → Regrasps h h' (list_of o) (list_of o') own
     → WentOn h h' old d o o' (set old d (Some o'))
 put_on {old = old} d {o = o} o' {own = own} here grasp = record {
@@ -321,7 +322,8 @@ module _ {sure : Type 0} {w : World} {current : ℕ → ℕ} {first n : ℕ} {re
         short.0
 
     pub longer_carries : (current' : ℕ → ℕ) → IsLonger w.store.indexes more o o' h h'
-        → Carries w.store.indexes current' first more o' → Carries w.store.indexes current' first (longer w d p piece) o'
+        → Carries w.store.indexes current' first more o'
+        → Carries w.store.indexes current' first (longer w d p piece) o'
     longer_carries current' (inl holds) carries =
         subst (λ (b : Bool). Carries w.store.indexes current' first (record more { short = b }) o')
         (sym (kept_short holds)) carries
@@ -353,7 +355,8 @@ answered X Y (Err NoMemory) done same refused = (tt, same refl)
 answered X Y (Err DiskFault) done same refused = tt
 answered X Y (Err (Refused e)) done same refused = absurd (refused e refl)
 
-pub longer_world : {D : Type 0} {sure : Bool} {disk : Ghosts D} {d : D} {h : Holding} {drafts : List (Option SpoolDraft)}
+pub longer_world : {D : Type 0} {sure : Bool} {disk : Ghosts D} {d : D} {h : Holding} {drafts : List
+    (Option SpoolDraft)}
     (w : World) (number : ℕ) (piece : List ℕ) {p : Patch} {a : Option Patch} → a ≡ Some p
     → Stored sure disk d h w.store → DraftsStand (sure ≡ true) w.store.indexes (disk.current d) (text_page h.layout)
     h.slots h.blocks (record w { patches = replaced number (longer w number p piece) w.patches }) drafts

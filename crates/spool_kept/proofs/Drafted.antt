@@ -157,7 +157,8 @@ pub drops : {D : Type 0} {sure : Bool} {disk : Ghosts D} {d : D} {old new : Hold
     {drafts drafts' : List (Option SpoolDraft)} (number : ℕ) {w : World} → OnlyReserves old new
     → drafts' ≡ set drafts number None → GivesBack old.blocks new.blocks (lists_at drafts number)
     → StandsFor sure disk d old drafts w → StandsFor sure disk d new drafts' (dropped w number)
-drops {sure = sure} {disk = disk} {d = d} {old = old} {new = new} {drafts = drafts} {drafts' = drafts'} number {w = w} same
+drops {sure = sure} {disk = disk} {d = d} {old = old} {new = new} {drafts = drafts} {drafts' = drafts'} number
+    {w = w} same
     is gives s = record {
       stored = stored_on disk d old new w.store same s.stored;
       stands = subst (λ (h : Holding). DraftsStand (sure ≡ true) w.store.indexes (disk.current d)

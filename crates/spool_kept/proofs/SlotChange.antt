@@ -73,7 +73,8 @@ abbrev pub changed : View → ℕ → Option SlotRecord → List Row → (ℕ �
 changed v s o rows texts next = record (with_slot v s o) { rows = rows; texts = texts; next = next }
 
 -- the slot's record and text tell of the upload that has its number
-pub record IsNow (x : IndexSet) (n next : ℕ) (text : List ℕ) (uploads : List (ℕ × Upload)) (r : SlotRecord) : Type 0 where
+pub record IsNow (x : IndexSet) (n next : ℕ) (text : List ℕ) (uploads : List (ℕ × Upload))
+    (r : SlotRecord) : Type 0 where
   pub number : r.number ≡ n
   pub valid : IsValidRecord next r
   pub upload : Upload
@@ -199,7 +200,13 @@ module _ {v : View} {m : Store} {s n : ℕ} {o : Option SlotRecord} {rows : List
           let has = shows.all k u (sym (c.uploads_else k other) ∙ e) in
           let away : has.slot ≢ s = λ same.
           other (sym (c.own has.used (ap (slot_at v) (sym same) ∙ has.there)) ∙ has.number) in
-          record { slot = has.slot; used = has.used; there = still has.slot has.used away has.there; number = has.number }
+          record {
+            slot = has.slot;
+            used = has.used;
+            there = still has.slot has.used away has.there;
+            number =
+                has.number;
+          }
     ];
   }
 

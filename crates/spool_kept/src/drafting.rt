@@ -59,7 +59,7 @@ pub fn begin<D: Disk>(
 ) -> Result<usize, UploadError>
     requires fits { DraftsFit kept.now drafts.old.items }
     ensures fits { DraftsFit kept.now drafts.new.items }
-    ensures no_device { IsErrOf result UploadError.DiskFault → ⊥ }
+    ensures no_disk_fault { IsErrOf result UploadError.DiskFault → ⊥ }
     ensures answer { (sure : Bool) (disk : D) (w : World) → StandsFor sure D.Disk disk kept.now drafts.old.items w
         → Answers (begin_refusal w number offset count declare) result
         (λ d. (d ≡ free_number w) × StandsFor sure D.Disk disk kept.now drafts.new.items (begun w number count declare))

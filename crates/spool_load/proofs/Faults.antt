@@ -11,16 +11,16 @@ use Rattle.spool_load.specs.declared.error.LoadError.{LoadError}
 use Rattle.spool_load.specs.declared.error.LoadError.TheVariants.{DiskFault, Check}
 
 -- the disk failed in both
-device_told : (e : LoadError) → load_fault e ≡ opens.DiskFault → e ≡ DiskFault
-device_told DiskFault is = refl
-device_told (Check Damaged) is = absurd (cc)
-device_told (Check NoMemory) is = absurd (cc)
+disk_fault_told : (e : LoadError) → load_fault e ≡ opens.DiskFault → e ≡ DiskFault
+disk_fault_told DiskFault is = refl
+disk_fault_told (Check Damaged) is = absurd (cc)
+disk_fault_told (Check NoMemory) is = absurd (cc)
 
 pub counts_told : {T F : Type 0} (e : LoadError) {a b : ℕ} → (F → load_fault e ≡ opens.DiskFault)
     → (load_fault e ≡ opens.DiskFault → F) → Counts (IsErrOf {T = T} (Err e) DiskFault) a b → Counts F a b
 counts_told e there back counts = record {
   later = counts.later;
-  counted = λ failed. counts.counted (ap Err (device_told e (there failed)));
+  counted = λ failed. counts.counted (ap Err (disk_fault_told e (there failed)));
   nothing_else = λ lt.
       let failed = counts.nothing_else lt in
       let device : e ≡ DiskFault = cc in

@@ -260,7 +260,7 @@ impl DraftText {
         bytes: &[u8],
     ) -> Result<Vec<u8>, DraftError>
         requires reserved { IsReserved blocks.old self.old.blocks }
-        ensures no_device { IsErrOf result DraftError.DiskFault → ⊥ }
+        ensures no_disk_fault { IsErrOf result DraftError.DiskFault → ⊥ }
         ensures nothing { length bytes.now ≡ 0 → (self.new ≡ self.old) × (blocks.new ≡ blocks.old) }
         ensures memory { IsErrOf result DraftError.NoMemory → (self.new ≡ self.old) × (blocks.new ≡ blocks.old) }
         ensures some { IsErrOf result DraftError.Full → 1 ≤ length bytes.now }

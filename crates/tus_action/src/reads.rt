@@ -34,7 +34,7 @@ pub(crate) fn show<U: Uploads>(
         → closes ≡ r.closes
         → Serves U.Uploads sure store.new result out.old.items out.new.items w (head w r (upload_of w.store number)) }
     ensures same { store.new ≡ store.old }
-    ensures no_device { IsErrOf result Stop.DiskFault → ⊥ }
+    ensures no_disk_fault { IsErrOf result Stop.DiskFault → ⊥ }
     ensures few { GrowsBy longest_reply out.old.items out.new.items }
 {
     let Some(record) = store.record(number) else {

@@ -64,7 +64,7 @@ impl<U: Uploads> Session<U> {
         ensures answer { (sure : Bool) (store : U) (st : State)
             → SessionStands U.Uploads sure (places_of self.old) store st
             → Opens U.Uploads sure (places_of self.new) store result st (Opened conn) }
-        ensures no_device { IsErrOf result SessionError.DiskFault → ⊥ }
+        ensures no_disk_fault { IsErrOf result SessionError.DiskFault → ⊥ }
         ensures no_down { IsErrOf result SessionError.Down → ⊥ }
     {
         if conn >= self.links.len() || self.links[conn].is_some() {

@@ -66,7 +66,7 @@ impl OpenAppend {
             → (length : Option ℕ) × (u ≡ with_length p.began length) → is_complete u ≡ false
             → declared ≡ known_or u.declared p.declare → SlotStands indexes.now p.number u slot.old
             → IsPut indexes.now p u (is_length declared (reached p)) slot.new result }
-        ensures no_device { IsErrOf result UploadError.DiskFault → ⊥ }
+        ensures no_disk_fault { IsErrOf result UploadError.DiskFault → ⊥ }
     {
         let OpenAppend {
             number: _,

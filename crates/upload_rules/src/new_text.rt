@@ -107,7 +107,7 @@ impl NewText {
         ensures same { (state : List ℕ) → IsState state → GoesOn state self
             → IfOk result (λ end. SameEncodings state end.0) }
         ensures growing { IsOk result → IsGrowing self }
-        ensures no_device { IsErrOf result UploadError.DiskFault → ⊥ }
+        ensures no_disk_fault { IsErrOf result UploadError.DiskFault → ⊥ }
         ensures refusal { (e : Refusal) → IsErrOf result (UploadError.Refused e) → e ≡ UploadRefusal.Unencodable }
     {
         let NewText::Growing {

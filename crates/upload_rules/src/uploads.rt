@@ -108,7 +108,7 @@ pub trait Uploads {
             (λ draft. (Self.number_of draft ≡ free_number w) × IsBegun (holds draft) number count declare
             (upload_of w.store number) × stands self.new sure (begun w number count declare))
             (stands self.new sure w) }
-        ensures no_device { IsErrOf result UploadError.DiskFault → ⊥ }
+        ensures no_disk_fault { IsErrOf result UploadError.DiskFault → ⊥ }
         ensures crash { Quiet (moment self.old) (moment self.new) (left_only self.old) (left_only self.new) }
         ensures counts { failures self.new ≡ failures self.old };
 

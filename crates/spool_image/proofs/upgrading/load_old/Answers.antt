@@ -13,7 +13,7 @@ use Rattle.spool_load.proofs.Looks.{ok_no_fault}
 use Rattle.spool_load.proofs.Opens.{read_lasts, read_same, read_settled, read_unwritten, recovered_says, settled_still}
 use Rattle.spool_load.proofs.Refused.{found_back, opened_on, read_reason, says_on}
 use Rattle.spool_image.proofs.Upgraded.{found_new, found_old, loads_upgrades, old_reason, settled_rests}
-use Rattle.spool_image.proofs.Upgraded.{unfound_device, unfound_upgrade}
+use Rattle.spool_image.proofs.Upgraded.{unfound_disk_fault, unfound_upgrade}
 use Rattle.spool_image.specs.declared.error.UpgradeError.TheVariants.{Open}
 use Rattle.spool_image.proofs.upgrading.load_old.Goals as goal
 
@@ -32,7 +32,7 @@ returns-in_err-found-clause-refused g c honest =
 pub returns-in_err-found-clause-stays : goal.returns-in_err-found-clause-stays
 returns-in_err-found-clause-stays g c honest v valid is room =
     let device =
-    unfound_device _ _ c.in_err-found.field-0.0 (IsFoundOf v) (c.in_err-found.ensures.said honest v valid is room)
+    unfound_disk_fault _ _ c.in_err-found.field-0.0 (IsFoundOf v) (c.in_err-found.ensures.said honest v valid is room)
     (c.in_err-found.ensures.refused honest) in
     search rules
 

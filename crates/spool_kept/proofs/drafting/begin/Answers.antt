@@ -12,7 +12,8 @@ use Rattle.spool_kept.proofs.drafting.begin.Goals as goal
 pub returns-in-Err-clause-answer : goal.returns-in-Err-clause-answer
 returns-in-Err-clause-answer g c sure disk w s =
     let opens = c.in-Err.ensures.opened s.stored.view w.store s.stored.keeps s.stored.shows in (
-      begin_refused s c.args.number c.args.offset c.args.count c.args.declare (upload_of w.store c.args.number) c.in-Err.refusal refl opens,
+      begin_refused s c.args.number c.args.offset c.args.count c.args.declare
+          (upload_of w.store c.args.number) c.in-Err.refusal refl opens,
       s,
     )
 

@@ -38,7 +38,7 @@ returns-in_err-hold-2 c =
 pub returns-in_err-hold-3 : goal.returns-in_err-hold-3
 returns-in_err-hold-3 c =
     let p = err_from_is_err_and c.from_residual-in_err-hold-3.result c.from_residual-in_err-hold-3.ensures.1 in
-    let again = c.in-Again in
+    let again = c.in-Restore in
     let wrote = c.in-Wrote-written in
     let mid = c.hold-in-Wrote-written.new in
     let new = c.hold-in-Wrote-written-2.new in
@@ -49,7 +49,7 @@ returns-in_err-hold-3 c =
 
 pub returns-in-Wrote-written : goal.returns-in-Wrote-written
 returns-in-Wrote-written c =
-    let again = c.in-Again in
+    let again = c.in-Restore in
     let wrote = c.in-Wrote-written in
     let mid = c.hold-in-Wrote-written.new in
     let new = c.hold-in-Wrote-written-2.new in
