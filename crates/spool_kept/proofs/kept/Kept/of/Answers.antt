@@ -30,8 +30,7 @@ returns-clause-said c v valid blocks version next indexes slots rows reserved =
       listed =
           subst (λ (xs : List (Option SlotRecord)). AreListsTo c.args.blocks.rows xs c.in_ok-lists.lists.items 512)
           second all;
-    })
-    valid blocks version next indexes slots rows reserved
+    }) valid blocks version next indexes slots rows reserved
 
 pub returns-clause-distinct : goal.returns-clause-distinct
 returns-clause-distinct c =
