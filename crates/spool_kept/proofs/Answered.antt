@@ -107,13 +107,11 @@ module _ {h : Holding} {v : View} {m : Store} (kept : KeepsView h v) (shows : Sh
 
   module _ (n place : ℕ) (is : IsPlaceFor h.order n place) where
     pub none_after : length h.order ≤ place → above n m.uploads ≡ None
-    none_after le = above_none m.uploads n
-        (λ j w over e.
+    none_after le = above_none m.uploads n (λ j w over e.
         let at = listed j w e in
         let lt = at.1 in
         let up = is.before at.0 (omega (arith, lt, le)) in
-        omega (arith, up, at.2, over))
-        shows.rising
+        omega (arith, up, at.2, over)) shows.rising
 
     pub some_after : (k s : ℕ) → place < length h.order → get_or h.order place (numbered 0 0) ≡ numbered k s
         → (u : Upload) → upload_of m k ≡ Some u → above n m.uploads ≡ Some (k, u)

@@ -8,6 +8,7 @@ use Rattle.spool_blocks.specs.Chains.{Owns, OwnsOneEach}
 use Rattle.spool_journal.specs.Texts.{block_at, block_bytes, joined, text_shown}
 use Rattle.spool_texts.specs.TextOn.{blocks_on, text_on, IsListed}
 use Rattle.spool_texts.proofs.Shown.{found, shown, text_joined}
+use Rattle.spool_kept.proofs.HandedOver.{joined_length}
 
 joined_same : (current : ℕ → ℕ) (first : ℕ) (old new : List Row) (slot ordinal n : ℕ)
     → ((i : ℕ) → i < ordinal + n → block_at slot i new 0 ≡ block_at slot i old 0)
@@ -65,14 +66,7 @@ module _ (current : ℕ → ℕ) (first : ℕ) (old new : List Row) (slot len : 
       let long : len' ≡ 4096 * (len / 4096) + more_len = omega (arith, total, whole) in
       let low : len / 4096 ≤ length list = omega (arith, size) in
       let all : length (take (len / 4096) list ++ more) ≡ (len' + 4095) / 4096 =
-      omega (
-        arith,
-        length-append (take (len / 4096) list) more,
-        length-take (len / 4096) list,
-        low,
-        more_size,
-        long,
-      ) in
+      omega (arith, joined_length list more (len / 4096) low, more_size, long) in
       sym (shown current first new slot len' (take (len / 4096) list ++ more) listed' all)
       ∙ ap (text_on current first (take (len / 4096) list ++ more)) long
       ∙ text_joined current first (len / 4096) more_len list more low

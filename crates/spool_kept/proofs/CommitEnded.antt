@@ -215,18 +215,15 @@ module _ {D : Type 0} {sure : Bool} {disk : Ghosts D} {d d' : D} {h h' : Holding
     stays_short done e = rw e refl
 
     pub refused : {T : Type 0} (done : T → Type 0) (e : UploadError) → EndsAs w.store.indexes p (completes w.store p)
-        o o'
-        h.blocks h'.blocks (Err e) → Answers {T = T} (commit_refusal w number p) (Err e) done (Unit {0})
+        o o' h.blocks h'.blocks (Err e) → Answers {T = T} (commit_refusal w number p) (Err e) done (Unit {0})
     refused done NoMemory ends = (rules.late w number p is.allowed, tt)
     refused done DiskFault ends = rules.late w number p is.allowed
     refused done (Refused refusals.Unencodable) ends = (rules.no_code w number p is.allowed is.changes ends, tt)
     refused done (Refused refusals.Full) ends = (
-      rules.no_room w number p is.allowed is.changes ends.0
-          (elim ends.1 [
-            | inl before ↦ stays_short (completes w.store p) before
-            | inr ran ↦ short (completes w.store
-                p) ran
-          ]),
+      rules.no_room w number p is.allowed is.changes ends.0 (elim ends.1 [
+        | inl before ↦ stays_short (completes w.store p) before
+        | inr ran ↦ short (completes w.store p) ran
+      ]),
       tt,
     )
     refused done e ends = absurd ends

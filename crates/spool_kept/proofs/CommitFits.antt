@@ -26,8 +26,7 @@ module _ {h mid : Holding} (only : OnlyReserves h mid) {drafts : List (Option Sp
       (ap (λ (k : Holding). k.next) is) (ap (λ (k : Holding). k.slots) is)
       (subst (λ (n : ℕ). DraftsHold n blocks (set drafts number None)) (sym (ap (λ (k : Holding). k.layout) is))
       (fit_given fit.blocks on reserved placed blocks
-      (subst (λ (k : Holding). GivesBack k.blocks blocks (list_of o')) same gives)))
-      fit
+      (subst (λ (k : Holding). GivesBack k.blocks blocks (list_of o')) same gives))) fit
 
   -- they are the longer upload's
   pub fits_handed : (h' : Holding) (longer : Longer) (used : SlotRecord) (more : List ℕ) → more ≡ list_of o'
@@ -38,12 +37,9 @@ module _ {h mid : Holding} (only : OnlyReserves h mid) {drafts : List (Option Sp
       let slots = ap (λ (k : Holding). k.slots) only.same in
       let is = subst (λ (xs : List ℕ). IsLonger mid used longer xs h') list longer_more in
       fits_put h h' drafts number longer used (ap (λ (xs : List (Option SlotRecord)). get_or xs longer.slot None)
-      (sym slots) ∙ there) grows
-      (is.next ∙ ap (λ (k : Holding). k.next) only.same)
+      (sym slots) ∙ there) grows (is.next ∙ ap (λ (k : Holding). k.next) only.same)
       (is.slots ∙ ap (λ (xs : List (Option SlotRecord)). set xs longer.slot (Some (longer_record used longer))) slots)
       (subst (λ (n : ℕ). DraftsHold n h'.blocks (set drafts number None))
-      (sym (is.layout ∙ ap (λ (k : Holding). k.layout) only.same))
-      (fit_handed fit.blocks on reserved placed h'.blocks
+      (sym (is.layout ∙ ap (λ (k : Holding). k.layout) only.same)) (fit_handed fit.blocks on reserved placed h'.blocks
       (subst (HandsOn mid.blocks.reserved h'.blocks.reserved) list hands_more)
-      (rows_handed mid h' used longer (list_of o') is)))
-      fit
+      (rows_handed mid h' used longer (list_of o') is))) fit

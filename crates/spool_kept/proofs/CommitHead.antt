@@ -189,8 +189,7 @@ module _ {D : Type 0} {sure : Bool} {disk : Ghosts D} {d : D} {h : Holding} {dra
         ∙ ap (is_new u.declared) held.declare)
 
     declared_is : found.declared ≡ known_or u.declared p.declare
-    declared_is = finds.declared
-        ∙ ap (λ (k : Option ℕ). known_or k (declare_of o)) (is finds.same).tells.declared
+    declared_is = finds.declared ∙ ap (λ (k : Option ℕ). known_or k (declare_of o)) (is finds.same).tells.declared
         ∙ ap (known_or u.declared) held.declare
 
     completes_is : completes w.store p ≡ is_length found.declared (reached p)
@@ -207,8 +206,7 @@ module _ {D : Type 0} {sure : Bool} {disk : Ghosts D} {d : D} {h : Holding} {dra
             let all : reached p ≡ offset_of o =
             all_there found.declared (offset_of o) (reached p) whole.1 (omega (arith, reached_is, finds.within))
             (omega (arith, reached_is)) in
-            text_ends w.store p (declares_is ∙ whole.0)
-            (completes_is ∙ ap (is_length found.declared) all ∙ whole.1)
+            text_ends w.store p (declares_is ∙ whole.0) (completes_is ∙ ap (is_length found.declared) all ∙ whole.1)
       ]
 
       still : IsStillOpen w.store p
@@ -334,8 +332,7 @@ refused_exactly slots o e found = absurd found
 module _ {T : Type 0} {slots : List (Option SlotRecord)} {o o' : SpoolDraft} {there : Option SpoolDraft}
     (taken : Some o ≡ there) (here : there ≡ Some o') where
   pub done_for : {slot : ℕ} (result : Result T UploadError) → HasSameCount slots o slot
-      → ((e : UploadRefusal) → IsErrOf result (Refused e) → (e ≡ Unencodable) ⊎ (e ≡ Full))
-      → IsExactFor slots o' result
+      → ((e : UploadRefusal) → IsErrOf result (Refused e) → (e ≡ Unencodable) ⊎ (e ≡ Full)) → IsExactFor slots o' result
   done_for {slot = slot} result has late = subst (λ (d : SpoolDraft). IsExactFor slots d result)
       (same_Some o o' (taken ∙ here)) (done_exactly slots o slot result has late)
 

@@ -187,8 +187,7 @@ module _ {D : Type 0} {sure : Bool} {disk : Ghosts D} {d d' : D} {h h' : Holding
           holds = mid.holds;
           below = mid.below;
           carries = λ known still kept. bytes_same (disk.current d') (disk.current d'') (text_page h.layout) a.growth
-              a.growth.on (same known)
-              ∙ mid.carries known (other_number still).1 kept;
+              a.growth.on (same known) ∙ mid.carries known (other_number still).1 kept;
           tail = λ still.
               let away = other_number still in
               owned_still (Some (longer_record used longer)) is_longer.slots
@@ -247,8 +246,7 @@ module _ {D : Type 0} {sure : Bool} {disk : Ghosts D} {d d' d'' : D} {h h' : Hol
         holds = s.holds;
         below = s.below;
         carries = λ known still kept. bytes_same (disk.current d) (disk.current d'') (text_page h.layout) a.growth
-            a.growth.on (current_same known)
-            ∙ s.carries known (before still) kept;
+            a.growth.on (current_same known) ∙ s.carries known (before still) kept;
         tail = λ still. owned_declared h h' used longer r.number (tail_of a) there is_longer (s.tail (before still));
       }) (stands.stands.each e)
 

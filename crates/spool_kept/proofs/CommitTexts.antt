@@ -107,8 +107,7 @@ module _ (x : IndexSet) (p : Patch) (since : Option ℕ) (o : SpoolDraft) (end :
             (state_patched x u p.declare p.body);
         valid = subst IsValid (sym (transcoder_patched x u p.declare p.body
             ∙ ap (transcoder_with x u p.body) is_done)) whole.valid;
-        encodable = ap (λ r. r.fault)
-            (whole_patched x u p.declare p.body ∙ ap (text_with x u p.body) is_done) ∙ fine;
+        encodable = ap (λ r. r.fault) (whole_patched x u p.declare p.body ∙ ap (text_with x u p.body) is_done) ∙ fine;
         text = grown.1;
         text_len = omega (arith, total, same_len, ap length grown.1, length-append (text_of x u) more);
         nothing = λ none. nil_from_length more (none_added none);
@@ -120,7 +119,6 @@ module _ (x : IndexSet) (p : Patch) (since : Option ℕ) (o : SpoolDraft) (end :
             omega (arith, total, all_len, length-drop (4096 * (t / 4096)) (patch_text x p done).bytes) in
             let bytes : open_text x p done ≡ drop (full_bytes t) (text_of x p.began) ++ more =
             ap (λ (xs : List ℕ). drop (4096 * (t / 4096)) xs) all_is ∙ drop-append-le (4096 * (t / 4096))
-            (text_of x p.began) more (omega arith)
-            ∙ ap (λ (n : ℕ). drop n (text_of x p.began) ++ more) prefix in
+            (text_of x p.began) more (omega arith) ∙ ap (λ (n : ℕ). drop n (text_of x p.began) ++ more) prefix in
             ap (λ (n : ℕ). text_on current first (list_of o) n) size ∙ content known (omega (arith, listed)) ∙ bytes);
       }

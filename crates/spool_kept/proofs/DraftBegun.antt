@@ -93,8 +93,7 @@ module _ {D : Type 0} {sure : Bool} {disk : Ghosts D} {d : D} {h : Holding} {old
       apart = (nothing_there, s.stands.apart);
       grown = grown_begun w s.stands.grown n count declare u place there;
       limit = s.stands.limit;
-      all = λ b reserved.
-          in_other (lists_at old) (lists_at new) place (list_of o)
+      all = λ b reserved. in_other (lists_at old) (lists_at new) place (list_of o)
           (changed_lists old new place (Some o) (changed_more placed)) b (s.stands.all b reserved)
           (λ i lt e. omega (arith, lt, ap length (free_list placed)));
     }
@@ -106,7 +105,6 @@ module _ {D : Type 0} {sure : Bool} {disk : Ghosts D} {d : D} {h : Holding} {old
       number_free,
       subst (λ q. StandsFor sure disk d h new (begun_at w n count declare q)) (sym there)
           (subst (λ k. StandsFor sure disk d h new (record w
-          { patches = (k, first_patch n count declare u) ∷ w.patches }))
-          number_free
+          { patches = (k, first_patch n count declare u) ∷ w.patches })) number_free
           (record { stored = s.stored; stands = stand_begun u there opens })),
     )

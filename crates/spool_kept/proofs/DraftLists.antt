@@ -55,8 +55,7 @@ pub taken_apart : {old new : Held} {list list' : List ℕ} (other : List ℕ) �
     → IsReserved old other → NoneOf list other → NoneOf list' other
 taken_apart {old = old} {list = list} {list' = list'} other takes is apart i k lt lt' e =
     in_either (λ (b : ℕ). (k : ℕ) → k < length other → b ≢ get_or other k 0) list takes.more
-    (λ i lt k lt'. apart i k lt lt')
-    (λ i lt k lt' e. both_ways (get_or old.reserved (get_or other k 0) false)
+    (λ i lt k lt'. apart i k lt lt') (λ i lt k lt' e. both_ways (get_or old.reserved (get_or other k 0) false)
     (subst (λ (b : ℕ). get_or old.reserved b false ≡ false) e ((takes.free i lt).not_reserved)) (is.reserved k lt'))
     i (omega (arith, lt, ap length takes.grown)) k lt' (ap (λ (xs : List ℕ). get_or xs i 0) (sym takes.grown) ∙ e)
 

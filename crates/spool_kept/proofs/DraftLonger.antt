@@ -107,8 +107,7 @@ module _ {n : ℕ} {h h' : Held} {old new : List (Option SpoolDraft)} {d : ℕ} 
 
   list_apart : (e : ℕ) → d ≢ e → NoneOf (list_of o') (lists_at old e)
   list_apart e other = elim on.grasp.holds [
-    | inl holds ↦ subst (λ (xs : List ℕ). NoneOf xs (lists_at old e)) (sym holds.1)
-        (own_apart on.grasp.takes e other)
+    | inl holds ↦ subst (λ (xs : List ℕ). NoneOf xs (lists_at old e)) (sym holds.1) (own_apart on.grasp.takes e other)
     | inr given ↦ none_in_nothing (list_of o') (lists_at old e) given.1
   ]
 
@@ -126,8 +125,7 @@ module _ {n : ℕ} {h h' : Held} {old new : List (Option SpoolDraft)} {d : ℕ} 
     | inr given ↦
         let out = kept_out b given.0 is in
         let before = reserved_before b on.grasp.takes (sym (given.0.others b out) ∙ is) out in
-        in_other (lists_at old) (lists_at new) d (list_of o') swapped b (all b before)
-        (out_here b on.grasp.takes out)
+        in_other (lists_at old) (lists_at new) d (list_of o') swapped b (all b before) (out_here b on.grasp.takes out)
   ]
 
 -- THE RULE OF ROOM
@@ -239,8 +237,7 @@ module _ {sure : Type 0} {x : IndexSet} {current : ℕ → ℕ} (current' : ℕ 
   other_stands e other r a there is = rw rows (record {
     holds = is.holds;
     below = is.below;
-    carries = λ known open_still kept.
-        bytes_kept current current' first on.own a.growth a.growth.on (same known)
+    carries = λ known open_still kept. bytes_kept current current' first on.own a.growth a.growth.on (same known)
         (subst (λ (xs : List ℕ). NoneOf xs on.own) (ap list_in there)
         (none_sym on.own (lists_at old e) (own_apart fit on on.grasp.takes e other)))
         (owned_apart records h.rows r.number (tail_of a) on.own (is.tail open_still) unowned)

@@ -1,6 +1,6 @@
 -- A draft that is spent after a call on it: its blocks are given back, or its upload's.
 use Rattle.std.proofs.Common.{◌≡◌, ◌≢◌, ◌⊎◌, inl, inr, ℕ, ◌/◌, ◌≤◌, ◌<◌, true, false, List, [], Option, None, Some}
-use Rattle.std.proofs.Common.{length, get_or, set, refl, sym, ◌∙◌, ap, subst, arith, length-append}
+use Rattle.std.proofs.Common.{length, get_or, set, refl, sym, ◌∙◌, ap, subst, arith, length-append, ◌+◌}
 use Rattle.std.proofs.lemmas.Bool.{both_ways, cases_eq, cases_lt}
 use Rattle.std.proofs.lemmas.List.{set-set}
 use Rattle.std.proofs.lemmas.Option.{same_Some}
@@ -146,8 +146,7 @@ module _ (w : World) (grown : IsGrown w) (n : ℕ) (u : Upload) (upload : upload
       → patched u declare body ≡ with_length r.began still.0
   same_number r same still = same_Some (patched u declare body) (with_length r.began still.0)
       (sym (subst (λ (k : ℕ). find k (replaced n (patched u declare body) w.store.uploads) ≡ Some (patched u declare
-      body))
-      same (find_replaced_same n u (patched u declare body) w.store.uploads upload)) ∙ still.1)
+      body)) same (find_replaced_same n u (patched u declare body) w.store.uploads upload)) ∙ still.1)
 
   -- and of another one, which is as it was
   other_number : (r : Patch) → n ≢ r.number
@@ -159,9 +158,11 @@ module _ (w : World) (grown : IsGrown w) (n : ℕ) (u : Upload) (upload : upload
     still.2,
   )
 
+  longer_by : {v : Upload} → patched u declare body ≡ v → length u.accepted + length body ≡ length v.accepted
+  longer_by is = sym (length-append u.accepted body) ∙ ap (λ (z : Upload). length z.accepted) is
+
   shorter : (r : Patch) → GrewFrom r (Some u) → length r.began.accepted ≤ length u.accepted
-  shorter r grew = omega
-      (arith, ap (λ (v : Upload). length v.accepted) grew.2, length-append r.began.accepted grew.1)
+  shorter r grew = omega (arith, ap (λ (v : Upload). length v.accepted) grew.2, length-append r.began.accepted grew.1)
 
   -- nothing can be put after an upload that got longer or complete any more
   pub other_upload : (0 < length body) ⊎ (is_complete (patched u declare body) ≡ true) → (e : ℕ) (r : Patch)
@@ -174,15 +175,8 @@ module _ (w : World) (grown : IsGrown w) (n : ℕ) (u : Upload) (upload : upload
         let grew = subst (GrewFrom r) (subst (λ (k : ℕ). find k w.store.uploads ≡ Some u) same upload)
         (grown.each e r found) in
         absurd (elim more [
-          | inl some ↦ omega (
-            arith,
-            ap (λ (v : Upload). length v.accepted) is,
-            length-append u.accepted body,
-            shorter r grew,
-            some,
-          )
-          | inr whole ↦ both_ways (is_complete (with_length r.began still.0)) still.2
-              (ap is_complete (sym is) ∙ whole)
+          | inl some ↦ omega (arith, longer_by is, shorter r grew, some)
+          | inr whole ↦ both_ways (is_complete (with_length r.began still.0)) still.2 (ap is_complete (sym is) ∙ whole)
         ])
     | inr other ↦ (other, other_number r other still)
   ]
@@ -195,12 +189,8 @@ module _ (w : World) (grown : IsGrown w) (n : ℕ) (u : Upload) (upload : upload
     | inl same ↦
         let is = same_number r same still in
         let there = subst (λ (k : ℕ). find k w.store.uploads ≡ Some u) same upload in
-        let was = same_upload w e r u grown found there (omega (
-          arith,
-          ap (λ (v : Upload). length v.accepted) is,
-          length-append u.accepted body,
-          ap length none,
-        )) in (
+        let same_length : length u.accepted ≡ length r.began.accepted = omega (arith, longer_by is, ap length none) in
+        let was = same_upload w e r u grown found there same_length in (
           was.0,
           there ∙ ap (λ (v : Upload). Some v) was.1,
           subst (λ (v : Upload). is_complete v ≡ false) was.1
@@ -211,8 +201,7 @@ module _ (w : World) (grown : IsGrown w) (n : ℕ) (u : Upload) (upload : upload
 
 -- the other slots own what they did
 pub others_longer : {h new : Holding} {used : SlotRecord} {longer : Longer} {more : List ℕ}
-    → IsLonger h used longer more new
-    → ((i : ℕ) → i < length more → get_or h.blocks.rows (get_or more i 0) None ≡ None)
+    → IsLonger h used longer more new → ((i : ℕ) → i < length more → get_or h.blocks.rows (get_or more i 0) None ≡ None)
     → SameOthers longer.slot h.blocks.rows new.blocks.rows
 others_longer {h = h} {new = new} {used = used} {longer = longer} {more = more} is no_owner =
     elim (cases_lt 0 (length more)) [
@@ -241,8 +230,7 @@ owned_declared h new used longer k list there is owned = record {
         there = ap (λ (s : ℕ). get_or (set h.slots longer.slot (Some (longer_record used longer))) s None) same
             ∙ slot_here h.slots longer.slot (Some (longer_record used longer)) (in_use h.slots longer.slot used there);
         is = ap (λ (r : SlotRecord). r.number)
-            (one_value there (ap (λ (s : ℕ). get_or h.slots s None) (sym same) ∙ owned.used.there))
-            ∙ owned.used.is;
+            (one_value there (ap (λ (s : ℕ). get_or h.slots s None) (sym same) ∙ owned.used.there)) ∙ owned.used.is;
       }
       | inr other ↦ record {
         used = owned.used.used;

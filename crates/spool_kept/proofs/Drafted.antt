@@ -85,20 +85,9 @@ fit_changed n h h' old new d o fit is own others placed apart = record {
 -- WHAT IS KEPT
 
 pub keeps_on : (old new : Holding) (v : View) → OnlyReserves old new → KeepsView old v → KeepsView new v
-keeps_on old new v same keeps = record {
-  blocks = ap (λ (h : Holding). h.layout) same.same ∙ keeps.blocks;
-  version = ap (λ (h : Holding). h.version) same.same ∙ keeps.version;
-  next = ap (λ (h : Holding). h.next) same.same ∙ keeps.next;
-  indexes = ap (λ (h : Holding). h.indexes) same.same ∙ keeps.indexes;
-  slots = ap (λ (h : Holding). h.slots) same.same ∙ keeps.slots;
-  rows = same.rows ∙ keeps.rows;
-  ordered = subst (λ (xs : List NumberedSlot). Orders v.slots xs 512) (sym (ap (λ (h : Holding). h.order) same.same))
-      keeps.ordered;
-  listed = λ s r e. subst (λ (xs : List (List ℕ)). IsListed v.rows s (get_or xs s []))
-      (sym (ap (λ (h : Holding). h.lists) same.same)) (keeps.listed s r e);
-  sizes = λ s r e. subst (λ (xs : List (List ℕ)). length (get_or xs s []) ≡ blocks_of r.text_len)
-      (sym (ap (λ (h : Holding). h.lists) same.same)) (keeps.sizes s r e);
-}
+keeps_on old new v same keeps =
+    let rows : new.blocks.rows ≡ v.rows = same.rows ∙ keeps.rows in
+    subst (λ (h : Holding). KeepsView h v) (sym same.same) (assumption (rows, keeps))
 
 pub stored_on : {D : Type 0} {sure : Bool} (disk : Ghosts D) (d : D) (old new : Holding) (m : Store)
     → OnlyReserves old new → Stored sure disk d old m → Stored sure disk d new m

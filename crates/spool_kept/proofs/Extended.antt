@@ -155,16 +155,9 @@ module _ {D : Type 0} {sure : Bool} {disk : Ghosts D} {d : D} {h new : Holding} 
   -- THE RECORD
 
   tells : IsRecordOf m.indexes now text upload
-  tells = record {
-    declared = append.extension.declared;
-    accepted = append.extension.accepted;
-    metadata = told.metadata;
-    text_len = append.extension.text_len;
-    text = ap (λ (xs : List ℕ). xs ++ append.added) told.text ∙ sym append.extension.text;
-    encodable = append.extension.encodable;
-    valid = append.extension.valid;
-    state = append.extension.state;
-  }
+  tells =
+      let shown = ap (λ (xs : List ℕ). xs ++ append.added) told.text ∙ sym append.extension.text in
+      assumption (shown, told.metadata, append.extension)
 
   record_valid : IsValidRecord before.next now
   record_valid =
@@ -195,13 +188,9 @@ module _ {D : Type 0} {sure : Bool} {disk : Ghosts D} {d : D} {h new : Holding} 
         let was = texts longer.slot used there in
         let size = s.keeps.sizes longer.slot used there in
         let list = get_or h.lists longer.slot [] in
-        let grown : used.text_len ≤ longer.text_len = omega (
-          arith,
-          told.text_len,
-          append.extension.text_len,
-          ap (λ (xs : List ℕ). length xs) append.extension.text,
-          length-append (text_of m.indexes append.upload) append.added,
-        ) in
+        let long = ap (λ (xs : List ℕ). length xs) append.extension.text
+        ∙ length-append (text_of m.indexes append.upload) append.added in
+        let grown : used.text_len ≤ longer.text_len = omega (arith, told.text_len, append.extension.text_len, long) in
         let content : text_on (disk.current d) (text_page before.blocks) more
         (longer.text_len - full_bytes used.text_len) ≡ drop (full_bytes used.text_len) (before.texts longer.slot)
         ++ append.added = rw (told.text_len, told.text, ← s.keeps.blocks) (append.extension.content known some) in
@@ -210,8 +199,7 @@ module _ {D : Type 0} {sure : Bool} {disk : Ghosts D} {d : D} {h new : Holding} 
         (s.keeps.listed longer.slot used there) size (longer.text_len - full_bytes used.text_len) longer.text_len more
         append.added (listed_now before.rows longer.slot (used.text_len / 4096) more rows (hands some) no_owner list
         (omega (arith, size)) (s.keeps.listed longer.slot used there)) (omega (arith, grown, may.blocks some))
-        (content ∙ ap (λ (xs : List ℕ). drop (full_bytes used.text_len) xs ++ append.added) was)
-        (omega (arith, grown)))
+        (content ∙ ap (λ (xs : List ℕ). drop (full_bytes used.text_len) xs ++ append.added) was) (omega (arith, grown)))
     | inr over ↦
         let none : length more ≡ 0 = omega (arith, over) in
         ap (λ (xs : List ℕ). before.texts longer.slot ++ xs) (append.extension.nothing none)
@@ -277,8 +265,7 @@ module _ {D : Type 0} {sure : Bool} {disk : Ghosts D} {d : D} {h new : Holding} 
 
   pub after_changes : (blank filled : List (ℕ × List ℕ))
       → ((v : View) → v.blocks ≡ h.layout → v.version ≡ h.version → v.slots ≡ h.slots → (r : SlotRecord)
-      → get_or h.slots longer.slot None ≡ Some r → (rows : List Row)
-      → (length more ≡ 0 → SameRowsBut [] v.rows rows)
+      → get_or h.slots longer.slot None ≡ Some r → (rows : List Row) → (length more ≡ 0 → SameRowsBut [] v.rows rows)
       → (0 < length more → SameRowsBut (more ++ drop (r.text_len / 4096) (get_or h.lists longer.slot [])) v.rows rows)
       → ChangesButRows blank v (record (with_record v longer.slot (longer_record r longer)) { rows = rows }))
       → ((v v' : View) → v.blocks ≡ new.layout → ChangesButRows blank v v' → v'.rows ≡ new.blocks.rows

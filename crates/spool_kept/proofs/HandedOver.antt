@@ -21,6 +21,21 @@ same_owner {s = s} {k = k} {t = t} {i = i} own more =
     let same : (s, k) ≡ (t, i) = one_value own more in
     (ap (λ (o : ℕ × ℕ). o.0) same, ap (λ (o : ℕ × ℕ). o.1) same)
 
+-- the first blocks of a list, and others after them
+module _ (list more : List ℕ) (first : ℕ) (low : first ≤ length list) where
+  short : length (take first list) ≡ first
+  short = omega (arith, length-take first list, low)
+
+  pub joined_length : length (take first list ++ more) ≡ first + length more
+  joined_length = omega (arith, length-append (take first list) more, short)
+
+  in_first : (i : ℕ) → i < first → get_or (take first list ++ more) i 0 ≡ get_or list i 0
+  in_first i lt = get_or_append_left (take first list) more 0 i (omega (arith, short, lt))
+      ∙ get_or-take first list i 0 lt
+
+  in_more : (i : ℕ) → first ≤ i → get_or (take first list ++ more) i 0 ≡ get_or more (i - first) 0
+  in_more i from = get_or-append_right (take first list) more first i 0 short from
+
 module _ (old : List Row) (slot first : ℕ) (more : List ℕ) (new : List Row) (hands : HandsOver old slot first more new)
     (no_owner : Unowned old more) where
   -- a block that was owned isn't handed over
@@ -109,27 +124,13 @@ module _ (old : List Row) (slot first : ℕ) (more : List ℕ) (new : List Row) 
       → ((i : ℕ) → i < length list → Owns old (get_or list i 0) slot i)
       → (i : ℕ) → i < length (take first list ++ more) → Owns new (get_or (take first list ++ more) i 0) slot i
   owned_now list low owned i lt = elim (cases_lt i first) [
-    | inl before ↦ subst (λ (b : ℕ). Owns new b slot i) (sym (prefix i before))
+    | inl before ↦ rw (in_first list more first low i before)
         (keeps (get_or list i 0) slot i (owned i (omega (arith, before, low))) (λ same. before))
     | inr from ↦
         let at : first + (i - first) ≡ i = omega (arith, from) in
-        subst (λ (b : ℕ). Owns new b slot i) (sym (after i from))
-        (subst (λ (k : ℕ). Owns new (get_or more (i - first) 0) slot k) at
-        (hands.listed (i - first) (omega (arith, lt, from, all))))
+        rw (in_more list more first low i from) (subst (λ (k : ℕ). Owns new (get_or more (i - first) 0) slot k) at
+        (hands.listed (i - first) (omega (arith, lt, from, joined_length list more first low))))
   ]
-    where
-      short : length (take first list) ≡ first
-      short = omega (arith, length-take first list, low)
-
-      all : length (take first list ++ more) ≡ first + length more
-      all = omega (arith, length-append (take first list) more, short)
-
-      prefix : (i : ℕ) → i < first → get_or (take first list ++ more) i 0 ≡ get_or list i 0
-      prefix i lt = get_or_append_left (take first list) more 0 i (omega (arith, short, lt))
-          ∙ get_or-take first list i 0 lt
-
-      after : (i : ℕ) → first ≤ i → get_or (take first list ++ more) i 0 ≡ get_or more (i - first) 0
-      after i from = get_or-append_right (take first list) more first i 0 short from
 
   pub listed_now : (list : List ℕ) → first ≤ length list → IsListed old slot list
       → IsListed new slot (take first list ++ more)
@@ -181,48 +182,32 @@ pub room_for : (rows : List Row) (slot first : ℕ) (list more : List ℕ)
     → ((i : ℕ) → i < length more → get_or more i 0 < length rows)
     → ((i k : ℕ) → i < k → k < length more → get_or more i 0 ≢ get_or more k 0) → first + length more ≤ length rows
 room_for rows slot first list more owned low no_owner below distinct =
-    omega (
-      arith,
-      few_distinct (length rows) (take first list ++ more)
-          (in_either (λ (b : ℕ). b < length rows) (take first list) more first_below below) apart,
-      length-append
-          (take first list) more,
-      short,
-    )
+    let most = few_distinct (length rows) (take first list ++ more) all_below apart in
+    omega (arith, most, long)
   where
-    short : length (take first list) ≡ first
-    short = omega (arith, length-take first list, low)
+    long : length (take first list ++ more) ≡ first + length more
+    long = joined_length list more first low
 
-    own : (i : ℕ) → i < length (take first list) → Owns rows (get_or (take first list) i 0) slot i
-    own i lt = subst (λ (b : ℕ). Owns rows b slot i) (sym (get_or-take first list i 0 (omega (arith, lt, short))))
-        (owned i (omega (arith, lt, short, low)))
+    own : (i : ℕ) → i < first → Owns rows (get_or (take first list ++ more) i 0) slot i
+    own i lt = rw (in_first list more first low i lt) (owned i (omega (arith, lt, low)))
 
-    first_below : (i : ℕ) → i < length (take first list) → get_or (take first list) i 0 < length rows
-    first_below i lt = within rows (get_or (take first list) i 0) (slot, i) (own i lt)
+    all_below : (i : ℕ) → i < length (take first list ++ more) → get_or (take first list ++ more) i 0 < length rows
+    all_below i lt = elim (cases_lt i first) [
+      | inl before ↦ within rows (get_or (take first list ++ more) i 0) (slot, i) (own i before)
+      | inr from ↦ rw (in_more list more first low i from) (below (i - first) (omega (arith, lt, from, long)))
+    ]
 
-    prefix : (i : ℕ) → i < length (take first list)
-        → get_or (take first list ++ more) i 0 ≡ get_or (take first list) i 0
-    prefix i lt = get_or_append_left (take first list) more 0 i lt
-
-    after : (i : ℕ) → length (take first list) ≤ i → get_or (take first list ++ more) i 0 ≡ get_or more
-        (i - length (take first list)) 0
-    after i from = get_or-append_right (take first list) more (length (take first list)) i 0 refl from
-
-    apart : (i k : ℕ) → i < k → k < length (take first list ++ more) → get_or (take first list ++ more) i 0 ≢ get_or
-        (take first list ++ more) k 0
-    apart i k lt inside same = elim (cases_lt i (length (take first list))) [
-      | inl before ↦ elim (cases_lt k (length (take first list))) [
+    apart : (i k : ℕ) → i < k → k < length (take first list ++ more)
+        → get_or (take first list ++ more) i 0 ≢ get_or (take first list ++ more) k 0
+    apart i k lt inside same = elim (cases_lt i first) [
+      | inl before ↦ elim (cases_lt k first) [
         | inl before' ↦
-            let is = same_owner (own i before)
-            (ap (λ (b : ℕ). get_or rows b None) (sym (prefix i before) ∙ same ∙ prefix k before') ∙ own k before') in
+            let is = same_owner (own i before) (ap (λ (b : ℕ). get_or rows b None) same ∙ own k before') in
             omega (arith, is.1, lt)
-        | inr from ↦
-            clash (no_owner (k - length (take first list))
-            (omega (arith, inside, from, length-append (take first list) more)))
-            (ap (λ (b : ℕ). get_or rows b None) (sym (after k from) ∙ sym same ∙ prefix i before) ∙ own i before)
+        | inr from ↦ clash (no_owner (k - first) (omega (arith, inside, from, long)))
+            (ap (λ (b : ℕ). get_or rows b None) (sym (in_more list more first low k from) ∙ sym same) ∙ own i before)
       ]
       | inr from ↦
-          distinct (i - length (take first list)) (k - length (take first list)) (omega (arith, lt, from))
-          (omega (arith, inside, lt, from, length-append (take first list) more))
-          (sym (after i from) ∙ same ∙ after k (omega (arith, lt, from)))
+          distinct (i - first) (k - first) (omega (arith, lt, from)) (omega (arith, inside, lt, from, long))
+          (sym (in_more list more first low i from) ∙ same ∙ in_more list more first low k (omega (arith, lt, from)))
     ]

@@ -4,7 +4,8 @@ use Rattle.std.proofs.Common.{arith, length, refl}
 use Rattle.spool_blocks.specs.Blocks.{Row}
 use Rattle.spool_blocks.specs.Chains.{OwnsOneEach}
 use Rattle.spool_pages.specs.View.{SlotRecord, View, slot_at}
-use Rattle.spool_kept.specs.Holding.{Holding, FitsTogether, HasBlocks, IsListOf, Orders}
+use Rattle.spool_pages.specs.Fits.{FitsRow}
+use Rattle.spool_kept.specs.Holding.{Holding, AreBelow, AreListsTo, FitsTogether, HasBlocks, IsListOf, Orders}
 use Rattle.spool_kept.specs.Kept.{KeepsView, KeepsAlone}
 use Rattle.spool_kept.specs.Shows.{IsValid}
 use Rattle.upload_rules.specs.Room.{blocks_of}
@@ -48,6 +49,21 @@ module _ (h : Holding) (v : View) (fits : FitsTogether h) (valid : IsValid v) (b
   pub keeps_view : h.blocks.reserved ≡ replicate v.blocks false → KeepsAlone h v
   keeps_view reserved = (keeps_said, reserved)
 
+-- the parts fit one another, by what was found of slots that are the same
+pub fits_with : (h : Holding) (first second : List (Option SlotRecord)) → first ≡ h.slots → second ≡ h.slots
+    → length h.slots ≡ 512 → length h.lists ≡ 512 → length h.blocks.rows ≡ h.layout
+    → ((b : ℕ) → FitsRow (get_or h.blocks.rows b None)) → AreBelow h.next h.slots → Orders first h.order 512
+    → AreListsTo h.blocks.rows second h.lists 512 → FitsTogether h
+fits_with h first second same same' slots lists rows fit below orders listed = record {
+  slot_count = slots;
+  list_count = lists;
+  row_count = rows;
+  rows_fit = fit;
+  below = below;
+  ordered = subst (λ (xs : List (Option SlotRecord)). Orders xs h.order 512) same orders;
+  listed = subst (λ (xs : List (Option SlotRecord)). AreListsTo h.blocks.rows xs h.lists 512) same' listed;
+}
+
 -- what is kept is what a view says, whatever was read
 pub keeps_itself : (h : Holding) → FitsTogether h
     → ((s : ℕ) (r : SlotRecord) → get_or h.slots s None ≡ Some r → OwnsOneEach h.blocks.rows s (blocks_of r.text_len))
@@ -62,4 +78,4 @@ keeps_itself h fits whole reserved =
       rows = h.blocks.rows;
       texts = λ s. [];
     } in
-    (v, keeps_by h v fits fits.slot_count whole refl refl refl refl refl refl, reserved)
+    (v, (keeps_by h v fits fits.slot_count whole refl refl refl refl refl refl, reserved))

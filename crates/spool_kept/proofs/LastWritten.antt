@@ -36,12 +36,10 @@ module _ {D : Type 0} {sure : Bool} {disk : Ghosts D} {d : D} (mid : D) {h : Hol
     shows = s.shows;
   })
 
-  pub appended : (disk.honest d → disk.honest mid)
-      → (sure ≡ true → (length last + 4095) / 4096 ≤ length more
+  pub appended : (disk.honest d → disk.honest mid) → (sure ≡ true → (length last + 4095) / 4096 ≤ length more
       → text_on (disk.current mid) (text_page h.layout) more
       (length (bytes_with (disk.current d) (text_page h.layout) more last)) ≡ bytes_with (disk.current d)
-      (text_page h.layout)
-      more last) → IsAppend sure disk mid h m n declare bytes longer more
+      (text_page h.layout) more last) → IsAppend sure disk mid h m n declare bytes longer more
   appended honest written =
       pending.append mid
       (moved mid s (record { same = refl; rows = refl }) honest more unowned refl (λ known. (only known).writes))

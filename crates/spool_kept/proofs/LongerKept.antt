@@ -16,7 +16,7 @@ use Rattle.spool_kept.proofs.ChangedSlots.{one_value}
 use Rattle.std.proofs.lemmas.Option.{same_Some}
 use Rattle.spool_kept.proofs.SlotChange.{same_others}
 use Rattle.spool_kept.proofs.SlotFits.{IsReordered, changed_fits}
-use Rattle.spool_kept.proofs.HandedOver.{room_for, others_same, owned_now, fit_now}
+use Rattle.spool_kept.proofs.HandedOver.{room_for, others_same, owned_now, fit_now, joined_length}
 use Rattle.spool_kept.proofs.Valid.{in_use}
 
 module _ (h : Holding) (fits : FitsTogether h) (slot : ℕ) (r : SlotRecord)
@@ -74,21 +74,14 @@ module _ (h : Holding) (fits : FitsTogether h) (slot : ℕ) (r : SlotRecord)
 
     -- blocks are handed over
     module _ (more : List ℕ) (blocks : Held) (hands : HandsOver h.blocks.rows slot (r.text_len / 4096) more blocks.rows)
-        (no_owner : Unowned h.blocks.rows more)
-        (size : blocks_of r'.text_len ≡ r.text_len / 4096 + length more)
+        (no_owner : Unowned h.blocks.rows more) (size : blocks_of r'.text_len ≡ r.text_len / 4096 + length more)
         (room : r.text_len / 4096 + length more ≤ 65536) where
       now : List ℕ
       now = take (r.text_len / 4096) (get_or h.lists slot []) ++ more
 
       has_now : HasBlocks blocks.rows slot r'.text_len (take (r.text_len / 4096) (get_or h.lists slot []) ++ more)
       has_now = record {
-        size = omega (
-          arith,
-          size,
-          length-append (take (r.text_len / 4096) (get_or h.lists slot [])) more,
-          length-take (r.text_len / 4096) (get_or h.lists slot []),
-          low,
-        );
+        size = omega (arith, size, joined_length (get_or h.lists slot []) more (r.text_len / 4096) low);
         owned = owned_now h.blocks.rows slot (r.text_len / 4096) more blocks.rows hands no_owner
             (get_or h.lists slot []) low has.owned;
       }

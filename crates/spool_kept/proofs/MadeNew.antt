@@ -33,12 +33,9 @@ module _ {D : Type 0} {sure : Bool} {disk : Ghosts D} {d : D} {h : Holding} {m :
 
   -- the rules allow it
   pub allowed : create_refusal (at_rest m None) new ≡ None
-  allowed = rw (
-    small,
-    lt-leb 512 (length m.uploads) few,
-    lt-leb (10 ^ 18) m.next
-        (omega (arith, room.next, next_is)),
-  ) refl
+  allowed =
+      let below = lt-leb (10 ^ 18) m.next (omega (arith, room.next, next_is)) in
+      rw (small, lt-leb 512 (length m.uploads) few, below) refl
 
   free : slot_at v slot ≡ None
   free = ap (λ (xs : List (Option SlotRecord)). get_or xs slot None) (sym stored.keeps.slots) ∙ room.free

@@ -35,16 +35,7 @@ module _ (x : IndexSet) (n : ℕ) (r : Record) (new : New) (keeps : Keeps x n r 
       }
 
   tells_new : IsRecordOf x (said_of r) [] (new_upload new)
-  tells_new = record {
-    declared = keeps.tells.declared;
-    accepted = keeps.tells.accepted;
-    metadata = keeps.tells.metadata;
-    text_len = keeps.tells.text_len;
-    text = sym (new_text x new);
-    encodable = keeps.encodable;
-    valid = keeps.valid;
-    state = keeps.tells.state;
-  }
+  tells_new = let text = sym (new_text x new) in assumption (text, keeps, keeps.tells)
 
   no_text : r.text_len ≡ 0
   no_text = keeps.tells.text_len ∙ ap length (new_text x new)

@@ -27,8 +27,7 @@ use Rattle.spool_kept.proofs.SlotChange.{owned_still}
 
 -- reserved blocks stay so
 reserved_still : (slot : ℕ) (old new : Held) (list : List ℕ) → FreesRows slot old.rows new.rows
-    → new.reserved ≡ old.reserved → IsReserved old list
-    → IsReserved new list
+    → new.reserved ≡ old.reserved → IsReserved old list → IsReserved new list
 reserved_still slot old new list frees same is = record {
   below = λ i lt. omega (arith, is.below i lt, frees.size);
   reserved = λ i lt. ap (λ (xs : List Bool). get_or xs (get_or list i 0) false) same ∙ is.reserved i lt;
@@ -82,13 +81,11 @@ module _ {h h' : Holding} {number slot : ℕ} (used : IsUsedBy h.slots slot numb
     stands_still p o s = record {
       holds = s.holds;
       below = s.below;
-      carries = λ known there kept.
-          bytes_same current current' first o.growth o.growth.on (same known)
+      carries = λ known there kept. bytes_same current current' first o.growth o.growth.on (same known)
           ∙ s.carries known (still_was w number p there).1 kept;
       tail = λ there.
           let was = still_was w number p there in
-          owned_still None out.slots (others_stay slot h.blocks.rows h'.blocks.rows out.rows) used was.0
-          (s.tail was.1);
+          owned_still None out.slots (others_stay slot h.blocks.rows h'.blocks.rows out.rows) used was.0 (s.tail was.1);
     }
 
     pub drafts_still : (drafts : List (Option SpoolDraft)) → DraftsStand sure w.store.indexes current first h.slots
@@ -111,7 +108,6 @@ module _ {h h' : Holding} {number slot : ℕ} (used : IsUsedBy h.slots slot numb
   stands_after {sure = sure} {disk = disk} {d = d} {d' = d'} {drafts = drafts} {w = w} stands stored same = record {
     stored = stored;
     stands = subst (λ (n : ℕ). DraftsStand (sure ≡ true) w.store.indexes (disk.current d')
-        (text_page n) h'.slots h'.blocks
-        (terminated w number) drafts) (sym out.layout)
+        (text_page n) h'.slots h'.blocks (terminated w number) drafts) (sym out.layout)
         (drafts_still w (disk.current d) (disk.current d') (text_page h.layout) same drafts stands.stands);
   }

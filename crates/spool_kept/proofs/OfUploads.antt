@@ -50,16 +50,14 @@ of_begun slots r o kept number offset after = record {
 }
 
 pub begins_kept : (slots : List (Option SlotRecord)) (r : Record) (declare : Option ℕ)
-    (result : Result SpoolDraft UploadRefusal)
-    → IsKept slots r
+    (result : Result SpoolDraft UploadRefusal) → IsKept slots r
     → IfOk result (λ o. (number_of o ≡ r.number) × (offset_of o ≡ r.accepted) × (declare_of o ≡ declare))
     → IfOk result (IsAfter r.text_len r.state) → IfOk result (IsOfUpload slots)
 begins_kept slots r declare (Ok o) kept named after = of_begun slots r o kept named.0 named.1 after
 begins_kept slots r declare (Err e) kept named after = tt
 
 pub begins_below : (next number offset : ℕ) (declare : Option ℕ) (result : Result SpoolDraft UploadRefusal)
-    → number < next
-    → IfOk result (λ o. (number_of o ≡ number) × (offset_of o ≡ offset) × (declare_of o ≡ declare))
+    → number < next → IfOk result (λ o. (number_of o ≡ number) × (offset_of o ≡ offset) × (declare_of o ≡ declare))
     → IfOk result (λ o. number_of o < next)
 begins_below next number offset declare (Ok o) lt named = omega (arith, lt, named.0)
 begins_below next number offset declare (Err e) lt named = tt

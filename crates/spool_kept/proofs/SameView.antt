@@ -36,21 +36,15 @@ module _ (f : ℕ → ℕ) (at : ℕ) where
   one_row : (a b : Option (ℕ × ℕ)) → FitsRow a → FitsRow b → Stands f at 8 (row_bytes a) → Stands f at 8 (row_bytes b)
       → a ≡ b
   one_row None None fits fits' s s' = refl
-  one_row None (Some p) fits fits' s s' = absurd (omega (
-    arith,
-    one_number f at 0 (p.0 + 1) (omega arith) fits'.0 (free_at f at s) (slot_at f at p.0 p.1 s'),
-  ))
-  one_row (Some o) None fits fits' s s' = absurd (omega (
-    arith,
-    one_number f at 0 (o.0 + 1) (omega arith) fits.0 (free_at f at s') (slot_at f at o.0 o.1 s),
-  ))
+  one_row None (Some p) fits fits' s s' =
+      let one = one_number f at 0 (p.0 + 1) (omega arith) fits'.0 (free_at f at s) (slot_at f at p.0 p.1 s') in
+      absurd (omega (arith, one))
+  one_row (Some o) None fits fits' s s' =
+      let one = one_number f at 0 (o.0 + 1) (omega arith) fits.0 (free_at f at s') (slot_at f at o.0 o.1 s) in
+      absurd (omega (arith, one))
   one_row (Some o) (Some p) fits fits' s s' =
-      pairs o p
-      (omega (
-        arith,
-        one_number f at (o.0 + 1) (p.0 + 1) fits.0 fits'.0 (slot_at f at o.0 o.1 s)
-            (slot_at f at p.0 p.1 s'),
-      ))
+      let slot = one_number f at (o.0 + 1) (p.0 + 1) fits.0 fits'.0 (slot_at f at o.0 o.1 s) (slot_at f at p.0 p.1 s') in
+      pairs o p (omega (arith, slot))
       (one_number f (at + 4) o.1 p.1 fits.1 fits'.1 (ordinal_at f at o.0 o.1 s) (ordinal_at f at p.0 p.1 s'))
 
 -- the pages of rows hold a row for each block
@@ -74,16 +68,14 @@ module _ (f : ℕ → ℕ) (v v' : View) (valid : IsValid v) (valid' : IsValid v
     | inl lt ↦
         let within : b < 512 * (journal_pages v.blocks - 257) = omega (arith, lt, rows_cover v.blocks) in
         one_row f _ (get_or v.rows b None) (get_or v'.rows b None) (rows_fit v valid b) (rows_fit v' valid' b)
-        (says.rows b within)
-        (said_row f v' v.blocks (sym same_blocks) says' b within)
+        (says.rows b within) (said_row f v' v.blocks (sym same_blocks) says' b within)
     | inr over ↦ get_or-eq_default v.rows None (omega (arith, over, valid.row_count))
         ∙ sym (get_or-eq_default v'.rows None (omega (arith, over, valid'.row_count, same_blocks)))
   ]
 
 -- a spool at rest rests with whatever view its bytes have
 pub rests_other : {current : ℕ → ℕ} {unsynced : ℕ → Type 0} (v v' : View) → IsValid v → IsValid v'
-    → Says (overlaid current) v
-    → Rests v current unsynced → IsViewOf current v' → Rests v' current unsynced
+    → Says (overlaid current) v → Rests v current unsynced → IsViewOf current v' → Rests v' current unsynced
 rests_other {current = current} v v' valid valid' says rests is = record {
   closed = rests.closed;
   is_synced = λ p l.
@@ -99,8 +91,7 @@ rests_other {current = current} v v' valid valid' says rests is = record {
 
 -- Whatever the resting bytes show, an image shows that differs from them only in blocks that no row owns.
 pub shows_aside : {current : ℕ → ℕ} {unsynced : ℕ → Type 0} (v : View) (own : List ℕ) (n : ℕ) (image : ℕ
-    → ℕ) (m : Store)
-    → IsValid v → v.blocks ≡ n → Rests v current unsynced → Unowned v.rows own
+    → ℕ) (m : Store) → IsValid v → v.blocks ≡ n → Rests v current unsynced → Unowned v.rows own
     → IsImage current unsynced (aside_blocks (text_page n) own current image) → (k : ℕ) → ImageShows k current m
     → ImageShows k image m
 shows_aside {current = current} v own n image m valid size rests unowned is k shown =
@@ -110,8 +101,7 @@ shows_aside {current = current} v own n image m valid size rests unowned is k sh
       view = v';
       blocks = shown.blocks;
       is = rests_aside own image (sym blocks ∙ size) (rests_other v v' valid shown.shows.valid rests.is.says rests
-          shown.is)
-          (λ i lt. sym (same_row (overlaid current) v v' valid shown.shows.valid rests.is.says shown.is.says
+          shown.is) (λ i lt. sym (same_row (overlaid current) v v' valid shown.shows.valid rests.is.says shown.is.says
           (get_or own i 0)) ∙ unowned i lt) is;
       shows = shown.shows;
     }

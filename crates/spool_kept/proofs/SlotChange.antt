@@ -127,8 +127,7 @@ module _ {v : View} {m : Store} {s n : ℕ} {o : Option SlotRecord} {rows : List
     | inr was ↦ inr was
   ]
 
-  still : (t : ℕ) (r : SlotRecord) → t ≢ s → slot_at v t ≡ Some r
-      → slot_at (changed v s o rows texts next) t ≡ Some r
+  still : (t : ℕ) (r : SlotRecord) → t ≢ s → slot_at v t ≡ Some r → slot_at (changed v s o rows texts next) t ≡ Some r
   still t r other e = slot_else v.slots s o t other ∙ e
 
   changed_valid : IsValid (changed v s o rows texts next)
@@ -219,8 +218,7 @@ module _ {v : View} {m : Store} {s n : ℕ} {o : Option SlotRecord} {rows : List
         ∙ ap (λ (k : ℕ). text_shown current (text_page v.blocks) rows k q.text_len) (sym here.0)
     | inr was ↦
         let one = shows.valid.lists t q was.1 in
-        c.texts_else t was.0 ∙ old t q was.1
-        ∙ sym (text_still current (text_page v.blocks) v.rows rows t q.text_len one
+        c.texts_else t was.0 ∙ old t q was.1 ∙ sym (text_still current (text_page v.blocks) v.rows rows t q.text_len one
         (others_listed v.rows rows s t (blocks_of q.text_len) c.has.others was.0 one)
         (λ b i owns. c.has.others.still b t i was.0 owns))
   ]

@@ -83,8 +83,7 @@ module _ {D : Type 0} {sure : Bool} {disk : Ghosts D} {d : D} {h : Holding} {m :
           → Lasts disk d d' (ShowsEither h.layout m (outcome (no_such (upload_of m number)) m (deleted_store m number)))
       crash_after known {d' = d'} lasts =
           subst (λ (f : Option UploadRefusal). Lasts disk d d' (ShowsEither h.layout m
-          (outcome f m (deleted_store m number)))) (sym allowed)
-          (lasts_either disk d d' stored new shows refl
+          (outcome f m (deleted_store m number)))) (sym allowed) (lasts_either disk d d' stored new shows refl
           (lasts old new blocks (stored.rests known) changes (texts known)))
 
       pub stored_after : {d' : D} → FitsTogether h' → (disk.honest d → disk.honest d')

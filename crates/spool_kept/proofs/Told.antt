@@ -29,14 +29,12 @@ use Rattle.spool_kept.specs.Shows.{FitsPhase, HasState, IsRecordOf}
 
 -- before the end the phase fits any bytes
 phase_fits : (t : Tables) (e : Encoding) (bytes : List ℕ) (declared : Option ℕ)
-    → is_length declared (length bytes) ≡ false
-    → FitsPhase (phase_of (decoded t e bytes false)) (length bytes) declared
+    → is_length declared (length bytes) ≡ false → FitsPhase (phase_of (decoded t e bytes false)) (length bytes) declared
 unfolding decoded
 phase_fits t e [] declared more = (refl, more)
 phase_fits t e (b ∷ bytes) declared more = go (undecided (b ∷ bytes))
   where
-    go : (u : Bool) → FitsPhase
-        (phase_of (if u then Held (b ∷ bytes) else let s = sniffed e (b ∷ bytes) in Reading
+    go : (u : Bool) → FitsPhase (phase_of (if u then Held (b ∷ bytes) else let s = sniffed e (b ∷ bytes) in Reading
         (decoding t false (decoding_start s.0) s.1))) (length (b ∷ bytes)) declared
     go true = (refl, more)
     go false = (omega arith, more)
@@ -47,8 +45,7 @@ module _ (x : IndexSet) (r : SlotRecord) (shown : List ℕ) (u : Upload) (is : I
   at_phase true e = e
   at_phase false e =
       subst (λ (bytes : List ℕ). FitsPhase (phase_of (decoded (tables x) u.from bytes false)) (length u.accepted)
-      u.declared) (sym (append-nil u.accepted))
-      (phase_fits (tables x) u.from u.accepted u.declared e)
+      u.declared) (sym (append-nil u.accepted)) (phase_fits (tables x) u.from u.accepted u.declared e)
 
   -- a record that tells of an upload has a state
   pub told_state : HasState r

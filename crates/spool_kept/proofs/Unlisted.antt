@@ -12,12 +12,10 @@ module _ (order : List NumberedSlot) (place n : ℕ) (rises : Rises order) (with
   long : length (remove order place) + 1 ≡ length order
   long = length-remove order place within
 
-  below : (k : ℕ) → k < place
-      → get_or (remove order place) k (numbered 0 0) ≡ get_or order k (numbered 0 0)
+  below : (k : ℕ) → k < place → get_or (remove order place) k (numbered 0 0) ≡ get_or order k (numbered 0 0)
   below k lt = get_or-remove_below order place (numbered 0 0) k lt within
 
-  above : (k : ℕ) → place ≤ k
-      → get_or (remove order place) k (numbered 0 0) ≡ get_or order (k + 1) (numbered 0 0)
+  above : (k : ℕ) → place ≤ k → get_or (remove order place) k (numbered 0 0) ≡ get_or order (k + 1) (numbered 0 0)
   above k le = get_or-remove_above order place (numbered 0 0) k le within
 
   num : {a b : NumberedSlot} → a ≡ b → a.number ≡ b.number

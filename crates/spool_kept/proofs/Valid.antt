@@ -40,8 +40,7 @@ module _ (bytes : ℕ → ℕ) (v : View) (n : ℕ) (blocks : v.blocks ≡ n) (s
   pub said_area : (i : ℕ) → i < 90112 → bytes (index_place n + i) ≡ area_byte v.indexes i
   said_area i lt = subst (λ (m : ℕ). bytes (index_place m + i) ≡ area_byte v.indexes i) blocks (says.area i lt)
 
-  pub said_slot : (s : ℕ) → s < 512 → Stands bytes (slot_place n s) 2048
-      (slot_bytes v.version (slot_at v s))
+  pub said_slot : (s : ℕ) → s < 512 → Stands bytes (slot_place n s) 2048 (slot_bytes v.version (slot_at v s))
   said_slot s lt = subst (λ (m : ℕ). Stands bytes (slot_place m s) 2048 (slot_bytes v.version (slot_at v s)))
       blocks (says.slots s lt)
 

@@ -6,46 +6,39 @@ use Rattle.spool_kept.proofs.Declared as declared
 use Rattle.spool_kept.proofs.OfUploads.{fits_declared}
 use Rattle.spool_kept.proofs.committing.set_length.Given.{Over}
 use Rattle.spool_kept.proofs.committing.set_length.Goals as goal
-use Rattle.spool_kept.proofs.committing.set_length.Goals.{In-Ok, In-Err-DiskFault}
+use Rattle.spool_kept.proofs.committing.set_length.Goals.{After-extend}
 
 -- the slot's record, as it was read
-abbrev done_may : (g : Over) (c : In-Ok g) → MayDeclare c.args.kept.now.slots c.args.slot c.args.declared
-done_may g c =
-    let used : c.unwrap.result.now ≡ c.requires.may.used = search rules in
-    declared.may_as (said_of c.record-used.result.now) c.requires.may (c.record-used.ensures.said ∙ used)
-
-abbrev failed_may : (g : Over) (c : In-Err-DiskFault g) → MayDeclare c.args.kept.now.slots c.args.slot c.args.declared
-failed_may g c =
+abbrev may_of : (g : Over) (c : After-extend g) → MayDeclare c.args.kept.now.slots c.args.slot c.args.declared
+may_of g c =
     let used : c.unwrap.result.now ≡ c.requires.may.used = search rules in
     declared.may_as (said_of c.record-used.result.now) c.requires.may (c.record-used.ensures.said ∙ used)
 
 pub returns-in-Ok-clause-fits : goal.returns-in-Ok-clause-fits
 returns-in-Ok-clause-fits g c drafts fit =
-    let m = done_may g c in
+    let m = may_of g (goal.at.returns-in-Ok-clause-fits g c).After-extend in
     fits_declared c.args.kept.now c.extend.new.kept drafts (declared.named m.used c.args.slot c.args.declared) m.used
-    m.there (declared.only_declares m)
-    (c.in-Ok.ensures.longer (λ e. cc) m.used m.there) fit
+    m.there (declared.only_declares m) (c.in-Ok.ensures.longer (λ e. cc) m.used m.there) fit
 
 pub returns-in-Err-DiskFault-clause-fits : goal.returns-in-Err-DiskFault-clause-fits
 returns-in-Err-DiskFault-clause-fits g c drafts fit =
-    let m = failed_may g c in
+    let m = may_of g (goal.at.returns-in-Err-DiskFault-clause-fits g c).After-extend in
     fits_declared c.args.kept.now c.extend.new.kept drafts (declared.named m.used c.args.slot c.args.declared) m.used
-    m.there (declared.only_declares m)
-    (c.in-Err-DiskFault.ensures.longer (λ e. cc) m.used m.there) fit
+    m.there (declared.only_declares m) (c.in-Err-DiskFault.ensures.longer (λ e. cc) m.used m.there) fit
 
 pub returns-in-Ok-clause-crash : goal.returns-in-Ok-clause-crash
 returns-in-Ok-clause-crash g c m n stored used small =
     c.extend.ensures.crash m n c.args.declared []
-    (declared.pending stored (done_may g c) used small)
+    (declared.pending stored (may_of g (goal.at.returns-in-Ok-clause-crash g c).After-extend) used small)
 
 pub returns-in-Err-DiskFault-clause-crash : goal.returns-in-Err-DiskFault-clause-crash
 returns-in-Err-DiskFault-clause-crash g c m n stored used small =
     c.extend.ensures.crash m n c.args.declared []
-    (declared.pending stored (failed_may g c) used small)
+    (declared.pending stored (may_of g (goal.at.returns-in-Err-DiskFault-clause-crash g c).After-extend) used small)
 
 pub returns-in-Ok-clause-answer : goal.returns-in-Ok-clause-answer
 returns-in-Ok-clause-answer g c sure drafts w n stands used small =
-    let k = done_may g c in
+    let k = may_of g (goal.at.returns-in-Ok-clause-answer g c).After-extend in
     let pending = declared.pending stands.stored k used small in
     let wrote = c.in-Ok.ensures.written sure w.store n c.args.declared [] pending in (
       refl,

@@ -37,15 +37,10 @@ returns-clause-fits g c =
       blocks = fit_longer fit.blocks on c.append-answer.ensures.reserved c.append-answer.ensures.placed;
       below = each_changed (λ (o : SpoolDraft). number_of o < c.kept.inside.next) before c.put_back.new.drafts.items
           c.args.number (Some new) on.changed fit.below
-          (λ a e. omega (
-            arith,
-            ap number_of (same_Some new a e),
-            same.0,
-            fit.below c.args.number c.in-Some.draft here,
-          ));
+          (λ a e. let below = fit.below c.args.number c.in-Some.draft here in
+          omega (arith, ap number_of (same_Some new a e), same.0, below));
       uploads = each_changed (IsOfUpload c.kept.inside.slots.items) before c.put_back.new.drafts.items c.args.number
-          (Some new) on.changed fit.uploads
-          (λ a e. subst (IsOfUpload c.kept.inside.slots.items) (same_Some new a e)
+          (Some new) on.changed fit.uploads (λ a e. subst (IsOfUpload c.kept.inside.slots.items) (same_Some new a e)
           (of_longer c.kept.inside.slots.items c.in-Some.draft new same.0 same.1 c.append-answer.ensures.after
           (fit.uploads c.args.number c.in-Some.draft here)));
     }
@@ -57,8 +52,7 @@ returns-clause-quiet g c w p s there =
     let rows = effect.grasp.takes.rows ∙ ap (λ (h : Holding). h.blocks.rows) c.kept.view_is ∙ s.stored.keeps.rows in
     shows_still g.D.Disk c.args.disk.now c.append-answer.new.disk v effect.own _ (effect.writes (s.stored.honest refl))
     s.stored.shows.valid (sym s.stored.keeps.blocks ∙ sym (ap (λ (h : Holding). h.layout) c.kept.view_is))
-    (s.stored.rests refl)
-    (λ i lt. ap (λ (r : List Row). get_or r (get_or effect.own i 0) None) (sym rows)
+    (s.stored.rests refl) (λ i lt. ap (λ (r : List Row). get_or r (get_or effect.own i 0) None) (sym rows)
     ∙ effect.grasp.reserved.no_owner i lt)
 
 pub returns-clause-answer : goal.returns-clause-answer
@@ -90,8 +84,7 @@ returns-clause-answer g c sure w p s there fits =
     let is = own_draft (opened number s' there c.in-Some.ensures.taken) in
     let held = subst (λ (x : IndexSet). Holds x p o) (sym ix) is.holds in
     let same = reserves_only c.args.kept.now _ _ c.kept.view_is refl c.append-answer.ensures.rows in
-    let stored = moved disk' s.stored same
-    c.append-answer.ensures.honest.0 effect.own
+    let stored = moved disk' s.stored same c.append-answer.ensures.honest.0 effect.own
     (λ i lt. ap (λ (r : List Row). get_or r (get_or effect.own i 0) None)
     (sym (effect.grasp.takes.rows ∙ ap (λ (k : Holding). k.blocks.rows) c.kept.view_is ∙ s.stored.keeps.rows))
     ∙ effect.grasp.reserved.no_owner i lt)
@@ -104,11 +97,9 @@ returns-clause-answer g c sure w p s there fits =
     λ still. subst (IsOwnedBy records h'.rows p.number) (sym c.append-answer.ensures.same.4)
     (subst (λ (r : List Row). IsOwnedBy records r p.number (tail_of o)) (sym rows) (is.tail still)) in
     let same_patches = replaced_same number p w.patches there in
-    answered _ _ c.append-answer.result
-    (ok_more c.append-answer.result (c.append-answer.ensures.answer p held fits)
+    answered _ _ c.append-answer.result (ok_more c.append-answer.result (c.append-answer.ensures.answer p held fits)
     (λ (known : (sure ≡ true) × IsStillOpen w.store p). c.append-answer.ensures.content p (honest known.0) held fits
-    (subst (λ (x : IndexSet). Carries x current first p o) (sym ix) (is.carries known.0 known.1)))
-    (λ l carries.
+    (subst (λ (x : IndexSet). Carries x current first p o) (sym ix) (is.carries known.0 known.1))) (λ l carries.
     let q = longer w number p piece in
     let is_longer = subst (λ (x : IndexSet). IsLonger x (with_piece p piece) o new h h') ix l in
     longer_world w number piece there stored
@@ -135,5 +126,4 @@ returns-clause-answer g c sure w p s there fits =
                 (subst (λ (x : IndexSet). Carries x current first p o) (sym ix) (is.carries known still)));
             tail = tail;
           });
-    })
-    c.append-answer.ensures.no_refusal
+    }) c.append-answer.ensures.no_refusal

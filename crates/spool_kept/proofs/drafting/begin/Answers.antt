@@ -44,8 +44,7 @@ returns-in-Ok-placed-clause-answer g c sure disk w s =
       begins s n c.args.offset c.args.count c.args.declare c.in-Ok-placed.ensures.ok c.in-Ok.ensures.none
           c.in-Ok.ensures.owned
           (λ known. c.in-Ok.ensures.carries s.stored.view w.store (g.D.Disk.current disk) s.stored.keeps s.stored.shows
-          (rests_says (s.stored.rests known)))
-          (upload_of w.store n) refl opens,
+          (rests_says (s.stored.rests known))) (upload_of w.store n) refl opens,
     )
 
 pub returns-in-Err-placed-clause-answer : goal.returns-in-Err-placed-clause-answer

@@ -19,13 +19,8 @@ blocks_from-requires c =
     c.index.ensures ∙ get_or_default c.self.inside.lists.items slot c.index.result.now []
     (omega (arith, slot_few h fits slot may.used may.there, c.self.invariant.list_count))
     ∙ ap (λ (k : Holding). get_or k.lists slot []) c.self.view_is in
-    omega (
-      arith,
-      c.full_blocks-full.ensures.full may.used may.there,
-      ap (λ (xs : List ℕ). length xs) here,
-      low h fits
-          slot may.used may.there,
-    )
+    let long = ap (λ (xs : List ℕ). length xs) here in
+    omega (arith, c.full_blocks-full.ensures.full may.used may.there, long, low h fits slot may.used may.there)
 
 pub pages_of_change-requires-clause-blocks : goal.pages_of_change-requires-clause-blocks
 pages_of_change-requires-clause-blocks c =
@@ -84,7 +79,6 @@ returns-clause-changes c v blocks version slots r there rows none some =
     (version ∙ sym (ap (λ (k : Holding). k.version) c.self.view_is))
     (ap (λ (xs : List (Option SlotRecord)). length xs) slots ∙ fits.slot_count) beside rows same in
     let kept : c.unwrap-kept.result.now ≡ r = search rules in
-    subst (λ (q : SlotRecord). IfOk c.pages_of_change.result
-    (λ pages. ChangesButRows pages v
+    subst (λ (q : SlotRecord). IfOk c.pages_of_change.result (λ pages. ChangesButRows pages v
     (record (with_record v slot (longer_record q c.args.longer.now)) { rows = rows })))
     (c.next.view_is ∙ c.slot_record.ensures.said ∙ kept) told

@@ -1,7 +1,7 @@
 use Rattle.std.proofs.Common.{rules, ◌≡◌, ◌<◌, ◌∙◌, Option, None, Some, List, get_or, ap, subst, arith}
 use Rattle.spool_pages.specs.View.{SlotRecord}
-use Rattle.spool_kept.specs.Holding.{FitsTogether, Orders, AreListsTo, OwnsText}
-use Rattle.spool_kept.proofs.Keeps.{keeps_view, keeps_itself}
+use Rattle.spool_kept.specs.Holding.{Orders, OwnsText}
+use Rattle.spool_kept.proofs.Keeps.{fits_with, keeps_itself, keeps_view}
 use Rattle.spool_kept.proofs.Valid.{slots_distinct, in_use}
 use Rattle.spool_kept.proofs.Ordered.{orders_distinct}
 use Rattle.spool_kept.proofs.kept.Kept.of.Goals as goal
@@ -12,36 +12,14 @@ returns-in_err-order-clause-said c v valid blocks version next indexes slots row
     let told = c.order_of.ensures.distinct (slots_distinct v valid c.deref.result.now first) in
     search rules
 
-fits_together : (c : goal.After-lists) → FitsTogether (record {
-  layout = c.args.layout;
-  version = c.args.version;
-  next = c.args.next;
-  indexes = c.args.indexes;
-  slots = c.args.slots.items;
-  order = c.in_ok-order.order.items;
-  lists = c.in_ok-lists.lists.items;
-  blocks = c.args.blocks;
-})
-fits_together c =
-    let first : c.deref.result.now ≡ c.args.slots.items = search rules in
-    let second : c.deref-2.result.now ≡ c.args.slots.items = search rules in
-    record {
-      slot_count = c.requires.slots;
-      list_count = c.in_ok-lists.ensures.long;
-      row_count = c.requires.rows;
-      rows_fit = c.requires.fits;
-      below = c.requires.below;
-      ordered =
-          subst (λ (xs : List (Option SlotRecord)). Orders xs c.in_ok-order.order.items 512) first
-          c.in_ok-order.ensures.orders;
-      listed =
-          subst (λ (xs : List (Option SlotRecord)). AreListsTo c.args.blocks.rows xs c.in_ok-lists.lists.items 512)
-          second c.in_ok-lists.ensures.lists;
-    }
-
 pub returns-clause-said : goal.returns-clause-said
 returns-clause-said c v valid blocks version next indexes slots rows reserved =
-    keeps_view _ v (fits_together c) valid blocks version next indexes slots rows reserved
+    let first : c.deref.result.now ≡ c.args.slots.items = search rules in
+    let second : c.deref-2.result.now ≡ c.args.slots.items = search rules in
+    keeps_view _ v
+    (fits_with _ c.deref.result.now c.deref-2.result.now first second c.requires.slots c.in_ok-lists.ensures.long
+    c.requires.rows c.requires.fits c.requires.below c.in_ok-order.ensures.orders c.in_ok-lists.ensures.lists)
+    valid blocks version next indexes slots rows reserved
 
 pub returns-clause-distinct : goal.returns-clause-distinct
 returns-clause-distinct c =
@@ -59,4 +37,10 @@ returns-clause-whole c s r here =
     subst (λ (o : Option SlotRecord). OwnsText c.args.blocks.rows s o) there (c.in_ok-lists.ensures.whole s lt)
 
 pub returns-clause-view : goal.returns-clause-view
-returns-clause-view c reserved = keeps_itself _ (fits_together c) (returns-clause-whole c) reserved
+returns-clause-view c reserved =
+    let first : c.deref.result.now ≡ c.args.slots.items = search rules in
+    let second : c.deref-2.result.now ≡ c.args.slots.items = search rules in
+    keeps_itself _
+    (fits_with _ c.deref.result.now c.deref-2.result.now first second c.requires.slots c.in_ok-lists.ensures.long
+    c.requires.rows c.requires.fits c.requires.below c.in_ok-order.ensures.orders c.in_ok-lists.ensures.lists)
+    (returns-clause-whole c) reserved

@@ -16,8 +16,7 @@ list_is c =
     let fits = subst FitsTogether c.self.view_is c.self.invariant in
     let few : slot < 512 = slot_below h slot c.requires.used.0 fits c.requires.used.1 in
     let inside : slot < length c.self.inside.lists.items = omega (arith, few, c.self.invariant.list_count) in
-    c.blocks-list.ensures ∙ c.index.ensures
-    ∙ get_or_default c.self.inside.lists.items slot c.index.result.now [] inside
+    c.blocks-list.ensures ∙ c.index.ensures ∙ get_or_default c.self.inside.lists.items slot c.index.result.now [] inside
     ∙ ap (λ (k : Holding). get_or k.lists slot []) c.self.view_is
 
 pub pages_of_change-requires-clause-blocks : goal.pages_of_change-requires-clause-blocks

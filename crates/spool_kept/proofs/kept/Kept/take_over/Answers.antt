@@ -67,18 +67,15 @@ invariant_of-self-2 c =
           (has h c.self.invariant slot may.used there).owned (low h c.self.invariant slot may.used there)
           held.no_owner held.below held.distinct in
           let few : length h.blocks.rows ≤ 65536 =
-          subst (λ (k : Holding). length k.blocks.rows ≤ 65536) (sym c.self.view_is)
-          w.full_blocks-full.ensures.few in
+          subst (λ (k : Holding). length k.blocks.rows ≤ 65536) (sym c.self.view_is) w.full_blocks-full.ensures.few in
           let now = fits_longer h c.self.invariant slot may.used there r' refl c.args.more.now w.own.new.self hands
           held.no_owner (may.blocks some) (omega (arith, all, few)) in
-          rw w.self-inside-is (subst
-          (λ (xs : List (Option SlotRecord)). FitsTogether
+          rw w.self-inside-is (subst (λ (xs : List (Option SlotRecord)). FitsTogether
           (record h {
             slots = xs;
             lists = slice_set h.lists slot w.replace_from.new.self;
             blocks = w.own.new.self;
-          })) (sym slots)
-          (subst (λ (ys : List ℕ). FitsTogether
+          })) (sym slots) (subst (λ (ys : List ℕ). FitsTogether
           (record h {
             slots = slice_set h.slots slot (Some r');
             lists = slice_set h.lists slot ys;
@@ -104,8 +101,7 @@ returns-clause-longer c r there =
           let hands : HandsOver h.blocks.rows slot (r.text_len / 4096) c.args.more.now w.own.new.self.rows =
           rw (← first) (assumption w.own.ensures) in
           let some : 0 < length c.args.more.now = search rules in
-          rw w.self-inside-is (subst
-          (λ (k : Holding). IsLonger k r c.args.longer.now c.args.more.now
+          rw w.self-inside-is (subst (λ (k : Holding). IsLonger k r c.args.longer.now c.args.more.now
           (record h {
             slots = c.set_record.new.slots.items;
             lists = slice_set h.lists slot w.replace_from.new.self;
@@ -122,8 +118,7 @@ returns-clause-longer c r there =
       | else-not-is_empty w ↦
           let slots = slots_now c r there' (ap (λ (s : Inside). s.slots.items) w.self-inside-is) in
           let none : length c.args.more.now ≡ 0 = search rules in
-          rw w.self-inside-is (subst
-          (λ (k : Holding). IsLonger k r c.args.longer.now c.args.more.now
+          rw w.self-inside-is (subst (λ (k : Holding). IsLonger k r c.args.longer.now c.args.more.now
           (record h { slots = c.set_record.new.slots.items })) c.self.view_is (record {
             layout = refl;
             version = refl;

@@ -44,8 +44,7 @@ record_there c =
     let h = c.args.self.now in
     let s = c.in_ok-slot.slot in
     let same : c.deref.result.now ≡ h.slots = search rules in
-    ap (λ (xs : List (Option SlotRecord)). get_or xs s None) (sym same)
-    ∙ sym c.in_ok-used.ensures
+    ap (λ (xs : List (Option SlotRecord)). get_or xs s None) (sym same) ∙ sym c.in_ok-used.ensures
     ∙ ap (λ (q : SlotRecord). Some q) (sym c.record.ensures.said)
 
 pub returns-clause-numbered : goal.returns-clause-numbered
