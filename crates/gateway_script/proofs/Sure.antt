@@ -24,7 +24,8 @@ outputs_sure st (e ∷ past) out wrote =
     wrote.4 ∙ (ap (λ b. b ++ wrote.1) (outputs_sure st past wrote.0 wrote.2)
     ∙ ap (λ l. output_of st past ++ l) (last_sure st (e ∷ past) wrote.1 wrote.3))
 
-pub breaks_sure : (fault : CallFault) (st : State) (past : List Marked) (out : List ℕ) → BreaksOff true fault st past out
+pub breaks_sure : (fault : CallFault) (st : State) (past : List Marked) (out : List ℕ)
+    → BreaksOff true fault st past out
     → WroteMost fault st past out
 breaks_sure NoMemory st past out wrote =
     ⊎_elim (λ all. inl (outputs_sure st past out all)) (λ rest. inr (outputs_sure st (drop 1 past) out rest)) wrote

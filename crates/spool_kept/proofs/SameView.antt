@@ -43,7 +43,8 @@ module _ (f : ℕ → ℕ) (at : ℕ) where
       let one = one_number f at 0 (o.0 + 1) (omega arith) fits.0 (free_at f at s') (slot_at f at o.0 o.1 s) in
       absurd (omega (arith, one))
   one_row (Some o) (Some p) fits fits' s s' =
-      let slot = one_number f at (o.0 + 1) (p.0 + 1) fits.0 fits'.0 (slot_at f at o.0 o.1 s) (slot_at f at p.0 p.1 s') in
+      let slot = one_number f at (o.0 + 1) (p.0 + 1) fits.0 fits'.0 (slot_at f at o.0 o.1 s)
+      (slot_at f at p.0 p.1 s') in
       pairs o p (omega (arith, slot))
       (one_number f (at + 4) o.1 p.1 fits.1 fits'.1 (ordinal_at f at o.0 o.1 s) (ordinal_at f at p.0 p.1 s'))
 

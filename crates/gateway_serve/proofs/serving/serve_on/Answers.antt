@@ -14,7 +14,8 @@ returns-then-is_err-clause-serves g c = λ sure st stands. (
 pub returns-clause-serves : goal.returns-clause-serves
 returns-clause-serves g c = λ sure st stands.
     c.serve-served.ensures.serves sure c.args.gateway st []
-    (record { stands = stands; images = λ known. record { later = omega arith; limits = λ n t ms le left among. left } })
+    (record { stands = stands; images = λ known. record
+        { later = omega arith; limits = λ n t ms le left among. left } })
     (new_joins sure (places_of c.new-server.result) (ended_of c.new-server.result) st c.new-server.ensures.places
     c.new-server.ensures.ended)
 
