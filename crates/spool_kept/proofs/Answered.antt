@@ -18,10 +18,10 @@ use Rattle.spool_kept.specs.Holding.{Holding, FitsTogether, IsUsedBy, Lists, IsP
 use Rattle.spool_kept.specs.Kept.{KeepsView}
 use Rattle.spool_kept.specs.Records.{said_of, IsUnpacked, KeepsOf}
 use Rattle.spool_kept.specs.Shows.{Shows, IsTold}
-use Rattle.spool_kept.proofs.Numbered.{above_is, above_none}
+use Rattle.spool_kept.proofs.numbers.Numbered.{above_is, above_none}
 use Rattle.spool_kept.proofs.Valid.{in_use}
 use Rattle.spool_kept.proofs.Told.{keeps}
-use Rattle.spool_kept.proofs.ChangedSlots.{clash, one_value}
+use Rattle.spool_kept.proofs.slots.ChangedSlots.{clash, one_value}
 
 pub kept_none : (x : IndexSet) (n : ℕ) (o : Option Upload) → o ≡ None → KeepsOf x n o None
 kept_none x n o e = subst (λ (p : Option Upload). KeepsOf x n p None) (sym e) tt

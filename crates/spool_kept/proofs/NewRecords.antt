@@ -11,7 +11,7 @@ use Rattle.upload_rules.proofs.NewUploads.{new_text}
 use Rattle.spool_kept.specs.Creating.{IsNewRecord}
 use Rattle.spool_kept.specs.Records.{said_of, FitsMemory}
 use Rattle.spool_kept.specs.Shows.{IsRecordOf, IsValidRecord}
-use Rattle.spool_kept.proofs.Extended.{small_is, state_length}
+use Rattle.spool_kept.proofs.slots.Extended.{small_is, state_length}
 use Rattle.spool_kept.proofs.Told.{told_state, with_from, with_to, with_mode}
 
 module _ (x : IndexSet) (n : ℕ) (r : Record) (new : New) (keeps : Keeps x n r (new_upload new)) where

@@ -15,7 +15,7 @@ use Rattle.spool_kept.specs.Records.{FitsKept}
 use Rattle.spool_kept.specs.Holding.{AreDistinct}
 use Rattle.spool_blocks.specs.Chains.{OwnsOneEach}
 use Rattle.spool_kept.specs.Shows.{IsValid, IsValidRecord, IsOwned}
-use Rattle.spool_kept.proofs.ChangedSlots.{clash}
+use Rattle.spool_kept.proofs.slots.ChangedSlots.{clash}
 
 module _ (v : View) (valid : IsValid v) (slots : List (Option SlotRecord)) (same : slots ≡ v.slots) where
   there : (s : ℕ) (o : Option SlotRecord) → get_or slots s None ≡ o → slot_at v s ≡ o

@@ -13,11 +13,11 @@ use Rattle.spool_kept.specs.Extending.{HandsOn, IsLonger, IsPending, IsWritten}
 use Rattle.spool_kept.specs.Holding.{Holding}
 use Rattle.spool_kept.specs.declared.extending.ExtendError.{ExtendError}
 use Rattle.spool_kept.specs.declared.extending.Longer.{Longer}
-use Rattle.spool_kept.proofs.CommitFits.{fits_given, fits_handed}
-use Rattle.spool_kept.proofs.CommitRefusals.{late}
-use Rattle.spool_kept.proofs.CommitSpent as spent
+use Rattle.spool_kept.proofs.commits.CommitFits.{fits_given, fits_handed}
+use Rattle.spool_kept.proofs.commits.CommitRefusals.{late}
+use Rattle.spool_kept.proofs.commits.CommitSpent as spent
 use Rattle.spool_kept.proofs.committing.append_to.Goals as goal
-use Rattle.spool_kept.proofs.DraftLonger.{put_on}
+use Rattle.spool_kept.proofs.drafts.DraftLonger.{put_on}
 use Rattle.spool_disk.proofs.Firm.{lasts_more}
 
 -- THE DRAFTS THAT ARE LEFT

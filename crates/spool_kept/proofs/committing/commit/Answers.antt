@@ -10,10 +10,10 @@ use Rattle.spool_kept.specs.Committing.{IsCommit}
 use Rattle.spool_kept.specs.Drafting.{StandsFor}
 use Rattle.spool_kept.specs.Holding.{Holding, IsUsedBy}
 use Rattle.spool_kept.specs.Stored.{ShowsEither}
-use Rattle.spool_kept.proofs.CommitHead as head
-use Rattle.spool_kept.proofs.CommitSpent as spent
-use Rattle.spool_kept.proofs.Drafted.{dropped_out}
-use Rattle.spool_kept.proofs.OfUploads.{after_slot, fits_out}
+use Rattle.spool_kept.proofs.commits.CommitHead as head
+use Rattle.spool_kept.proofs.commits.CommitSpent as spent
+use Rattle.spool_kept.proofs.drafts.Drafted.{dropped_out}
+use Rattle.spool_kept.proofs.drafts.OfUploads.{after_slot, fits_out}
 use Rattle.spool_kept.proofs.committing.commit.Given.{Over}
 use Rattle.spool_kept.proofs.committing.commit.Goals as goal
 use Rattle.spool_kept.proofs.committing.commit.Goals.{After-append_to}

@@ -11,7 +11,7 @@ use Rattle.upload_rules.specs.World.{completes, World, Patch}
 use Rattle.spool_kept.specs.Committing.{IsFound, IsCommit}
 use Rattle.spool_kept.specs.Holding.{Holding}
 use Rattle.spool_kept.specs.Shows.{ImageShows}
-use Rattle.spool_kept.proofs.CommitEnded as lemmas
+use Rattle.spool_kept.proofs.commits.CommitEnded as lemmas
 use Rattle.spool_kept.proofs.committing.ended.Given.{Over}
 use Rattle.spool_kept.proofs.committing.ended.Goals as goal
 use Rattle.spool_kept.proofs.committing.ended.Goals.{After-end}

@@ -7,8 +7,8 @@ use Rattle.upload_rules.specs.Lengths.{is_length}
 use Rattle.upload_rules.specs.declared.errors.UploadRefusal.{UploadRefusal}
 use Rattle.spool_kept.specs.Committing.{Finds}
 use Rattle.spool_kept.specs.Holding.{IsUsedBy}
-use Rattle.spool_kept.proofs.ChangedSlots.{one_value}
-use Rattle.spool_kept.proofs.FoundFor as lemmas
+use Rattle.spool_kept.proofs.slots.ChangedSlots.{one_value}
+use Rattle.spool_kept.proofs.commits.FoundFor as lemmas
 use Rattle.spool_kept.proofs.committing.found_for.Goals as goal
 use Rattle.spool_kept.proofs.committing.found_for.Goals.{then-declares, else-declares}
 

@@ -1,9 +1,9 @@
 use Rattle.std.proofs.Common.{◌≡◌, ◌∙◌, [], refl, rules}
 use Rattle.spool_kept.specs.Committing.{MayDeclare}
 use Rattle.spool_kept.specs.Records.{said_of}
-use Rattle.spool_kept.proofs.CommitSpent.{stands_declared}
-use Rattle.spool_kept.proofs.Declared as declared
-use Rattle.spool_kept.proofs.OfUploads.{fits_declared}
+use Rattle.spool_kept.proofs.commits.CommitSpent.{stands_declared}
+use Rattle.spool_kept.proofs.commits.Declared as declared
+use Rattle.spool_kept.proofs.drafts.OfUploads.{fits_declared}
 use Rattle.spool_kept.proofs.committing.set_length.Given.{Over}
 use Rattle.spool_kept.proofs.committing.set_length.Goals as goal
 use Rattle.spool_kept.proofs.committing.set_length.Goals.{After-extend}

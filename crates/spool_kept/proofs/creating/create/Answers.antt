@@ -7,8 +7,8 @@ use Rattle.upload_rules.specs.World.{at_rest}
 use Rattle.spool_disk.specs.Views.{Lasts}
 use Rattle.spool_kept.specs.Holding.{Holding}
 use Rattle.spool_kept.specs.Stored.{ShowsEither, Stored}
-use Rattle.spool_kept.proofs.MadeNew.{next_is, allowed, stored_new, crash_new}
-use Rattle.spool_kept.proofs.OfUploads.{fits_created}
+use Rattle.spool_kept.proofs.slots.MadeNew.{next_is, allowed, stored_new, crash_new}
+use Rattle.spool_kept.proofs.drafts.OfUploads.{fits_created}
 use Rattle.spool_kept.proofs.creating.create.Given.{Over}
 use Rattle.spool_kept.proofs.creating.create.Goals as goal
 use Rattle.spool_kept.proofs.creating.create.Goals.{After-change}

@@ -9,15 +9,16 @@ use Rattle.spool_blocks.specs.Blocks.{Row}
 use Rattle.spool_drafts.specs.Drafts.{IsPlaced, Holds, Carries, IsLonger, number_of, with_piece, tail_of}
 use Rattle.spool_drafts.specs.declared.draft.SpoolDraft.{SpoolDraft}
 use Rattle.spool_kept.specs.Drafting.{DraftsFit, DraftsHold, IsOfUpload, DraftsStand, IsOwnedBy, IsStillOpen, StandsFor}
-use Rattle.spool_kept.proofs.Drafted.{reserves_only}
+use Rattle.spool_kept.proofs.drafts.Drafted.{reserves_only}
 use Rattle.spool_kept.proofs.SameView.{shows_still}
 use Rattle.spool_kept.specs.Holding.{Holding}
-use Rattle.spool_kept.proofs.DraftLonger.{answered, fit_longer, longer_carries, longer_holds, longer_world, moved}
-use Rattle.spool_kept.proofs.DraftLonger.{ok_more, stand_longer, went_back}
-use Rattle.spool_kept.proofs.OfUploads.{each_changed, of_longer}
+use Rattle.spool_kept.proofs.drafts.DraftLonger.{answered, fit_longer, longer_carries, longer_holds, longer_world}
+use Rattle.spool_kept.proofs.drafts.DraftLonger.{moved}
+use Rattle.spool_kept.proofs.drafts.DraftLonger.{ok_more, stand_longer, went_back}
+use Rattle.spool_kept.proofs.drafts.OfUploads.{each_changed, of_longer}
 use Rattle.spool_kept.proofs.drafting.append.Goals as goal
 use Rattle.std.proofs.lemmas.Option.{same_Some}
-use Rattle.spool_kept.proofs.CommitHead.{opened, own_draft}
+use Rattle.spool_kept.proofs.commits.CommitHead.{opened, own_draft}
 
 pub append-answer-requires-clause-placed : goal.append-answer-requires-clause-placed
 append-answer-requires-clause-placed g c =

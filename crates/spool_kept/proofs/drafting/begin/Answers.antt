@@ -5,8 +5,9 @@ use Rattle.spool_drafts.specs.declared.draft.SpoolDraft.{SpoolDraft}
 use Rattle.spool_pages.proofs.Resting.{rests_says}
 use Rattle.upload_rules.specs.Store.{upload_of}
 use Rattle.spool_kept.specs.Drafting.{IsOfUpload, StandsFor}
-use Rattle.spool_kept.proofs.DraftBegun.{begin_allowed, begin_late, begin_refused, begins, changed_more, fit_begun}
-use Rattle.spool_kept.proofs.OfUploads.{each_changed}
+use Rattle.spool_kept.proofs.drafts.DraftBegun.{begin_allowed, begin_late, begin_refused, begins, changed_more}
+use Rattle.spool_kept.proofs.drafts.DraftBegun.{fit_begun}
+use Rattle.spool_kept.proofs.drafts.OfUploads.{each_changed}
 use Rattle.spool_kept.proofs.drafting.begin.Goals as goal
 
 pub returns-in-Err-clause-answer : goal.returns-in-Err-clause-answer

@@ -1,7 +1,7 @@
 use Rattle.std.proofs.Common.{ap, refl, sym}
 use Rattle.spool_kept.specs.Drafting.{list_in, lists_at}
-use Rattle.spool_kept.proofs.Drafted.{dropped_out, drops, gives_nothing, reserves_only}
-use Rattle.spool_kept.proofs.OfUploads.{fits_out}
+use Rattle.spool_kept.proofs.drafts.Drafted.{dropped_out, drops, gives_nothing, reserves_only}
+use Rattle.spool_kept.proofs.drafts.OfUploads.{fits_out}
 use Rattle.spool_kept.proofs.drafting.drop_open.Goals as goal
 
 pub returns-in-Some-clause-fits : goal.returns-in-Some-clause-fits

@@ -2,8 +2,8 @@ use Rattle.std.proofs.Common.{subst, sym, Option}
 use Rattle.spool_journal.specs.Image.{text_page}
 use Rattle.upload_rules.specs.Store.{Upload}
 use Rattle.spool_kept.specs.Drafting.{OpensFor}
-use Rattle.spool_kept.proofs.Drafted.{carries_for, tail_owned}
-use Rattle.spool_kept.proofs.OfUploads.{begins_below, begins_kept}
+use Rattle.spool_kept.proofs.drafts.Drafted.{carries_for, tail_owned}
+use Rattle.spool_kept.proofs.drafts.OfUploads.{begins_below, begins_kept}
 use Rattle.spool_kept.proofs.drafting.opened.Goals as goal
 
 pub returns-clause-owned : goal.returns-clause-owned

@@ -9,8 +9,8 @@ use Rattle.upload_rules.specs.Store.{Store, patched_store}
 use Rattle.spool_kept.specs.Extending.{IsAppend, IsLonger, IsPending}
 use Rattle.spool_kept.specs.Holding.{Holding, FitsTogether}
 use Rattle.spool_kept.specs.Stored.{ShowsEither}
-use Rattle.spool_kept.proofs.Extended.{before, after, after_stored, after_lasts, after_changes, after_texts}
-use Rattle.spool_kept.proofs.LastWritten.{shown, appended}
+use Rattle.spool_kept.proofs.slots.Extended.{before, after, after_stored, after_lasts, after_changes, after_texts}
+use Rattle.spool_kept.proofs.slots.LastWritten.{shown, appended}
 use Rattle.spool_kept.proofs.extending.extend.Given.{Over}
 use Rattle.spool_kept.proofs.extending.extend.Goals as goal
 use Rattle.spool_kept.proofs.extending.extend.Goals.{After-change}

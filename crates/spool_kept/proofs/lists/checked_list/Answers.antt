@@ -1,7 +1,7 @@
 use Rattle.std.proofs.Common.{rules}
 use Rattle.upload_rules.specs.Room.{blocks_of}
 use Rattle.spool_kept.specs.Holding.{HasBlocks}
-use Rattle.spool_kept.proofs.OwnedOnce.{list_whole}
+use Rattle.spool_kept.proofs.slots.OwnedOnce.{list_whole}
 use Rattle.spool_kept.proofs.lists.checked_list.Goals as goal
 
 pub returns-clause-whole : goal.returns-clause-whole

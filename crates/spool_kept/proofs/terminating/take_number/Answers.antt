@@ -3,8 +3,8 @@ use Rattle.std.specs.List.{remove}
 use Rattle.spool_kept.specs.declared.order.NumberedSlot.{NumberedSlot}
 use Rattle.spool_kept.specs.Holding.{IsPlaceFor, Lists, Rises}
 use Rattle.spool_kept.specs.Terminating.{IsWithout}
-use Rattle.spool_kept.proofs.Ordered.{listed_before, no_place}
-use Rattle.spool_kept.proofs.Unlisted.{without_number}
+use Rattle.spool_kept.proofs.numbers.Ordered.{listed_before, no_place}
+use Rattle.spool_kept.proofs.numbers.Unlisted.{without_number}
 use Rattle.spool_kept.proofs.terminating.take_number.Goals as goal
 use Rattle.spool_kept.proofs.terminating.take_number.Goals.{After-places_to-place}
 

@@ -9,9 +9,9 @@ use Rattle.spool_kept.specs.Drafting.{DraftsFit, StandsFor}
 use Rattle.spool_kept.specs.Holding.{Holding, FitsTogether, IsUsedBy}
 use Rattle.spool_kept.specs.Stored.{ShowsEither}
 use Rattle.spool_kept.specs.Terminating.{IsTakenOut}
-use Rattle.spool_kept.proofs.Forgotten.{fits_after, stands_forgotten}
-use Rattle.spool_kept.proofs.OfDeleted.{stands_after}
-use Rattle.spool_kept.proofs.Terminated.{allowed, crash_after, refused, stored_after}
+use Rattle.spool_kept.proofs.drafts.Forgotten.{fits_after, stands_forgotten}
+use Rattle.spool_kept.proofs.drafts.OfDeleted.{stands_after}
+use Rattle.spool_kept.proofs.slots.Terminated.{allowed, crash_after, refused, stored_after}
 use Rattle.spool_kept.proofs.terminating.terminate.Goals as goal
 use Rattle.spool_kept.proofs.terminating.terminate.Goals.{After-change, After-forget_tails, After-take_out, In-Some}
 use Rattle.spool_kept.proofs.terminating.terminate.Given.{Over}

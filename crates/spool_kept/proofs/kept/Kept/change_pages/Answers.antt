@@ -6,7 +6,7 @@ use Rattle.spool_pages.specs.Changes.{SameRowsBut, ChangesButRows, with_record, 
 use Rattle.spool_pages.specs.View.{SlotRecord, slot_at}
 use Rattle.spool_kept.specs.Extending.{longer_record}
 use Rattle.spool_kept.specs.Holding.{Holding, FitsTogether}
-use Rattle.spool_kept.proofs.LongerKept.{low, slot_few, changed_below}
+use Rattle.spool_kept.proofs.slots.LongerKept.{low, slot_few, changed_below}
 use Rattle.spool_kept.proofs.kept.Kept.change_pages.Goals as goal
 
 pub blocks_from-requires : goal.blocks_from-requires

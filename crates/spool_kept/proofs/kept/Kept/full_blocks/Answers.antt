@@ -1,7 +1,7 @@
 use Rattle.std.proofs.Common.{rules, ◌≡◌, Some, None, get_or, ap, arith, subst}
 use Rattle.spool_pages.specs.View.{SlotRecord}
 use Rattle.spool_kept.specs.Holding.{FitsTogether}
-use Rattle.spool_kept.proofs.LongerKept.{full_few}
+use Rattle.spool_kept.proofs.slots.LongerKept.{full_few}
 use Rattle.spool_kept.proofs.kept.Kept.full_blocks.Goals as goal
 
 pub overflow_cast-result : goal.overflow_cast-result

@@ -4,7 +4,7 @@ use Rattle.std.proofs.lemmas.List.{get_or_default}
 use Rattle.spool_pages.specs.Changes.{SameRowsBut, neighbour}
 use Rattle.spool_pages.specs.View.{SlotRecord, slot_at}
 use Rattle.spool_kept.specs.Holding.{Holding, FitsTogether}
-use Rattle.spool_kept.proofs.TakenOut.{slot_below, listed_below}
+use Rattle.spool_kept.proofs.slots.TakenOut.{slot_below, listed_below}
 use Rattle.spool_kept.proofs.kept.Kept.pages_without.Goals as goal
 use Rattle.spool_kept.proofs.kept.Kept.pages_without.Goals.{After-blocks-list}
 

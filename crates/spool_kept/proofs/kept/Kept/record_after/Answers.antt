@@ -8,7 +8,7 @@ use Rattle.spool_kept.specs.declared.order.NumberedSlot.{NumberedSlot}
 use Rattle.spool_kept.specs.Holding.{numbered, IsPlaceFor, Rises}
 use Rattle.spool_kept.proofs.Answered.{found, named, none_after, some_after}
 use Rattle.spool_kept.proofs.kept.Kept.record_after.Goals as goal
-use Rattle.spool_kept.proofs.ChangedSlots.{clash}
+use Rattle.spool_kept.proofs.slots.ChangedSlots.{clash}
 
 pub returns-in_err-slot : goal.returns-in_err-slot
 returns-in_err-slot c v m kept shows =

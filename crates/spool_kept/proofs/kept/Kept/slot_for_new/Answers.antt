@@ -1,6 +1,6 @@
 use Rattle.std.proofs.Common.{rules, ◌≡◌, inl, inr, length, ap, subst, arith}
 use Rattle.spool_kept.specs.Holding.{Holding, FitsTogether}
-use Rattle.spool_kept.proofs.SlotCounts.{not_more, room_at, few_at}
+use Rattle.spool_kept.proofs.slots.SlotCounts.{not_more, room_at, few_at}
 use Rattle.spool_kept.proofs.kept.Kept.slot_for_new.Goals as goal
 use Rattle.spool_kept.proofs.kept.Kept.slot_for_new.Goals.{then-len-via-then-len}
 use Rattle.spool_kept.proofs.kept.Kept.slot_for_new.Goals.{then-len-via-else-len+then-self-ge-NUMBERS_END}

@@ -2,7 +2,7 @@ use Rattle.std.proofs.Common.{rules, ◌≡◌, ℕ, List, Option, MatchOption, 
 use Rattle.spool_kept.specs.declared.order.NumberedSlot.{NumberedSlot}
 use Rattle.spool_kept.specs.Holding.{FitsTogether, Lists, Rises}
 use Rattle.spool_kept.proofs.Answered.{used_of}
-use Rattle.spool_kept.proofs.OfUploads.{only_of}
+use Rattle.spool_kept.proofs.drafts.OfUploads.{only_of}
 use Rattle.spool_kept.proofs.kept.Kept.slot_of.Goals as goal
 
 abbrev IsFound : Option ℕ → List NumberedSlot → ℕ → Type 0

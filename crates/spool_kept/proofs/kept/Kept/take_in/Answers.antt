@@ -1,7 +1,7 @@
 use Rattle.std.proofs.Common.{◌∙◌, ◌+◌, Some, slice_set, ap, subst, sym}
 use Rattle.spool_kept.specs.Creating.{HasRoomAt}
 use Rattle.spool_kept.specs.Holding.{Holding, IsAdded, held_of}
-use Rattle.spool_kept.proofs.TakenIn.{next_free, taken_fits}
+use Rattle.spool_kept.proofs.slots.TakenIn.{next_free, taken_fits}
 use Rattle.spool_kept.proofs.kept.Kept.take_in.Goals as goal
 
 abbrev IsPut : Holding → (c : goal.After-self-2-1) → Type 0

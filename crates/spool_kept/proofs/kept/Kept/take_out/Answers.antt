@@ -1,7 +1,7 @@
 use Rattle.std.proofs.Common.{ℕ, List, None, slice_set, sym, subst}
 use Rattle.spool_kept.specs.Holding.{Holding, FitsTogether, IsUsedBy, Lists}
 use Rattle.spool_kept.specs.contracts.kept.Kept.{the_view}
-use Rattle.spool_kept.proofs.TakenOut.{fits_without, slot_below}
+use Rattle.spool_kept.proofs.slots.TakenOut.{fits_without, slot_below}
 use Rattle.spool_kept.proofs.kept.Kept.take_out.Goals as goal
 
 pub take_number-requires-clause-listed : goal.take_number-requires-clause-listed

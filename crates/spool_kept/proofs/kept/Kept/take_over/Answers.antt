@@ -8,8 +8,8 @@ use Rattle.spool_kept.specs.Extending.{IsLonger, longer_record}
 use Rattle.spool_kept.specs.Holding.{Holding, FitsTogether}
 use Rattle.spool_kept.specs.contracts.kept.Kept.{the_view}
 use Rattle.spool_kept.specs.declared.kept.Kept.TheInside.{Inside}
-use Rattle.spool_kept.proofs.HandedOver.{room_for}
-use Rattle.spool_kept.proofs.LongerKept.{has, low, slot_few, fits_same, fits_longer}
+use Rattle.spool_kept.proofs.slots.HandedOver.{room_for}
+use Rattle.spool_kept.proofs.slots.LongerKept.{has, low, slot_few, fits_same, fits_longer}
 use Rattle.spool_kept.proofs.kept.Kept.take_over.Goals as goal
 use Rattle.spool_kept.proofs.kept.Kept.take_over.Goals.{After-set_record, then-not-is_empty+in_ok-replace_from}
 use Rattle.spool_kept.proofs.kept.Kept.take_over.Goals.{else-not-is_empty}

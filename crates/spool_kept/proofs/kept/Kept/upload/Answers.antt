@@ -11,7 +11,7 @@ use Rattle.spool_kept.specs.Kept.{KeepsView}
 use Rattle.spool_kept.specs.Records.{said_of}
 use Rattle.spool_kept.specs.Shows.{Shows}
 use Rattle.spool_kept.proofs.Answered.{found, match_is_none, no_upload, text_told}
-use Rattle.spool_kept.proofs.Drafted.{few_listed, list_owned}
+use Rattle.spool_kept.proofs.drafts.Drafted.{few_listed, list_owned}
 use Rattle.spool_kept.proofs.kept.Kept.upload.Goals as goal
 
 pub returns-in_err-slot-clause-told : goal.returns-in_err-slot-clause-told

@@ -1,0 +1,341 @@
+-- What a commit finds of its draft's upload.
+use Rattle.std.proofs.Common.{Result, Err, IsErrOf, refl, inl, inr, ◌↔◌, ◌⊎◌, ◌≡◌, ◌≤◌, ◌<◌, ◌&&◌, ℕ, ◌+◌, Bool, true}
+use Rattle.std.proofs.Common.{false, if◌then◌else◌, List, [], ◌∷◌, Option, None, Some, length, get_or, sym, ◌∙◌, ap}
+use Rattle.std.proofs.Common.{subst, arith, eqb-true}
+use Rattle.std.proofs.lemmas.Bool.{ne_eqb}
+use Rattle.spool_disk.specs.declared.disk.Disk.{Ghosts}
+use Rattle.spool_journal.specs.Image.{text_page}
+use Rattle.spool_drafts.specs.Drafts.{Holds, came_of, declare_of, number_of, offset_of}
+use Rattle.spool_drafts.specs.declared.draft.SpoolDraft.{SpoolDraft}
+use Rattle.spool_pages.specs.View.{SlotRecord}
+use Rattle.upload_rules.specs.Calls.{commit_refusal, committed, committed_store, declares, declares_at, dropped}
+use Rattle.upload_rules.specs.Calls.{is_empty, is_idle, length_refusal, text_stays, upload_refusal}
+use Rattle.upload_rules.specs.Drafts.{draft_at}
+use Rattle.upload_rules.specs.Lengths.{is_length, is_new, is_too_large, known_or, longest}
+use Rattle.upload_rules.specs.Store.{Upload, Store, find, is_complete, patched_store, upload_of}
+use Rattle.upload_rules.specs.World.{Patch, World, completes, length_then, reached}
+use Rattle.upload_rules.specs.declared.errors.UploadError.{UploadError}
+use Rattle.upload_rules.specs.declared.errors.UploadError.TheVariants.{Refused}
+use Rattle.upload_rules.specs.declared.errors.UploadRefusal.{UploadRefusal}
+use Rattle.upload_rules.specs.declared.errors.UploadRefusal.TheVariants.{NoSuch, Offset, TooLong, Unencodable, Full}
+use Rattle.upload_rules.specs.declared.errors.UploadRefusal.TheVariants.{LengthSet}
+use Rattle.upload_rules.proofs.Patches.{draft_of}
+use Rattle.upload_rules.proofs.Refusals.{no_such_upload, other_offset}
+use Rattle.upload_rules.proofs.Same.{same_upload}
+use Rattle.spool_kept.specs.Committing.{Finds, HasOtherCount, HasSameCount, IsCommit, IsFound, with_length_at}
+use Rattle.spool_kept.specs.Drafting.{DraftStands, DraftsHold, IsStillOpen, StandsFor}
+use Rattle.spool_kept.specs.Holding.{Holding, IsUsedBy}
+use Rattle.spool_kept.specs.Shows.{IsTold}
+use Rattle.spool_kept.specs.declared.committing.Found.{Found}
+use Rattle.spool_kept.proofs.Answered.{no_upload}
+use Rattle.spool_kept.proofs.commits.CommitRefusals.{by_length, nothing_committed, nothing_refused, refused_by_length}
+use Rattle.spool_kept.proofs.commits.CommitRefusals.{store_declared}
+use Rattle.std.proofs.lemmas.Option.{same_Some}
+use Rattle.std.proofs.lemmas.List.{nil_from_length}
+
+-- WHAT A PATCH BRINGS
+
+full_of : (body : List ℕ) → 0 < length body → is_empty body ≡ false
+full_of [] lt = absurd (omega (arith, lt))
+full_of (b ∷ body) lt = refl
+
+new_length : (known declare : Option ℕ) → is_new known declare ≡ true → (known ≡ None) × (is_new known declare ≡ true)
+new_length None declare new = (refl, new)
+new_length (Some n) declare new = absurd cc
+
+all_there : (declared : Option ℕ) (offset reached : ℕ) → is_length declared offset ≡ true → reached ≤ longest declared
+    → offset ≤ reached → reached ≡ offset
+all_there None offset reached is within from = absurd cc
+all_there (Some n) offset reached is within from = omega (arith, eqb-true offset n is, within, from)
+
+if_same : (b : Bool) → (if b then false else false) ≡ false
+if_same true = refl
+if_same false = refl
+
+text_changes : (m : Store) (p : Patch) → 0 < length p.body → text_stays m p ≡ false
+text_changes m p some = rw (full_of p.body some) (if_same (declares m p && completes m p))
+
+text_ends : (m : Store) (p : Patch) → declares m p ≡ true → completes m p ≡ true → text_stays m p ≡ false
+text_ends m p new ends = rw (new, ends) refl
+
+text_left : (m : Store) (p : Patch) → length p.body ≡ 0 → (declares m p ≡ true → completes m p ≡ false)
+    → text_stays m p ≡ true
+text_left m p none open_still = by_declare (declares m p) refl
+  where
+    by_declare : (b : Bool) → declares m p ≡ b → text_stays m p ≡ true
+    by_declare true new = rw (new, open_still new, nil_from_length p.body none) refl
+    by_declare false old = rw (old, nil_from_length p.body none) refl
+
+idle_patch : (m : Store) (p : Patch) → declares m p ≡ false → length p.body ≡ 0 → is_idle m p ≡ true
+idle_patch m p old none = rw (old, nil_from_length p.body none) refl
+
+-- WHAT IS FOUND
+
+-- where the text changes, the upload isn't complete
+pub found_open : (slots : List (Option SlotRecord)) (o : SpoolDraft) (found : Found) (finds : IsFound slots o found)
+    → found.stays ≡ false → is_length finds.same.used.declared finds.same.used.accepted ≡ false
+found_open slots o found finds goes = by_known finds.same.used.declared refl
+  where
+    used : SlotRecord
+    used = finds.same.used
+
+    by_known : (known : Option ℕ) → finds.same.used.declared ≡ known
+        → is_length finds.same.used.declared finds.same.used.accepted ≡ false
+    by_known None is = ap (λ (k : Option ℕ). is_length k finds.same.used.accepted) is
+    by_known (Some n) is =
+        let declared : found.declared ≡ Some n =
+        finds.declared ∙ ap (λ (k : Option ℕ). known_or k (declare_of o)) is in
+        let long : offset_of o + came_of o ≤ n =
+        subst (λ (k : Option ℕ). offset_of o + came_of o ≤ longest k) declared finds.within in
+        ap (λ (k : Option ℕ). is_length k finds.same.used.accepted) is ∙ elim (finds.goes goes) [
+          | inl some ↦ ne_eqb finds.same.used.accepted n (λ e. omega (arith, e, some, long, finds.same.count))
+          | inr whole ↦ absurd (let k = sym whole.0 ∙ finds.declares
+              ∙ ap (λ (k : Option ℕ). is_new k (declare_of o)) is in cc)
+        ]
+
+-- the draft of a number stands for a patch
+pub record IsOpen {D : Type 0} (sure : Bool) (disk : Ghosts D) (d : D) (h : Holding)
+    (drafts : List (Option SpoolDraft)) (number : ℕ) (o : SpoolDraft) (w : World) (p : Patch) : Type 0 where
+  pub stands : StandsFor sure disk d h drafts w
+  pub patch : find number w.patches ≡ Some p
+  pub here : draft_at drafts number ≡ Some o
+
+pub opened : {D : Type 0} {sure : Bool} {disk : Ghosts D} {d : D} {h : Holding} {drafts : List (Option SpoolDraft)}
+    (number : ℕ) {o : SpoolDraft} {w : World} {p : Patch} → StandsFor sure disk d h drafts w
+    → find number w.patches ≡ Some p → Some o ≡ draft_at drafts number → IsOpen sure disk d h drafts number o w p
+opened number stands patch taken = record { stands = stands; patch = patch; here = sym taken }
+
+module _ {D : Type 0} {sure : Bool} {disk : Ghosts D} {d : D} {h : Holding} {drafts : List (Option SpoolDraft)}
+    {number : ℕ} {o : SpoolDraft} {w : World} {p : Patch} (k : IsOpen sure disk d h drafts number o w p) where
+  pub own_draft : DraftStands (sure ≡ true) w.store.indexes (disk.current d) (text_page h.layout) h.slots h.blocks.rows
+      w.store p o
+  own_draft =
+      let R = DraftStands (sure ≡ true) w.store.indexes (disk.current d) (text_page h.layout) h.slots h.blocks.rows
+      w.store in
+      let at = draft_of R p (find number w.patches) (draft_at drafts number) k.patch (k.stands.stands.each number) in
+      subst (R p) (same_Some at.0 o (sym at.1 ∙ k.here)) at.2
+
+  held : Holds w.store.indexes p o
+  held = own_draft.holds
+
+  -- what a slot's record tells
+  told : (slot : ℕ) (used : SlotRecord) → get_or h.slots slot None ≡ Some used
+      → IsTold w.store used (k.stands.stored.view.texts slot)
+  told slot used there = k.stands.stored.shows.told slot used
+      (ap (λ (xs : List (Option SlotRecord)). get_or xs slot None) (sym k.stands.stored.keeps.slots) ∙ there)
+
+  upload_there : (used : SlotRecord) (u : Upload) → used.number ≡ number_of o
+      → find used.number w.store.uploads ≡ Some u → upload_of w.store p.number ≡ Some u
+  upload_there used u is found = ap (λ (n : ℕ). find n w.store.uploads) (sym (is ∙ held.number)) ∙ found
+
+  reached_is : offset_of o + came_of o ≡ reached p
+  reached_is = omega (arith, held.offset, held.came)
+
+  module _ {slot : ℕ} (same : HasSameCount h.slots o slot) where
+    abbrev is : IsTold w.store same.used (k.stands.stored.view.texts slot)
+    is = told slot same.used same.there
+
+    there : upload_of w.store p.number ≡ Some is.upload
+    there = upload_there same.used is.upload same.number is.there
+
+    as_long : length is.upload.accepted ≡ length p.began.accepted
+    as_long = sym is.tells.accepted ∙ same.count ∙ held.offset
+
+    -- the length is refused by what is known of it in the record as by what is known of the upload
+    length_is : length_refusal same.used.declared (declare_of o) (offset_of o + came_of o) ≡ length_refusal
+        is.upload.declared p.declare (reached p)
+    length_is =
+        ap (λ (k : Option ℕ). length_refusal k (declare_of o) (offset_of o + came_of o)) is.tells.declared
+        ∙ ap (λ (k : Option ℕ). length_refusal is.upload.declared k (offset_of o + came_of o)) held.declare
+        ∙ ap (length_refusal is.upload.declared p.declare) reached_is
+
+    refused_so : (e : UploadRefusal)
+        → length_refusal same.used.declared (declare_of o) (offset_of o + came_of o) ≡ Some e
+        → commit_refusal w number p ≡ Some e
+    refused_so e refused = refused_by_length w number p is.upload e there as_long (sym length_is ∙ refused)
+
+  pub head_refused : (e : UploadRefusal) → Finds h.slots o (Err e) → commit_refusal w number p ≡ Some e
+  head_refused NoSuch free =
+      let stored = k.stands.stored in
+      no_such_upload w number p (no_upload stored.keeps stored.shows p.number
+      (λ slot used. free slot (subst (IsUsedBy h.slots slot) (sym held.number) used)))
+  head_refused Offset other =
+      let is = told other.slot other.used.used other.used.there in
+      other_offset w number p is.upload (upload_there other.used.used is.upload other.used.is is.there)
+      (λ same. other.none other.slot (record {
+        used = other.used.used;
+        there = other.used.there;
+        number = other.used.is;
+        count = is.tells.accepted ∙ same ∙ sym held.offset;
+      }))
+  head_refused TooLong other = refused_so other.same TooLong other.refused
+  head_refused LengthSet other = refused_so other.same LengthSet other.refused
+  head_refused e found = absurd found
+
+  module _ {found : Found} (finds : IsFound h.slots o found) where
+    abbrev u : Upload
+    u = (is finds.same).upload
+
+    here_is : upload_of w.store p.number ≡ Some u
+    here_is = there finds.same
+
+    allows : upload_refusal p (upload_of w.store p.number) ≡ None
+    allows = ap (upload_refusal p) here_is ∙ by_length p u (as_long finds.same) ∙ sym (length_is finds.same)
+        ∙ finds.allowed
+
+    declares_is : declares w.store p ≡ found.declares
+    declares_is = ap (declares_at p) here_is ∙ sym (finds.declares
+        ∙ ap (λ (k : Option ℕ). is_new k (declare_of o)) (is finds.same).tells.declared
+        ∙ ap (is_new u.declared) held.declare)
+
+    declared_is : found.declared ≡ known_or u.declared p.declare
+    declared_is = finds.declared ∙ ap (λ (k : Option ℕ). known_or k (declare_of o)) (is finds.same).tells.declared
+        ∙ ap (known_or u.declared) held.declare
+
+    completes_is : completes w.store p ≡ is_length found.declared (reached p)
+    completes_is = ap (λ (v : Option Upload). is_length (length_then p v) (reached p)) here_is
+        ∙ ap (λ (k : Option ℕ). is_length k (reached p)) (sym declared_is)
+
+    -- THE TEXT CHANGES
+
+    module _ (goes : found.stays ≡ false) where
+      changes : text_stays w.store p ≡ false
+      changes = elim (finds.goes goes) [
+        | inl some ↦ text_changes w.store p (omega (arith, held.came, some))
+        | inr whole ↦
+            let all : reached p ≡ offset_of o =
+            all_there found.declared (offset_of o) (reached p) whole.1 (omega (arith, reached_is, finds.within))
+            (omega (arith, reached_is)) in
+            text_ends w.store p (declares_is ∙ whole.0) (completes_is ∙ ap (is_length found.declared) all ∙ whole.1)
+      ]
+
+      still : IsStillOpen w.store p
+      still =
+          let tells = (is finds.same).tells in
+          let was = same_upload w number p u k.stands.stands.grown k.patch here_is (as_long finds.same) in (
+            was.0,
+            here_is ∙ ap (λ (v : Upload). Some v) was.1,
+            subst (λ (v : Upload). is_complete v ≡ false) was.1
+                (rw (← tells.declared, ← tells.accepted) (found_open h.slots o found finds goes)),
+          )
+
+      pub commits : DraftsHold h.layout h.blocks drafts → IsCommit sure disk d h drafts number o w p
+      commits fits = record {
+        stands = k.stands;
+        fits = fits;
+        here = k.here;
+        patch = k.patch;
+        still = still;
+        allowed = allows;
+        changes = changes;
+      }
+
+    -- THE TEXT STAYS
+
+    module _ (stays : found.stays ≡ true) where
+      none : came_of o ≡ 0
+      none = (finds.stays stays).0
+
+      no_body : length p.body ≡ 0
+      no_body = omega (arith, held.came, none)
+
+      stays_so : text_stays w.store p ≡ true
+      stays_so = text_left w.store p no_body (λ new. completes_is
+          ∙ ap (is_length found.declared) (omega (arith, reached_is, none))
+          ∙ (finds.stays stays).1 (sym declares_is ∙ new))
+
+      pub left_allowed : commit_refusal w number p ≡ None
+      left_allowed = nothing_refused w number p allows stays_so
+
+      pub left_reached : (offset : ℕ) → offset ≡ offset_of o → offset ≡ reached p
+      left_reached offset e = omega (arith, e, reached_is, none)
+
+      -- nothing is brought
+      pub idle_stands : found.declares ≡ false → (h' : Holding) (drafts' : List (Option SpoolDraft))
+          → StandsFor sure disk d h' drafts' (dropped w number)
+          → StandsFor sure disk d h' drafts' (committed w number p)
+      idle_stands old h' drafts' stands = subst (StandsFor sure disk d h' drafts')
+          (sym (nothing_committed w number p (idle_patch w.store p (declares_is ∙ old) no_body))) stands
+
+      -- a length is
+      module _ (new : found.declares ≡ true) where
+        length_declared : found.declared ≡ p.declare
+        length_declared =
+            let unknown = (new_length finds.same.used.declared (declare_of o) (sym finds.declares ∙ new)).0 in
+            finds.declared ∙ ap (λ (k : Option ℕ). known_or k (declare_of o)) unknown ∙ held.declare
+
+        pub length_small : is_too_large found.declared ≡ false
+        length_small = ap is_too_large length_declared ∙ held.small
+
+        pub store_is : committed_store w.store p ≡ patched_store w.store p.number found.declared []
+        store_is =
+            store_declared w.store p (declares_is ∙ new)
+            ∙ ap (λ (k : Option ℕ). patched_store w.store p.number k p.body) (sym length_declared)
+            ∙ ap (patched_store w.store p.number found.declared) (nil_from_length p.body no_body)
+
+        pub length_stands : committed w number p ≡ with_length_at (dropped w number) p.number found.declared
+        length_stands = ap (λ (m : Store). record (dropped w number) { store = m }) store_is
+
+        pub used_is : IsUsedBy h.slots found.slot p.number
+        used_is = record {
+          used = finds.same.used;
+          there = finds.same.there;
+          is = finds.same.number ∙ held.number;
+        }
+
+-- WHATEVER THE DISK SAID
+
+-- it is refused so exactly where the draft's upload is gone
+abbrev pub IsGoneFor : {T : Type 0} → List (Option SlotRecord) → SpoolDraft → Result T UploadError → Type 0
+IsGoneFor slots o result = IsErrOf result (Refused NoSuch) ↔ ((s : ℕ) → IsUsedBy slots s (number_of o) → ⊥)
+
+-- and so exactly where that has another count
+abbrev pub IsOtherFor : {T : Type 0} → List (Option SlotRecord) → SpoolDraft → Result T UploadError → Type 0
+IsOtherFor slots o result = IsErrOf result (Refused Offset) ↔ HasOtherCount slots o
+
+abbrev pub IsExactFor : {T : Type 0} → List (Option SlotRecord) → SpoolDraft → Result T UploadError → Type 0
+IsExactFor slots o result = IsGoneFor slots o result × IsOtherFor slots o result
+
+-- with the same count it is refused with neither
+same_exactly : {T : Type 0} (slots : List (Option SlotRecord)) (o : SpoolDraft) (slot : ℕ)
+    (result : Result T UploadError)
+    → HasSameCount slots o slot → (IsErrOf result (Refused NoSuch) → ⊥) → (IsErrOf result (Refused Offset) → ⊥)
+    → IsExactFor slots o result
+same_exactly slots o slot result has not_gone not_other = (
+  (
+    λ refused. absurd (not_gone refused),
+    λ gone. absurd (gone slot (record { used = has.used; there = has.there; is = has.number })),
+  ),
+  (λ refused. absurd (not_other refused), λ other. absurd (other.none slot has)),
+)
+
+done_exactly : {T : Type 0} (slots : List (Option SlotRecord)) (o : SpoolDraft) (slot : ℕ)
+    (result : Result T UploadError) → HasSameCount slots o slot
+    → ((e : UploadRefusal) → IsErrOf result (Refused e) → (e ≡ Unencodable) ⊎ (e ≡ Full)) → IsExactFor slots o result
+done_exactly slots o slot result has late = same_exactly slots o slot result has
+    (λ refused. elim (late NoSuch refused) [ inl e ↦ cc | inr e ↦ cc ])
+    (λ refused. elim (late Offset refused) [ inl e ↦ cc | inr e ↦ cc ])
+
+refused_exactly : {T : Type 0} (slots : List (Option SlotRecord)) (o : SpoolDraft) (e : UploadRefusal)
+    → Finds slots o (Err e) → IsExactFor {T = T} slots o (Err (Refused e))
+refused_exactly slots o NoSuch free =
+    ((λ refused. free, λ gone. refl), (λ refused. absurd cc, λ other. absurd (free other.slot other.used)))
+refused_exactly slots o Offset other =
+    ((λ refused. absurd cc, λ gone. absurd (gone other.slot other.used)), (λ refused. other, λ there. refl))
+refused_exactly slots o TooLong other =
+    same_exactly slots o other.slot (Err (Refused TooLong)) other.same (λ e. cc) (λ e. cc)
+refused_exactly slots o LengthSet other =
+    same_exactly slots o other.slot (Err (Refused LengthSet)) other.same (λ e. cc) (λ e. cc)
+refused_exactly slots o e found = absurd found
+
+-- the draft that was taken is the one of its number
+module _ {T : Type 0} {slots : List (Option SlotRecord)} {o o' : SpoolDraft} {there : Option SpoolDraft}
+    (taken : Some o ≡ there) (here : there ≡ Some o') where
+  pub done_for : {slot : ℕ} (result : Result T UploadError) → HasSameCount slots o slot
+      → ((e : UploadRefusal) → IsErrOf result (Refused e) → (e ≡ Unencodable) ⊎ (e ≡ Full)) → IsExactFor slots o' result
+  done_for {slot = slot} result has late = subst (λ (d : SpoolDraft). IsExactFor slots d result)
+      (same_Some o o' (taken ∙ here)) (done_exactly slots o slot result has late)
+
+  pub refused_for : (e : UploadRefusal) → Finds slots o (Err e) → IsExactFor {T = T} slots o' (Err (Refused e))
+  refused_for e finds = subst (λ (d : SpoolDraft). IsExactFor {T = T} slots d (Err (Refused e)))
+      (same_Some o o' (taken ∙ here)) (refused_exactly slots o e finds)

@@ -1,0 +1,123 @@
+-- A length alone: what it makes of an upload whose text stays.
+use Rattle.std.proofs.Common.{◌≡◌, ◌∙◌, ◌≤◌, ◌+◌, ◌++◌, ℕ, Bool, false, List, [], Option, None, Some, length, get_or}
+use Rattle.std.proofs.Common.{refl, sym, ap, subst, arith}
+use Rattle.std.proofs.lemmas.List.{append-nil}
+use Rattle.enc_stream.specs.StateBytes.{IsValid}
+use Rattle.spool_disk.specs.declared.disk.Disk.{Ghosts}
+use Rattle.spool_journal.specs.Image.{text_page}
+use Rattle.spool_pages.specs.View.{SlotRecord}
+use Rattle.upload_rules.specs.Lengths.{is_length, is_too_large, known_or, longest}
+use Rattle.upload_rules.specs.States.{state_with, transcoder_with}
+use Rattle.upload_rules.specs.Store.{Store, Upload, find, is_complete, patched, text_of, text_with, upload_of}
+use Rattle.upload_rules.proofs.Commits.{complete_patched, state_patched, text_of_is, text_patched, transcoder_patched}
+use Rattle.upload_rules.proofs.Commits.{whole_patched}
+use Rattle.spool_kept.specs.Committing.{MayDeclare}
+use Rattle.spool_kept.specs.Extending.{IsExtension, IsPending, OnlyDeclares}
+use Rattle.spool_kept.specs.Holding.{Holding, IsUsedBy}
+use Rattle.spool_kept.specs.Shows.{IsTold}
+use Rattle.spool_kept.specs.Stored.{Stored}
+use Rattle.spool_kept.specs.declared.extending.Longer.{Longer}
+use Rattle.spool_kept.proofs.slots.ChangedSlots.{one_value}
+
+-- the upload as its record says it, with a length
+abbrev pub named : SlotRecord → ℕ → Option ℕ → Longer
+named r slot declared = record {
+  slot = slot;
+  declared = declared;
+  accepted = r.accepted;
+  text_len = r.text_len;
+  state = r.state;
+}
+
+-- the slot's record, told otherwise
+abbrev pub may_as : {slots : List (Option SlotRecord)} {slot : ℕ} {declared : Option ℕ} (r : SlotRecord)
+    → (may : MayDeclare slots slot declared) → r ≡ may.used → MayDeclare slots slot declared
+may_as {declared = declared} r may is = record {
+  used = r;
+  there = may.there ∙ ap (λ (q : SlotRecord). Some q) (sym is);
+  unknown = ap (λ (q : SlotRecord). q.declared) is ∙ may.unknown;
+  within = omega (arith, may.within, ap (λ (q : SlotRecord). q.accepted) is);
+  incomplete = ap (λ (q : SlotRecord). is_length declared q.accepted) is ∙ may.incomplete;
+}
+
+pub only_declares : {slots : List (Option SlotRecord)} {slot : ℕ} {declared : Option ℕ}
+    (may : MayDeclare slots slot declared) → OnlyDeclares may.used (named may.used slot declared)
+only_declares may = record { unknown = may.unknown; accepted = refl; text_len = refl; state = refl }
+
+module _ {D : Type 0} {sure : Bool} {disk : Ghosts D} {d : D} {h : Holding} {m : Store} {n slot : ℕ}
+    {declared : Option ℕ} (stored : Stored sure disk d h m) (may : MayDeclare h.slots slot declared)
+    (used : IsUsedBy h.slots slot n) (small : is_too_large declared ≡ false) where
+  abbrev told : IsTold m may.used (stored.view.texts slot)
+  told = stored.shows.told slot may.used
+      (ap (λ (xs : List (Option SlotRecord)). get_or xs slot None) (sym stored.keeps.slots) ∙ may.there)
+
+  number_is : may.used.number ≡ n
+  number_is = ap (λ (r : SlotRecord). r.number) (one_value may.there used.there) ∙ used.is
+
+  there : upload_of m n ≡ Some told.upload
+  there = ap (λ (k : ℕ). find k m.uploads) (sym number_is) ∙ told.there
+
+  unknown : told.upload.declared ≡ None
+  unknown = sym told.tells.declared ∙ may.unknown
+
+  known_is : known_or told.upload.declared declared ≡ declared
+  known_is = rw unknown refl
+
+  -- whatever upload is in the store is that one
+  pub unknown_of : (v : Upload) → upload_of m n ≡ Some v → v.declared ≡ None
+  unknown_of v is = ap (λ (w : Upload). w.declared) (one_value is there) ∙ unknown
+
+  open_before : is_complete told.upload ≡ false
+  open_before = ap (λ (k : Option ℕ). is_length k (length told.upload.accepted)) unknown
+
+  open_still : is_complete (patched told.upload declared []) ≡ false
+  open_still =
+      complete_patched told.upload declared []
+      ∙ ap (λ (k : Option ℕ). is_length k (length told.upload.accepted + 0)) known_is
+      ∙ ap (is_length declared) (omega (arith, told.tells.accepted)) ∙ may.incomplete
+
+  alike : is_complete (patched told.upload declared []) ≡ is_complete told.upload
+  alike = open_still ∙ sym open_before
+
+  same_text : text_of m.indexes (patched told.upload declared []) ≡ text_of m.indexes told.upload
+  same_text =
+      text_patched m.indexes told.upload declared []
+      ∙ ap (λ (b : Bool). (text_with m.indexes told.upload [] b).bytes) alike ∙ sym (text_of_is m.indexes told.upload)
+
+  extension : {known : Type 0} (current : ℕ → ℕ) → IsExtension known m.indexes told.upload declared [] []
+      (named may.used slot declared) [] current (text_page h.layout)
+  unfolding state_with
+  extension current = record {
+    declared = sym known_is;
+    accepted = told.tells.accepted ∙ ap length (sym (append-nil told.upload.accepted));
+    few = subst (λ (k : Option ℕ). length (told.upload.accepted ++ []) ≤ longest k) (sym known_is)
+        (omega (arith, may.within, told.tells.accepted, ap length (append-nil told.upload.accepted)));
+    small = small;
+    state = told.tells.state ∙ ap (state_with m.indexes told.upload []) (sym alike)
+        ∙ sym (state_patched m.indexes told.upload declared []);
+    valid = subst IsValid (sym (transcoder_patched m.indexes told.upload declared []
+        ∙ ap (transcoder_with m.indexes told.upload []) alike)) told.tells.valid;
+    encodable = ap (λ r. r.fault) (whole_patched m.indexes told.upload declared []
+        ∙ ap (text_with m.indexes told.upload []) alike) ∙ told.tells.encodable;
+    text = same_text ∙ sym (append-nil (text_of m.indexes told.upload));
+    text_len = told.tells.text_len ∙ ap length (sym same_text);
+    nothing = λ none. refl;
+    content = λ known some. absurd (omega (arith, some));
+  }
+
+  -- nothing is still to be written
+  pub pending : IsPending sure disk d h m n declared [] (named may.used slot declared) [] []
+  pending = record {
+    stored = stored;
+    text = [];
+    fits = λ some. absurd (omega (arith, some));
+    held = λ known some. absurd (omega (arith, some));
+    append = λ e stored' written. record {
+      stored = stored';
+      used = used;
+      upload = told.upload;
+      there = there;
+      added = [];
+      extension = extension (disk.current e);
+    };
+  }

@@ -1,0 +1,240 @@
+-- A draft that is spent after a call on it: its blocks are given back, or its upload's.
+use Rattle.std.proofs.Common.{◌≡◌, ◌≢◌, ◌⊎◌, inl, inr, ℕ, ◌/◌, ◌≤◌, ◌<◌, true, false, List, [], Option, None, Some}
+use Rattle.std.proofs.Common.{length, get_or, set, refl, sym, ◌∙◌, ap, subst, arith, length-append, ◌+◌}
+use Rattle.std.proofs.lemmas.Bool.{both_ways, cases_eq, cases_lt}
+use Rattle.std.proofs.lemmas.List.{set-set}
+use Rattle.std.proofs.lemmas.Option.{same_Some}
+use Rattle.enc_model.specs.Indexes.{IndexSet}
+use Rattle.spool_blocks.specs.Blocks.{Row, Held}
+use Rattle.spool_drafts.specs.Drafts.{IsPlaced, list_of}
+use Rattle.spool_drafts.specs.declared.draft.SpoolDraft.{SpoolDraft}
+use Rattle.spool_pages.specs.View.{SlotRecord}
+use Rattle.spool_room.specs.Holdings.{IsInSome}
+use Rattle.spool_texts.specs.Drafts.{GivesBack, IsReserved}
+use Rattle.spool_texts.specs.Written.{NoneOf}
+use Rattle.upload_rules.specs.Drafts.{draft_at}
+use Rattle.upload_rules.specs.Grown.{GrewFrom, IsGrown}
+use Rattle.upload_rules.specs.Lengths.{is_length}
+use Rattle.upload_rules.specs.Store.{Store, Upload, find, is_complete, patched, replaced, upload_of, with_length}
+use Rattle.upload_rules.specs.Store.{without}
+use Rattle.upload_rules.specs.World.{Patch, World}
+use Rattle.upload_rules.proofs.Finds.{find_replaced_other, find_replaced_same, find_without_other, find_without_same}
+use Rattle.upload_rules.proofs.Patches.{apart_without}
+use Rattle.upload_rules.proofs.Same.{same_upload}
+use Rattle.spool_kept.specs.Drafting.{DraftStands, DraftsHold, DraftsStand, IsOwnedBy, IsStillOpen, list_in, lists_at}
+use Rattle.spool_kept.specs.Extending.{HandsOn, IsLonger, longer_record}
+use Rattle.spool_kept.specs.Holding.{Holding, IsUsedBy}
+use Rattle.spool_kept.specs.declared.extending.Longer.{Longer}
+use Rattle.spool_kept.proofs.slots.ChangedSlots.{clash, one_value, slot_else, slot_here}
+use Rattle.spool_kept.proofs.drafts.DraftLists.{IsOut, in_other, kept_out, none_in_nothing, nothing_reserved}
+use Rattle.spool_kept.proofs.drafts.DraftLonger.{WentOn, all_longer, each_other, fit_longer}
+use Rattle.spool_kept.proofs.drafts.Drafted.{IsChanged, changed_lists, changed_out, fit_changed, fit_dropped}
+use Rattle.spool_kept.proofs.slots.HandedOver.{others_same}
+use Rattle.spool_kept.proofs.Valid.{in_use}
+use Rattle.spool_kept.proofs.slots.SlotChange.{same_others}
+use Rattle.spool_kept.specs.Changed.{SameOthers}
+
+-- BLOCKS
+
+-- rows that only the listed blocks and owned ones left
+pub record StaysFree (old new : List Row) (list : List ℕ) : Type 0 where
+  pub size : length new ≡ length old
+  pub free : (b : ℕ) → IsOut list b → get_or old b None ≡ None → get_or new b None ≡ None
+
+pub rows_handed : (h new : Holding) (used : SlotRecord) (longer : Longer) (more : List ℕ)
+    → IsLonger h used longer more new → StaysFree h.blocks.rows new.blocks.rows more
+rows_handed h new used longer more is = elim (cases_lt 0 (length more)) [
+  | inl some ↦
+      let hands = is.rows some in
+      record { size = hands.size; free = λ b out none. hands.kept b out (λ k from owns. clash none owns) ∙ none }
+  | inr none ↦
+      let same = ap (λ (b : Held). b.rows) (is.same (omega (arith, none))) in
+      record { size = ap length same; free = λ b out free. ap (λ (rows : List Row). get_or rows b None) same ∙ free }
+]
+
+handed_keeps : (h h' : Held) (list other : List ℕ) → HandsOn h.reserved h'.reserved list → StaysFree h.rows h'.rows list
+    → IsReserved h other → NoneOf list other → IsReserved h' other
+handed_keeps h h' list other hands rows is apart = record {
+  below = λ i lt. omega (arith, is.below i lt, rows.size);
+  reserved = λ i lt. hands.others (get_or other i 0) (λ k lt' e. apart k i lt' lt e) ∙ is.reserved i lt;
+  no_owner = λ i lt. rows.free (get_or other i 0) (λ k lt' e. apart k i lt' lt e) (is.no_owner i lt);
+  distinct = is.distinct;
+}
+
+module _ {n : ℕ} {h h' : Held} {old : List (Option SpoolDraft)} {d : ℕ} {o o' : SpoolDraft} (fit : DraftsHold n h old)
+    (on : WentOn h h' old d o o' (set old d (Some o'))) (reserved : IsReserved h' (list_of o'))
+    (placed : IsPlaced n o') where
+  fit_mid : DraftsHold n h' (set old d (Some o'))
+  fit_mid = fit_longer fit on reserved placed
+
+  gone : set old d None ≡ set (set old d (Some o')) d None
+  gone = sym (set-set old d (Some o') None)
+
+  list_mid : lists_at (set old d (Some o')) d ≡ list_of o'
+  list_mid = ap list_in on.changed.here
+
+  mid_out : IsChanged (set old d (Some o')) d None (set old d None)
+  mid_out = changed_out (set old d (Some o')) (set old d None) d gone
+
+  pub fit_given : (h'' : Held) → GivesBack h' h'' (list_of o') → DraftsHold n h'' (set old d None)
+  fit_given h'' gives = fit_dropped n h' h'' (set old d (Some o')) (set old d None) d gone fit_mid
+      (subst (GivesBack h' h'') (sym list_mid) gives)
+
+  pub fit_handed : (h'' : Held) → HandsOn h'.reserved h''.reserved (list_of o')
+      → StaysFree h'.rows h''.rows (list_of o') → DraftsHold n h'' (set old d None)
+  fit_handed h'' hands rows =
+      fit_changed n h' h'' (set old d (Some o')) (set old d None) d None fit_mid mid_out (nothing_reserved h'' [] refl)
+      (λ e other. handed_keeps h' h'' (list_of o') (lists_at (set old d (Some o')) e) hands rows (fit_mid.reserved e)
+      (subst (λ (xs : List ℕ). NoneOf xs (lists_at (set old d (Some o')) e)) list_mid (fit_mid.distinct d e other)))
+      (λ a e. absurd cc) (λ e other. none_in_nothing [] (lists_at (set old d (Some o')) e) refl)
+
+  module _ (all : (b : ℕ) → get_or h.reserved b false ≡ true → IsInSome (lists_at old) b) where
+    -- a block that is reserved after is another draft's
+    still_in : (b : ℕ) → IsOut (list_of o') b → get_or h'.reserved b false ≡ true
+        → IsInSome (lists_at (set old d None)) b
+    still_in b out was =
+        in_other (lists_at (set old d (Some o'))) (lists_at (set old d None)) d []
+        (changed_lists (set old d (Some o')) (set old d None) d None mid_out) b (all_longer fit on all b was)
+        (subst (λ (xs : List ℕ). IsOut xs b) (sym list_mid) out)
+
+    pub all_given : (h'' : Held) → GivesBack h' h'' (list_of o') → (b : ℕ) → get_or h''.reserved b false ≡ true
+        → IsInSome (lists_at (set old d None)) b
+    all_given h'' gives b is = let out = kept_out b gives is in still_in b out (sym (gives.others b out) ∙ is)
+
+    pub all_handed : (h'' : Held) → HandsOn h'.reserved h''.reserved (list_of o') → (b : ℕ)
+        → get_or h''.reserved b false ≡ true → IsInSome (lists_at (set old d None)) b
+    all_handed h'' hands b is =
+        let out : IsOut (list_of o') b =
+        λ i lt e. both_ways (get_or h''.reserved b false)
+        (subst (λ (k : ℕ). get_or h''.reserved k false ≡ false) e (hands.handed i lt)) is in
+        still_in b out (sym (hands.others b out) ∙ is)
+
+-- THE OTHER DRAFTS
+
+pub stand_spent : {sure : Type 0} {x : IndexSet} {current : ℕ → ℕ} (current' : ℕ → ℕ) {first : ℕ}
+    {records : List (Option SlotRecord)} (records' : List (Option SlotRecord)) {h : Held} (h' : Held) {w : World}
+    (m : Store) {old : List (Option SpoolDraft)} (d : ℕ) → DraftsStand sure x current first records h w old
+    → ((e : ℕ) → d ≢ e → (r : Patch) (a : SpoolDraft) → find e w.patches ≡ Some r → draft_at old e ≡ Some a
+    → DraftStands sure x current first records h.rows w.store r a
+    → DraftStands sure x current' first records' h'.rows m r a)
+    → IsGrown (record w { store = m; patches = without d w.patches }) → length h'.rows ≡ length h.rows
+    → ((b : ℕ) → get_or h'.reserved b false ≡ true → IsInSome (lists_at (set old d None)) b)
+    → DraftsStand sure x current' first records' h' (record w { store = m; patches = without d w.patches })
+    (set old d None)
+stand_spent {sure = sure} {x = x} {current = current} current' {first = first} {records = records} records' {h = h} h'
+    {w = w} m {old = old} d stand weaker grown size all = record {
+      each = each_other (DraftStands sure x current first records h.rows w.store)
+          (DraftStands sure x current' first records' h'.rows m) w.patches (without d w.patches)
+          (find_without_same d w.patches stand.apart) (λ e. find_without_other d e w.patches)
+          (changed_out old (set old d None) d refl) stand.each weaker tt;
+      apart = apart_without d w.patches stand.apart;
+      grown = grown;
+      limit = stand.limit ∙ ap (λ (n : ℕ). Some n) (sym size);
+      all = all;
+    }
+
+-- WHERE AN UPLOAD HAS MORE
+
+module _ (w : World) (grown : IsGrown w) (n : ℕ) (u : Upload) (upload : upload_of w.store n ≡ Some u)
+    (declare : Option ℕ) (body : List ℕ) where
+  abbrev put : Store
+  put = record w.store { uploads = replaced n (patched u declare body) w.store.uploads }
+
+  -- a draft of this upload that is still open
+  same_number : (r : Patch) → n ≡ r.number
+      → (still : IsStillOpen (record w.store { uploads = replaced n (patched u declare body) w.store.uploads }) r)
+      → patched u declare body ≡ with_length r.began still.0
+  same_number r same still = same_Some (patched u declare body) (with_length r.began still.0)
+      (sym (subst (λ (k : ℕ). find k (replaced n (patched u declare body) w.store.uploads) ≡ Some (patched u declare
+      body)) same (find_replaced_same n u (patched u declare body) w.store.uploads upload)) ∙ still.1)
+
+  -- and of another one, which is as it was
+  other_number : (r : Patch) → n ≢ r.number
+      → IsStillOpen (record w.store { uploads = replaced n (patched u declare body) w.store.uploads }) r
+      → IsStillOpen w.store r
+  other_number r other still = (
+    still.0,
+    sym (find_replaced_other n r.number (patched u declare body) w.store.uploads other) ∙ still.1,
+    still.2,
+  )
+
+  longer_by : {v : Upload} → patched u declare body ≡ v → length u.accepted + length body ≡ length v.accepted
+  longer_by is = sym (length-append u.accepted body) ∙ ap (λ (z : Upload). length z.accepted) is
+
+  shorter : (r : Patch) → GrewFrom r (Some u) → length r.began.accepted ≤ length u.accepted
+  shorter r grew = omega (arith, ap (λ (v : Upload). length v.accepted) grew.2, length-append r.began.accepted grew.1)
+
+  -- nothing can be put after an upload that got longer or complete any more
+  pub other_upload : (0 < length body) ⊎ (is_complete (patched u declare body) ≡ true) → (e : ℕ) (r : Patch)
+      → find e w.patches ≡ Some r
+      → IsStillOpen (record w.store { uploads = replaced n (patched u declare body) w.store.uploads }) r
+      → (n ≢ r.number) × IsStillOpen w.store r
+  other_upload more e r found still = elim (cases_eq n r.number) [
+    | inl same ↦
+        let is = same_number r same still in
+        let grew = subst (GrewFrom r) (subst (λ (k : ℕ). find k w.store.uploads ≡ Some u) same upload)
+        (grown.each e r found) in
+        absurd (elim more [
+          | inl some ↦ omega (arith, longer_by is, shorter r grew, some)
+          | inr whole ↦ both_ways (is_complete (with_length r.began still.0)) still.2 (ap is_complete (sym is) ∙ whole)
+        ])
+    | inr other ↦ (other, other_number r other still)
+  ]
+
+  -- where an upload got its length alone, what is still open was so
+  pub open_before : u.declared ≡ None → body ≡ [] → (e : ℕ) (r : Patch) → find e w.patches ≡ Some r
+      → IsStillOpen (record w.store { uploads = replaced n (patched u declare body) w.store.uploads }) r
+      → IsStillOpen w.store r
+  open_before unknown none e r found still = elim (cases_eq n r.number) [
+    | inl same ↦
+        let is = same_number r same still in
+        let there = subst (λ (k : ℕ). find k w.store.uploads ≡ Some u) same upload in
+        let same_length : length u.accepted ≡ length r.began.accepted = omega (arith, longer_by is, ap length none) in
+        let was = same_upload w e r u grown found there same_length in (
+          was.0,
+          there ∙ ap (λ (v : Upload). Some v) was.1,
+          subst (λ (v : Upload). is_complete v ≡ false) was.1
+              (ap (λ (k : Option ℕ). is_length k (length u.accepted)) unknown),
+        )
+    | inr other ↦ other_number r other still
+  ]
+
+-- the other slots own what they did
+pub others_longer : {h new : Holding} {used : SlotRecord} {longer : Longer} {more : List ℕ}
+    → IsLonger h used longer more new → ((i : ℕ) → i < length more → get_or h.blocks.rows (get_or more i 0) None ≡ None)
+    → SameOthers longer.slot h.blocks.rows new.blocks.rows
+others_longer {h = h} {new = new} {used = used} {longer = longer} {more = more} is no_owner =
+    elim (cases_lt 0 (length more)) [
+      | inl some ↦ others_same h.blocks.rows longer.slot (used.text_len / 4096) more new.blocks.rows (is.rows some)
+          no_owner
+      | inr none ↦ same_others longer.slot h.blocks.rows new.blocks.rows
+          (ap (λ (b : Held). b.rows) (is.same (omega (arith, none))))
+    ]
+
+-- where only its record is another, an upload's blocks stay its own
+pub owned_declared : (h new : Holding) (used : SlotRecord) (longer : Longer) (k : ℕ) (list : List ℕ)
+    → get_or h.slots longer.slot None ≡ Some used → IsLonger h used longer [] new
+    → IsOwnedBy h.slots h.blocks.rows k list → IsOwnedBy new.slots new.blocks.rows k list
+owned_declared h new used longer k list there is owned = record {
+  slot = owned.slot;
+  used = subst (λ (xs : List (Option SlotRecord)). IsUsedBy xs owned.slot k) (sym is.slots) used_still;
+  owned = λ i lt.
+      let own = owned.owned i lt in
+      (own.0, ap (λ (c : Held). get_or c.rows (get_or list i 0) None) (is.same refl) ∙ own.1);
+}
+  where
+    used_still : IsUsedBy (set h.slots longer.slot (Some (longer_record used longer))) owned.slot k
+    used_still = elim (cases_eq owned.slot longer.slot) [
+      | inl same ↦ record {
+        used = longer_record used longer;
+        there = ap (λ (s : ℕ). get_or (set h.slots longer.slot (Some (longer_record used longer))) s None) same
+            ∙ slot_here h.slots longer.slot (Some (longer_record used longer)) (in_use h.slots longer.slot used there);
+        is = ap (λ (r : SlotRecord). r.number)
+            (one_value there (ap (λ (s : ℕ). get_or h.slots s None) (sym same) ∙ owned.used.there)) ∙ owned.used.is;
+      }
+      | inr other ↦ record {
+        used = owned.used.used;
+        there = slot_else h.slots longer.slot (Some (longer_record used longer)) owned.slot other ∙ owned.used.there;
+        is = owned.used.is;
+      }
+    ]

@@ -1,0 +1,134 @@
+-- The drafts, where an upload was taken away and its drafts forgot its last block.
+use Rattle.std.proofs.Common.{◌≡◌, ℕ, List, Option, None, Some, refl, sym, ◌∙◌, ap, subst, arith, inl, inr, true}
+use Rattle.std.proofs.Common.{length, get_or, Bool}
+use Rattle.std.proofs.lemmas.Bool.{cases_eq}
+use Rattle.enc_model.specs.Indexes.{IndexSet}
+use Rattle.spool_blocks.specs.Blocks.{Held}
+use Rattle.spool_disk.specs.declared.disk.Disk.{Ghosts}
+use Rattle.spool_drafts.specs.Drafts.{number_of}
+use Rattle.spool_drafts.specs.declared.draft.SpoolDraft.{SpoolDraft}
+use Rattle.spool_journal.specs.Image.{text_page}
+use Rattle.spool_pages.specs.View.{SlotRecord}
+use Rattle.spool_texts.specs.Drafts.{IsReserved}
+use Rattle.spool_texts.specs.Written.{NoneOf}
+use Rattle.upload_rules.specs.Drafts.{DraftOf, draft_at}
+use Rattle.upload_rules.specs.Store.{find, upload_of}
+use Rattle.upload_rules.specs.World.{Patch, World}
+use Rattle.spool_kept.specs.Drafting.{DraftStands, DraftsFit, DraftsHold, DraftsStand, IsOfUpload, StandsFor, list_in}
+use Rattle.spool_kept.specs.Drafting.{lists_at}
+use Rattle.spool_kept.specs.Holding.{Holding, IsUsedBy}
+use Rattle.spool_kept.specs.Terminating.{EachForgets, ForgetsOf, ForgetsTail, IsTakenOut}
+use Rattle.spool_kept.proofs.slots.ChangedSlots.{clash, slot_is}
+use Rattle.spool_kept.proofs.drafts.OfDeleted.{hold_still}
+use Rattle.spool_kept.proofs.Valid.{in_use}
+
+-- each draft comes of one that was there
+pub draft_was : (number : ℕ) (old new : Option SpoolDraft) → ForgetsOf number old new → (o' : SpoolDraft)
+    → new ≡ Some o' → (o : SpoolDraft) × (old ≡ Some o) × ForgetsTail number o o'
+draft_was number None None forgets o' e = clash refl e
+draft_was number (Some o) (Some q) forgets o' e =
+    (o, refl, subst (λ (x : Option SpoolDraft). ForgetsOf number (Some o) x) e forgets)
+draft_was number o q forgets o' e = absurd forgets
+
+list_of_forgotten : (number : ℕ) (old new : Option SpoolDraft) → ForgetsOf number old new → list_in new ≡ list_in old
+list_of_forgotten number None None forgets = refl
+list_of_forgotten number (Some o) (Some q) forgets = forgets.same_list
+list_of_forgotten number o q forgets = absurd forgets
+
+module _ (number : ℕ) (old new : List (Option SpoolDraft)) (forgets : EachForgets number old new) where
+  lists_same : (d : ℕ) → lists_at new d ≡ lists_at old d
+  lists_same d = list_of_forgotten number (draft_at old d) (draft_at new d) (forgets d)
+
+  pub hold_forgotten : (n : ℕ) (h : Held) → DraftsHold n h old → DraftsHold n h new
+  hold_forgotten n h hold = record {
+    reserved = λ d. subst (IsReserved h) (sym (lists_same d)) (hold.reserved d);
+    placed = λ d o' e.
+        let was = draft_was number (draft_at old d) (draft_at new d) (forgets d) o' e in
+        was.2.placed n (hold.placed d was.0 was.1);
+    distinct = λ d e apart. subst (λ (xs : List ℕ). NoneOf xs (lists_at new e)) (sym (lists_same d))
+        (subst (NoneOf (lists_at old d)) (sym (lists_same e)) (hold.distinct d e apart));
+  }
+
+  module _ (sure : Type 0) (x : IndexSet) (current : ℕ → ℕ) (first : ℕ) (slots : List (Option SlotRecord)) (h : Held)
+      (w : World) (gone : upload_of w.store number ≡ None) where
+    stands_of : (p : Patch) (o o' : SpoolDraft) → ForgetsTail number o o'
+        → DraftStands sure x current first slots h.rows w.store p o
+        → DraftStands sure x current first slots h.rows w.store p o'
+    stands_of p o o' forgot s = elim (cases_eq (number_of o) number) [
+      | inl same ↦
+          let none : upload_of w.store p.number ≡ None =
+          ap (upload_of w.store) (sym s.holds.number ∙ same) ∙ gone in
+          record {
+            holds = forgot.holds x p s.holds;
+            below = s.below;
+            carries = λ known still. clash none still.1;
+            tail = λ still. clash none still.1;
+          }
+      | inr other ↦
+          subst (DraftStands sure x current first slots h.rows w.store p) (sym (forgot.others other)) s
+    ]
+
+    each_of : (q : Option Patch) (o o' : Option SpoolDraft) → ForgetsOf number o o'
+        → DraftOf (DraftStands sure x current first slots h.rows w.store) q o
+        → DraftOf (DraftStands sure x current first slots h.rows w.store) q o'
+    each_of None None None forgot s = tt
+    each_of (Some p) (Some o) (Some o') forgot s = stands_of p o o' forgot s
+    each_of None None (Some o') forgot s = absurd forgot
+    each_of (Some p) (Some o) None forgot s = absurd forgot
+    each_of q o o' forgot s = absurd s
+
+    stand_forgotten : DraftsStand sure x current first slots h w old → DraftsStand sure x current first slots h w new
+    stand_forgotten stand = record {
+      each = λ d. each_of (find d w.patches) (draft_at old d) (draft_at new d) (forgets d) (stand.each d);
+      apart = stand.apart;
+      grown = stand.grown;
+      limit = stand.limit;
+      all = λ b is.
+          let was = stand.all b is in
+          record {
+            list = was.list;
+            at = was.at;
+            below = omega (arith, was.below, ap length (lists_same was.list));
+            here = ap (λ (xs : List ℕ). get_or xs was.at 0) (lists_same was.list) ∙ was.here;
+          };
+    }
+
+  pub stands_forgotten : {D : Type 0} {sure : Bool} {disk : Ghosts D} {d : D} {h : Holding} {w : World}
+      → upload_of w.store number ≡ None → StandsFor sure disk d h old w → StandsFor sure disk d h new w
+  stands_forgotten {sure = sure} {disk = disk} {d = d} {h = h} {w = w} gone stands = record {
+    stored = stands.stored;
+    stands = stand_forgotten (sure ≡ true) w.store.indexes (disk.current d) (text_page h.layout) h.slots h.blocks w gone
+        stands.stands;
+  }
+
+-- WHATEVER THE DISK SAID
+
+module _ {h h' : Holding} {slot number : ℕ} (used : IsUsedBy h.slots slot number) (out : IsTakenOut h slot h')
+    (old new : List (Option SpoolDraft)) (forgets : EachForgets number old new) (fit : DraftsFit h old) where
+  still_of : (o o' : SpoolDraft) → ForgetsTail number o o' → IsOfUpload h.slots o → IsOfUpload h'.slots o'
+  still_of o o' forgot is = record {
+    grown = λ s r e at. omega (arith, is.grown s r (was s r e) (at ∙ forgot.same_number), forgot.same_offset);
+    after = λ s r e at count open_still. forgot.after r.text_len r.state
+        (is.after s r (was s r e) (at ∙ forgot.same_number) (count ∙ forgot.same_offset) open_still);
+  }
+    where
+      was : (s : ℕ) (r : SlotRecord) → get_or h'.slots s None ≡ Some r → get_or h.slots s None ≡ Some r
+      was s r e = elim (slot_is h.slots slot None s r (in_use h.slots slot used.used used.there)
+          (ap (λ (xs : List (Option SlotRecord)). get_or xs s None) (sym out.slots) ∙ e)) [
+            | inl here ↦ clash refl here.1
+            | inr there ↦ there.1
+          ]
+
+  pub fits_after : DraftsFit h' new
+  fits_after = record {
+    blocks = hold_forgotten number old new forgets h'.layout h'.blocks
+        (subst (λ (n : ℕ). DraftsHold n h'.blocks old) (sym out.layout)
+        (hold_still h.layout slot h.blocks h'.blocks old out.rows out.reserved fit.blocks));
+    below = λ d o' e.
+        let was = draft_was number (draft_at old d) (draft_at new d) (forgets d) o' e in
+        let forgot = was.2 in
+        omega (arith, fit.below d was.0 was.1, forgot.same_number, out.next);
+    uploads = λ d o' e.
+        let was = draft_was number (draft_at old d) (draft_at new d) (forgets d) o' e in
+        still_of was.0 o' was.2 (fit.uploads d was.0 was.1);
+  }

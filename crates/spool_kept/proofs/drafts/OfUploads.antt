@@ -1,0 +1,220 @@
+-- The drafts' uploads, whatever the disk said: what is in their slots, and what becomes of it.
+use Rattle.std.proofs.Common.{◌≡◌, inl, inr, ℕ, ◌<◌, ◌≤◌, false, List, [], Option, length-set, None, Some, IfOk, IfSome}
+use Rattle.std.proofs.Common.{MatchOption, Result, Ok, Err, get_or, length, set, refl, sym, ◌∙◌, ap, subst, arith}
+use Rattle.std.proofs.lemmas.Bool.{both_ways, cases_eq}
+use Rattle.std.proofs.lemmas.Option.{same_Some}
+use Rattle.spool_drafts.specs.Drafts.{IsAfter, declare_of, number_of, offset_of, list_of}
+use Rattle.spool_drafts.specs.declared.draft.SpoolDraft.{SpoolDraft}
+use Rattle.spool_blocks.specs.Blocks.{Held}
+use Rattle.spool_pages.specs.View.{SlotRecord}
+use Rattle.spool_texts.specs.Drafts.{GivesBack}
+use Rattle.upload_rules.specs.Drafts.{draft_at}
+use Rattle.upload_rules.specs.Lengths.{is_length}
+use Rattle.upload_rules.specs.declared.errors.UploadRefusal.{UploadRefusal}
+use Rattle.upload_rules.specs.declared.records.Record.{Record}
+use Rattle.spool_kept.specs.Committing.{HasSameCount, IsAfterSlot}
+use Rattle.spool_kept.specs.Creating.{HasRoomAt, IsTakenIn}
+use Rattle.spool_kept.specs.Drafting.{DraftsFit, DraftsHold, EachDraft, IsKept, IsOfUpload, lists_at, list_in}
+use Rattle.spool_kept.specs.Extending.{Advances, IsLonger, OnlyDeclares, longer_record}
+use Rattle.spool_kept.specs.Holding.{FitsTogether, Holding, IsUsedBy, Lists}
+use Rattle.spool_kept.specs.declared.extending.Longer.{Longer}
+use Rattle.spool_kept.proofs.drafts.Drafted.{IsChanged, changed_out, fit_dropped}
+use Rattle.spool_kept.proofs.Valid.{in_use}
+use Rattle.spool_kept.proofs.numbers.Ordered.{one_slot as ordered_slot}
+use Rattle.spool_kept.proofs.slots.ChangedSlots.{record_is}
+
+-- ONE SLOT FOR A NUMBER
+
+one_slot : (h : Holding) → FitsTogether h → (n s : ℕ) → Lists h.order n s → (t : ℕ) → IsUsedBy h.slots t n → t ≡ s
+one_slot h fits n s l t used =
+    let lt : t < 512 = (let inside = in_use h.slots t used.used used.there in omega (arith, inside, fits.slot_count)) in
+    let k = subst (λ (m : ℕ). Lists h.order m t) used.is (fits.ordered.all t used.used lt used.there) in
+    ordered_slot h.slots h.order fits.slot_count fits.ordered n t s k l
+
+pub only_of : (h : Holding) → FitsTogether h → (n : ℕ) (found : Option ℕ)
+    → MatchOption found ((s : ℕ) → Lists h.order n s → ⊥) (Lists h.order n)
+    → IfSome found (λ s. (t : ℕ) → IsUsedBy h.slots t n → t ≡ s)
+only_of h fits n None l = tt
+only_of h fits n (Some s) l = one_slot h fits n s l
+
+-- A DRAFT'S UPLOAD
+
+-- one that begins
+of_begun : (slots : List (Option SlotRecord)) (r : Record) (o : SpoolDraft) → IsKept slots r
+    → number_of o ≡ r.number → offset_of o ≡ r.accepted → IsAfter r.text_len r.state o → IsOfUpload slots o
+of_begun slots r o kept number offset after = record {
+  grown = λ s q there is.
+      omega (arith, offset, ap (λ (p : SlotRecord). p.accepted) (kept.only s q there (is ∙ number)));
+  after = λ s q there is same open_still.
+      subst (λ (p : SlotRecord). IsAfter p.text_len p.state o) (sym (kept.only s q there (is ∙ number))) after;
+}
+
+pub begins_kept : (slots : List (Option SlotRecord)) (r : Record) (declare : Option ℕ)
+    (result : Result SpoolDraft UploadRefusal) → IsKept slots r
+    → IfOk result (λ o. (number_of o ≡ r.number) × (offset_of o ≡ r.accepted) × (declare_of o ≡ declare))
+    → IfOk result (IsAfter r.text_len r.state) → IfOk result (IsOfUpload slots)
+begins_kept slots r declare (Ok o) kept named after = of_begun slots r o kept named.0 named.1 after
+begins_kept slots r declare (Err e) kept named after = tt
+
+pub begins_below : (next number offset : ℕ) (declare : Option ℕ) (result : Result SpoolDraft UploadRefusal)
+    → number < next → IfOk result (λ o. (number_of o ≡ number) × (offset_of o ≡ offset) × (declare_of o ≡ declare))
+    → IfOk result (λ o. number_of o < next)
+begins_below next number offset declare (Ok o) lt named = omega (arith, lt, named.0)
+begins_below next number offset declare (Err e) lt named = tt
+
+-- the draft went on
+pub of_longer : (slots : List (Option SlotRecord)) (o o' : SpoolDraft) → number_of o' ≡ number_of o
+    → offset_of o' ≡ offset_of o → ((len : ℕ) (state : List ℕ) → IsAfter len state o → IsAfter len state o')
+    → IsOfUpload slots o → IsOfUpload slots o'
+of_longer slots o o' number offset on is = record {
+  grown = λ s r there at. omega (arith, is.grown s r there (at ∙ number), offset);
+  after = λ s r there at same open_still. on r.text_len r.state
+      (is.after s r there (at ∙ number) (same ∙ offset) open_still);
+}
+
+-- its slot's record, with the count that the draft began at
+pub after_slot : (slots : List (Option SlotRecord)) (o : SpoolDraft) (slot : ℕ) (has : HasSameCount slots o slot)
+    → is_length has.used.declared has.used.accepted ≡ false → IsOfUpload slots o → IsAfterSlot slots slot o
+after_slot slots o slot has open_still is r there =
+    let same : has.used ≡ r = same_Some has.used r (sym has.there ∙ there) in
+    is.after slot r there (ap (λ (q : SlotRecord). q.number) (sym same) ∙ has.number)
+    (ap (λ (q : SlotRecord). q.accepted) (sym same) ∙ has.count)
+    (subst (λ (q : SlotRecord). is_length q.declared q.accepted ≡ false) same open_still)
+
+-- an upload has another record
+module _ (slots : List (Option SlotRecord)) (longer : Longer) (used : SlotRecord) (o : SpoolDraft)
+    (there : get_or slots longer.slot None ≡ Some used) (is : IsOfUpload slots o) where
+  inside : longer.slot < length slots
+  inside = in_use slots longer.slot used there
+
+  -- with no fewer bytes, and after which the draft is where it may still be put there
+  of_changed : used.accepted ≤ longer.accepted
+      → (used.number ≡ number_of o → longer.accepted ≡ offset_of o → is_length longer.declared longer.accepted ≡ false
+      → IsAfter longer.text_len longer.state o)
+      → IsOfUpload (set slots longer.slot (Some (longer_record used longer))) o
+  of_changed grows after = record {
+    grown = λ s r e at. elim (record_is slots longer.slot (longer_record used longer) s r inside e) [
+      | inl now ↦
+          let before = is.grown longer.slot used there (ap (λ (q : SlotRecord). q.number) (sym now.1) ∙ at) in
+          omega (arith, before, grows, ap (λ (q : SlotRecord). q.accepted) now.1)
+      | inr old ↦ is.grown s r old.1 at
+    ];
+    after = λ s r e at count open_still.
+        elim (record_is slots longer.slot (longer_record used longer) s r inside e) [
+          | inl now ↦ subst (λ (q : SlotRecord). IsAfter q.text_len q.state o) (sym now.1)
+              (after (ap (λ (q : SlotRecord). q.number) (sym now.1) ∙ at)
+              (ap (λ (q : SlotRecord). q.accepted) (sym now.1) ∙ count)
+              (subst (λ (q : SlotRecord). is_length q.declared q.accepted ≡ false) now.1 open_still))
+          | inr old ↦ is.after s r old.1 at count open_still
+        ];
+  }
+
+  pub of_extended : Advances used longer → IsOfUpload (set slots longer.slot (Some (longer_record used longer))) o
+  of_extended (inl more) = of_changed (omega (arith, more)) (λ at count open_still.
+      absurd (let before = is.grown longer.slot used there at in omega (arith, before, more, count)))
+  of_extended (inr all) = of_changed (omega (arith, all.0)) (λ at count open_still.
+      absurd (both_ways (is_length longer.declared longer.accepted) open_still all.1))
+
+  pub of_declared : OnlyDeclares used longer → IsOfUpload (set slots longer.slot (Some (longer_record used longer))) o
+  of_declared only = of_changed (omega (arith, only.accepted)) (λ at count open_still.
+      subst (λ (n : ℕ). IsAfter n longer.state o) (sym only.text_len)
+      (subst (λ (state : List ℕ). IsAfter used.text_len state o) (sym only.state)
+      (is.after longer.slot used there at (sym only.accepted ∙ count)
+      (ap (λ (k : Option ℕ). is_length k used.accepted) only.unknown))))
+
+-- ALL DRAFTS
+
+pub each_changed : (P : SpoolDraft → Type 0) (old new : List (Option SpoolDraft)) (d : ℕ) (o : Option SpoolDraft)
+    → IsChanged old d o new → EachDraft P old → ((a : SpoolDraft) → o ≡ Some a → P a) → EachDraft P new
+each_changed P old new d o changed each own e a there = elim (cases_eq d e) [
+  | inl same ↦ own a (sym changed.here ∙ ap (draft_at new) same ∙ there)
+  | inr other ↦ each e a (sym (changed.others e other) ∙ there)
+]
+
+-- one is spent
+each_dropped : (P : SpoolDraft → Type 0) (old new : List (Option SpoolDraft)) (d : ℕ) → new ≡ set old d None
+    → EachDraft P old → EachDraft P new
+each_dropped P old new d is each = each_changed P old new d None (changed_out old new d is) each (λ a e. absurd cc)
+
+-- one is spent, and the slots are as they were
+pub fits_spent : (h h' : Holding) (old new : List (Option SpoolDraft)) (d : ℕ) → new ≡ set old d None
+    → h'.next ≡ h.next → h'.slots ≡ h.slots → DraftsHold h'.layout h'.blocks new → DraftsFit h old → DraftsFit h' new
+fits_spent h h' old new d is next slots blocks fit = record {
+  blocks = blocks;
+  below = each_dropped (λ (o : SpoolDraft). number_of o < h'.next) old new d is
+      (λ e o at. omega (arith, fit.below e o at, next));
+  uploads = each_dropped (IsOfUpload h'.slots) old new d is
+      (λ e o at. subst (λ (s : List (Option SlotRecord)). IsOfUpload s o) (sym slots) (fit.uploads e o at));
+}
+
+-- one is spent, and its blocks are given back
+fits_dropped : (h : Holding) (blocks : Held) (old new : List (Option SpoolDraft)) (d : ℕ) → new ≡ set old d None
+    → DraftsFit h old → GivesBack h.blocks blocks (lists_at old d) → DraftsFit (record h { blocks = blocks }) new
+fits_dropped h blocks old new d is fit gives =
+    fits_spent h (record h { blocks = blocks }) old new d is refl refl
+    (fit_dropped h.layout h.blocks blocks old new d is fit.blocks gives) fit
+
+pub fits_out : {old inside : Holding} {blocks : Held} {drafts drafts' : List (Option SpoolDraft)} (number : ℕ)
+    {o : SpoolDraft} → inside ≡ old → Some o ≡ draft_at drafts number → drafts' ≡ set drafts number None
+    → GivesBack inside.blocks blocks (list_of o) → DraftsFit old drafts
+    → DraftsFit (record inside { blocks = blocks }) drafts'
+fits_out {inside = inside} {blocks = blocks} {drafts = drafts} {drafts' = drafts'} number is there after gives fit =
+    fits_dropped inside blocks drafts drafts' number after (subst (λ (h : Holding). DraftsFit h drafts) (sym is) fit)
+    (subst (GivesBack inside.blocks blocks) (ap list_in there) gives)
+
+-- one is spent, and its upload is longer
+pub fits_put : (h h' : Holding) (drafts : List (Option SpoolDraft)) (d : ℕ) (longer : Longer) (used : SlotRecord)
+    → get_or h.slots longer.slot None ≡ Some used → Advances used longer → h'.next ≡ h.next
+    → h'.slots ≡ set h.slots longer.slot (Some (longer_record used longer))
+    → DraftsHold h'.layout h'.blocks (set drafts d None) → DraftsFit h drafts → DraftsFit h' (set drafts d None)
+fits_put h h' drafts d longer used there more next slots blocks fit = record {
+  blocks = blocks;
+  below = each_dropped (λ (o : SpoolDraft). number_of o < h'.next) drafts (set drafts d None) d refl
+      (λ e o at. omega (arith, fit.below e o at, next));
+  uploads = each_dropped (IsOfUpload h'.slots) drafts (set drafts d None) d refl
+      (λ e o at. subst (λ (s : List (Option SlotRecord)). IsOfUpload s o) (sym slots)
+      (of_extended h.slots longer used o there (fit.uploads e o at) more));
+}
+
+-- an upload got its length
+pub fits_declared : (h h' : Holding) (drafts : List (Option SpoolDraft)) (longer : Longer) (used : SlotRecord)
+    → get_or h.slots longer.slot None ≡ Some used → OnlyDeclares used longer → IsLonger h used longer [] h'
+    → DraftsFit h drafts → DraftsFit h' drafts
+fits_declared h h' drafts longer used there only is fit = record {
+  blocks = subst (λ (n : ℕ). DraftsHold n h'.blocks drafts) (sym is.layout)
+      (subst (λ (blocks : Held). DraftsHold h.layout blocks drafts) (sym (is.same refl)) fit.blocks);
+  below = λ d o at. omega (arith, fit.below d o at, is.next);
+  uploads = λ d o at. subst (λ (s : List (Option SlotRecord)). IsOfUpload s o) (sym is.slots)
+      (of_declared h.slots longer used o there (fit.uploads d o at) only);
+}
+
+-- a new upload is kept
+module _ (h h' : Holding) (slot : ℕ) (new : SlotRecord) (room : HasRoomAt h slot) (taken : IsTakenIn h slot new h')
+    (number : new.number ≡ h.next) where
+  slot_there : slot < length h.slots
+  slot_there =
+      omega (arith, room.within, taken.fits.slot_count, ap length taken.slots, length-set h.slots slot (Some new))
+
+  -- the new record has no draft's number
+  was_there : (o : SpoolDraft) → number_of o < h.next → (s : ℕ) (r : SlotRecord) → get_or h'.slots s None ≡ Some r
+      → r.number ≡ number_of o → get_or h.slots s None ≡ Some r
+  was_there o below s r e at =
+      let now = ap (λ (slots : List (Option SlotRecord)). get_or slots s None) (sym taken.slots) ∙ e in
+      elim (record_is h.slots slot new s r slot_there now) [
+        | inl made ↦ absurd (omega (arith, ap (λ (q : SlotRecord). q.number) made.1, number, at, below))
+        | inr old ↦ old.1
+      ]
+
+  pub fits_created : (drafts : List (Option SpoolDraft)) → DraftsFit h drafts → DraftsFit h' drafts
+  fits_created drafts fit = record {
+    blocks = subst (λ (n : ℕ). DraftsHold n h'.blocks drafts) (sym taken.layout)
+        (subst (λ (blocks : Held). DraftsHold h.layout blocks drafts) (sym taken.blocks) fit.blocks);
+    below = λ d o there. omega (arith, fit.below d o there, taken.next);
+    uploads = λ d o there.
+        let is = fit.uploads d o there in
+        let was = was_there o (fit.below d o there) in
+        record {
+          grown = λ s r e at. is.grown s r (was s r e at) at;
+          after = λ s r e at. is.after s r (was s r e at) at;
+        };
+  }

@@ -1,0 +1,280 @@
+-- A longer upload, as the disk is to say it.
+use Rattle.std.proofs.Common.{◌≡◌, inl, inr, ◌⊎◌, ℕ, zero, suc, ◌∷◌, ◌+◌, ◌-◌, ◌/◌, ◌<◌, ◌≤◌, List, [], ◌++◌, Option}
+use Rattle.std.proofs.Common.{None, Some, false, length, length-append, get_or, set, drop, refl, sym, ◌∙◌, ap, subst}
+use Rattle.std.proofs.Common.{arith, Bool, true}
+use Rattle.std.proofs.lemmas.Bool.{cases_lt, both_ways, lt-ltb}
+use Rattle.std.proofs.lemmas.List.{append-nil}
+use Rattle.std.proofs.lemmas.Option.{same_Some}
+use Rattle.enc_model.specs.Transcode.{Transcoder}
+use Rattle.enc_stream.specs.StateBytes.{state_bytes, padded, phase_bytes, shift_number}
+use Rattle.upload_rules.proofs.Finds.{find_replaced_same, find_replaced_other}
+use Rattle.upload_rules.specs.Lengths.{is_too_large, known_or, longest}
+use Rattle.upload_rules.specs.Room.{blocks_of}
+use Rattle.upload_rules.specs.Slots.{IsRising}
+use Rattle.upload_rules.specs.Store.{Upload, Store, find, replaced, patched, patched_at, patched_store, text_of}
+use Rattle.spool_blocks.specs.Blocks.{Row, Held}
+use Rattle.spool_disk.specs.declared.disk.Disk.{Ghosts}
+use Rattle.spool_disk.specs.Views.{Lasts}
+use Rattle.spool_journal.specs.Image.{text_page}
+use Rattle.spool_journal.specs.Texts.{text_shown}
+use Rattle.spool_pages.specs.Changes.{SameRowsBut, ChangesButRows, Changes, with_record}
+use Rattle.spool_pages.proofs.Resting.{rests_says}
+use Rattle.spool_pages.specs.Rests.{Rests, Unowned, HasTexts}
+use Rattle.spool_pages.specs.View.{SlotRecord, View, slot_at, IsViewOf}
+use Rattle.spool_texts.specs.Drafts.{IsReserved}
+use Rattle.spool_texts.specs.TextOn.{text_on}
+use Rattle.spool_kept.specs.Changed.{HandsOver, appended_view, texts_with}
+use Rattle.spool_kept.specs.Extending.{MayExtend, IsAppend, IsLonger, full_bytes, longer_record}
+use Rattle.spool_kept.specs.declared.extending.Longer.{Longer}
+use Rattle.spool_kept.specs.Holding.{Holding, FitsTogether}
+use Rattle.spool_kept.specs.Shows.{IsRecordOf, IsValidRecord, Shows}
+use Rattle.spool_kept.specs.Stored.{Stored, ShowsEither}
+use Rattle.spool_kept.proofs.slots.AppendedTexts.{text_longer}
+use Rattle.spool_kept.proofs.slots.ChangedSlots.{one_value, text_else, text_here}
+use Rattle.spool_kept.proofs.numbers.Entries.{numbers_replaced}
+use Rattle.spool_kept.proofs.slots.HandedOver.{listed_now, others_same, owns_one_each, room_for, rows_but_last}
+use Rattle.spool_kept.proofs.slots.Keeps.{keeps_said}
+use Rattle.spool_kept.proofs.slots.SlotChange.{HasRows, IsChange, changed_shows, changed_texts, lasts_either}
+use Rattle.spool_kept.proofs.slots.SlotChange.{same_others}
+use Rattle.spool_kept.proofs.slots.SlotChange.{told_upload}
+use Rattle.spool_kept.proofs.Told.{told_state}
+use Rattle.spool_kept.proofs.Valid.{in_use}
+use Rattle.spool_blocks.specs.Chains.{OwnsOneEach}
+
+-- a length that isn't too large
+pub small_is : (declare : Option ℕ) → is_too_large declare ≡ false → longest declare ≤ 1073741824
+small_is None small = omega arith
+small_is (Some n) small = elim (cases_lt 1073741824 n) [
+  | inl lt ↦ absurd (both_ways (is_too_large (Some n)) small (lt-ltb 1073741824 n lt))
+  | inr le ↦ le
+]
+
+-- the length that is known, else a declared one that isn't too large
+known_small : (known declare : Option ℕ) → longest known ≤ 1073741824 → is_too_large declare ≡ false
+    → longest (known_or known declare) ≤ 1073741824
+known_small None declare old small = small_is declare small
+known_small (Some n) declare old small = old
+
+-- states are 32 bytes long
+padded_length : (n : ℕ) (bytes : List ℕ) → length (padded n bytes) ≡ n
+padded_length zero bytes = refl
+padded_length (suc n) [] = ap (λ (k : ℕ). suc k) (padded_length n [])
+padded_length (suc n) (b ∷ bytes) = ap (λ (k : ℕ). suc k) (padded_length n bytes)
+
+pub state_length : (t : Transcoder) → length (state_bytes t) ≡ 32
+state_length t =
+    let long = length-append (padded 12 (phase_bytes t.phase)) (padded 16 (shift_number t.shift ∷ [])) in
+    omega (arith, long, padded_length 12 (phase_bytes t.phase), padded_length 16 (shift_number t.shift ∷ []))
+
+module _ {D : Type 0} {sure : Bool} {disk : Ghosts D} {d : D} {h new : Holding} {longer : Longer} {more : List ℕ}
+    (may : MayExtend h longer more) (reserved : IsReserved h.blocks more) (is : IsLonger h may.used longer more new)
+    {m : Store} {n : ℕ} {declare : Option ℕ} {bytes : List ℕ}
+    (append : IsAppend sure disk d h m n declare bytes longer more) where
+  abbrev s : Stored sure disk d h m
+  s = append.stored
+
+  abbrev pub before : View
+  before = append.stored.view
+
+  abbrev used : SlotRecord
+  used = may.used
+
+  -- its record, its rows and its text then
+  abbrev now : SlotRecord
+  now = longer_record may.used longer
+
+  abbrev rows : List Row
+  rows = new.blocks.rows
+
+  abbrev text : List ℕ
+  text = append.stored.view.texts longer.slot ++ append.added
+
+  abbrev upload : Upload
+  upload = patched append.upload declare bytes
+
+  abbrev pub after : View
+  after = appended_view append.stored.view longer.slot (longer_record may.used longer) new.blocks.rows
+      (append.stored.view.texts longer.slot ++ append.added)
+
+  there : slot_at before longer.slot ≡ Some used
+  there = ap (λ (xs : List (Option SlotRecord)). get_or xs longer.slot None) (sym s.keeps.slots) ∙ may.there
+
+  number : used.number ≡ n
+  number = ap (λ (r : SlotRecord). r.number) (one_value may.there append.used.there) ∙ append.used.is
+
+  told : IsRecordOf m.indexes used (before.texts longer.slot) append.upload
+  told = told_upload before m s.shows longer.slot used there append.upload
+      (ap (λ (k : ℕ). find k m.uploads) number ∙ append.there)
+
+  -- THE ROWS
+
+  no_owner : Unowned before.rows more
+  no_owner = subst (λ (old : List Row). Unowned old more) s.keeps.rows reserved.no_owner
+
+  hands : 0 < length more → HandsOver before.rows longer.slot (used.text_len / 4096) more rows
+  hands some = subst (λ (old : List Row). HandsOver old longer.slot (used.text_len / 4096) more rows) s.keeps.rows
+      (is.rows some)
+
+  same_rows : length more ≡ 0 → rows ≡ before.rows
+  same_rows none = ap (λ (b : Held). b.rows) (is.same none) ∙ s.keeps.rows
+
+  room : used.text_len / 4096 + length more ≤ 65536
+  room =
+      let below = subst (λ (old : List Row). (i : ℕ) → i < length more → get_or more i 0 < length old) s.keeps.rows
+      reserved.below in
+      let all = room_for before.rows longer.slot (used.text_len / 4096) (get_or h.lists longer.slot []) more
+      (s.keeps.listed longer.slot used there).owned (omega (arith, s.keeps.sizes longer.slot used there))
+      no_owner below reserved.distinct in
+      omega (arith, all, s.shows.valid.row_count, s.shows.valid.most)
+
+  rows_now : HasRows before longer.slot (Some now) rows
+  rows_now = elim (cases_lt 0 (length more)) [
+    | inl some ↦
+        let one = owns_one_each before.rows longer.slot (used.text_len / 4096) more rows (hands some) no_owner
+        (blocks_of used.text_len) (omega arith) (s.shows.valid.lists longer.slot used there) in
+        record {
+          size = (hands some).size;
+          others = others_same before.rows longer.slot (used.text_len / 4096) more rows (hands some) no_owner;
+          blocks = subst (OwnsOneEach rows longer.slot) (sym (may.blocks some)) one;
+          owners = λ b i owns. (now, refl, omega (arith, one.only b i owns, room));
+        }
+    | inr over ↦
+        let none : length more ≡ 0 = omega (arith, over) in
+        let same = same_rows none in
+        record {
+          size = ap length same;
+          others = same_others longer.slot before.rows rows same;
+          blocks = subst (λ (k : ℕ). OwnsOneEach rows longer.slot (blocks_of k)) (sym (may.same none))
+              (subst (λ (xs : List Row). OwnsOneEach xs longer.slot (blocks_of used.text_len)) (sym same)
+              (s.shows.valid.lists longer.slot used there));
+          owners = λ b i owns.
+              let was = ap (λ (xs : List Row). get_or xs b None) (sym same) ∙ owns in
+              (now, refl, (s.shows.valid.owners b longer.slot i was).fits);
+        }
+  ]
+
+  -- THE RECORD
+
+  tells : IsRecordOf m.indexes now text upload
+  tells =
+      let shown = ap (λ (xs : List ℕ). xs ++ append.added) told.text ∙ sym append.extension.text in
+      assumption (shown, told.metadata, append.extension)
+
+  record_valid : IsValidRecord before.next now
+  record_valid =
+      let old = s.shows.valid.records longer.slot used there in
+      let ext = append.extension in
+      record {
+        some = old.some;
+        below = old.below;
+        accepted = omega (arith, ext.accepted, ext.few, ap longest ext.declared);
+        declared = rw ext.declared (known_small append.upload.declared declare
+            (subst (λ (k : Option ℕ). longest k ≤ 1073741824) told.declared old.declared) ext.small);
+        text_fits = elim (cases_lt 0 (length more)) [
+          | inl some ↦ omega (arith, may.blocks some, room)
+          | inr none ↦ omega (arith, may.same (omega (arith, none)), old.text_fits)
+        ];
+        state_size = ap length may.state.is ∙ state_length may.state.after;
+        state = told_state m.indexes now text upload tells;
+        metadata_size = old.metadata_size;
+        printable = old.printable;
+      }
+
+  -- THE TEXT
+
+  text_now : sure ≡ true → HasTexts (disk.current d) before
+      → text ≡ text_shown (disk.current d) (text_page before.blocks) rows longer.slot longer.text_len
+  text_now known texts = elim (cases_lt 0 (length more)) [
+    | inl some ↦
+        let was = texts longer.slot used there in
+        let size = s.keeps.sizes longer.slot used there in
+        let list = get_or h.lists longer.slot [] in
+        let long = ap (λ (xs : List ℕ). length xs) append.extension.text
+        ∙ length-append (text_of m.indexes append.upload) append.added in
+        let grown : used.text_len ≤ longer.text_len = omega (arith, told.text_len, append.extension.text_len, long) in
+        let content : text_on (disk.current d) (text_page before.blocks) more
+        (longer.text_len - full_bytes used.text_len) ≡ drop (full_bytes used.text_len) (before.texts longer.slot)
+        ++ append.added = rw (told.text_len, told.text, ← s.keeps.blocks) (append.extension.content known some) in
+        ap (λ (xs : List ℕ). xs ++ append.added) was
+        ∙ sym (text_longer (disk.current d) (text_page before.blocks) before.rows rows longer.slot used.text_len list
+        (s.keeps.listed longer.slot used there) size (longer.text_len - full_bytes used.text_len) longer.text_len more
+        append.added (listed_now before.rows longer.slot (used.text_len / 4096) more rows (hands some) no_owner list
+        (omega (arith, size)) (s.keeps.listed longer.slot used there)) (omega (arith, grown, may.blocks some))
+        (content ∙ ap (λ (xs : List ℕ). drop (full_bytes used.text_len) xs ++ append.added) was) (omega (arith, grown)))
+    | inr over ↦
+        let none : length more ≡ 0 = omega (arith, over) in
+        ap (λ (xs : List ℕ). before.texts longer.slot ++ xs) (append.extension.nothing none)
+        ∙ append-nil (before.texts longer.slot) ∙ texts longer.slot used there
+        ∙ ap (λ (xs : List Row). text_shown (disk.current d) (text_page before.blocks) xs longer.slot used.text_len)
+        (sym (same_rows none))
+        ∙ ap (text_shown (disk.current d) (text_page before.blocks) rows longer.slot) (sym (may.same none))
+  ]
+
+  -- ALL OF IT
+
+  extends : IsChange before m longer.slot n (Some now) rows (texts_with before longer.slot text) before.next m.next
+      (replaced n upload m.uploads)
+  extends = record {
+    within = omega (arith, in_use before.slots longer.slot used there, s.shows.valid.slot_count);
+    own = λ q e. ap (λ (r : SlotRecord). r.number) (one_value e there) ∙ number;
+    apart = λ t q other e same. other (s.shows.valid.distinct t longer.slot q used e there (sym same ∙ sym number));
+    more = omega arith;
+    most = s.shows.valid.next_most;
+    next_is = s.shows.next;
+    has = rows_now;
+    texts_else = text_else before longer.slot text;
+    uploads_else = λ k other. find_replaced_other n k upload m.uploads other;
+    rising = subst IsRising (sym (numbers_replaced n upload m.uploads)) s.shows.rising;
+    now = record {
+      number = number;
+      valid = record_valid;
+      upload = upload;
+      there = find_replaced_same n append.upload upload m.uploads append.there;
+      tells = subst (λ (xs : List ℕ). IsRecordOf m.indexes now xs upload)
+          (sym (text_here before longer.slot text longer.slot refl)) tells;
+    };
+    gone = λ u e. (now, refl);
+  }
+
+  pub after_shows : Shows after (patched_store m n declare bytes)
+  after_shows = subst (λ (o : Option Upload). Shows after (patched_at m n declare bytes o)) (sym append.there)
+      (changed_shows s.shows extends)
+
+  pub after_texts : sure ≡ true → HasTexts (disk.current d) after
+  after_texts known =
+      let texts = (rests_says (s.rests known)).texts in
+      changed_texts s.shows extends (disk.current d) texts (λ q e. text_here before longer.slot text longer.slot refl
+      ∙ text_now known texts ∙ ap (λ (r : SlotRecord). text_shown (disk.current d) (text_page before.blocks) rows
+      longer.slot r.text_len) (same_Some now q e))
+
+  pub after_stored : (d' : D) → FitsTogether new → (disk.honest d → disk.honest d')
+      → (sure ≡ true → Rests after (disk.current d') (disk.unsynced d'))
+      → Stored sure disk d' new (patched_store m n declare bytes)
+  after_stored d' fits honest rests = record {
+    honest = λ known. honest (s.honest known);
+    view = after;
+    rests = rests;
+    keeps = keeps_said new after fits after_shows.valid (sym s.keeps.blocks ∙ sym is.layout)
+        (is.version ∙ s.keeps.version) (is.next ∙ s.keeps.next) (is.indexes ∙ s.keeps.indexes)
+        (is.slots ∙ ap (λ (xs : List (Option SlotRecord)). set xs longer.slot (Some now)) s.keeps.slots) refl;
+    shows = after_shows;
+  }
+
+  pub after_lasts : (d' : D) → Lasts disk d d' (λ image. IsViewOf image before ⊎ IsViewOf image after)
+      → Lasts disk d d' (ShowsEither h.layout m (patched_store m n declare bytes))
+  after_lasts d' = lasts_either disk d d' s after after_shows refl
+
+  pub after_changes : (blank filled : List (ℕ × List ℕ))
+      → ((v : View) → v.blocks ≡ h.layout → v.version ≡ h.version → v.slots ≡ h.slots → (r : SlotRecord)
+      → get_or h.slots longer.slot None ≡ Some r → (rows : List Row) → (length more ≡ 0 → SameRowsBut [] v.rows rows)
+      → (0 < length more → SameRowsBut (more ++ drop (r.text_len / 4096) (get_or h.lists longer.slot [])) v.rows rows)
+      → ChangesButRows blank v (record (with_record v longer.slot (longer_record r longer)) { rows = rows }))
+      → ((v v' : View) → v.blocks ≡ new.layout → ChangesButRows blank v v' → v'.rows ≡ new.blocks.rows
+      → Changes filled v v') → Changes filled before after
+  after_changes blank filled but fill =
+      let pages = but before (sym s.keeps.blocks) (sym s.keeps.version) (sym s.keeps.slots) used may.there rows
+      (λ none b not. ap (λ (xs : List Row). get_or xs b None) (same_rows none))
+      (λ some. rows_but_last before.rows longer.slot (used.text_len / 4096) more rows (hands some) no_owner
+      (blocks_of used.text_len) (get_or h.lists longer.slot []) (s.shows.valid.lists longer.slot used there)
+      (s.keeps.listed longer.slot used there) (s.keeps.sizes longer.slot used there)) in
+      fill before after (sym s.keeps.blocks ∙ sym is.layout) (assumption pages) refl
