@@ -1,0 +1,208 @@
+//! Large texts, sixteen side by side: each comes in pieces, by turns with the others, and is read back whole.
+
+use crate::digest::Digest;
+use crate::faults::Fault;
+use crate::heads::{Client, Heads};
+use crate::ram_disk::RamDisk;
+use crate::random::Random;
+use crate::server::Server;
+use crate::texts::Sample;
+use crate::tongues::{
+    EUC_JP, ISO_2022_JP, SHIFT_JIS, Tongue, UTF_8, WINDOWS_1251, WINDOWS_1252, archived, in_utf8,
+};
+use crate::words::{Language, Material};
+use std::alloc::{AllocError, Global};
+
+// How many uploads are under way at once, and how many blocks of 4,096 bytes the spool has.
+const SIDE_BY_SIDE: usize = 16;
+
+const BLOCKS: u32 = 32_768;
+// The bytes of the lines of which a text is put together.
+const SAMPLE: usize = 262_144;
+// The bytes of each text, at most, and the sizes of the pieces in which they come.
+const TEXT: usize = 4_194_304;
+
+const PIECES: [usize; 4] = [4096, 16_384, 65_536, 4096];
+
+/// Whether legacy texts become UTF-8, or UTF-8 is written in a legacy encoding.
+#[derive(Clone, Copy, Drop)]
+pub(crate) enum Direction {
+    In,
+    Back,
+}
+
+/// A text's language and encodings, and the mode in which it is written.
+#[derive(Clone, Copy, Drop)]
+struct Kind {
+    tongue: Tongue,
+    to: &'static str,
+    mode: &'static str,
+}
+
+const HTML: &str = "aHRtbA==";
+
+const FATAL: &str = "ZmF0YWw=";
+
+impl Direction {
+    fn kinds(self) -> [Kind; 8] {
+        match self {
+            Direction::In => archived().map(|tongue| Kind {
+                tongue,
+                to: UTF_8,
+                mode: HTML,
+            }),
+            Direction::Back => [
+                (Language::Japanese, SHIFT_JIS, FATAL),
+                (Language::Japanese, EUC_JP, HTML),
+                (Language::Japanese, ISO_2022_JP, HTML),
+                (Language::Russian, WINDOWS_1251, FATAL),
+                (Language::German, WINDOWS_1252, FATAL),
+                (Language::Japanese, SHIFT_JIS, HTML),
+                (Language::Russian, WINDOWS_1252, HTML),
+                (Language::German, WINDOWS_1251, HTML),
+            ]
+            .map(|(language, to, mode)| Kind {
+                tongue: in_utf8(language),
+                to,
+                mode,
+            }),
+        }
+    }
+}
+
+/// One of the uploads that are under way.
+#[derive(Drop)]
+struct Transfer<'a> {
+    conn: usize,
+    number: u64,
+    piece: usize,
+    left: usize,
+    sample: &'a Sample,
+    kind: Kind,
+}
+
+/// Does so many rounds of sixteen texts.
+pub(crate) fn run(
+    alloc: Global,
+    direction: Direction,
+    rounds: u32,
+    material: &Material,
+    mut random: Random,
+) -> Result<Digest, Fault> {
+    let mut samples = Vec::new(alloc);
+    for kind in direction.kinds() {
+        let sample = Sample::new(alloc, kind.tongue, SAMPLE, material, &mut random)?;
+        samples.push((kind, sample))?;
+    }
+    let disk = RamDisk::spool(alloc, BLOCKS, &material.indexes)?;
+    let mut server = Server::open(alloc, disk, Digest::new())?;
+    let outcome = transfer_all(alloc, &mut server, &samples, rounds, &mut random);
+    let (_disk, digest) = server.close();
+    outcome?;
+    Ok(digest)
+}
+
+fn transfer_all(
+    alloc: Global,
+    server: &mut Server,
+    samples: &[(Kind, Sample)],
+    rounds: u32,
+    random: &mut Random,
+) -> Result<(), Fault> {
+    let mut heads = Heads::new(alloc, Client::Tuspy);
+    for conn in 0..SIDE_BY_SIDE {
+        server.connect(conn)?;
+    }
+    for round in 0..rounds {
+        let first = (round as u64)
+            .wrapping_mul(SIDE_BY_SIDE as u64)
+            .wrapping_add(1);
+        let mut transfers = Vec::new(alloc);
+        for (conn, (kind, sample)) in (0..SIDE_BY_SIDE).zip(samples.iter().chain(samples.iter())) {
+            let transfer = Transfer {
+                conn,
+                number: first.wrapping_add(conn as u64),
+                piece: PIECES
+                    .get(random.below(PIECES.len()))
+                    .copied()
+                    .unwrap_or(4096),
+                left: 0,
+                sample,
+                kind: *kind,
+            };
+            transfers.push(transfer)?;
+        }
+        begin_all(alloc, server, &mut heads, &mut transfers, random)?;
+        feed_all(server, &mut transfers, random)?;
+        read_all(server, &mut heads, &transfers)?;
+    }
+    Ok(())
+}
+
+// Makes the uploads, and sends the head of each one's only PATCH.
+fn begin_all(
+    alloc: Global,
+    server: &mut Server,
+    heads: &mut Heads,
+    transfers: &mut [Transfer<'_>],
+    random: &mut Random,
+) -> Result<(), Fault> {
+    for transfer in transfers.iter_mut() {
+        transfer.left = random.between(TEXT as u32 / 2, TEXT as u32);
+        let metadata = metadata_of(alloc, transfer.kind)?;
+        server.send(transfer.conn, heads.post(transfer.left, metadata.as_str())?)?;
+        let head = heads.patch(transfer.number, 0, transfer.left)?;
+        server.send(transfer.conn, head)?;
+    }
+    Ok(())
+}
+
+fn metadata_of(alloc: Global, kind: Kind) -> Result<String, AllocError> {
+    let Kind { tongue, to, mode } = kind;
+    let from = tongue.label;
+    format!(in alloc; "from {from},to {to},mode {mode},filename bGV0dGVyLnR4dA==")
+}
+
+// Sends lines of each text by turns, until all are sent.
+fn feed_all(
+    server: &mut Server,
+    transfers: &mut [Transfer<'_>],
+    random: &mut Random,
+) -> Result<(), Fault> {
+    for _ in 0..TEXT {
+        let mut sent = 0;
+        for transfer in transfers.iter_mut() {
+            sent |= transfer.feed(server, random)?;
+        }
+        if sent == 0 {
+            break;
+        }
+    }
+    Ok(())
+}
+
+// Reads each text back, and deletes its upload.
+fn read_all(
+    server: &mut Server,
+    heads: &mut Heads,
+    transfers: &[Transfer<'_>],
+) -> Result<(), Fault> {
+    for transfer in transfers {
+        server.send(transfer.conn, heads.ask("GET", transfer.number)?)?;
+        server.send(transfer.conn, heads.ask("DELETE", transfer.number)?)?;
+    }
+    Ok(())
+}
+
+impl Transfer<'_> {
+    // Sends some pieces: how many bytes.
+    fn feed(&mut self, server: &mut Server, random: &mut Random) -> Result<usize, Fault> {
+        let lines = self.sample.draw(self.piece.max(16_384), random);
+        let some = lines.get(..self.left).unwrap_or(lines);
+        for piece in some.chunks(self.piece.max(1)) {
+            server.send(self.conn, piece)?;
+        }
+        self.left = self.left.saturating_sub(some.len());
+        Ok(some.len())
+    }
+}
