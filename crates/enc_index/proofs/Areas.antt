@@ -6,7 +6,7 @@ use Rattle.std.proofs.Common.{lit<, lit≤, subst}
 use Rattle.std.proofs.lemmas.Bool.Decides.{nat_tests}
 use Rattle.std.proofs.lemmas.Bool.{cases_lt, leb-true, ltb-true}
 use Rattle.std.proofs.lemmas.List.{get_or_past}
-use Rattle.std.proofs.lemmas.Nat.{from_be_bytes-to_be_bytes_4}
+use Rattle.std.proofs.lemmas.Nat.{from_be_bytes-to_be_bytes_4, be_bytes_4}
 use Rattle.std.specs.Char.{IsScalar, InScalarRange, OutOfScalarRange}
 use Rattle.enc_model.specs.Index.{Index, code}
 use Rattle.enc_model.specs.Indexes.{IndexSet}
@@ -18,6 +18,7 @@ use Rattle.enc_index.proofs.Reading.{none}
 use Rattle.std.specs.Int.{to_be_bytes, w32}
 use Rattle.enc_index.specs.Area.{nth_file, flag, spot_of, entry_of, entry_at, area_byte, IsAreaOf, word_of, scalar_of}
 use Rattle.enc_index.specs.Area.{IsFileIn}
+use Rattle.enc_index.specs.Compared.{HasFiles, HasMargins}
 
 pub from_scalar : (word : ℕ) (r : Option ℕ) → SomeIff r (IsScalar word) word
     → MatchOption r (OutOfScalarRange word) (λ _. InScalarRange word) → r ≡ scalar_of word
@@ -324,3 +325,128 @@ pub set_is : (x : IndexSet) (jis0208 jis0212 katakana : Option Index) (single : 
 set_is x a b c d ea eb ec ed =
     ap (λ y. made y b c d) ea ∙ ap (λ y. made x.jis0208 y c d) eb ∙ ap (λ y. made x.jis0208 x.jis0212 y d) ec
     ∙ ap (λ y. made x.jis0208 x.jis0212 x.katakana y) ed
+
+-- COMPARED BY WORDS
+
+four_small : (a b c d : ℕ) → a < 256 → b < 256 → c < 256 → d < 256 → (i : ℕ) → slice_index (four a b c d) i < 256
+four_small a b c d ha hb hc hd zero = ha
+four_small a b c d ha hb hc hd (suc zero) = hb
+four_small a b c d ha hb hc hd (suc (suc zero)) = hc
+four_small a b c d ha hb hc hd (suc (suc (suc zero))) = hd
+four_small a b c d ha hb hc hd (suc (suc (suc (suc i)))) = lit< tt
+
+-- the four bytes from a place on
+abbrev bytes_from : List ℕ → ℕ → List ℕ
+bytes_from area place =
+    four (slice_index area place) (slice_index area (place + 1)) (slice_index area (place + 2))
+    (slice_index area (place + 3))
+
+four_at : (area : List ℕ) (place k : ℕ) → k < 4 → slice_index (bytes_from area place) k ≡ slice_index area (place + k)
+four_at area place zero h = ap (slice_index area) (omega arith)
+four_at area place (suc zero) h = refl
+four_at area place (suc (suc zero)) h = refl
+four_at area place (suc (suc (suc zero))) h = refl
+four_at area place (suc (suc (suc (suc k)))) h = absurd (omega arith)
+
+byte_back : (x : IndexSet) (area : List ℕ) (entry k : ℕ) → ((i : ℕ) → slice_index area i < 256) → entry < 22099
+    → k < 4 → word_of area entry ≡ entry_at x entry →
+    slice_index area (32 + 4 * entry + k) ≡ area_byte x (32 + 4 * entry + k)
+byte_back x area entry k s h l e =
+    let place = 32 + 4 * entry in
+    let bs = bytes_from area place in
+    let bytes : to_be_bytes w32 (word_of area entry) ≡ bs =
+    be_bytes_4 bs (word_of area entry) refl
+    (four_small (slice_index area place) (slice_index area (place + 1)) (slice_index area (place + 2))
+    (slice_index area (place + 3)) (s place) (s (place + 1)) (s (place + 2)) (s (place + 3))) refl in
+    sym (byte_at x entry k h l ∙ ap (λ w. slice_index (to_be_bytes w32 w) k) (sym e)
+    ∙ ap (λ ys. slice_index ys k) bytes ∙ four_at area place k l)
+
+in_file : (x : IndexSet) (area : List ℕ) (entry start k file : ℕ) → entry ≡ start + k
+    → word_of area (start + k) ≡ entry_of (nth_file x file) k → spot_of (start + k) ≡ (file, k) →
+    word_of area entry ≡ entry_at x entry
+in_file x area entry start k file e w s =
+    ap (word_of area) e ∙ w ∙ sym (entry_in x (start + k) file k s) ∙ ap (entry_at x) (sym e)
+
+in_single : (x : IndexSet) (area : List ℕ) (entry : ℕ) → HasFiles x area → 20179 ≤ entry → entry < 22099
+    → word_of area entry ≡ entry_at x entry
+in_single x area entry f g h =
+    let n = (entry - 20179) / 128 in
+    let k = (entry - 20179) % 128 in
+    let inside : k < 128 = omega arith in
+    in_file x area entry (20179 + 128 * n) k (3 + n) (omega arith) (f.single n (omega arith) k inside)
+    (spot_single n k inside)
+
+entry_is : (x : IndexSet) (area : List ℕ) (entry : ℕ) → HasFiles x area → entry < 22099
+    → word_of area entry ≡ entry_at x entry
+entry_is x area entry f h =
+    elim (cases_lt entry 11280) [
+      | inl l ↦ in_file x area entry 0 entry 0 (omega arith) (f.jis0208 entry l) (spot_jis0208 entry l)
+      | inr g ↦ elim (cases_lt entry 20116) [
+        | inl l ↦ in_file x area entry 11280 (entry - 11280) 1 (omega arith) (f.jis0212 (entry - 11280) (omega arith))
+            (spot_jis0212 (entry - 11280) (omega arith))
+        | inr g ↦ elim (cases_lt entry 20179) [
+          | inl l ↦ in_file x area entry 20116 (entry - 20116) 2 (omega arith)
+              (f.katakana (entry - 20116) (omega arith)) (spot_katakana (entry - 20116) (omega arith))
+          | inr g ↦ in_single x area entry f g h
+        ]
+      ]
+    ]
+
+zero_before : (x : IndexSet) (place : ℕ) → 18 ≤ place → place < 32 → area_byte x place ≡ 0
+unfolding area_byte
+zero_before x place g l =
+    let past : nat_lt place 18 ≡ false = grind (arith, nat_tests, g) in
+    let inside : nat_lt place 32 ≡ true = grind (arith, nat_tests, l) in
+    rw (area_byte, past, inside) refl
+
+zero_after : (x : IndexSet) (place : ℕ) → 88428 ≤ place → area_byte x place ≡ 0
+unfolding area_byte
+zero_after x place g =
+    let past_flags : nat_lt place 18 ≡ false = grind (arith, nat_tests, g) in
+    let past_zeros : nat_lt place 32 ≡ false = grind (arith, nat_tests, g) in
+    let past : nat_lt place 88428 ≡ false = grind (arith, nat_tests, g) in
+    rw (area_byte, past_flags, past_zeros, past) refl
+
+entry_byte : (x : IndexSet) (area : List ℕ) (place : ℕ) → ((i : ℕ) → slice_index area i < 256) → HasFiles x area
+    → 32 ≤ place → place < 88428 → slice_index area place ≡ area_byte x place
+entry_byte x area place s f g h =
+    let entry = (place - 32) / 4 in
+    let k = (place - 32) % 4 in
+    let e : place ≡ 32 + 4 * entry + k = omega arith in
+    let inside : entry < 22099 = omega arith in
+    ap (slice_index area) e
+    ∙ byte_back x area entry k s inside (omega arith) (entry_is x area entry f inside)
+    ∙ ap (area_byte x) (sym e)
+
+byte_of : (x : IndexSet) (area : List ℕ) (place : ℕ) → ((i : ℕ) → slice_index area i < 256) → HasMargins x area
+    → HasFiles x area → place < 90112 → slice_index area place ≡ area_byte x place
+byte_of x area place s m f h =
+    elim (cases_lt place 18) [
+      | inl l ↦ m.flags place l ∙ sym (flag_at x place l)
+      | inr g ↦ elim (cases_lt place 32) [
+        | inl l ↦ m.before place g l ∙ sym (zero_before x place g l)
+        | inr g ↦ elim (cases_lt place 88428) [
+          | inl l ↦ entry_byte x area place s f g l
+          | inr g ↦ m.after place g h ∙ sym (zero_after x place g)
+        ]
+      ]
+    ]
+
+pub is_area : (x : IndexSet) (area : List ℕ) → length area ≡ 90112 → ((i : ℕ) → slice_index area i < 256)
+    → HasMargins x area → HasFiles x area → IsAreaOf x area
+is_area x area e s m f = record { long = e; bytes = λ place h. byte_of x area place s m f h }
+
+pub margins_of : (x : IndexSet) (area : List ℕ) → IsAreaOf x area → HasMargins x area
+margins_of x area a = record {
+  flags = λ file h. a.bytes file (omega arith) ∙ flag_at x file h;
+  before = λ place g l. a.bytes place (omega arith) ∙ zero_before x place g l;
+  after = λ place g l. a.bytes place l ∙ zero_after x place g;
+}
+
+pub files_of : (x : IndexSet) (area : List ℕ) → IsIndexSet x → IsAreaOf x area → HasFiles x area
+files_of x area v a = record {
+  jis0208 = (jis0208_in x area v a).words;
+  jis0212 = (jis0212_in x area v a).words;
+  katakana = (katakana_in x area v a).words;
+  single = λ n h. rw (nth_single x n) ((single_in x area v a n h).words);
+}

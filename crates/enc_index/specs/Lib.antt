@@ -1,5 +1,6 @@
 pub mod Area
 pub mod Bytes
+pub mod Compared
 pub mod Entries
 pub mod Files
 pub mod Kinds

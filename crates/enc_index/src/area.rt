@@ -1,11 +1,13 @@
 //! The index area of a spool: an index set as bytes.
 
 ghost use Rattle.std.specs.Prelude.{◌≡◌, ℕ, ◌+◌, ◌*◌, ◌<◌, ◌≤◌, ◌↔◌, List, Option, None, IfOk, IfSome, IsTrue, length};
-ghost use Rattle.std.specs.Prelude.{slice_index, slice_index_or};
+ghost use Rattle.std.specs.Prelude.{option_copied, slice_index, slice_index_or};
 ghost use Rattle.enc_model.specs.Index.{Index};
 ghost use Rattle.enc_model.specs.Indexes.{IndexSet};
 ghost use Rattle.enc_index.specs.Sets.{IsIndex, IsIndexSet};
-ghost use Rattle.enc_index.specs.Area.{spot_of, entry_at, area_byte, IsAreaOf, Gives, word_of, scalar_of, IsFileIn};
+ghost use Rattle.enc_index.specs.Area.{spot_of, entry_of, entry_at, area_byte, IsAreaOf, Gives, word_of, scalar_of};
+ghost use Rattle.enc_index.specs.Area.{IsFileIn, nth_file};
+ghost use Rattle.enc_index.specs.Compared.{HasEntries, HasFlags, HasZeros, HasFiles, HasMargins};
 
 use crate::kind::AreaError;
 use crate::set::IndexSet;
@@ -30,20 +32,30 @@ fn spot_of(entry: usize) -> (usize, usize)
     }
 }
 
-/// An entry of the tables: a code point, or FFFFFFFF for none.
-#[tactic(auto, using(crate::proofs::Lookups::code_of_none), unfolding(crate::specs::Area::entry_at))]
-fn entry_at(set: &IndexSet, entry: usize) -> u32
-    requires { entry < 22099 }
-    ensures { result ≡ entry_at set.now entry }
+/// A file's entry: a code point, or FFFFFFFF for none.
+#[tactic(auto, using(crate::proofs::Lookups::code_of_none))]
+#[inline(always)]
+fn entry_of(table: Option<&Table>, pointer: usize) -> u32
+    requires { pointer < 22099 }
+    ensures { result ≡ entry_of (option_copied table.entry) pointer }
 {
-    let (file, pointer) = spot_of(entry);
-    match set.nth_table(file) {
+    match table {
         Some(table) => match table.code(pointer as u32) {
             Some(c) => c as u32,
             None => u32::MAX,
         },
         None => u32::MAX,
     }
+}
+
+/// An entry of the tables.
+#[tactic(auto, unfolding(crate::specs::Area::entry_at))]
+fn entry_at(set: &IndexSet, entry: usize) -> u32
+    requires { entry < 22099 }
+    ensures { result ≡ entry_at set.now entry }
+{
+    let (file, pointer) = spot_of(entry);
+    entry_of(set.nth_table(file), pointer)
 }
 
 /// A byte of the area.
@@ -64,6 +76,7 @@ fn area_byte(set: &IndexSet, place: usize) -> u8
 }
 
 /// An entry of an area.
+#[inline(always)]
 fn word_of(area: &[u8], entry: usize) -> u32
     requires long { length area.now ≡ 90112 }
     requires inside { entry < 22099 }
@@ -93,7 +106,7 @@ fn codes_of(
         (λ codes. (k : ℕ) → k < pointers → slice_index_or codes.items k None
         ≡ scalar_of (word_of area.now (start + k))) }
 {
-    let mut codes = Vec::new(alloc);
+    let mut codes = Vec::with_capacity(alloc, pointers)?;
     for pointer in 0..pointers {
         codes.push(char::from_u32(word_of(area, start + pointer)))?;
     }
@@ -151,17 +164,86 @@ fn set_of(alloc: Global, area: &[u8]) -> Result<IndexSet, AllocError>
     IndexSet::of_tables(alloc, jis0208, jis0212, katakana, single)
 }
 
-/// Whether the area is that of the set.
-fn is_area_of(set: &IndexSet, area: &[u8]) -> bool
-    requires { length area.now ≡ 90112 }
-    ensures { IsTrue result ↔ IsAreaOf set.now area.now }
+/// Whether an area has this file's entries from `start` on.
+fn has_entries(table: Option<&Table>, area: &[u8], start: usize, pointers: usize) -> bool
+    requires long { length area.now ≡ 90112 }
+    requires inside { start + pointers ≤ 22099 }
+    ensures { IsTrue result ↔ HasEntries area.now start pointers (option_copied table.entry) }
 {
-    for (place, byte) in area.iter().enumerate() {
-        if *byte != area_byte(set, place) {
+    for pointer in 0..pointers {
+        if word_of(area, start + pointer) != entry_of(table, pointer) {
             return false;
         }
     }
     true
+}
+
+/// Whether an area has the entries of the set's single-byte encodings.
+fn has_single(set: &IndexSet, area: &[u8]) -> bool
+    requires { length area.now ≡ 90112 }
+    ensures { IsTrue result
+        ↔ ((n : ℕ) → n < 15 → HasEntries area.now (20179 + 128 * n) 128 (nth_file set.now (3 + n))) }
+{
+    for n in 0..15usize {
+        if !has_entries(set.nth_table(3 + n), area, 20179 + 128 * n, 128) {
+            return false;
+        }
+    }
+    true
+}
+
+/// Whether an area has the set's entries.
+fn has_files(set: &IndexSet, area: &[u8]) -> bool
+    requires { length area.now ≡ 90112 }
+    ensures { IsTrue result ↔ HasFiles set.now area.now }
+{
+    has_entries(set.nth_table(0), area, 0, 11280)
+        && has_entries(set.nth_table(1), area, 11280, 8836)
+        && has_entries(set.nth_table(2), area, 20116, 63)
+        && has_single(set, area)
+}
+
+/// Whether an area has the set's flags.
+fn has_flags(set: &IndexSet, area: &[u8]) -> bool
+    requires { length area.now ≡ 90112 }
+    ensures { IsTrue result ↔ HasFlags set.now area.now }
+{
+    for file in 0..18usize {
+        if area[file] != set.nth_table(file).is_some() as u8 {
+            return false;
+        }
+    }
+    true
+}
+
+/// Whether these bytes of an area are zeros.
+fn has_zeros(area: &[u8], start: usize, end: usize) -> bool
+    requires { end ≤ length area.now }
+    ensures { IsTrue result ↔ HasZeros area.now start end }
+{
+    for place in start..end {
+        if area[place] != 0 {
+            return false;
+        }
+    }
+    true
+}
+
+/// Whether an area has what stands around the set's entries.
+fn has_margins(set: &IndexSet, area: &[u8]) -> bool
+    requires { length area.now ≡ 90112 }
+    ensures { IsTrue result ↔ HasMargins set.now area.now }
+{
+    has_flags(set, area) && has_zeros(area, 18, 32) && has_zeros(area, 88428, AREA_SIZE)
+}
+
+/// Whether the area is that of the set. The entries are compared file by file, four bytes at a time.
+fn is_area_of(set: &IndexSet, area: &[u8]) -> bool
+    requires long { length area.now ≡ 90112 }
+    requires valid { IsIndexSet set.now }
+    ensures { IsTrue result ↔ IsAreaOf set.now area.now }
+{
+    has_margins(set, area) && has_files(set, area)
 }
 
 impl IndexSet {
