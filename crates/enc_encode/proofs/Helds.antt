@@ -3,10 +3,11 @@ use Rattle.std.proofs.Common.{ℕ, ◌≡◌, List, [], ◌∷◌, ◌++◌, Non
 use Rattle.std.proofs.Common.{append_assoc, append-nil, arith}
 use Rattle.enc_model.specs.declared.Encoding.{Encoding}
 use Rattle.enc_model.specs.Encode as encode
-use Rattle.enc_model.specs.Encode.{Tables, Coded, coded, encoder, led_by}
+use Rattle.enc_model.specs.declared.Mode.TheVariants.{Html}
+use Rattle.enc_model.specs.Encode.{Tables, Coded, coded, encoder, led_by, reference}
 use Rattle.enc_encode.specs.declared.written.Bytes.{Bytes}
-use Rattle.enc_encode.specs.Code.{bytes_of}
-use Rattle.enc_encode.proofs.Codes.{coded_twice}
+use Rattle.enc_encode.specs.Code.{bytes_of, final}
+use Rattle.enc_encode.proofs.Codes.{coded_once, coded_twice}
 use Rattle.enc_model.proofs.Steady.{encoder_steady}
 use Rattle.enc_model.proofs.Transcoding.{coded_both}
 use Rattle.enc_encode.specs.declared.error.EncodeError.{EncodeError}
@@ -113,6 +114,19 @@ twice_kept t e to s c b between more next same again wrote old held mid kept new
     let twice = coded_twice t e.to e.mode (shift_of s) c (bytes_of b) z (encode.Wrote (bytes_of more) (shift_of next))
     (rw same at again) (rw same at wrote) in
     subst (λ x. Kept x old held new last r) (sym twice) (kept_after first code old held mid kept new last r p q)
+
+-- the bytes before a reference, and the reference
+pub reference_code : (t : Tables) (e : EncoderState) (to : Encoding) (s : ShiftState) (c : ℕ) (b : Bytes)
+    (next : ShiftState) (d : ℕ) → to ≡ e.to → e.mode ≡ Html →
+    encode.Unmappable (bytes_of b) (shift_of next) d ≡ encoder t to (shift_of s) c →
+    coded (encoder t e.to) e.mode (shift_of s) (c ∷ []) ≡ record {
+      bytes = bytes_of b ++ reference d;
+      state = shift_of next;
+      fault = None;
+    }
+reference_code t e to s c b next d same html wrote =
+    let w = encode.Unmappable (bytes_of b) (shift_of next) d in
+    coded_once t e.to e.mode (shift_of s) c w (rw same at wrote) tt ∙ ap (λ m. final m w) html
 
 pub kept_error : {Z : Type 0} (code : Coded) (old new : Vec ℕ Z) (kept : List ℕ) (d : EncodeError)
     → Kept code old [] new kept (Err d) → Gave code old new (Err d)

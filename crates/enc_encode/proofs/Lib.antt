@@ -12,3 +12,4 @@ mod Twos
 mod Puts
 mod Lanes
 mod LetterRuns
+mod Digits

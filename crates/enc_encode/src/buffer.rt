@@ -9,12 +9,13 @@ ghost use Rattle.enc_encode.specs.Letters.{AreLetters};
 ghost use Rattle.enc_encode.specs.Runs.{FirstGiven, RunPrefix, Stays};
 ghost use Rattle.enc_encode.specs.Singles.{AreSingles, FewPointers, IsSingle};
 ghost use Rattle.enc_encode.specs.State.{shift_of};
-ghost use Rattle.enc_model.specs.Encode.{encoder};
+ghost use Rattle.enc_model.specs.Encode.{encoder, reference};
 ghost use Rattle.enc_model.specs.Indexes.{tables};
 
 use crate::append::append;
 use crate::encoders::pair;
 use crate::letters::Letters;
+use crate::reference::put_reference;
 use crate::shift::ShiftState;
 use crate::single_runs::{put_last_ascii, put_run};
 use crate::written::Bytes;
@@ -90,7 +91,8 @@ impl Buffer {
     #[inline(always)]
     fn push(&mut self, bytes: Bytes)
         requires { length self.old + 5 ≤ ROOM }
-        ensures { self.new ≡ self.old ++ bytes_of bytes }
+        ensures put { self.new ≡ self.old ++ bytes_of bytes }
+        ensures few { length self.new ≤ length self.old + 5 }
     {
         match bytes {
             Bytes::Zero => {}
@@ -228,6 +230,22 @@ impl Buffer {
     {
         self.make_room(out)?;
         self.push(bytes);
+        Ok(())
+    }
+
+    /// Puts some bytes and a character's reference after the others, after it has seen to room.
+    pub fn hold_reference(
+        &mut self,
+        bytes: Bytes,
+        c: char,
+        out: &mut Vec<u8>,
+    ) -> Result<(), AllocError>
+        ensures ok { OnOk result (Passed out.old self.old (bytes_of bytes ++ reference c) out.new self.new) }
+        ensures err { OnErr result (Stopped out.old self.old out.new) }
+    {
+        self.make_room(out)?;
+        self.push(bytes);
+        self.len = put_reference(&mut self.bytes, self.len, c);
         Ok(())
     }
 }

@@ -249,6 +249,10 @@ impl Encoder {
             held.hold(bytes, out)?;
             return Ok(next);
         }
+        if let (Mode::Html, Written::Unmappable(bytes, next, d)) = (self.mode, first) {
+            held.hold_reference(bytes, d, out)?;
+            return Ok(next);
+        }
         if let Written::Restore(bytes, between) = first {
             if let Written::Wrote(more, next) = written(set, to, between, c) {
                 held.hold(bytes, out)?;

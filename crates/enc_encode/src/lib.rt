@@ -11,6 +11,7 @@ mod encoders;
 mod error;
 mod iso2022;
 mod letters;
+mod reference;
 mod shift;
 mod single_runs;
 mod sink;
