@@ -9,6 +9,7 @@ mod Singles
 mod Given
 mod RunPrefixes
 mod Twos
+mod Threes
 mod Puts
 mod Lanes
 mod LetterRuns

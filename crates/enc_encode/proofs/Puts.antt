@@ -72,3 +72,12 @@ two_at xs i l =
     let last : suc (i + 1) ≡ i + 2 = omega arith in
     drop-cons xs i 0 (omega (arith, l)) ∙ ap (λ k. get_or xs i 0 ∷ drop k xs) next
     ∙ ap (λ z. get_or xs i 0 ∷ z) (drop-cons xs (i + 1) 0 l ∙ ap (λ k. get_or xs (i + 1) 0 ∷ drop k xs) last)
+
+-- the three bytes at a place
+pub three_at : (xs : List ℕ) (i : ℕ) → i + 2 < length xs
+    → drop i xs ≡ get_or xs i 0 ∷ get_or xs (i + 1) 0 ∷ get_or xs (i + 2) 0 ∷ drop (i + 3) xs
+three_at xs i l =
+    let last : suc (i + 2) ≡ i + 3 = omega arith in
+    two_at xs i (omega (arith, l))
+    ∙ ap (λ z. get_or xs i 0 ∷ get_or xs (i + 1) 0 ∷ z) (drop-cons xs (i + 2) 0 l
+    ∙ ap (λ k. get_or xs (i + 2) 0 ∷ drop k xs) last)

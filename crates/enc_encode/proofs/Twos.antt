@@ -7,7 +7,7 @@ use lib.Utf8.{encode, encodes}
 use Rattle.enc_model.proofs.Gathered.{one_byte, two_bytes, three_bytes, four_bytes}
 
 -- a text that isn't empty begins with a character
-begins : (b : ℕ) (more : List ℕ) → IsUtf8 (b ∷ more) → (c : ℕ) × (rest : List ℕ) × (b ∷ more ≡ encode c ++ rest)
+pub begins : (b : ℕ) (more : List ℕ) → IsUtf8 (b ∷ more) → (c : ℕ) × (rest : List ℕ) × (b ∷ more ≡ encode c ++ rest)
 begins b more ([], p) = absurd (let e = p.1 in cc)
 begins b more (c ∷ cs, p) = (c, encodes cs, sym p.1)
 

@@ -6,15 +6,15 @@ ghost use Rattle.enc_encode.specs.Code.{bytes_of};
 ghost use Rattle.enc_encode.specs.Growth.{Appended, Stopped};
 ghost use Rattle.enc_encode.specs.Held.{Passed};
 ghost use Rattle.enc_encode.specs.Letters.{AreLetters};
-ghost use Rattle.enc_encode.specs.Runs.{FirstGiven, RunPrefix, Stays};
+ghost use Rattle.enc_encode.specs.Runs.{RunPrefix, Stays};
 ghost use Rattle.enc_encode.specs.Singles.{AreSingles, FewPointers, IsSingle};
 ghost use Rattle.enc_encode.specs.State.{shift_of};
 ghost use Rattle.enc_model.specs.Encode.{encoder, reference};
 ghost use Rattle.enc_model.specs.Indexes.{tables};
 
 use crate::append::append;
-use crate::encoders::pair;
 use crate::letters::Letters;
+use crate::pair_runs::put_pairs;
 use crate::reference::put_reference;
 use crate::shift::ShiftState;
 use crate::single_runs::{put_last_ascii, put_run};
@@ -45,23 +45,6 @@ impl Model for Buffer {
     ghost view = { λ b. take b.len b.bytes };
 
     ghost invariant = { λ b. b.len ≤ 2048 };
-}
-
-/// The two bytes of a text's first character, if it is one that `pair` has, and the rest of the text.
-#[inline(always)]
-fn first_pair<'a>(
-    set: &IndexSet,
-    to: Encoding,
-    shift: ShiftState,
-    text: &'a str,
-) -> Option<(u8, u8, &'a str)>
-    ensures { IfSome result
-        (λ r. FirstGiven (Stays (encoder (tables set.now) to) (shift_of shift)) text.now (r.0 ∷ r.1 ∷ []) r.2.now) }
-{
-    let mut chars = text.chars();
-    let c = chars.next()?;
-    let (lead, trail) = pair(set, to, shift, c)?;
-    Some((lead, trail, chars.as_str()))
 }
 
 impl Buffer {
@@ -170,18 +153,8 @@ impl Buffer {
         ensures { RunPrefix (Stays (encoder (tables set.now) to) (shift_of shift)) text.now result.now self.old
             self.new }
     {
-        let mut len = self.len;
-        let mut rest = text;
-        while len < ROOM - 1 {
-            let Some((lead, trail, after)) = first_pair(set, to, shift, rest) else {
-                break;
-            };
-            self.bytes[len] = lead;
-            self.bytes[len + 1] = trail;
-            len += 2;
-            rest = after;
-        }
-        self.len = len;
+        let (rest, end) = put_pairs(&mut self.bytes, self.len, set, to, shift, text);
+        self.len = end;
         rest
     }
 

@@ -11,6 +11,7 @@ mod encoders;
 mod error;
 mod iso2022;
 mod letters;
+mod pair_runs;
 mod reference;
 mod shift;
 mod single_runs;

@@ -1,4 +1,4 @@
-use Rattle.std.proofs.Common.{◌+◌, ◌%◌, ◌-◌, ◌∙◌, arith, replicate}
+use Rattle.std.proofs.Common.{◌-◌, ◌∙◌, arith, replicate}
 use Rattle.std.proofs.lemmas.List.{length-set}
 use Rattle.enc_encode.proofs.Digits.{fewer, digit_more, digit_last}
 use Rattle.enc_encode.proofs.reference.digits_at.Goals as goal

@@ -1,0 +1,78 @@
+//! The bytes of a text's start in the Japanese encodings, where each character has two.
+
+ghost use Rattle.std.specs.Prelude.{◌≡◌, ◌<◌, ◌≤◌, ◌+◌, ◌++◌, ◌∷◌, [], ℕ, List, IfSome, encode_utf8, take};
+ghost use Rattle.std.specs.Str.{IsUtf8};
+ghost use Rattle.enc_encode.specs.Runs.{FirstGiven, RunPrefix, Stays};
+ghost use Rattle.enc_encode.specs.State.{shift_of};
+ghost use Rattle.enc_model.specs.Encode.{encoder};
+ghost use Rattle.enc_model.specs.Indexes.{tables};
+
+use crate::buffer::ROOM;
+use crate::encoders::pair;
+use crate::shift::ShiftState;
+use enc_index::IndexSet;
+use enc_model::Encoding;
+
+/// What the three bytes of a character count, beside its code point, where the first counts 4,096 and the second 64.
+const THREE_BYTES: u32 = 0xE0 * 4096 + 0x80 * 64 + 0x80;
+
+/// The two bytes of a text's first character, whose first three bytes these are, if it is one that `pair` has. No other
+/// character's bytes count as much as those of U+3000 to U+FF60.
+#[inline(always)]
+fn first_pair(
+    set: &IndexSet,
+    to: Encoding,
+    shift: ShiftState,
+    lead: u8,
+    second: u8,
+    third: u8,
+) -> Option<(u8, u8)>
+    ensures { IfSome result
+        (λ r. (more : List ℕ) → IsUtf8 (lead ∷ second ∷ third ∷ more) →
+        FirstGiven (Stays (encoder (tables set.now) to) (shift_of shift)) (lead ∷ second ∷ third ∷ more)
+        (r.0 ∷ r.1 ∷ []) more) }
+{
+    let c = (lead as u32 * 4096 + second as u32 * 64 + third as u32).wrapping_sub(THREE_BYTES);
+    if c < 0x3000 || 0xFF60 < c {
+        return None;
+    }
+    pair(set, to, shift, char::from_u32(c)?)
+}
+
+/// Puts the bytes of characters at a text's start after the first so many: as many as `pair` has one after the other,
+/// and as there is room for. Gives the rest of the text, and how many bytes there are then.
+#[inline(always)]
+pub fn put_pairs<'a>(
+    held: &mut [u8; ROOM],
+    from: usize,
+    set: &IndexSet,
+    to: Encoding,
+    shift: ShiftState,
+    text: &'a str,
+) -> (&'a str, usize)
+    requires { from ≤ ROOM }
+    ensures room { result.1 ≤ ROOM }
+    ensures run { RunPrefix (Stays (encoder (tables set.now) to) (shift_of shift)) text.now result.0.now
+        (take from held.old) (take result.1 held.new) }
+{
+    let bytes = text.as_bytes();
+    let most = (bytes.len() / 3).min((ROOM - from) / 2);
+    let mut count = 0;
+    while count < most {
+        let at = 3 * count;
+        let Some((lead, trail)) = first_pair(
+            set,
+            to,
+            shift,
+            bytes[at],
+            bytes[at + 1],
+            bytes[at + 2],
+        ) else {
+            break;
+        };
+        held[from + 2 * count] = lead;
+        held[from + 2 * count + 1] = trail;
+        count += 1;
+    }
+    (&text[3 * count..], from + 2 * count)
+}
