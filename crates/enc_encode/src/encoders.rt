@@ -185,12 +185,11 @@ fn iso2022_wide(set: &IndexSet, c: char) -> Option<(u8, u8)>
 /// ideograph or a full-width form.
 #[inline(always)]
 pub fn pair(set: &IndexSet, to: Encoding, shift: ShiftState, c: char) -> Option<(u8, u8)>
+    requires from { 0x3000 ≤ c }
+    requires to { c ≤ 0xFF60 }
     ensures { IfSome result
         (λ r. encoder (tables set.now) to (shift_of shift) c ≡ Wrote (r.0 ∷ r.1 ∷ []) (shift_of shift)) }
 {
-    if c < '\u{3000}' || c > '\u{FF60}' {
-        return None;
-    }
     match (to, shift) {
         (Encoding::ShiftJis, _) => shift_jis_wide(set, shift, c),
         (Encoding::EucJp, _) => euc_jp_wide(set, shift, c),

@@ -17,7 +17,8 @@ use enc_model::Encoding;
 const THREE_BYTES: u32 = 0xE0 * 4096 + 0x80 * 64 + 0x80;
 
 /// The two bytes of a text's first character, whose first three bytes these are, if it is one that `pair` has. No other
-/// character's bytes count as much as those of U+3000 to U+FF60.
+/// character's bytes count as much as those of U+3000 to U+FF60. The two ranges stand apart so that a code point of the
+/// first isn't tested once more.
 #[inline(always)]
 fn first_pair(
     set: &IndexSet,
@@ -33,10 +34,11 @@ fn first_pair(
         (r.0 ∷ r.1 ∷ []) more) }
 {
     let c = (lead as u32 * 4096 + second as u32 * 64 + third as u32).wrapping_sub(THREE_BYTES);
-    if c < 0x3000 || 0xFF60 < c {
-        return None;
+    match c {
+        0x3000..=0xD7FF => pair(set, to, shift, char::from_u32(c)?),
+        0xE000..=0xFF60 => pair(set, to, shift, char::from_u32(c)?),
+        _ => None,
     }
-    pair(set, to, shift, char::from_u32(c)?)
 }
 
 /// Puts the bytes of characters at a text's start after the first so many: as many as `pair` has one after the other,
