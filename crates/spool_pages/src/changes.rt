@@ -48,25 +48,22 @@ pub fn pages_of_new(
     Ok(pages)
 }
 
-// Whether the page with this number is among them.
-fn is_there(pages: &Pages, page: u32) -> bool
+// Whether the page with this number is among them. `last` is the number of one that is.
+fn is_there(pages: &Pages, page: u32, last: u32) -> bool
+    requires { IsSome (page_in last pages.now) }
     ensures { IsTrue result ↔ IsSome (page_in page pages.now) }
 {
-    for at in 0..pages.len() {
-        if pages.number(at) == page {
-            return true;
-        }
-    }
-    false
+    page == last || pages.has(page)
 }
 
-// Adds a blank page with this number, unless it is there.
-fn make_room(pages: &mut Pages, page: u32) -> Result<(), AllocError>
+// Adds a blank page with this number, unless it is there. `last` is the number of one that is.
+fn make_room(pages: &mut Pages, page: u32, last: u32) -> Result<(), AllocError>
+    requires { IsSome (page_in last pages.old) }
     ensures there { OnOk result (IsSome (page_in page pages.new)) }
     ensures others { (other : ℕ) → page ≢ other → page_in other pages.new ≡ page_in other pages.old }
     ensures area { (j : ℕ) → InMeta j page → InArea j pages.old → InArea j pages.new }
 {
-    if !is_there(pages, page) {
+    if !is_there(pages, page, last) {
         pages.put(page, &blank_page())?;
     }
     Ok(())
@@ -74,7 +71,8 @@ fn make_room(pages: &mut Pages, page: u32) -> Result<(), AllocError>
 
 /// The pages of a slot that gets this record or becomes free, and of blocks whose rows change: the slot's page, and
 /// each page that has one of the rows. The pages of rows are blank until `fill_rows` fills them. `beside` is the record
-/// in the other slot of the same page; None if that is free. Each block costs a look at all of these few pages.
+/// in the other slot of the same page; None if that is free. A block with its row on the same page as the one before it
+/// costs no look at the pages, and another costs a search among them.
 ///
 /// # Errors
 ///
@@ -101,12 +99,12 @@ pub fn pages_of_change(
         (record (with_slot v slot (option_copied kept.entry)) { rows = rows })) }
 {
     let mut pages = Pages::new(alloc);
-    pages.put(
-        record_number(layout, slot),
-        &page_with(version, slot, kept, beside),
-    )?;
+    let mut last = record_number(layout, slot);
+    pages.put(last, &page_with(version, slot, kept, beside))?;
     for block in blocks {
-        make_room(&mut pages, row_number(layout, *block))?;
+        let page = row_number(layout, *block);
+        make_room(&mut pages, page, last)?;
+        last = page;
     }
     Ok(pages)
 }

@@ -1,6 +1,6 @@
 //! The pages of a spool other than records and rows.
-ghost use Rattle.std.specs.Prelude.{◌≡◌, ◌<◌, ◌^◌, ◌↔◌};
-ghost use Rattle.std.specs.Prelude.{ℕ, [], None, Some, IfSome, IsTrue, get_or};
+ghost use Rattle.std.specs.Prelude.{◌≡◌, ◌+◌, ◌≤◌, ◌<◌, ◌^◌, ◌↔◌};
+ghost use Rattle.std.specs.Prelude.{ℕ, [], None, Some, IfSome, IsTrue, true, length, get_or};
 ghost use Rattle.std.specs.Int.{to_be_bytes, w32};
 ghost use Rattle.spool_journal.specs.Image.{byte_of};
 ghost use Rattle.spool_pages.specs.Bytes.{IsPadded};
@@ -10,9 +10,13 @@ ghost use Rattle.spool_pages.specs.declared.version.Version.{Version as Known};
 use crate::Version;
 use crate::fields::{get_u32, get_u64, put};
 use spool_journal::PAGE;
+use std::simd::prelude::*;
 
 /// The first bytes of a spool.
 pub const MAGIC: [u8; 8] = *b"TUSSPOOL";
+
+// How many bytes are looked at at once.
+const WIDE: usize = 64;
 
 /// A page of zeros.
 pub fn blank_page() -> [u8; PAGE]
@@ -41,11 +45,49 @@ pub fn state_page(version: Version, next: u64) -> [u8; PAGE]
     page
 }
 
+// Whether the 64 bytes from `at` on are all 0.
+#[inline(always)]
+fn are_zeros(bytes: &[u8], at: usize) -> bool
+    requires { at + 64 ≤ length bytes.now }
+    ensures zeros { result ≡ true → (k : ℕ) → at ≤ k → k < at + 64 → get_or bytes.now k 0 ≡ 0 }
+    ensures blank { IsPadded bytes.now [] → result ≡ true }
+{
+    let lanes = u8x64::from_slice(&bytes[at..]);
+    lanes.simd_ne(u8x64::splat(0)).to_bitmask() == 0
+}
+
+// Whether the bytes, fewer than 64, are all 0.
+fn is_short_blank(bytes: &[u8]) -> bool
+    ensures { IsTrue result ↔ IsPadded bytes.now [] }
+{
+    bytes.iter().all(|byte| *byte == 0)
+}
+
+// Whether the bytes, at least 64, are all 0. The last 64 are looked at together, some of them for the second time.
+fn is_long_blank(bytes: &[u8]) -> bool
+    requires { 64 ≤ length bytes.now }
+    ensures { IsTrue result ↔ IsPadded bytes.now [] }
+{
+    let last = bytes.len() - WIDE;
+    let mut at = 0;
+    while at < last {
+        if !are_zeros(bytes, at) {
+            return false;
+        }
+        at += WIDE;
+    }
+    are_zeros(bytes, last)
+}
+
 /// Whether all bytes are 0.
 pub fn is_blank(bytes: &[u8]) -> bool
     ensures { IsTrue result ↔ IsPadded bytes.now [] }
 {
-    bytes.iter().all(|byte| *byte == 0)
+    if bytes.len() < WIDE {
+        is_short_blank(bytes)
+    } else {
+        is_long_blank(bytes)
+    }
 }
 
 /// The version and the next number on a state page; None if the version is unknown.

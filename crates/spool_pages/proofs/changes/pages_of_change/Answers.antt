@@ -1,29 +1,38 @@
-use Rattle.std.proofs.Common.{◌∙◌, ◌+◌, ◌/◌, ◌<◌, ℕ, option_copied, IsSome, get_or, below_more, sym, ap, subst}
+use Rattle.std.proofs.Common.{◌∙◌, ◌+◌, ◌/◌, ◌<◌, ℕ, option_copied, IsSome, get_or, below_more, refl, sym, ap, subst, rules}
 use Rattle.std.proofs.Common.{arith}
 use Rattle.spool_journal.specs.Image.{journal_pages}
 use Rattle.spool_pages.specs.Changes.{page_in, row_number, SaysSlot}
 use Rattle.spool_pages.specs.declared.version.Version.{Version}
 use Rattle.spool_pages.proofs.Changed.{room_some, room_changes, said_beside}
-use Rattle.spool_pages.proofs.PageIn.{still_some}
+use Rattle.spool_pages.proofs.PageIn.{in_put, in_none, still_some}
 use Rattle.spool_pages.proofs.changes.pages_of_change.Goals as goal
+
+pub loop-block-init : goal.loop-block-init
+loop-block-init c = record {
+  area = search rules;
+  prefix = λ page below. refl;
+  last = subst IsSome (sym (in_put c.in_ok-put.ensures.put (in_none _ _ c.new-pages.ensures))) refl;
+  there = λ i lt. absurd (omega (arith, lt));
+}
 
 pub loop-block-preserved : goal.loop-block-preserved
 loop-block-preserved c =
     let made = c.in_ok-make_room.ensures in
     record {
-      area = made.area (journal_pages c.args.layout.now) c.row_number.ensures.inside c.loop-block.invariant.area;
-      prefix = λ page below. made.others page (λ e. omega (arith, e, below, c.row_number.ensures.number))
+      area = made.area (journal_pages c.args.layout.now) c.row_number-page.ensures.inside c.loop-block.invariant.area;
+      prefix = λ page below. made.others page (λ e. omega (arith, e, below, c.row_number-page.ensures.number))
           ∙ c.loop-block.invariant.prefix page below;
+      last = made.there;
       there = below_more _ _
-          (λ i lt. still_some c.row_number.result c.loop-block.pages c.make_room.new.pages made.there made.others
+          (λ i lt. still_some c.row_number-page.result c.loop-block.pages c.make_room.new.pages made.there made.others
           (row_number c.args.layout.now (get_or c.args.blocks.now i 0)) (c.loop-block.invariant.there i lt))
-          (subst (λ (page : ℕ). IsSome (page_in page c.make_room.new.pages)) c.row_number.ensures.number made.there);
+          (subst (λ (page : ℕ). IsSome (page_in page c.make_room.new.pages)) c.row_number-page.ensures.number made.there);
     }
 
 pub returns-clause-some : goal.returns-clause-some
 returns-clause-some c = room_some c.loop-block.pages (282 + journal_pages c.args.layout.now) c.new-pages.ensures
     c.in_ok-put.ensures.put c.loop-block.invariant.prefix
-    (omega (arith, c.record_number.ensures.number, c.requires.slot))
+    (omega (arith, c.record_number-last.ensures.number, c.requires.slot))
 
 pub returns-clause-changes : goal.returns-clause-changes
 returns-clause-changes c v blocks version slots beside rows same =
@@ -32,7 +41,7 @@ returns-clause-changes c v blocks version slots beside rows same =
     (λ page below. c.loop-block.invariant.prefix page (subst (λ (n : ℕ). page < 282 + journal_pages n) blocks below))
     (λ i lt. subst (λ (n : ℕ). IsSome (page_in (row_number n (get_or c.args.blocks.now i 0)) c.loop-block.pages))
     (sym blocks) (c.loop-block.invariant.there i (omega (arith, lt))))
-    (c.record_number.ensures.number ∙ ap (λ (n : ℕ). 26 + journal_pages n + c.args.slot / 2) (sym blocks))
+    (c.record_number-last.ensures.number ∙ ap (λ (n : ℕ). 26 + journal_pages n + c.args.slot / 2) (sym blocks))
     c.requires.slot slots
     (subst (λ (w : Version). SaysSlot c.args.slot c.page_with.result (w, option_copied c.args.kept)) (sym version)
     c.page_with.ensures.kept)

@@ -2,7 +2,7 @@ use Rattle.std.proofs.Common.{rules, inl, inr, ◌≡◌, ◌<◌, ◌↔◌, �
 use Rattle.std.proofs.Math.ListN.{get_or-eq_default}
 use Rattle.std.proofs.lemmas.Bool.{cases_lt}
 use Rattle.spool_pages.specs.Bytes.{IsPadded}
-use Rattle.spool_pages.proofs.pages.is_blank.Goals as goal
+use Rattle.spool_pages.proofs.pages.is_short_blank.Goals as goal
 
 blank : (bytes : List ℕ) → ((k : ℕ) → k < length bytes → get_or bytes k 0 ≡ 0) → IsPadded bytes []
 blank bytes zeros = record {
