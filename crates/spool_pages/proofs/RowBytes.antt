@@ -1,8 +1,7 @@
 -- The bytes of a row.
-use Rattle.std.proofs.Common.{◌≡◌, ℕ, ◌+◌, ◌<◌, ◌≤◌, ◌++◌, List, Option, Some, None, length, get_or, replicate, refl}
-use Rattle.std.proofs.Common.{sym, ◌∙◌, subst, arith}
+use Rattle.std.proofs.Common.{◌≡◌, ℕ, ◌+◌, ◌<◌, ◌≤◌, ◌++◌, List, [], Option, Some, None, length, get_or, refl}
+use Rattle.std.proofs.Common.{sym, ◌∙◌, ap, subst, arith}
 use Rattle.std.specs.Int.{to_be_bytes, w32}
-use Rattle.spool_disk.specs.Disk.{In}
 use Rattle.spool_journal.specs.Image.{byte_of}
 use Rattle.spool_pages.specs.Bytes.{IsPadded}
 use Rattle.spool_pages.specs.View.{Stands, row_bytes}
@@ -14,9 +13,9 @@ pub owned_is : (slot ordinal : ℕ)
 unfolding row_bytes
 owned_is slot ordinal = refl
 
-pub free_padded : IsPadded (replicate 8 0) (row_bytes None)
+pub free_is : row_bytes None ≡ []
 unfolding row_bytes
-free_padded = padded_zeros 8
+free_is = refl
 
 module _ (f : ℕ → ℕ) (at : ℕ) where
   pub slot_at : (slot ordinal : ℕ) → Stands f at 8 (row_bytes (Some (slot, ordinal)))
@@ -63,8 +62,9 @@ pub row_there : (new bytes : List ℕ) (at : ℕ) (row : Option (ℕ × ℕ))
 row_there new bytes at row inside long padded =
     record { each = λ i lt. inside i (omega (arith, lt, long)) ∙ padded.each i }
 
-pub row_else : (page new bytes : List ℕ) (at other : ℕ) (row : Option (ℕ × ℕ))
-    → ((p : ℕ) → (In at (length bytes) p → ⊥) → get_or new p 0 ≡ get_or page p 0) → length bytes ≡ 8 → other + 8 ≤ at
-    → Stands (byte_of page) other 8 (row_bytes row) → Stands (byte_of new) other 8 (row_bytes row)
-row_else page new bytes at other row outside long apart stands =
-    record { each = λ i lt. outside (other + i) (λ within. omega (arith, within.from, apart, lt)) ∙ stands.each i lt }
+-- zeros where no row is
+pub free_there : (page : List ℕ) (from at : ℕ) (row : Option (ℕ × ℕ))
+    → ((p : ℕ) → from ≤ p → get_or page p 0 ≡ 0) → from ≤ at → row ≡ None
+    → Stands (byte_of page) at 8 (row_bytes row)
+free_there page from at row blank le is = subst (λ (bytes : List ℕ). Stands (byte_of page) at 8 bytes)
+    (sym (ap row_bytes is ∙ free_is)) record { each = λ i lt. blank (at + i) (omega (arith, le)) }

@@ -1,13 +1,14 @@
 //! The rows: which slot owns a text block, and at which ordinal.
 ghost use Rattle.std.specs.Prelude.{◌≡◌, ◌≤◌, ◌<◌, ◌+◌, ◌*◌, ◌^◌};
-ghost use Rattle.std.specs.Prelude.{ℕ, Option, None, Some, Ok, IfOk, length, get_or};
+ghost use Rattle.std.specs.Prelude.{ℕ, Option, [], None, Some, Ok, IfOk, length, get_or};
+ghost use Rattle.spool_disk.specs.Disk.{In};
 ghost use Rattle.spool_journal.specs.Image.{byte_of};
 ghost use Rattle.spool_pages.specs.Bytes.{IsPadded};
 ghost use Rattle.spool_pages.specs.Fits.{FitsRow};
 ghost use Rattle.spool_pages.specs.View.{Stands, row_bytes};
 
-use crate::Damaged;
 use crate::fields::{get_u32, put};
+use crate::{Damaged, blank_page};
 use spool_blocks::Row;
 use spool_journal::PAGE;
 
@@ -25,26 +26,42 @@ fn owned_bytes(slot: u32, ordinal: u32) -> [u8; 8]
     bytes
 }
 
-// The bytes of a row.
-fn bytes_of(row: Row) -> [u8; 8]
-    requires { FitsRow row }
-    ensures { IsPadded result (row_bytes row) }
+// Writes a row into a page that has zeros at its place.
+#[inline(always)]
+fn put_row(page: &mut [u8], at: usize, row: Row)
+    requires room { at + 8 ≤ length page.old }
+    requires fits { FitsRow row }
+    requires blank { Stands (byte_of page.old) at 8 [] }
+    ensures outside { (p : ℕ) → (In at 8 p → ⊥) → get_or page.new p 0 ≡ get_or page.old p 0 }
+    ensures stands { Stands (byte_of page.new) at 8 (row_bytes row) }
 {
-    match row {
-        Some((slot, ordinal)) => owned_bytes(slot, ordinal),
-        None => [0; 8],
+    if let Some((slot, ordinal)) = row {
+        put(page, at, &owned_bytes(slot, ordinal));
     }
 }
 
-// The row of a block; None after the last one.
-fn row_of(rows: &[Row], block: usize) -> Row
-    ensures { result ≡ get_or rows.now block None }
+// Writes at most 512 rows into a blank page.
+fn write_rows(page: &mut [u8; PAGE], rows: &[Row])
+    requires blank { IsPadded page.old [] }
+    requires few { length rows.now ≤ 512 }
+    requires fits { (b : ℕ) → FitsRow (get_or rows.now b None) }
+    ensures { (k : ℕ) → k < 512 → Stands (byte_of page.new) (8 * k) 8 (row_bytes (get_or rows.now k None)) }
 {
-    if block < rows.len() {
-        rows[block]
-    } else {
-        None
+    for k in 0..rows.len() {
+        put_row(page, 8 * k, rows[k]);
     }
+}
+
+// The rows of a page: 512, or fewer at the end.
+fn rows_of(rows: &[Row], page: usize) -> &[Row]
+    requires { page < 128 }
+    ensures few { length result.now ≤ 512 }
+    ensures rows { (k : ℕ) → k < 512 → get_or result.now k None ≡ get_or rows.now (512 * page + k) None }
+    ensures fits { ((b : ℕ) → FitsRow (get_or rows.now b None)) → (b : ℕ) → FitsRow (get_or result.now b None) }
+{
+    let first = rows.len().min(ROWS * page);
+    let end = rows.len().min(first + ROWS);
+    &rows[first..end]
 }
 
 /// The row at an offset in a page.
@@ -77,9 +94,7 @@ pub fn row_page(rows: &[Row], page: usize) -> [u8; PAGE]
     ensures { (k : ℕ) → k < 512
         → Stands (byte_of result) (8 * k) 8 (row_bytes (get_or rows.now (512 * page + k) None)) }
 {
-    let mut bytes = [0; PAGE];
-    for k in 0..ROWS {
-        put(&mut bytes, 8 * k, &bytes_of(row_of(rows, ROWS * page + k)));
-    }
+    let mut bytes = blank_page();
+    write_rows(&mut bytes, rows_of(rows, page));
     bytes
 }

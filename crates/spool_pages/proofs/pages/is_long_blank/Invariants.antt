@@ -1,4 +1,4 @@
-use Rattle.std.proofs.Common.{◌≡◌, ◌+◌, ◌-◌, ◌<◌, ◌≤◌, ℕ, get_or, length}
+use Rattle.std.proofs.Common.{◌≡◌, ◌-◌, ◌<◌, ℕ, get_or}
 use Rattle.spool_pages.proofs.pages.is_long_blank.Given as goal
 
 abbrev pub invariant-loop-at : goal.invariant-loop-at
