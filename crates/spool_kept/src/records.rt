@@ -1,6 +1,6 @@
 //! The record of an upload, kept in memory.
 ghost use Rattle.std.specs.Prelude.{◌≡◌, ◌≤◌, All, None, Some, length, get_or, option_copied, IfOk, OnOk, IfSome};
-ghost use Rattle.std.specs.Prelude.{IsOkUnless};
+ghost use Rattle.std.specs.Prelude.{IsOkUnless, IsTrue, ◌↔◌};
 ghost use Rattle.upload_rules.specs.Records.{IsShort};
 ghost use Rattle.upload_rules.specs.States.{SameEncodings};
 ghost use Rattle.spool_kept.specs.Extending.{longer_record};
@@ -127,18 +127,26 @@ pub(crate) fn slot_record_at(slots: &[Option<KeptRecord>], slot: usize) -> Optio
     Some(record_at(slots, slot)?.slot_record())
 }
 
+// Whether all bytes are printable ASCII.
+fn are_printable(bytes: &[u8]) -> bool
+    ensures { IsTrue result ↔ All (λ b. (0x20 ≤ b) × (b ≤ 0x7E)) bytes.now }
+{
+    bytes.iter().all(|byte| *byte >= b' ' && *byte <= b'~')
+}
+
 // The bytes as text. `Damaged` where one isn't printable ASCII.
 fn text_of(alloc: Global, bytes: &[u8]) -> Result<String, CheckError>
     ensures passes { All (λ b. (0x20 ≤ b) × (b ≤ 0x7E)) bytes.now → IsOkUnless result CheckError.NoMemory }
     ensures same { IfOk result (λ text. text.bytes.items ≡ bytes.now) }
     ensures printable { OnOk result (All (λ b. (0x20 ≤ b) × (b ≤ 0x7E)) bytes.now) }
 {
-    let mut text = String::with_capacity(alloc, bytes.len())?;
-    for byte in bytes {
-        if *byte < b' ' || *byte > b'~' {
-            return Err(CheckError::Damaged);
-        }
-        text.push(char::from(*byte))?;
+    let mut copy = Vec::with_capacity(alloc, bytes.len())?;
+    if !are_printable(bytes) {
+        return Err(CheckError::Damaged);
     }
-    Ok(text)
+    copy.extend_from_slice(bytes)?;
+    match String::from_utf8(copy) {
+        Ok(text) => Ok(text),
+        Err(_) => Err(CheckError::Damaged),
+    }
 }
