@@ -48,6 +48,10 @@ pub record IsPrefixOf {A : Type 0} (whole prefix : List (Option A)) : Type 0 whe
 pub record IsSameTo {A : Type 0} (end : ℕ) (whole list : List (Option A)) : Type 0 where
   pub each : (k : ℕ) → k < end → get_or list k None ≡ get_or whole k None
 
+-- The list has no row from this place on.
+pub record IsFreeFrom {A : Type 0} (start : ℕ) (list : List (Option A)) : Type 0 where
+  pub each : (k : ℕ) → start ≤ k → get_or list k None ≡ None
+
 -- The parts of a spool of n blocks.
 
 -- The index area is that of the set.

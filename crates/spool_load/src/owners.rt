@@ -6,7 +6,7 @@ ghost use Rattle.spool_journal.specs.Image.{journal_pages, all_pages, byte_of};
 ghost use Rattle.spool_journal.specs.Phases.{Still};
 ghost use Rattle.spool_pages.specs.Fits.{FitsRow};
 ghost use Rattle.spool_load.specs.Faults.{Loads};
-ghost use Rattle.spool_load.specs.Reads.{OnlyReads, IsSameTo, StandRows};
+ghost use Rattle.spool_load.specs.Reads.{OnlyReads, IsFreeFrom, IsSameTo, StandRows};
 ghost use Rattle.spool_pages.specs.View.{Stands, row_bytes, row_place};
 
 use crate::LoadError;
@@ -14,7 +14,7 @@ use crate::reading::read_at;
 use spool_blocks::Row;
 use spool_disk::Disk;
 use spool_journal::{Layout, PAGE};
-use spool_pages::{Damaged, ROWS, row_at, row_pages, rows_place};
+use spool_pages::{Damaged, ROWS, are_free, row_at, row_pages, rows_place};
 use std::alloc::Global;
 
 // Stores a row at its place. `Damaged` if there is no such place and the row isn't free.
@@ -34,7 +34,7 @@ fn put_row(rows: &mut [Row], block: usize, row: Row) -> Result<(), Damaged>
 
 // Stores the rows of a page from `first` on. `Damaged` if a row has an ordinal without a slot, or isn't free after the
 // last place.
-fn fill(rows: &mut [Row], page: &[u8; PAGE], first: usize) -> Result<(), Damaged>
+fn put_rows(rows: &mut [Row], page: &[u8; PAGE], first: usize) -> Result<(), Damaged>
     requires { first ≤ 65536 }
     ensures said { (all : List (Option (ℕ × ℕ))) → length all ≡ length rows.old
         → ((b : ℕ) → FitsRow (get_or all b None))
@@ -43,11 +43,32 @@ fn fill(rows: &mut [Row], page: &[u8; PAGE], first: usize) -> Result<(), Damaged
     ensures valid { OnOk result
         ((k : ℕ) → k < 512 → Stands (byte_of page.now) (8 * k) 8 (row_bytes (get_or rows.new (first + k) None))) }
     ensures before { (b : ℕ) → b < first → get_or rows.new b None ≡ get_or rows.old b None }
+    ensures after { (b : ℕ) → first + 512 ≤ b → get_or rows.new b None ≡ get_or rows.old b None }
 {
     for k in 0..ROWS {
         put_row(rows, first + k, row_at(page, 8 * k)?)?;
     }
     Ok(())
+}
+
+// Stores the rows of a page from `first` on, where all are free so far. `Damaged` if a row has an ordinal without a
+// slot, or isn't free after the last place.
+fn fill(rows: &mut [Row], page: &[u8; PAGE], first: usize) -> Result<(), Damaged>
+    requires few { first ≤ 65536 }
+    requires free { IsFreeFrom first rows.old }
+    ensures said { (all : List (Option (ℕ × ℕ))) → length all ≡ length rows.old
+        → ((b : ℕ) → FitsRow (get_or all b None))
+        → ((k : ℕ) → k < 512 → Stands (byte_of page.now) (8 * k) 8 (row_bytes (get_or all (first + k) None)))
+        → IsSameTo first all rows.old → IsOkAnd result (λ done. IsSameTo (first + 512) all rows.new) }
+    ensures valid { OnOk result
+        ((k : ℕ) → k < 512 → Stands (byte_of page.now) (8 * k) 8 (row_bytes (get_or rows.new (first + k) None))) }
+    ensures before { (b : ℕ) → b < first → get_or rows.new b None ≡ get_or rows.old b None }
+    ensures after { OnOk result (IsFreeFrom (first + 512) rows.new) }
+{
+    if are_free(page) {
+        return Ok(());
+    }
+    put_rows(rows, page, first)
 }
 
 // Reads a page of rows.
@@ -60,6 +81,7 @@ fn load_page<D: Disk>(
     requires room { 4096 * all_pages layout.now ≤ D.size disk.old }
     requires page { 257 + page < journal_pages layout.now }
     requires few { page < 128 }
+    requires free { IsFreeFrom (512 * page) rows.old }
     ensures reads { OnlyReads D.Disk disk.old disk.new }
     ensures counts { Counts (IsErrOf result LoadError.DiskFault) (D.failures disk.old) (D.failures disk.new) }
     ensures said { D.honest disk.old → (bytes : ℕ → ℕ) → Still bytes (D.current disk.old) (D.unsynced disk.old)
@@ -70,6 +92,7 @@ fn load_page<D: Disk>(
     ensures valid { D.honest disk.old → (bytes : ℕ → ℕ) → Still bytes (D.current disk.old) (D.unsynced disk.old)
         → StandRows bytes layout.now (512 * page) rows.old
         → OnOk result (StandRows bytes layout.now (512 * (page + 1)) rows.new) }
+    ensures after { OnOk result (IsFreeFrom (512 * (page + 1)) rows.new) }
 {
     let mut bytes = [0; PAGE];
     read_at(disk, rows_place(layout, page), &mut bytes)?;
@@ -80,6 +103,7 @@ fn load_page<D: Disk>(
 // Reads all pages of rows.
 fn load_pages<D: Disk>(disk: &mut D, layout: &Layout, rows: &mut [Row]) -> Result<(), LoadError>
     requires room { 4096 * all_pages layout.now ≤ D.size disk.old }
+    requires free { IsFreeFrom 0 rows.old }
     ensures reads { OnlyReads D.Disk disk.old disk.new }
     ensures counts { Counts (IsErrOf result LoadError.DiskFault) (D.failures disk.old) (D.failures disk.new) }
     ensures said { D.honest disk.old → (bytes : ℕ → ℕ) → Still bytes (D.current disk.old) (D.unsynced disk.old)

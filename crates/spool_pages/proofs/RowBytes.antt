@@ -4,8 +4,10 @@ use Rattle.std.proofs.Common.{sym, ◌∙◌, ap, subst, arith}
 use Rattle.std.specs.Int.{to_be_bytes, w32}
 use Rattle.spool_journal.specs.Image.{byte_of}
 use Rattle.spool_pages.specs.Bytes.{IsPadded}
+use Rattle.spool_pages.specs.Fits.{FitsRow}
 use Rattle.spool_pages.specs.View.{Stands, row_bytes}
 use Rattle.spool_pages.proofs.Bytes.{padded_zeros}
+use Rattle.spool_pages.proofs.Numbers.{four_are}
 use Rattle.spool_pages.proofs.RecordBytes.{stands_prefix, stands_beyond, stands_both}
 
 pub owned_is : (slot ordinal : ℕ)
@@ -68,3 +70,14 @@ pub free_there : (page : List ℕ) (from at : ℕ) (row : Option (ℕ × ℕ))
     → Stands (byte_of page) at 8 (row_bytes row)
 free_there page from at row blank le is = subst (λ (bytes : List ℕ). Stands (byte_of page) at 8 bytes)
     (sym (ap row_bytes is ∙ free_is)) record { each = λ i lt. blank (at + i) (omega (arith, le)) }
+
+-- a row that stands where all is zeros
+pub free_only : (page : List ℕ) (at : ℕ) (row : Option (ℕ × ℕ)) → IsPadded page [] → FitsRow row
+    → Stands (byte_of page) at 8 (row_bytes row) → row ≡ None
+free_only page at None blank fits stands = refl
+free_only page at (Some o) blank fits stands =
+    let nothing : Stands (byte_of page) at 4 (to_be_bytes w32 0) =
+    free_at (byte_of page) at (free_there page 0 at None (λ p from. blank.each p) (omega arith) refl) in
+    let none = four_are page at 0 (omega arith) nothing in
+    let slot = four_are page at (o.0 + 1) fits.0 (slot_at (byte_of page) at o.0 o.1 stands) in
+    absurd (omega (arith, none, slot))

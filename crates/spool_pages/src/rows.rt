@@ -1,6 +1,6 @@
 //! The rows: which slot owns a text block, and at which ordinal.
 ghost use Rattle.std.specs.Prelude.{◌≡◌, ◌≤◌, ◌<◌, ◌+◌, ◌*◌, ◌^◌};
-ghost use Rattle.std.specs.Prelude.{ℕ, Option, [], None, Some, Ok, IfOk, length, get_or};
+ghost use Rattle.std.specs.Prelude.{ℕ, Option, [], None, Some, true, Ok, IfOk, length, get_or};
 ghost use Rattle.spool_disk.specs.Disk.{In};
 ghost use Rattle.spool_journal.specs.Image.{byte_of};
 ghost use Rattle.spool_pages.specs.Bytes.{IsPadded};
@@ -8,7 +8,7 @@ ghost use Rattle.spool_pages.specs.Fits.{FitsRow};
 ghost use Rattle.spool_pages.specs.View.{Stands, row_bytes};
 
 use crate::fields::{get_u32, put};
-use crate::{Damaged, blank_page};
+use crate::{Damaged, blank_page, is_blank};
 use spool_blocks::Row;
 use spool_journal::PAGE;
 
@@ -85,6 +85,15 @@ pub fn row_at(page: &[u8], at: usize) -> Result<Row, Damaged>
         return Err(Damaged);
     }
     Ok(None)
+}
+
+/// Whether all 512 rows of a page are free.
+pub fn are_free(page: &[u8; PAGE]) -> bool
+    ensures stands { result ≡ true → (k : ℕ) → k < 512 → Stands (byte_of page.now) (8 * k) 8 (row_bytes None) }
+    ensures only { result ≡ true → (k : ℕ) → k < 512 → (row : Option (ℕ × ℕ)) → FitsRow row
+        → Stands (byte_of page.now) (8 * k) 8 (row_bytes row) → row ≡ None }
+{
+    is_blank(page)
 }
 
 /// A page of 512 rows. Those after the last row are free.

@@ -1,57 +1,27 @@
-use Rattle.std.proofs.Common.{◌≡◌, ◌≢◌, ◌≤◌, ◌+◌, ◌∙◌, ℕ, List, Option, None, Result, Ok, Err, length, get_or, rules}
-use Rattle.std.proofs.Common.{subst, arith}
-use Rattle.std.proofs.Math.ListN.{get_or-eq_default}
+use Rattle.std.proofs.Common.{◌≡◌, inl, inr, ◌+◌, ◌-◌, ◌<◌, ◌*◌, ◌∙◌, ℕ, Option, None, get_or, sym, subst, arith}
+use Rattle.std.proofs.lemmas.Bool.{cases_lt}
 use Rattle.spool_journal.specs.Image.{byte_of}
-use Rattle.spool_load.specs.Reads.{IsSameTo}
-use Rattle.spool_load.proofs.Looks.{put_same, put_stands}
+use Rattle.spool_pages.specs.View.{Stands, row_bytes}
 use Rattle.spool_load.proofs.owners.fill.Goals as goal
 
-same_ok : {T E : Type 0} (r : Result T E) (a b : T) → r ≡ Ok a → r ≡ Ok b → a ≡ b
-same_ok r a b e f = cc
+pub returns-then-are_free-clause-said : goal.returns-then-are_free-clause-said
+returns-then-are_free-clause-said c all long fits stands was = record {
+  each = λ k lt. elim (cases_lt k c.args.first) [
+    | inl below ↦ was.each k below
+    | inr from ↦
+        let m : ℕ = k - c.args.first in
+        let at : c.args.first + m ≡ k = omega (arith, from) in
+        let few : m < 512 = omega (arith, lt, from) in
+        let none = c.are_free.ensures.only c.if-are_free.true m few (get_or all (c.args.first + m) None)
+        (fits (c.args.first + m)) (stands m few) in
+        c.requires.free.each k from ∙ sym (subst (λ (j : ℕ). get_or all j None ≡ None) at none)
+  ];
+}
 
-no_err : {T E : Type 0} (r : Result T E) (a : T) (e : E) → r ≡ Ok a → r ≡ Err e → ⊥
-no_err r a e f h = absurd (cc)
+pub returns-then-are_free-clause-valid : goal.returns-then-are_free-clause-valid
+returns-then-are_free-clause-valid c k lt =
+    subst (λ (row : Option (ℕ × ℕ)). Stands (byte_of c.args.page.now) (8 * k) 8 (row_bytes row))
+    (sym (c.requires.free.each (c.args.first + k) (omega arith))) (c.are_free.ensures.stands c.if-are_free.true k lt)
 
-step_on : (first k : ℕ) (all rows : List (Option (ℕ × ℕ))) → IsSameTo (first + k + 1) all rows
-    → IsSameTo (first + (k + 1)) all rows
-step_on first k all rows same =
-    let e : first + k + 1 ≡ first + (k + 1) = omega arith in subst (λ (n : ℕ). IsSameTo n all rows) e same
-
-pub loop-k-preserved : goal.loop-k-preserved
-loop-k-preserved c =
-    let k = c.loop-k.k in
-    let first = c.args.first in
-    let inv = c.loop-k.invariant in
-    let row = c.in_ok-row_at.field-0 in
-    let put = c.in_ok-put_row.ensures.put in
-    let others = c.in_ok-put_row.ensures.others in
-    record {
-      said = λ all long fits stands was.
-          let is =
-          same_ok _ row _ c.in_ok-row_at.was
-          (c.row_at.ensures.said (get_or all (first + k) None) (fits (first + k)) (stands k (search rules))) in
-          step_on first k all _
-          (put_same c.loop-k.rows c.put_row.new.rows (first + k) row put others all (inv.said all long fits stands was)
-          is);
-      valid =
-          put_stands c.loop-k.rows c.put_row.new.rows (first + k) row put others (byte_of c.args.page.now) first k
-          (omega arith) inv.valid c.in_ok-row_at.ensures.valid;
-      before = λ b lt. let ne : b ≢ first + k = omega (arith, lt) in others b ne ∙ inv.before b lt;
-    }
-
-pub returns-in_err-row_at-clause-said : goal.returns-in_err-row_at-clause-said
-returns-in_err-row_at-clause-said c all long fits stands was =
-    let k = c.loop-k.k in
-    absurd (no_err _ _ _ (c.row_at.ensures.said (get_or all (c.args.first + k) None) (fits (c.args.first + k))
-    (stands k (search rules))) c.in_err-row_at.was)
-
-pub returns-in_err-put_row-clause-said : goal.returns-in_err-put_row-clause-said
-returns-in_err-put_row-clause-said c all long fits stands was =
-    let k = c.loop-k.k in
-    let is =
-    same_ok _ c.in_ok-row_at.field-0 _ c.in_ok-row_at.was
-    (c.row_at.ensures.said (get_or all (c.args.first + k) None) (fits (c.args.first + k)) (stands k (search rules)))
-    in
-    let after : length c.loop-k.rows ≤ c.args.first + k = c.in_err-put_row.ensures.after in
-    let same : length c.loop-k.rows ≡ length all = search rules in
-    absurd (c.in_err-put_row.ensures.used (is ∙ get_or-eq_default all None (omega (arith, after, same))))
+pub returns-then-are_free-clause-after : goal.returns-then-are_free-clause-after
+returns-then-are_free-clause-after c = record { each = λ k from. c.requires.free.each k (omega (arith, from)) }

@@ -2,13 +2,14 @@ use Rattle.std.proofs.Common.{◌≡◌, ◌<◌, ◌-◌, ◌*◌, ℕ, List, O
 use Rattle.spool_journal.specs.Image.{journal_pages}
 use Rattle.spool_journal.specs.Phases.{Still}
 use Rattle.spool_pages.specs.Fits.{FitsRow}
-use Rattle.spool_load.specs.Reads.{OnlyReads, IsSameTo, StandRows}
+use Rattle.spool_load.specs.Reads.{OnlyReads, IsFreeFrom, IsSameTo, StandRows}
 use Rattle.spool_pages.specs.View.{Stands, row_bytes, row_place}
 use Rattle.spool_load.proofs.owners.load_pages.Given as goal
 
 abbrev pub invariant-loop-page : goal.invariant-loop-page
 invariant-loop-page g l = record {
   reads : OnlyReads g.D.Disk l.fn.disk l.disk;
+  free : IsFreeFrom (512 * l.page) l.rows;
   counts : g.D.Disk.failures l.disk ≡ g.D.Disk.failures l.fn.disk;
   said : g.D.Disk.honest l.fn.disk → (bytes : ℕ → ℕ)
       → Still bytes (g.D.Disk.current l.fn.disk) (g.D.Disk.unsynced l.fn.disk) →
