@@ -1,24 +1,17 @@
 -- From the parser's result for a finished head to the answer.
 use Rattle.std.specs.Prelude.{◌≡◌, ℕ, ◌+◌, ◌<◌, ◌≤◌, Bool, true, false, List, [], ◌∷◌, ◌++◌, length, map, take, drop}
-use Rattle.std.specs.Prelude.{min, nat_le, nat_lt, if◌then◌else◌, All, Option, Some, None, Result, Ok, Err, IfOk, OnErr}
-use Rattle.std.proofs.Common.{arith, ap, sym, ◌∙◌, refl, inl, inr, suc, get_or, subst, Bor, option_copied}
-use Rattle.std.specs.List.{flat_map}
-use Rattle.std.proofs.lemmas.List.{length-append, length-map, append_assoc, append-nil, take_all, length-take-le}
+use Rattle.std.specs.Prelude.{min, nat_le, nat_lt, if◌then◌else◌, Option, Some, None, Result, Ok, Err, IfOk, OnErr}
+use Rattle.std.proofs.Common.{arith, ap, sym, ◌∙◌, refl, inl, inr, suc, subst, Bor, option_copied}
+use Rattle.std.proofs.lemmas.List.{length-append, append_assoc, append-nil, take_all, length-take-le}
 use Rattle.std.proofs.lemmas.List.{take-append-drop, take-append-le}
 use Rattle.std.proofs.lemmas.Bool.Decides.{nat_tests}
 use Rattle.tus_request.proofs.LineLemmas.{true_or_false}
-use Rattle.std.proofs.lemmas.List.Concat.{flat_map-cons}
-use Rattle.std.proofs.lemmas.List.Elements.{All-head, All-tail, All-cons}
-use Rattle.http_header.specs.Token as token
 use Rattle.httparse.specs.declared.borrowed.Header.{Header}
 use Rattle.httparse.specs.Borrowed.{header_parts}
 use Rattle.httparse.specs.Spans.{name_and_value, RequestOverflows}
-use Rattle.httparse.specs.Grammar.{is_token_byte, is_value_byte, AllPass, Field, IsField, trim_ows, print_field}
-use Rattle.httparse.specs.Grammar.{print_end, RequestHead, ReadsRequest, HasNoRequest, print_request}
-use Rattle.httparse.proofs.TrimLemmas.{AllPass-trim_ows}
+use Rattle.httparse.specs.Grammar.{RequestHead, ReadsRequest, HasNoRequest, print_request}
 use Rattle.httparse.proofs.GrammarLemmas.{request_unique}
 use Rattle.tus_request.specs.Lines.{Extent, head_extent}
-use Rattle.tus_request.specs.Fields.{IsUsable}
 use Rattle.enc_model.specs.declared.Encoding.{Encoding}
 use Rattle.tus_request.specs.Answers.{Answer, More, Judged, answer_with, whole_answer as answer_whole, answer_of}
 use Rattle.tus_request.specs.Grammar.{HeadPrefix, unfinished, too_long, whole, prefix_with, prefix, IsWhole, IsPrefixAnswer}
@@ -29,7 +22,7 @@ use Rattle.tus_request.specs.Fields.{values_in}
 use Rattle.tus_request.specs.Checks.{Line, line_of, checked, verdict_on, no_head, judged}
 use Rattle.tus_request.specs.Reading.{request_of}
 use Rattle.tus_request.proofs.ReadingLemmas.{finds, found_reads}
-use Rattle.tus_request.proofs.HeadLemmas.{request_extent, same_token, whole_length}
+use Rattle.tus_request.proofs.HeadLemmas.{request_extent}
 
 -- a request head at the start of a whole head is all of it, and has as many fields as lines after the first
 pub fills : (head more : List ℕ) (e : Extent) (h : RequestHead) (rest : List ℕ) → IsShortHeadOf head more e
@@ -56,47 +49,6 @@ none_where_failed head is over h rest reads =
     let f = fills head is.0 is.1 h rest is.2 reads in
     let o : 64 < length h.fields = over [] h rest (reads.0, append-nil head ∙ reads.1) in
     absurd (omega (arith, f.0))
-
-tokens : (text : List ℕ) → AllPass is_token_byte text → AllPass token.is_token_byte text
-tokens text all = λ k d inside. rw (← same_token (get_or text k d)) (all k d inside)
-
--- a name and a value of the grammar
-usable_one : (x : Header) (f : Field) → header_parts x ≡ name_and_value f → IsField f → length f.name ≤ 65535
-    → IsUsable x
-usable_one x f same is short =
-    let n : x.name.now ≡ f.name = ap (λ p. p.0) same in
-    let v : x.value.now ≡ trim_ows f.raw = ap (λ p. p.1) same in (
-      (rw n (is.name.0, tokens f.name is.name.1), rw n short),
-      rw v (AllPass-trim_ows is_value_byte f.raw is.raw),
-    )
-
--- the headers that the parser gives can be put into a map
-pub usable : (headers : List Header) (fields : List Field) → map header_parts headers ≡ map name_and_value fields
-    → All IsField fields → length (flat_map print_field fields) ≤ 65535 → All IsUsable headers
-usable [] fields same all short = λ k d inside. absurd (omega arith)
-usable (x ∷ headers) [] same all short = absurd (cc)
-usable (x ∷ headers) (f ∷ fields) same all short =
-    let first : header_parts x ≡ name_and_value f = cc in
-    let rest : map header_parts headers ≡ map name_and_value fields = cc in
-    let sum : length (flat_map print_field (f ∷ fields)) ≡ length (print_field f) + length
-    (flat_map print_field fields) =
-    ap length (flat_map-cons print_field f fields) ∙ length-append (print_field f) (flat_map print_field fields) in
-    let field : length (print_field f) ≡ length (f.name ++ (58 ∷ f.raw)) + length (print_end f.end) =
-    length-append (f.name ++ (58 ∷ f.raw)) (print_end f.end) in
-    let name : length (f.name ++ (58 ∷ f.raw)) ≡ length f.name + length (58 ∷ f.raw) =
-    length-append f.name (58 ∷ f.raw) in
-    All-cons IsUsable x headers
-    (usable_one x f first (All-head IsField f fields all) (omega arith))
-    (usable headers fields rest (All-tail IsField f fields all) (omega arith))
-
-pub same_count : (headers : List Header) (fields : List Field) → map header_parts headers ≡ map name_and_value fields
-    → length headers ≡ length fields
-same_count headers fields same =
-    sym (length-map headers header_parts) ∙ ap length same ∙ length-map fields name_and_value
-
--- the fields take no more bytes than the head
-pub fields_within : (h : RequestHead) → length (flat_map print_field h.fields) ≤ length (print_request h)
-fields_within h = omega (arith, whole_length h)
 
 pub take_min : (n : ℕ) (bytes : List ℕ) → take (min (length bytes) n) bytes ≡ take n bytes
 take_min n bytes =

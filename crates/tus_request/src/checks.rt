@@ -1,21 +1,18 @@
 //! The checks of a head. Their order decides which refusal a bad request gets.
-ghost use Rattle.std.specs.Prelude.{◌≡◌, ◌≤◌, length, map, All, IfOk};
-ghost use Rattle.httparse.specs.Borrowed.{header_parts};
+ghost use Rattle.std.specs.Prelude.{◌≡◌, IfOk};
 ghost use Rattle.enc_model.specs.Indexes.{offers};
-ghost use Rattle.tus_request.specs.Fields.{values, values_in, IsUsable};
+ghost use Rattle.tus_request.specs.Fields.{values};
 ghost use Rattle.tus_request.specs.Checks.{checked, asking, line_place, is_bare, cut_off};
 ghost use Rattle.tus_request.specs.CheckParts.{asking_shown, line_shown, refusal_shown, verdict_shown};
 ghost use Rattle.tus_request.specs.Requests.{Refuses};
 
 use crate::faults::Fault;
-use crate::fields::by_name;
 use crate::lookups::{body_length, first_or, has_word, is_given, lists};
 use crate::methods::{Verb, verb_of};
 use crate::places::{Place, named_by, on_files};
 use crate::requests::Request;
 use crate::texts::path;
 use enc_index::IndexSet;
-use http_header::HeaderMap;
 use httparse::Header;
 use rules::decide;
 use std::alloc::{AllocError, Global};
@@ -37,7 +34,7 @@ pub(crate) struct Line<'h> {
 struct Asking<'h> {
     verb: Verb,
     place: Option<Place>,
-    fields: &'h HeaderMap,
+    fields: &'h [Header<'h>],
     length: u64,
     bare: bool,
     expects: bool,
@@ -61,68 +58,47 @@ pub(crate) enum Verdict {
     Refuses(Refusal),
 }
 
-/// Checks a request line and its headers.
-pub(crate) fn judge(
-    alloc: Global,
-    line: Line<'_>,
-    headers: &[Header<'_>],
-    set: &IndexSet,
-) -> Result<Verdict, AllocError>
-    requires few { length headers.now ≤ 64 }
-    requires usable { All IsUsable headers.now }
-    ensures { IfOk result (λ v. verdict_shown v ≡ checked (offers set.now) (line_shown line.entry)
-        (values_in (map header_parts headers.now))) }
-{
-    let fields = by_name(alloc, headers)?;
-    check(alloc, line, &fields, set)
-}
-
 /// Checks a request line and its fields. A body of unknown length is refused first, since nothing after it could be
 /// read.
-fn check(
+pub(crate) fn check(
     alloc: Global,
     line: Line<'_>,
-    fields: &HeaderMap,
+    fields: &[Header<'_>],
     set: &IndexSet,
 ) -> Result<Verdict, AllocError>
     ensures { IfOk result
         (λ v. verdict_shown v ≡ checked (offers set.now) (line_shown line.entry) (values fields.now)) }
 {
-    let place = named_by(alloc, path(line.target))?;
+    let place = named_by(path(line.target));
     if is_given(fields, "transfer-encoding") {
         return Ok(Verdict::Refuses(cut_off(line, place, Fault::Coding)));
     }
     let Some(length) = body_length(fields) else {
         return Ok(Verdict::Refuses(cut_off(line, place, Fault::BadLength)));
     };
-    let asking = ask(alloc, line, place, fields, length)?;
+    let asking = ask(line, place, fields, length);
     decide(alloc, &asking, set)
 }
 
 /// Collects what the further checks read.
 fn ask<'h>(
-    alloc: Global,
     line: Line<'h>,
     place: Option<Place>,
-    fields: &'h HeaderMap,
+    fields: &'h [Header<'h>],
     length: u64,
-) -> Result<Asking<'h>, AllocError>
+) -> Asking<'h>
     requires { place ≡ line_place (line_shown line) }
-    ensures { IfOk result (λ a. asking_shown a ≡ asking (line_shown line.entry) (values fields.now) length) }
+    ensures { asking_shown result ≡ asking (line_shown line.entry) (values fields.now) length }
 {
-    let verb = verb_of(
-        alloc,
-        first_or(fields, "x-http-method-override", line.method),
-    )?;
-    Ok(Asking {
-        verb,
+    Asking {
+        verb: verb_of(first_or(fields, "x-http-method-override", line.method)),
         place,
         fields,
         length,
         bare: is_bare(line),
         expects: line.minor == 1 && length > 0 && has_word(fields, "expect", "100-continue"),
         closes: line.minor == 0 || lists(fields, "connection", "close"),
-    })
+    }
 }
 
 /// Whether the method is HEAD, so that the reply has no body.

@@ -1,48 +1,36 @@
-//! The fields of a head as a map. `httparse` has checked their names and values before.
-ghost use Rattle.std.specs.Prelude.{◌≡◌, ◌≤◌, ℕ, List, length, map, All, IfOk, OnOk};
-ghost use Rattle.http_header.specs.HeaderMap.{value_count};
-ghost use Rattle.httparse.specs.Borrowed.{header_parts};
-ghost use Rattle.tus_request.specs.Fields.{values, values_in, with_field, IsUsable};
+//! The fields of a head, looked up where `httparse` found them.
+ghost use Rattle.std.specs.Prelude.{◌≡◌, bytes_eq};
+ghost use Rattle.http_header.specs.Token.{lowercase};
+ghost use Rattle.tus_request.specs.Fields.{values};
+ghost use Rattle.tus_request.specs.FoundFields.{found_values};
 
-use http_header::{
-    HeaderMap, HeaderMapError, HeaderName, HeaderNameError, HeaderValue, HeaderValueError,
-};
 use httparse::Header;
-use std::alloc::{AllocError, Global};
 
-/// The fields by their names, which are compared without case.
-pub(crate) fn by_name(alloc: Global, headers: &[Header<'_>]) -> Result<HeaderMap, AllocError>
-    requires few { length headers.now ≤ 64 }
-    requires usable { All IsUsable headers.now }
-    ensures { IfOk result (λ m. (name : List ℕ) → values m name ≡ values_in (map header_parts headers.now) name) }
-{
-    let mut fields = HeaderMap::new(alloc);
-    for header in headers {
-        put(alloc, &mut fields, header)?;
-    }
-    Ok(fields)
+/// A value of a name, and the fields after it.
+#[derive(Clone, Copy, Drop)]
+pub(crate) struct Found<'f, 'b> {
+    pub(crate) value: &'b [u8],
+    pub(crate) rest: &'f [Header<'b>],
 }
 
-/// Adds one field to the map.
-fn put(alloc: Global, fields: &mut HeaderMap, header: &Header<'_>) -> Result<(), AllocError>
-    requires usable { IsUsable header.now }
-    requires few_names { length fields.old ≤ 64 }
-    requires few_values { value_count fields.old ≤ 64 }
-    ensures { OnOk result (fields.new ≡ with_field fields.old (header_parts header.now)) }
+/// Whether this is the field's name. Names are compared without case (RFC 9110, 5.1).
+pub(crate) fn is_named(field: &Header<'_>, name: &str) -> bool
+    ensures { result ≡ bytes_eq (lowercase field.now.name.now) (lowercase name.now) }
 {
-    let name = match HeaderName::from_bytes(alloc, header.name.as_bytes()) {
-        Ok(name) => name,
-        Err(HeaderNameError::OutOfMemory) => return Err(AllocError),
-        Err(HeaderNameError::Invalid) => unreachable!(),
-    };
-    let value = match HeaderValue::from_bytes(alloc, header.value) {
-        Ok(value) => value,
-        Err(HeaderValueError::OutOfMemory) => return Err(AllocError),
-        Err(HeaderValueError::Invalid) => unreachable!(),
-    };
-    match fields.append(name, value) {
-        Ok(_) => Ok(()),
-        Err(HeaderMapError::OutOfMemory) => Err(AllocError),
-        Err(HeaderMapError::MaxSizeReached) => unreachable!(),
+    field.name.eq_ignore_ascii_case(name)
+}
+
+/// The first value of the name. Nothing is copied: a head has few fields, and most names differ in their length.
+pub(crate) fn find<'f, 'b>(fields: &'f [Header<'b>], name: &str) -> Option<Found<'f, 'b>>
+    ensures { values fields.now (lowercase name.now) ≡ found_values result (lowercase name.now) }
+{
+    for at in 0..fields.len() {
+        if is_named(&fields[at], name) {
+            return Some(Found {
+                value: fields[at].value,
+                rest: &fields[at + 1..],
+            });
+        }
     }
+    None
 }

@@ -8,7 +8,7 @@ ghost use Rattle.tus_request.specs.declared.faults.Fault.TheVariants.{HeadTooLon
 ghost use Rattle.tus_request.specs.Grammar.{prefix, IsWhole, IsAnswer, IsHeadAnswer, IsShortHead};
 ghost use Rattle.tus_request.specs.Shown.{answer_shown};
 
-use crate::checks::{Line, Verdict, judge};
+use crate::checks::{Line, Verdict, check};
 use crate::faults::Fault;
 use crate::lines::measure;
 use crate::requests::Parsed;
@@ -30,8 +30,7 @@ const MAX_LINES: usize = 64;
 ///
 /// # Errors
 ///
-/// `AllocError` if memory for the fields, the route or the metadata is refused, which needs a finished head within the
-/// limits.
+/// `AllocError` if memory for the metadata is refused, which needs a finished head within the limits.
 pub fn parse(alloc: Global, bytes: &[u8], set: &IndexSet) -> Result<Parsed, AllocError>
     ensures function { IfOk result (λ answer. answer_shown answer ≡ answer_of (offers set.now) bytes.now) }
     ensures grammar { IfOk result (λ answer. IsAnswer (offers set.now) bytes.now (answer_shown answer)) }
@@ -114,6 +113,6 @@ fn read_whole(alloc: Global, head: &[u8], set: &IndexSet) -> Result<Parsed, Allo
         target: request.path.unwrap(),
         minor: request.version.unwrap(),
     };
-    let verdict = judge(alloc, line, request.headers, set)?;
+    let verdict = check(alloc, line, request.headers, set)?;
     Ok(answer(head.len(), verdict))
 }

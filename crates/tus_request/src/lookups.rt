@@ -7,48 +7,48 @@ ghost use Rattle.tus_request.specs.Texts.{any_case, lists_word};
 ghost use Rattle.tus_request.specs.Checks.{is_given, first_or, only, number_in, length_in, is_word_when};
 ghost use Rattle.tus_request.specs.Checks.{optional_number_in, declared_in, is_patch_media};
 
+use crate::fields::{find, is_named};
 use crate::number::number;
 use crate::texts::{is_word, lists_word, prefix};
-use http_header::HeaderMap;
+use httparse::Header;
 
 /// Whether the field is given.
-pub(crate) fn is_given(fields: &HeaderMap, name: &str) -> bool
+pub(crate) fn is_given(fields: &[Header<'_>], name: &str) -> bool
     ensures { result ≡ is_given (values fields.now (lowercase name.now)) }
 {
-    fields.get(name).is_some()
+    find(fields, name).is_some()
 }
 
 /// The first value of the field, or `other`.
-pub(crate) fn first_or<'f>(fields: &'f HeaderMap, name: &str, other: &'f str) -> &'f [u8]
+pub(crate) fn first_or<'b>(fields: &[Header<'b>], name: &str, other: &'b str) -> &'b [u8]
     ensures { result.now ≡ first_or (values fields.now (lowercase name.now)) other.now }
 {
-    match fields.get_all(name).iter().next() {
-        Some(value) => value.as_bytes(),
+    match find(fields, name) {
+        Some(found) => found.value,
         None => other.as_bytes(),
     }
 }
 
 /// The value of the field, if there is exactly one.
-pub(crate) fn only<'f>(fields: &'f HeaderMap, name: &str) -> Option<&'f [u8]>
+pub(crate) fn only<'b>(fields: &[Header<'b>], name: &str) -> Option<&'b [u8]>
     ensures { option_copied result ≡ only (values fields.now (lowercase name.now)) }
 {
-    let mut values = fields.get_all(name).iter();
-    let value = values.next()?;
-    if values.next().is_some() {
+    let found = find(fields, name)?;
+    if is_given(found.rest, name) {
         return None;
     }
-    Some(value.as_bytes())
+    Some(found.value)
 }
 
 /// The number in the field, if it has exactly one value.
-pub(crate) fn number_in(fields: &HeaderMap, name: &str) -> Option<u64>
+pub(crate) fn number_in(fields: &[Header<'_>], name: &str) -> Option<u64>
     ensures { result ≡ number_in (values fields.now (lowercase name.now)) }
 {
     number(only(fields, name)?)
 }
 
 /// The length of the body: 0 without `Content-Length`, None if that is invalid.
-pub(crate) fn body_length(fields: &HeaderMap) -> Option<u64>
+pub(crate) fn body_length(fields: &[Header<'_>]) -> Option<u64>
     ensures { result ≡ length_in (values fields.now (codes "content-length")) }
 {
     if !is_given(fields, "content-length") {
@@ -58,7 +58,7 @@ pub(crate) fn body_length(fields: &HeaderMap) -> Option<u64>
 }
 
 /// The number in the field; `Some(None)` without the field, None if it is invalid.
-pub(crate) fn optional_number_in(fields: &HeaderMap, name: &str) -> Option<Option<u64>>
+pub(crate) fn optional_number_in(fields: &[Header<'_>], name: &str) -> Option<Option<u64>>
     ensures { result ≡ optional_number_in (values fields.now (lowercase name.now)) }
 {
     if !is_given(fields, name) {
@@ -68,7 +68,7 @@ pub(crate) fn optional_number_in(fields: &HeaderMap, name: &str) -> Option<Optio
 }
 
 /// The length of a new upload (tus 1.0.0, Creation): `Upload-Length`, or `Upload-Defer-Length: 1`, never both.
-pub(crate) fn declared_in(fields: &HeaderMap) -> Option<Option<u64>>
+pub(crate) fn declared_in(fields: &[Header<'_>]) -> Option<Option<u64>>
     ensures { result ≡ declared_in (values fields.now (codes "upload-length"))
         (values fields.now (codes "upload-defer-length")) }
 {
@@ -82,7 +82,7 @@ pub(crate) fn declared_in(fields: &HeaderMap) -> Option<Option<u64>>
 }
 
 /// Whether the field has exactly this one value.
-pub(crate) fn is_only(fields: &HeaderMap, name: &str, word: &str) -> bool
+pub(crate) fn is_only(fields: &[Header<'_>], name: &str, word: &str) -> bool
     ensures { result ≡ is_word_when word.now (only (values fields.now (lowercase name.now))) }
 {
     match only(fields, name) {
@@ -92,7 +92,7 @@ pub(crate) fn is_only(fields: &HeaderMap, name: &str, word: &str) -> bool
 }
 
 /// Whether the media type is that of a PATCH. Parameters after a semicolon are ignored.
-pub(crate) fn is_patch_media(fields: &HeaderMap) -> bool
+pub(crate) fn is_patch_media(fields: &[Header<'_>]) -> bool
     ensures { result ≡ is_patch_media (only (values fields.now (codes "content-type"))) }
 {
     match only(fields, "content-type") {
@@ -102,11 +102,11 @@ pub(crate) fn is_patch_media(fields: &HeaderMap) -> bool
 }
 
 /// Whether one of the field's values is this word, compared without case.
-pub(crate) fn has_word(fields: &HeaderMap, name: &str, word: &str) -> bool
+pub(crate) fn has_word(fields: &[Header<'_>], name: &str, word: &str) -> bool
     ensures { result ≡ list_any (any_case word.now) (values fields.now (lowercase name.now)) }
 {
-    for value in fields.get_all(name).iter() {
-        if is_word(value.as_bytes(), word) {
+    for field in fields {
+        if is_named(field, name) && is_word(field.value, word) {
             return true;
         }
     }
@@ -114,11 +114,11 @@ pub(crate) fn has_word(fields: &HeaderMap, name: &str, word: &str) -> bool
 }
 
 /// Whether one of the field's values is a list with this word, compared without case.
-pub(crate) fn lists(fields: &HeaderMap, name: &str, word: &str) -> bool
+pub(crate) fn lists(fields: &[Header<'_>], name: &str, word: &str) -> bool
     ensures { result ≡ list_any (lists_word word.now) (values fields.now (lowercase name.now)) }
 {
-    for value in fields.get_all(name).iter() {
-        if lists_word(value.as_bytes(), word) {
+    for field in fields {
+        if is_named(field, name) && lists_word(field.value, word) {
             return true;
         }
     }

@@ -1,10 +1,6 @@
 //! The methods of a request.
-ghost use Rattle.std.specs.Prelude.{◌≡◌, IfOk};
+ghost use Rattle.std.specs.Prelude.{◌≡◌};
 ghost use Rattle.tus_request.specs.Methods.{verb_of};
-
-use http::Method;
-use http::method::MethodError;
-use std::alloc::{AllocError, Global};
 
 /// The methods that tus uses, and all others as one.
 #[derive(Clone, Copy, Drop)]
@@ -19,21 +15,16 @@ pub(crate) enum Verb {
 }
 
 /// The method of this name.
-pub(crate) fn verb_of(alloc: Global, name: &[u8]) -> Result<Verb, AllocError>
-    ensures { IfOk result (λ verb. verb ≡ verb_of name.now) }
+pub(crate) fn verb_of(name: &[u8]) -> Verb
+    ensures { result ≡ verb_of name.now }
 {
-    let method = match Method::from_bytes(alloc, name) {
-        Ok(method) => method,
-        Err(MethodError::OutOfMemory) => return Err(AllocError),
-        Err(MethodError::Invalid) => return Ok(Verb::Other),
-    };
-    Ok(match method.as_str() {
-        "OPTIONS" => Verb::Options,
-        "POST" => Verb::Post,
-        "HEAD" => Verb::Head,
-        "PATCH" => Verb::Patch,
-        "GET" => Verb::Get,
-        "DELETE" => Verb::Delete,
+    match name {
+        b"OPTIONS" => Verb::Options,
+        b"POST" => Verb::Post,
+        b"HEAD" => Verb::Head,
+        b"PATCH" => Verb::Patch,
+        b"GET" => Verb::Get,
+        b"DELETE" => Verb::Delete,
         _ => Verb::Other,
-    })
+    }
 }

@@ -10,12 +10,13 @@ ghost use Rattle.tus_request.specs.CheckParts.{asking_shown, verdict_shown};
 use super::rules::{passed, refused};
 use super::{Asking, Verdict};
 use crate::faults::Fault;
-use crate::lookups::declared_in;
+use crate::fields::find;
+use crate::lookups::{declared_in, is_given};
 use crate::metadata::{Choice, choice_of, read};
 use crate::requests::Action;
 use enc_index::IndexSet;
-use http_header::HeaderValue;
 use std::alloc::{AllocError, Global};
+use std::str::from_utf8;
 
 /// Checks a POST. It has no body and exactly one of a length and its deferral.
 pub(super) fn check_post(
@@ -44,14 +45,13 @@ fn check_metadata(
     ensures { IfOk result (λ v. verdict_shown v ≡ with_metadata (offers set.now) (asking_shown asking.now) declared
         (values asking.now.fields.now (codes "upload-metadata"))) }
 {
-    let mut values = asking.fields.get_all("upload-metadata").iter();
-    let Some(value) = values.next() else {
+    let Some(found) = find(asking.fields, "upload-metadata") else {
         return check_pairs(alloc, asking, set, declared, "");
     };
-    if values.next().is_some() {
+    if is_given(found.rest, "upload-metadata") {
         return Ok(refused(asking, Fault::BadHeader));
     }
-    check_value(alloc, asking, set, declared, value)
+    check_value(alloc, asking, set, declared, found.value)
 }
 
 /// Checks the value of the metadata field.
@@ -60,12 +60,12 @@ fn check_value(
     asking: &Asking<'_>,
     set: &IndexSet,
     declared: Option<u64>,
-    value: &HeaderValue,
+    value: &[u8],
 ) -> Result<Verdict, AllocError>
     ensures { IfOk result (λ v. verdict_shown v ≡ with_pairs (offers set.now) (asking_shown asking.now) declared
-        value.now.bytes (metadata_of value.now.bytes)) }
+        value.now (metadata_of value.now)) }
 {
-    match value.to_str() {
+    match from_utf8(value) {
         Ok(metadata) => check_pairs(alloc, asking, set, declared, metadata),
         Err(_) => Ok(refused(asking, Fault::BadMetadata)),
     }

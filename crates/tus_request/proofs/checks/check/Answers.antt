@@ -12,6 +12,6 @@ returns c =
     let given = values c.args.fields.now in
     let e = checked_is (offers c.args.set.now) (line_shown c.args.line) (values c.args.fields.now)
     (values c.args.fields.now (codes "transfer-encoding"))
-    (values c.args.fields.now (codes "content-length")) (asking_shown c.in_ok-asking.asking) c.in-Some.length
-    (sym c.is_given.ensures ∙ c.if-is_given.false) (sym c.body_length.ensures ∙ c.in-Some.is) c.in_ok-asking.ensures in
+    (values c.args.fields.now (codes "content-length")) (asking_shown c.ask-asking.result) c.in-Some.length
+    (sym c.is_given.ensures ∙ c.if-is_given.false) (sym c.body_length.ensures ∙ c.in-Some.is) c.ask-asking.ensures in
     if_ok_more c.decide.result c.decide.ensures (λ v is. is ∙ e)

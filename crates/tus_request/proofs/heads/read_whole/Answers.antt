@@ -1,12 +1,9 @@
-use Rattle.std.proofs.Common.{rules, ◌≡◌, ◌≤◌, length, arith, inl, inr, Some, ap, sym, ◌∙◌}
-use Rattle.std.specs.List.{flat_map}
-use Rattle.httparse.specs.Grammar.{print_field}
+use Rattle.std.proofs.Common.{rules, ◌≡◌, length, inl, inr, Some, ap, sym, ◌∙◌}
 use Rattle.httparse.specs.Borrowed.{HoldsSomeRequest}
 use Rattle.httparse.specs.Spans.{RequestOverflows}
 use Rattle.enc_model.specs.Indexes.{offers}
 use Rattle.tus_request.specs.CheckParts.{verdict_shown}
-use Rattle.tus_request.proofs.ParseLemmas.{fills, none_where_failed, usable, same_count, fields_within, shown_by}
-use Rattle.tus_request.proofs.ParseLemmas.{same_line, same_verdict}
+use Rattle.tus_request.proofs.ParseLemmas.{fills, none_where_failed, shown_by, same_line, same_verdict}
 use Rattle.tus_request.specs.Answers.{Judged}
 use Rattle.tus_request.proofs.heads.read_whole.Goals as goal
 
@@ -15,24 +12,6 @@ returns-in-Err c =
     let n : length c.new-request.result.headers.now ≡ 64 = ap length c.new-request.ensures.room in
     let over : RequestOverflows (length c.new-request.result.headers.now) c.args.head.now = c.in-Err.ensures.no_room in
     inl (none_where_failed c.args.head.now c.requires (rw n at over), c.no_head-in-Err.ensures)
-
-pub judge-requires-clause-few : goal.judge-requires-clause-few
-judge-requires-clause-few c =
-    let holds : HoldsSomeRequest c.args.head.now c.parse.new.self c.in-Ok-Complete.field-0-0 =
-    rw c.in-Ok-Complete.field-0-is at c.in-Ok-Complete.ensures.complete in
-    let q = c.requires in
-    let f = fills c.args.head.now q.0 q.1 holds.0 _ q.2 holds.1.reads in
-    omega (arith, f.0, same_count _ holds.0.fields holds.1.fields)
-
-pub judge-requires-clause-usable : goal.judge-requires-clause-usable
-judge-requires-clause-usable c =
-    let holds : HoldsSomeRequest c.args.head.now c.parse.new.self c.in-Ok-Complete.field-0-0 =
-    rw c.in-Ok-Complete.field-0-is at c.in-Ok-Complete.ensures.complete in
-    let q = c.requires in
-    let f = fills c.args.head.now q.0 q.1 holds.0 _ q.2 holds.1.reads in
-    let w = fields_within holds.0 in
-    let short : length (flat_map print_field holds.0.fields) ≤ 65535 = omega (arith, f.1, q.2.short, w) in
-    usable _ holds.0.fields holds.1.fields holds.1.reads.0.fields short
 
 pub returns : goal.returns
 returns c =

@@ -1,10 +1,10 @@
-use Rattle.std.proofs.Common.{◌≡◌, map}
+use Rattle.std.proofs.Common.{◌≡◌, drop}
 use Rattle.std.specs.List.{list_any}
 use Rattle.http_header.specs.Token.{lowercase}
 use Rattle.tus_request.specs.Texts.{lists_word}
 use Rattle.tus_request.specs.Fields.{values}
 use Rattle.tus_request.proofs.lookups.lists.Given as goal
 
-abbrev pub invariant-loop-value : goal.invariant-loop-value
-invariant-loop-value l = list_any (lists_word l.word) (map (λ v. v.bytes) l.value-iterator) ≡ list_any
+abbrev pub invariant-loop-field : goal.invariant-loop-field
+invariant-loop-field l = list_any (lists_word l.word) (values (drop l.field-index l.fields) (lowercase l.name)) ≡ list_any
     (lists_word l.word) (values l.fields (lowercase l.name))

@@ -1,4 +1,3 @@
-use Rattle.std.proofs.Common.{rules}
 use Rattle.tus_request.specs.Replies.{reply_patched}
 use Rattle.tus_request.proofs.ReplyLengths.{appended, patched_short}
 use Rattle.tus_request.proofs.replies.reply_patched.Goals as goal

@@ -11,10 +11,10 @@ pub returns-in-Ok : goal.returns-in-Ok
 returns-in-Ok c =
     if_ok_more c.check_pairs.result c.check_pairs.ensures
     (λ v is. is ∙ ap (λ t. with_pairs (offers c.args.set.now) (asking_shown c.args.asking.now) c.args.declared t
-    (metadata_of t)) c.in-Ok.ensures.ok)
+    (metadata_of t)) c.in-Ok.ensures.cases.0)
 
 pub returns-in-Err : goal.returns-in-Err
 returns-in-Err c =
     c.refused.ensures
-    ∙ ap (with_pairs (offers c.args.set.now) (asking_shown c.args.asking.now) c.args.declared c.args.value.now.bytes)
-    (sym (no_metadata c.args.value.now.bytes (λ is. let k = c.in-Err.ensures.succeeds.1 is in absurd (cc))))
+    ∙ ap (with_pairs (offers c.args.set.now) (asking_shown c.args.asking.now) c.args.declared c.args.value.now)
+    (sym (no_metadata c.args.value.now c.in-Err.ensures.cases.0))
