@@ -1,33 +1,16 @@
--- The print of a reply's parts.
-use Rattle.std.specs.Prelude.{ℕ, List, [], ◌++◌, codes}
-use Rattle.std.specs.Fmt.{decimal}
-use Rattle.tus_request.specs.Replies.{header, reply, declared_line, metadata_line, refusal_lines, status_of}
-use Rattle.tus_request.specs.Replies.{options_lines}
-use Rattle.tus_request.specs.declared.replies.parts.Status.{Status}
-use Rattle.tus_request.specs.declared.replies.parts.Status.TheVariants as status
-use Rattle.tus_request.specs.declared.replies.parts.Lines.{Lines}
-use Rattle.tus_request.specs.declared.replies.parts.Lines.TheVariants as lines
-use Rattle.tus_request.specs.declared.replies.parts.Reply.{Reply}
+-- The lines that replies are made of.
+use Rattle.std.specs.Prelude.{◌≡◌, ℕ, List, [], ◌∷◌, ◌++◌, length, take}
+use Rattle.tus_request.specs.declared.replies.parts.Line.{Line}
 
--- The status.
-abbrev pub status_shown : Status → List ℕ
-status_shown status.Okay = codes "200 OK"
-status_shown status.Created = codes "201 Created"
-status_shown status.NoContent = codes "204 No Content"
-status_shown (status.Refused fault) = status_of fault
+-- The bytes of a header line.
+abbrev pub line_shown : Line → List ℕ
+line_shown l = l.name.now ++ (l.value.now ++ l.end.now)
 
--- The headers of this kind of reply.
-abbrev pub lines_shown : Lines → List ℕ
-lines_shown lines.Options = options_lines
-lines_shown (lines.Created number) = header (codes "Location") (codes "/files/" ++ decimal number)
-lines_shown (lines.Shown offset declared metadata) =
-    header (codes "Upload-Offset") (decimal offset)
-    ++ (declared_line declared ++ metadata_line metadata.now)
-lines_shown (lines.Offset offset) = header (codes "Upload-Offset") (decimal offset)
-lines_shown lines.Deleted = []
-lines_shown (lines.Text name) = header (codes "Content-Type") (codes "text/plain; charset=" ++ name.now)
-lines_shown (lines.Refused fault on_files) = refusal_lines fault on_files
+-- The bytes of these lines.
+abbrev pub lines_shown : List Line → List ℕ
+lines_shown [] = []
+lines_shown (line ∷ lines) = line_shown line ++ lines_shown lines
 
--- The reply.
-abbrev pub reply_shown : Reply → List ℕ
-reply_shown r = reply (status_shown r.status) (lines_shown r.lines) r.length r.closes
+-- What was there is there still, at the start.
+abbrev pub Keeps : List ℕ → List ℕ → Type 0
+Keeps old new = take (length old) new ≡ old

@@ -7,12 +7,14 @@ ghost use Rattle.std.specs.Vec.{vec_capacity, vec_len};
 ghost use Rattle.tus_request.specs.Replies.{reply_options, reply_created, reply_head, reply_patched, reply_deleted};
 ghost use Rattle.tus_request.specs.Replies.{reply_text, reply_refused, reply_continue, unless_bare};
 ghost use Rattle.tus_request.specs.Replies.{longest_reply, GrowsBy};
-ghost use Rattle.tus_request.specs.ReplyParts.{reply_shown};
 
 use crate::faults::Fault;
-use enc_labels::name_of;
 use enc_model::Encoding;
-use parts::{Lines, Reply, Status};
+use itoa::Buffer;
+use parts::{
+    append, append_head, declared_line, length_line, location_line, offset_line, refusal_lead,
+    refusal_line, status_of, type_line, whole_line,
+};
 use std::alloc::{AllocError, Global};
 
 mod parts;
@@ -35,13 +37,11 @@ pub fn reply_options(
     ensures err { OnErr result (out.new.items ≡ out.old.items) }
     ensures short { GrowsBy longest_reply out.old.items out.new.items }
 {
-    let reply = Reply {
-        status: Status::NoContent,
-        lines: Lines::Options,
-        length: None,
-        closes,
-    };
-    append(alloc, &reply, out)
+    let own = whole_line(
+        "Tus-Version: 1.0.0\r\nTus-Extension: creation,creation-defer-length,termination\r\n\
+         Tus-Max-Size: 1073741824\r\n",
+    );
+    append("204 No Content", &[own], closes, out)
 }
 
 /// Appends the reply to a POST that created the upload of this number.
@@ -60,13 +60,10 @@ pub fn reply_created(
     ensures err { OnErr result (out.new.items ≡ out.old.items) }
     ensures short { GrowsBy longest_reply out.old.items out.new.items }
 {
-    let reply = Reply {
-        status: Status::Created,
-        lines: Lines::Created(number),
-        length: unless_bare(bare, 0),
-        closes,
-    };
-    append(alloc, &reply, out)
+    let (mut digits, mut size) = (Buffer::new(), Buffer::new());
+    let location = location_line(number, &mut digits);
+    let length = length_line(unless_bare(bare, 0), &mut size);
+    append("201 Created", &[location, length], closes, out)
 }
 
 /// Appends the reply to a HEAD: the upload's offset, its length or that it is deferred, and its metadata.
@@ -88,17 +85,11 @@ pub fn reply_head(
     ensures err { OnErr result (out.new.items ≡ out.old.items) }
     ensures short { GrowsBy longest_reply out.old.items out.new.items }
 {
-    let reply = Reply {
-        status: Status::Okay,
-        lines: Lines::Shown {
-            offset,
-            declared,
-            metadata,
-        },
-        length: unless_bare(bare, 0),
-        closes,
-    };
-    append(alloc, &reply, out)
+    let (mut digits, mut known, mut size) = (Buffer::new(), Buffer::new(), Buffer::new());
+    let offset = offset_line(offset, &mut digits);
+    let declared = declared_line(declared, &mut known);
+    let length = length_line(unless_bare(bare, 0), &mut size);
+    append_head(offset, declared, metadata, length, closes, out)
 }
 
 /// Appends the reply to a PATCH that was accepted; `offset` is the upload's new offset.
@@ -117,13 +108,9 @@ pub fn reply_patched(
     ensures err { OnErr result (out.new.items ≡ out.old.items) }
     ensures short { GrowsBy longest_reply out.old.items out.new.items }
 {
-    let reply = Reply {
-        status: Status::NoContent,
-        lines: Lines::Offset(offset),
-        length: None,
-        closes,
-    };
-    append(alloc, &reply, out)
+    let mut digits = Buffer::new();
+    let offset = offset_line(offset, &mut digits);
+    append("204 No Content", &[offset], closes, out)
 }
 
 /// Appends the reply to a DELETE that deleted its upload.
@@ -141,13 +128,7 @@ pub fn reply_deleted(
     ensures err { OnErr result (out.new.items ≡ out.old.items) }
     ensures short { GrowsBy longest_reply out.old.items out.new.items }
 {
-    let reply = Reply {
-        status: Status::NoContent,
-        lines: Lines::Deleted,
-        length: None,
-        closes,
-    };
-    append(alloc, &reply, out)
+    append("204 No Content", &[], closes, out)
 }
 
 /// Appends the head of the reply to a GET whose text has `length` bytes in the encoding `to`.
@@ -167,13 +148,9 @@ pub fn reply_text(
     ensures err { OnErr result (out.new.items ≡ out.old.items) }
     ensures short { GrowsBy longest_reply out.old.items out.new.items }
 {
-    let reply = Reply {
-        status: Status::Okay,
-        lines: Lines::Text(name_of(to)),
-        length: unless_bare(bare, length),
-        closes,
-    };
-    append(alloc, &reply, out)
+    let mut size = Buffer::new();
+    let length = length_line(unless_bare(bare, length), &mut size);
+    append("200 OK", &[type_line(to), length], closes, out)
 }
 
 /// Appends the reply to a request that is refused.
@@ -193,13 +170,11 @@ pub fn reply_refused(
     ensures err { OnErr result (out.new.items ≡ out.old.items) }
     ensures short { GrowsBy longest_reply out.old.items out.new.items }
 {
-    let reply = Reply {
-        status: Status::Refused(fault),
-        lines: Lines::Refused { fault, on_files },
-        length: unless_bare(bare, 0),
-        closes,
-    };
-    append(alloc, &reply, out)
+    let (mut digits, mut size) = (Buffer::new(), Buffer::new());
+    let lead = whole_line(refusal_lead(fault, on_files));
+    let number = refusal_line(fault, &mut digits);
+    let length = length_line(unless_bare(bare, 0), &mut size);
+    append(status_of(fault), &[lead, number, length], closes, out)
 }
 
 /// Appends `100 Continue`.
@@ -220,13 +195,4 @@ fn unless_bare(bare: bool, length: u64) -> Option<u64>
     ensures { result ≡ unless_bare bare length }
 {
     if bare { None } else { Some(length) }
-}
-
-/// Appends a reply, or leaves `out` unchanged.
-fn append(alloc: Global, reply: &Reply<'_>, out: &mut Vec<u8>) -> Result<(), AllocError>
-    ensures ok { OnOk result (out.new.items ≡ out.old.items ++ reply_shown reply.now) }
-    ensures err { OnErr result (out.new.items ≡ out.old.items) }
-{
-    let text = reply.to_string(alloc)?;
-    out.extend_from_slice(text.as_bytes())
 }

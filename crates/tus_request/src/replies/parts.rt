@@ -1,39 +1,44 @@
-//! The parts of a reply and their print.
-ghost use Rattle.std.specs.Prelude.{◌≡◌, Some};
-ghost use Rattle.tus_request.specs.Replies.{length_line, close_line, declared_line, metadata_line, refusal_lead};
-ghost use Rattle.tus_request.specs.Replies.{status_of};
-ghost use Rattle.tus_request.specs.ReplyParts.{status_shown, lines_shown, reply_shown};
+//! The lines that replies are made of.
+ghost use Rattle.std.specs.Prelude.{◌≡◌, ◌++◌, [], None, codes, OnOk, OnErr};
+ghost use Rattle.std.specs.Fmt.{decimal};
+ghost use Rattle.enc_labels.specs.Labels.{name_of};
+ghost use Rattle.tus_request.specs.Replies.{header, crlf, length_line, close_line, declared_line, metadata_line};
+ghost use Rattle.tus_request.specs.Replies.{status_of, refusal_lead, refusal_line, reply};
+ghost use Rattle.tus_request.specs.ReplyParts.{line_shown, lines_shown, Keeps};
 
 use crate::faults::Fault;
-use std::fmt;
+use enc_labels::name_of;
+use enc_model::Encoding;
+use itoa::Buffer;
+use std::alloc::AllocError;
 
-/// The status of a reply.
+// What stands between the status and a reply's own header lines.
+const COMMON: &str = "\r\nTus-Resumable: 1.0.0\r\nCache-Control: no-store\r\n";
+
+// What stands before the status.
+const FIRST: &str = "HTTP/1.1 ";
+
+/// A line in three texts, or nothing.
 #[derive(Clone, Copy, Drop)]
-pub(crate) enum Status {
-    Okay,
-    Created,
-    NoContent,
-    Refused(Fault),
+pub(super) struct Line<'m> {
+    name: &'m str,
+    value: &'m str,
+    end: &'m str,
 }
 
-impl fmt::Display for Status {
-    ghost output = { λ s. Some (status_shown s) };
-
-    fn fmt<W: fmt::Write>(&self, f: &mut fmt::Formatter<W>) -> fmt::Result {
-        match self {
-            Status::Okay => write!(f, "200 OK"),
-            Status::Created => write!(f, "201 Created"),
-            Status::NoContent => write!(f, "204 No Content"),
-            Status::Refused(fault) => {
-                let status = status_of(*fault);
-                write!(f, "{status}")
-            }
-        }
+/// A line that is one text.
+pub(super) fn whole_line(text: &str) -> Line<'_>
+    ensures { line_shown result ≡ text.now }
+{
+    Line {
+        name: text,
+        value: "",
+        end: "",
     }
 }
 
 /// The status of a refusal.
-fn status_of(fault: Fault) -> &'static str
+pub(super) fn status_of(fault: Fault) -> &'static str
     ensures { result.now ≡ status_of fault }
 {
     match fault {
@@ -51,156 +56,194 @@ fn status_of(fault: Fault) -> &'static str
     }
 }
 
-/// The header lines that only this kind of reply has.
-#[derive(Drop)]
-pub(crate) enum Lines<'m> {
-    Options,
-    Created(u64),
-    Shown {
-        offset: u64,
-        declared: Option<u64>,
-        metadata: &'m str,
-    },
-    Offset(u64),
-    Deleted,
-    Text(&'m str),
-    Refused {
-        fault: Fault,
-        on_files: bool,
-    },
-}
-
-impl fmt::Display for Lines<'_> {
-    ghost output = { λ l. Some (lines_shown l) };
-
-    fn fmt<W: fmt::Write>(&self, f: &mut fmt::Formatter<W>) -> fmt::Result {
-        match self {
-            Lines::Options => write!(
-                f,
-                "Tus-Version: 1.0.0\r\nTus-Extension: creation,creation-defer-length,termination\r\n\
-                 Tus-Max-Size: 1073741824\r\n"
-            ),
-            Lines::Created(number) => write!(f, "Location: /files/{number}\r\n"),
-            Lines::Shown {
-                offset,
-                declared,
-                metadata,
-            } => {
-                let length = DeclaredLine(*declared);
-                let last = MetadataLine(metadata);
-                write!(f, "Upload-Offset: {offset}\r\n{length}{last}")
-            }
-            Lines::Offset(offset) => write!(f, "Upload-Offset: {offset}\r\n"),
-            Lines::Deleted => Ok(()),
-            Lines::Text(name) => write!(f, "Content-Type: text/plain; charset={name}\r\n"),
-            Lines::Refused { fault, on_files } => {
-                let first = RefusalLead(*fault, *on_files);
-                let number = fault.number();
-                write!(f, "{first}X-Refusal: {number}\r\n")
-            }
-        }
+/// The line before `X-Refusal`, for the two refusals that have one.
+pub(super) fn refusal_lead(fault: Fault, on_files: bool) -> &'static str
+    ensures { result.now ≡ refusal_lead fault on_files }
+{
+    match (fault, on_files) {
+        (Fault::TusVersion, _) => "Tus-Version: 1.0.0\r\n",
+        (Fault::BadMethod, true) => "Allow: OPTIONS, POST\r\n",
+        (Fault::BadMethod, false) => "Allow: OPTIONS, HEAD, PATCH, GET, DELETE\r\n",
+        _ => "",
     }
 }
 
-/// A reply without its body. `length` is the value of `Content-Length`, if it has that field.
-#[derive(Drop)]
-pub(crate) struct Reply<'m> {
-    pub(crate) status: Status,
-    pub(crate) lines: Lines<'m>,
-    pub(crate) length: Option<u64>,
-    pub(crate) closes: bool,
+/// The line of a refusal's number.
+pub(super) fn refusal_line(fault: Fault, digits: &mut Buffer) -> Line<'_>
+    ensures { line_shown result ≡ refusal_line fault }
+{
+    Line {
+        name: "X-Refusal: ",
+        value: digits.format(fault.number()),
+        end: "\r\n",
+    }
 }
 
-impl fmt::Display for Reply<'_> {
-    ghost output = { λ r. Some (reply_shown r) };
+/// The line of a new upload's path.
+pub(super) fn location_line(number: u64, digits: &mut Buffer) -> Line<'_>
+    ensures { line_shown result ≡ header (codes "Location") (codes "/files/" ++ decimal number) }
+{
+    Line {
+        name: "Location: /files/",
+        value: digits.format(number),
+        end: "\r\n",
+    }
+}
 
-    fn fmt<W: fmt::Write>(&self, f: &mut fmt::Formatter<W>) -> fmt::Result {
-        let status = self.status;
-        let lines = &self.lines;
-        let length = LengthLine(self.length);
-        let close = CloseLine(self.closes);
-        write!(
-            f,
-            "HTTP/1.1 {status}\r\nTus-Resumable: 1.0.0\r\nCache-Control: no-store\r\n{lines}{length}{close}\r\n"
-        )
+/// The line of a text's type.
+pub(super) fn type_line(to: Encoding) -> Line<'static>
+    ensures { line_shown result ≡ header (codes "Content-Type") (codes "text/plain; charset=" ++ name_of to) }
+{
+    Line {
+        name: "Content-Type: text/plain; charset=",
+        value: name_of(to),
+        end: "\r\n",
+    }
+}
+
+/// The line of an upload's offset.
+pub(super) fn offset_line(offset: u64, digits: &mut Buffer) -> Line<'_>
+    ensures { line_shown result ≡ header (codes "Upload-Offset") (decimal offset) }
+{
+    Line {
+        name: "Upload-Offset: ",
+        value: digits.format(offset),
+        end: "\r\n",
     }
 }
 
 /// The line of an upload's length, or of its deferral.
-#[derive(Drop)]
-struct DeclaredLine(Option<u64>);
-
-impl fmt::Display for DeclaredLine {
-    ghost output = { λ l. Some (declared_line l.0) };
-
-    fn fmt<W: fmt::Write>(&self, f: &mut fmt::Formatter<W>) -> fmt::Result {
-        match self.0 {
-            Some(declared) => write!(f, "Upload-Length: {declared}\r\n"),
-            None => write!(f, "Upload-Defer-Length: 1\r\n"),
-        }
+pub(super) fn declared_line(declared: Option<u64>, digits: &mut Buffer) -> Line<'_>
+    ensures { line_shown result ≡ declared_line declared }
+{
+    match declared {
+        Some(declared) => Line {
+            name: "Upload-Length: ",
+            value: digits.format(declared),
+            end: "\r\n",
+        },
+        None => whole_line("Upload-Defer-Length: 1\r\n"),
     }
 }
 
 /// The line of an upload's metadata, if it has any.
-#[derive(Drop)]
-struct MetadataLine<'m>(&'m str);
-
-impl fmt::Display for MetadataLine<'_> {
-    ghost output = { λ l. Some (metadata_line l.0.now) };
-
-    fn fmt<W: fmt::Write>(&self, f: &mut fmt::Formatter<W>) -> fmt::Result {
-        let metadata = self.0;
-        if metadata.is_empty() {
-            return Ok(());
-        }
-        write!(f, "Upload-Metadata: {metadata}\r\n")
+pub(super) fn metadata_line(metadata: &str) -> Line<'_>
+    ensures { line_shown result ≡ metadata_line metadata.now }
+{
+    if metadata.is_empty() {
+        return whole_line("");
     }
-}
-
-/// The line before `X-Refusal`, for the two refusals that have one.
-#[derive(Drop)]
-struct RefusalLead(Fault, bool);
-
-impl fmt::Display for RefusalLead {
-    ghost output = { λ l. Some (refusal_lead l.0 l.1) };
-
-    fn fmt<W: fmt::Write>(&self, f: &mut fmt::Formatter<W>) -> fmt::Result {
-        match (self.0, self.1) {
-            (Fault::TusVersion, _) => write!(f, "Tus-Version: 1.0.0\r\n"),
-            (Fault::BadMethod, true) => write!(f, "Allow: OPTIONS, POST\r\n"),
-            (Fault::BadMethod, false) => write!(f, "Allow: OPTIONS, HEAD, PATCH, GET, DELETE\r\n"),
-            _ => Ok(()),
-        }
+    Line {
+        name: "Upload-Metadata: ",
+        value: metadata,
+        end: "\r\n",
     }
 }
 
 /// The line of the body's length, if the reply has it.
-#[derive(Drop)]
-struct LengthLine(Option<u64>);
-
-impl fmt::Display for LengthLine {
-    ghost output = { λ l. Some (length_line l.0) };
-
-    fn fmt<W: fmt::Write>(&self, f: &mut fmt::Formatter<W>) -> fmt::Result {
-        match self.0 {
-            Some(length) => write!(f, "Content-Length: {length}\r\n"),
-            None => Ok(()),
-        }
+pub(super) fn length_line(length: Option<u64>, digits: &mut Buffer) -> Line<'_>
+    ensures { line_shown result ≡ length_line length }
+{
+    match length {
+        Some(length) => Line {
+            name: "Content-Length: ",
+            value: digits.format(length),
+            end: "\r\n",
+        },
+        None => whole_line(""),
     }
 }
 
-/// The line of the connection's close.
-#[derive(Drop)]
-struct CloseLine(bool);
-
-impl fmt::Display for CloseLine {
-    ghost output = { λ l. Some (close_line l.0) };
-
-    fn fmt<W: fmt::Write>(&self, f: &mut fmt::Formatter<W>) -> fmt::Result {
-        if self.0 {
-            write!(f, "Connection: close\r\n")
-        } else {
-            Ok(())
-        }
+/// The line of the connection's close, if it closes, and the empty line at the end.
+fn last_lines(closes: bool) -> &'static str
+    ensures { result.now ≡ close_line closes ++ crlf }
+{
+    if closes {
+        "Connection: close\r\n\r\n"
+    } else {
+        "\r\n"
     }
+}
+
+/// How many bytes a reply with these lines has.
+fn room_for(status: &str, lines: &[Line<'_>], closes: bool) -> usize {
+    let mut room = (FIRST.len() + COMMON.len() + last_lines(closes).len()).saturating_add(
+        status.len(),
+    );
+    for line in lines {
+        room = room
+            .saturating_add(line.name.len())
+            .saturating_add(line.value.len())
+            .saturating_add(line.end.len());
+    }
+    room
+}
+
+/// Appends a line. An error may leave a part of it.
+fn put(line: Line<'_>, out: &mut Vec<u8>) -> Result<(), AllocError>
+    ensures ok { OnOk result (out.new.items ≡ out.old.items ++ line_shown line.entry) }
+    ensures err { OnErr result (Keeps out.old.items out.new.items) }
+{
+    out.extend_from_slice(line.name.as_bytes())?;
+    out.extend_from_slice(line.value.as_bytes())?;
+    out.extend_from_slice(line.end.as_bytes())
+}
+
+/// Appends a reply. An error may leave a part of it.
+fn print(
+    status: &str,
+    lines: &[Line<'_>],
+    closes: bool,
+    out: &mut Vec<u8>,
+) -> Result<(), AllocError>
+    ensures ok { OnOk result (out.new.items ≡ out.old.items ++ reply status.now (lines_shown lines.now) None closes) }
+    ensures err { OnErr result (Keeps out.old.items out.new.items) }
+{
+    let first = Line {
+        name: FIRST,
+        value: status,
+        end: COMMON,
+    };
+    put(first, out)?;
+    for line in lines {
+        put(*line, out)?;
+    }
+    out.extend_from_slice(last_lines(closes).as_bytes())
+}
+
+/// Appends a reply with these lines of its own, or leaves `out` unchanged. Room is made for all of it at once.
+pub(super) fn append(
+    status: &str,
+    lines: &[Line<'_>],
+    closes: bool,
+    out: &mut Vec<u8>,
+) -> Result<(), AllocError>
+    ensures ok { OnOk result (out.new.items ≡ out.old.items ++ reply status.now (lines_shown lines.now) None closes) }
+    ensures err { OnErr result (out.new.items ≡ out.old.items) }
+{
+    let before = out.len();
+    out.reserve(room_for(status, lines, closes))?;
+    let printed = print(status, lines, closes, out);
+    if printed.is_err() {
+        out.truncate(before);
+    }
+    printed
+}
+
+/// Appends the reply to a HEAD, or leaves `out` unchanged.
+pub(super) fn append_head<'m>(
+    offset: Line<'m>,
+    declared: Line<'m>,
+    metadata: &'m str,
+    length: Line<'m>,
+    closes: bool,
+    out: &mut Vec<u8>,
+) -> Result<(), AllocError>
+    ensures ok { OnOk result (out.new.items ≡ out.old.items ++ reply (codes "200 OK")
+        (line_shown offset.entry ++ (line_shown declared.entry ++ (metadata_line metadata.now
+        ++ (line_shown length.entry ++ [])))) None closes) }
+    ensures err { OnErr result (out.new.items ≡ out.old.items) }
+{
+    let lines = [offset, declared, metadata_line(metadata), length];
+    append("200 OK", &lines, closes, out)
 }

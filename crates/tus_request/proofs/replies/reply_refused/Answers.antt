@@ -1,12 +1,19 @@
-use Rattle.std.proofs.Common.{rules}
-use Rattle.tus_request.specs.Replies.{reply_refused}
+use Rattle.std.proofs.Common.{◌∙◌, ap}
+use Rattle.tus_request.specs.Replies.{reply_refused, length_line}
 use Rattle.tus_request.proofs.ReplyLengths.{appended, refused_short}
+use Rattle.tus_request.proofs.ReplyTexts.{told, refused_lines}
 use Rattle.tus_request.proofs.replies.reply_refused.Goals as goal
 
-pub returns-clause-short : goal.returns-clause-short
-returns-clause-short c =
-    appended c.append.result c.args.out.now.items
-    (reply_refused c.args.fault c.args.on_files c.args.bare c.args.closes)
-    c.append.new.out.items
-    (refused_short c.args.fault c.args.on_files c.args.bare c.args.closes)
-    (search rules) c.append.ensures.err
+pub returns : goal.returns
+returns c =
+    let ok = told c.append.result c.args.out.now.items c.append.new.out.items _
+    (reply_refused c.args.fault c.args.on_files c.args.bare c.args.closes) c.append.ensures.ok
+    (refused_lines c.args.fault c.args.on_files c.args.bare c.args.closes _ _ _ _ c.status_of.ensures
+    (c.whole_line-lead.ensures ∙ c.refusal_lead.ensures) c.refusal_line-number.ensures
+    (c.length_line-length.ensures ∙ ap length_line c.unless_bare.ensures)) in
+    record {
+      ok = ok;
+      err = c.append.ensures.err;
+      short = appended c.append.result c.args.out.now.items (reply_refused c.args.fault c.args.on_files c.args.bare c.args.closes)
+          c.append.new.out.items (refused_short c.args.fault c.args.on_files c.args.bare c.args.closes) ok c.append.ensures.err;
+    }

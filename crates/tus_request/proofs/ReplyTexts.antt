@@ -1,0 +1,104 @@
+-- The lines of a reply, one after the other, are the reply.
+use Rattle.std.specs.Prelude.{◌≡◌, ℕ, ◌+◌, ◌≤◌, ◌<◌, Bool, List, [], ◌∷◌, ◌++◌, length, take, Option, None, codes, OnOk, Result}
+use Rattle.std.proofs.Common.{append_assoc, ap, sym, ◌∙◌, subst, get_or, arith}
+use Rattle.std.proofs.lemmas.List.{append-nil, length-append, take_more, take-take}
+use Rattle.std.proofs.Math.Seq.{take-append_seam}
+use Rattle.std.specs.Fmt.{decimal}
+use Rattle.tus_request.specs.declared.faults.Fault.{Fault}
+use Rattle.tus_request.specs.Replies.{crlf, header, close_line, length_line, declared_line, metadata_line, refusal_lead}
+use Rattle.tus_request.specs.Replies.{refusal_line, status_of, unless_bare, reply, reply_refused, reply_head}
+use Rattle.tus_request.specs.ReplyParts.{line_shown, lines_shown, Keeps}
+use Rattle.tus_request.specs.declared.replies.parts.Line.{Line}
+
+-- one more line
+lines_append : (lines : List Line) (line : Line) → lines_shown (lines ++ line ∷ []) ≡ lines_shown lines ++ line_shown line
+lines_append [] line = append-nil (line_shown line)
+lines_append (l ∷ lines) line =
+    ap (λ t. line_shown l ++ t) (lines_append lines line)
+    ∙ sym (append_assoc (line_shown l) (lines_shown lines) (line_shown line))
+
+lines_more : (lines : List Line) (i : ℕ) (d : Line) → i < length lines
+    → lines_shown (take (i + 1) lines) ≡ lines_shown (take i lines) ++ line_shown (get_or lines i d)
+lines_more lines i d inside =
+    ap lines_shown (take_more lines i d inside) ∙ lines_append (take i lines) (get_or lines i d)
+
+-- what was appended may be taken off again
+pub keeps : (old more new : List ℕ) → new ≡ old ++ more → Keeps old new
+keeps old more new is = ap (take (length old)) is ∙ take-append_seam old more
+
+pub keeps_on : (old mid new more : List ℕ) → mid ≡ old ++ more → Keeps mid new → Keeps old new
+keeps_on old mid new more is kept =
+    let few : length old ≤ length mid = omega (arith, ap length is, length-append old more) in
+    sym (take-take (length old) (length mid) new few) ∙ ap (take (length old)) kept ∙ keeps old more mid is
+
+-- a reply's first line and what all replies have, and these lines
+abbrev pub begun : List ℕ → List ℕ → List ℕ
+begun status shown =
+    codes "HTTP/1.1 " ++ (status ++ (crlf ++ (header (codes "Tus-Resumable") (codes "1.0.0")
+    ++ (header (codes "Cache-Control") (codes "no-store") ++ shown))))
+
+begun_more : (old status shown more new : List ℕ) → new ≡ (old ++ begun status shown) ++ more
+    → new ≡ old ++ begun status (shown ++ more)
+begun_more old status shown more new is =
+    let common = crlf ++ (header (codes "Tus-Resumable") (codes "1.0.0")
+    ++ (header (codes "Cache-Control") (codes "no-store") ++ shown)) in
+    is ∙ append_assoc old (begun status shown) more
+    ∙ ap (λ t. old ++ (codes "HTTP/1.1 " ++ t)) (append_assoc status common more)
+
+-- one more line of a reply
+pub print_more : (old status : List ℕ) (lines : List Line) (i : ℕ) (d : Line) (mid new : List ℕ) → i < length lines
+    → mid ≡ old ++ begun status (lines_shown (take i lines)) → new ≡ mid ++ line_shown (get_or lines i d)
+    → new ≡ old ++ begun status (lines_shown (take (i + 1) lines))
+print_more old status lines i d mid new inside was is =
+    begun_more old status (lines_shown (take i lines)) (line_shown (get_or lines i d)) new
+    (is ∙ ap (λ t. t ++ line_shown (get_or lines i d)) was)
+    ∙ ap (λ t. old ++ begun status t) (sym (lines_more lines i d inside))
+
+-- what is appended, in other words
+pub told : {X E : Type 0} (r : Result X E) (old new text said : List ℕ) → OnOk r (new ≡ old ++ text) → text ≡ said
+    → OnOk r (new ≡ old ++ said)
+told r old new text said ok same = subst (λ t. OnOk r (new ≡ old ++ t)) same ok
+
+-- the line of the body's length may be told apart from a reply's own lines
+pub with_length : (status own size : List ℕ) (n : Option ℕ) (closes : Bool) → size ≡ length_line n
+    → reply status (own ++ (size ++ [])) None closes ≡ reply status own n closes
+with_length status own size n closes is =
+    let e : size ++ [] ≡ length_line n = append-nil size ∙ is in
+    rw e (ap (λ t. codes "HTTP/1.1 " ++ (status ++ (crlf ++ (header (codes "Tus-Resumable") (codes "1.0.0")
+    ++ (header (codes "Cache-Control") (codes "no-store") ++ t))))) (append_assoc own (length_line n)
+    (close_line closes ++ crlf)))
+
+pub one_line : (status own line size : List ℕ) (n : Option ℕ) (closes : Bool) → own ≡ line → size ≡ length_line n
+    → reply status (own ++ (size ++ [])) None closes ≡ reply status line n closes
+one_line status own line size n closes same is =
+    ap (λ t. reply status (t ++ (size ++ [])) None closes) same ∙ with_length status line size n closes is
+
+-- the same for two and for three lines of its own
+pub two_lines : (status a b size : List ℕ) (n : Option ℕ) (closes : Bool) → size ≡ length_line n
+    → reply status (a ++ (b ++ (size ++ []))) None closes ≡ reply status (a ++ b) n closes
+two_lines status a b size n closes is =
+    ap (λ t. reply status t None closes) (sym (append_assoc a b (size ++ [])))
+    ∙ with_length status (a ++ b) size n closes is
+
+pub three_lines : (status a b c size : List ℕ) (n : Option ℕ) (closes : Bool) → size ≡ length_line n
+    → reply status (a ++ (b ++ (c ++ (size ++ [])))) None closes ≡ reply status (a ++ (b ++ c)) n closes
+three_lines status a b c size n closes is =
+    ap (λ t. reply status (a ++ t) None closes) (sym (append_assoc b c (size ++ [])))
+    ∙ two_lines status a (b ++ c) size n closes is
+
+pub refused_lines : (fault : Fault) (on_files bare closes : Bool) (status first number size : List ℕ)
+    → status ≡ status_of fault → first ≡ refusal_lead fault on_files → number ≡ refusal_line fault
+    → size ≡ length_line (unless_bare bare 0)
+    → reply status (first ++ (number ++ (size ++ []))) None closes ≡ reply_refused fault on_files bare closes
+refused_lines fault on_files bare closes status first number size stands leads line is =
+    rw (stands, leads, line) (two_lines (status_of fault) (refusal_lead fault on_files) (refusal_line fault) size
+    (unless_bare bare 0) closes is)
+
+pub head_lines : (n : ℕ) (declared : Option ℕ) (metadata : List ℕ) (bare closes : Bool) (offset known size : List ℕ)
+    → offset ≡ header (codes "Upload-Offset") (decimal n) → known ≡ declared_line declared
+    → size ≡ length_line (unless_bare bare 0)
+    → reply (codes "200 OK") (offset ++ (known ++ (metadata_line metadata ++ (size ++ [])))) None closes
+    ≡ reply_head n declared metadata bare closes
+head_lines n declared metadata bare closes offset known size first second is =
+    rw (first, second) (three_lines (codes "200 OK") (header (codes "Upload-Offset") (decimal n)) (declared_line declared)
+    (metadata_line metadata) size (unless_bare bare 0) closes is)

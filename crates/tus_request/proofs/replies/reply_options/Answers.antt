@@ -1,0 +1,11 @@
+use Rattle.std.proofs.Common.{ap, ◌∙◌, None}
+use Rattle.std.specs.Prelude.{codes}
+use Rattle.std.proofs.lemmas.List.{append-nil}
+use Rattle.tus_request.specs.Replies.{reply, reply_options}
+use Rattle.tus_request.proofs.ReplyTexts.{told}
+use Rattle.tus_request.proofs.replies.reply_options.Goals as goal
+
+pub returns-clause-ok : goal.returns-clause-ok
+returns-clause-ok c =
+    told c.append.result c.args.out.now.items c.append.new.out.items _ (reply_options c.args.closes) c.append.ensures.ok
+    (ap (λ t. reply (codes "204 No Content") t None c.args.closes) (append-nil _ ∙ c.whole_line-own.ensures))
