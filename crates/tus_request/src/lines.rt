@@ -4,6 +4,8 @@ ghost use Rattle.std.specs.List.{position};
 ghost use Rattle.tus_request.specs.Lines.{head_extent, is_empty_line};
 ghost use Rattle.tus_request.specs.Extents.{shown};
 
+use memchr::memchr;
+
 /// The extent of a head.
 #[derive(Clone, Copy, Drop)]
 pub(crate) struct Reach {
@@ -21,10 +23,10 @@ fn is_empty(line: &[u8]) -> bool
 }
 
 /// The position of the first LF.
-fn line_feed(bytes: &[u8]) -> Option<usize>
+pub(crate) fn line_feed(bytes: &[u8]) -> Option<usize>
     ensures { result ≡ position (λ b. b == 10) bytes.now }
 {
-    bytes.iter().position(|b| *b == b'\n')
+    memchr(b'\n', bytes)
 }
 
 /// The extent of the head at the start of the bytes, if it is finished.

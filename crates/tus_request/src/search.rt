@@ -1,6 +1,9 @@
-//! The search for a head's end, byte by byte.
-ghost use Rattle.std.specs.Prelude.{◌≡◌};
+//! The search for a head's end.
+ghost use Rattle.std.specs.Prelude.{◌≡◌, ◌<◌, length};
 ghost use Rattle.tus_request.specs.Searches.{after_byte, after_bytes, is_over};
+ghost use Rattle.tus_request.specs.declared.search.Search.TheVariants.{Text};
+
+use crate::lines::line_feed;
 
 /// The state of the search.
 #[derive(Clone, Copy, Drop)]
@@ -41,17 +44,31 @@ impl Search {
         }
     }
 
-    /// The state after more bytes. Those after the head's end aren't read.
+    /// The state after more bytes. Those after the head's end aren't read, and a line that isn't empty is passed at
+    /// once.
     pub(crate) fn after(self, bytes: &[u8]) -> Self
         ensures { result ≡ after_bytes self bytes.now }
     {
         let mut search = self;
-        for byte in bytes {
-            if search.is_over() {
-                return search;
+        let mut rest = bytes;
+        while let Some((byte, more)) = rest.split_first() {
+            match search {
+                Search::Over => return search,
+                Search::Text => (search, rest) = after_line(rest),
+                _ => (search, rest) = (search.after_byte(*byte), more),
             }
-            search = search.after_byte(*byte);
         }
         search
+    }
+}
+
+/// The state after the rest of a line that isn't empty, and the bytes after it.
+fn after_line(bytes: &[u8]) -> (Search, &[u8])
+    ensures same { after_bytes result.0 result.1.now ≡ after_bytes Text bytes.now }
+    ensures shorter { 0 < length bytes.now → length result.1.now < length bytes.now }
+{
+    match line_feed(bytes) {
+        Some(at) => (Search::Start, &bytes[at + 1..]),
+        None => (Search::Text, &[]),
     }
 }
