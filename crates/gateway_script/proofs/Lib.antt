@@ -4,5 +4,7 @@ pub mod Passing
 pub mod Seen
 pub mod Turns
 pub mod Reaching
+pub mod Cuts
 pub mod Ending
+pub mod Hexes
 pub mod Sure

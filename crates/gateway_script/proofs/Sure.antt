@@ -1,5 +1,5 @@
 -- What is written where the disk is known to be honest is the history's own output.
-use Rattle.std.proofs.Common.{◌≡◌, ℕ, true, List, [], ◌∷◌, ◌++◌, drop, inl, inr, ⊎_elim, ap, sym, subst, ◌∙◌}
+use Rattle.std.proofs.Common.{◌≡◌, ℕ, true, List, [], ◌∷◌, ◌++◌, drop, inl, inr, ⊎_elim, ap, sym, ◌∙◌}
 use Rattle.tus_action.proofs.Pieces.{all_appended}
 use Rattle.tus_session.specs.History.{State, Marked, Outcome, Gave, Done, Refused, step, history, conn_in}
 use Rattle.gateway_script.specs.Script.{written}

@@ -2,7 +2,7 @@
 use Rattle.std.specs.Io.KnownBytes.{Appends}
 use Rattle.std.proofs.Common.{◌≡◌, Bool, true, false, ℕ, List, [], ◌∷◌, ◌++◌, Option, Some, None, Result, Ok, Err, inr}
 use Rattle.std.proofs.Common.{refl, sym}
-use Rattle.std.proofs.Common.{subst, ap, ◌∙◌, append-nil}
+use Rattle.std.proofs.Common.{subst, ap, ◌∙◌}
 use Rattle.tus_session.specs.History.{Event, Mark, Served, Outcome, Gave, Done, Refused, step, conn_in}
 use Rattle.tus_session.specs.declared.answers.Answer.{Answer}
 use Rattle.tus_session.specs.declared.errors.SessionError.{SessionError}

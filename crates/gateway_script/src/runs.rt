@@ -4,6 +4,8 @@ ghost use Rattle.std.specs.Io.BufRead.{take_through};
 ghost use Rattle.upload_rules.specs.Answers.{Counts};
 ghost use Rattle.tus_session.specs.History.{State, most_open};
 ghost use Rattle.gateway_script.specs.Script.{Run, obeyed, cut_from, run_lines, script_lines, is_long, is_bad};
+ghost use Rattle.tus_request.specs.Reading.{before};
+ghost use Rattle.gateway_script.specs.Lines.{IsLine};
 ghost use Rattle.gateway_script.specs.Shown.{order_shown};
 ghost use Rattle.gateway_script.specs.Runs.{view, IsAt, Went, CutOne, LineRan, Ends};
 
@@ -12,8 +14,8 @@ use crate::faults::{CallFault, ScriptFault};
 use crate::lines::give;
 use crate::orders::{Order, read_order};
 use crate::streams::CountedWrite;
+use memchr::memchr;
 use std::alloc::Global;
-use tus_request::texts::{after, prefix};
 use tus_session::{Connections, MOST_OPEN, SessionError};
 
 /// The most bytes of a line: a CR counts, the LF doesn't.
@@ -70,16 +72,36 @@ fn cut_open<C: Connections, W: CountedWrite>(
 fn first_line(script: &[u8]) -> &[u8]
     ensures line { result.now ≡ take_through 10 script.now }
     ensures within { length result.now ≤ length script.now }
+    ensures one { IsLine result.now }
 {
-    let rest = after(script, b'\n');
-    &script[..script.len() - rest.len()]
+    match memchr(b'\n', script) {
+        Some(at) => &script[..at + 1],
+        None => script,
+    }
+}
+
+/// A line without its LF.
+fn text_of(line: &[u8]) -> &[u8]
+    requires { IsLine line.now }
+    ensures { result.now ≡ before 10 line.now }
+{
+    if line.is_empty() {
+        return line;
+    }
+    let last = line.len() - 1;
+    if line[last] == b'\n' {
+        &line[..last]
+    } else {
+        line
+    }
 }
 
 /// Whether a line that begins at this byte of the script is too long, or makes the script so.
 fn too_long(start: u64, line: &[u8]) -> bool
+    requires { IsLine line.now }
     ensures { result ≡ is_long start line.now }
 {
-    prefix(line, b'\n').len() > MAX_LINE || start.saturating_add(line.len() as u64) > MAX_SCRIPT
+    text_of(line).len() > MAX_LINE || start.saturating_add(line.len() as u64) > MAX_SCRIPT
 }
 
 /// Whether a line asks for nothing that there is.
@@ -98,6 +120,7 @@ fn run_line<C: Connections, W: CountedWrite>(
     start: u64,
     line: &[u8],
 ) -> Result<(), ScriptFault>
+    requires { IsLine line.now }
     ensures does { (sure : Bool) (before : C) (st : State) (r : Run) (prefix : Option (List ℕ)) (lines : List (List ℕ))
         → IsAt (view C.Connections sure before core.old st (W.contents writer.old) prefix) r
         → LineRan (view C.Connections sure before core.new st
@@ -109,7 +132,7 @@ fn run_line<C: Connections, W: CountedWrite>(
     if too_long(start, line) {
         return Err(ScriptFault::Script(number));
     }
-    let order = read_order(alloc, prefix(line, b'\n'))?;
+    let order = read_order(alloc, text_of(line))?;
     if is_no_order(&order) {
         return Err(ScriptFault::Script(number));
     }

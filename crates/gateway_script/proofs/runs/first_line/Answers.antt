@@ -1,13 +1,17 @@
-use Rattle.std.proofs.Common.{◌≤◌, ◌-◌, length, List, ℕ, take, sym, subst, ap, ◌∙◌}
-use Rattle.gateway_script.proofs.Ending.{line_prefix, after_size}
+use Rattle.std.proofs.Common.{◌≡◌, ◌+◌, Bool, true, false, refl, arith}
+use Rattle.gateway_script.proofs.Cuts.{line_to, line_all}
 use Rattle.gateway_script.proofs.runs.first_line.Goals as goal
 
-pub slice_bounds-result-count : goal.slice_bounds-result-count
-slice_bounds-result-count c =
-    subst (λ (l : List ℕ). length l ≤ length c.args.script.now) (sym c.after-rest.ensures)
-    (after_size c.args.script.now)
+not_true : (b : Bool) → (b ≡ true → ⊥) → b ≡ false
+not_true true h = absurd (h refl)
+not_true false h = refl
 
-pub returns-clause-line : goal.returns-clause-line
-returns-clause-line c =
-    ap (λ (l : List ℕ). take (length c.args.script.now - length l) c.args.script.now) c.after-rest.ensures
-    ∙ line_prefix c.args.script.now
+pub returns-in-Some-clause-line : goal.returns-in-Some-clause-line
+returns-in-Some-clause-line c =
+    let first = c.in-Some.ensures in
+    line_to c.in-Some.at (c.in-Some.at + 1) c.args.script.now (omega arith) first.0.high
+    (λ k l. not_true _ (first.0.before k (omega arith) l)) first.1
+
+pub returns-in-None-clause-line : goal.returns-in-None-clause-line
+returns-in-None-clause-line c =
+    line_all c.args.script.now (λ k l. not_true _ (c.in-None.ensures k (omega arith) l))

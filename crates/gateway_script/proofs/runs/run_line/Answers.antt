@@ -23,7 +23,7 @@ returns-then-is_no_order-clause-does g c = λ sure before st r prefix lines at.
     line_bad (view g.C.Connections sure before c.args.core.now st (g.W.CountedWrite.contents c.args.writer.now) prefix)
     c.args.number c.args.start line lines r at
     (or_second (is_long c.args.start line) _
-    (ap is_bad (sym (wanted c.args.line.now c.prefix.result.now _ c.prefix.ensures c.in_ok-order.ensures))
+    (ap is_bad (sym (wanted c.args.line.now c.text_of.result.now _ c.text_of.ensures c.in_ok-order.ensures))
     ∙ (sym c.is_no_order.ensures ∙ c.if-is_no_order.true)))
 
 pub returns-clause-does : goal.returns-clause-does
@@ -31,9 +31,9 @@ returns-clause-does g c = λ sure before st r prefix lines at.
     let line = c.args.line.now in
     line_ran (view g.C.Connections sure before c.obey.new.core st (g.W.CountedWrite.contents c.obey.new.writer) prefix)
     c.args.number c.args.start line lines r (order_shown c.in_ok-order.order)
-    (wanted c.args.line.now c.prefix.result.now _ c.prefix.ensures c.in_ok-order.ensures) at.up
+    (wanted c.args.line.now c.text_of.result.now _ c.text_of.ensures c.in_ok-order.ensures) at.up
     (or_neither (is_long c.args.start line) (is_bad (order_in line)) (sym c.too_long.ensures ∙ c.if-too_long.false)
-    (ap is_bad (sym (wanted c.args.line.now c.prefix.result.now _ c.prefix.ensures c.in_ok-order.ensures))
+    (ap is_bad (sym (wanted c.args.line.now c.text_of.result.now _ c.text_of.ensures c.in_ok-order.ensures))
     ∙ (sym c.is_no_order.ensures ∙ c.if-is_no_order.false)))
     (c.in_ok-obey.ensures.does sure before st r prefix at)
 
@@ -44,9 +44,9 @@ returns-in_err-obey-clause-does g c = λ sure before st r prefix lines at.
     let p = err_from_is_err_and c.from_residual-in_err-obey.result c.from_residual-in_err-obey.ensures.1 in
     rw (p.1, p.2) (line_stops v c.in_err-obey.field-0.0 c.args.number c.args.start line lines r
     (order_shown c.in_ok-order.order)
-    (wanted c.args.line.now c.prefix.result.now _ c.prefix.ensures c.in_ok-order.ensures) at.up
+    (wanted c.args.line.now c.text_of.result.now _ c.text_of.ensures c.in_ok-order.ensures) at.up
     (or_neither (is_long c.args.start line) (is_bad (order_in line)) (sym c.too_long.ensures ∙ c.if-too_long.false)
-    (ap is_bad (sym (wanted c.args.line.now c.prefix.result.now _ c.prefix.ensures c.in_ok-order.ensures))
+    (ap is_bad (sym (wanted c.args.line.now c.text_of.result.now _ c.text_of.ensures c.in_ok-order.ensures))
     ∙ (sym c.is_no_order.ensures ∙ c.if-is_no_order.false)))
     (c.in_err-obey.ensures.does sure before st r prefix at))
 
