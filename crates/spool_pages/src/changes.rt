@@ -48,7 +48,7 @@ pub fn pages_of_new(
     Ok(pages)
 }
 
-// Whether the page with this number is among them. `last` is the number of one that is.
+// Whether the page with this number is among them. `last` is the number of a page that is among them.
 fn is_there(pages: &Pages, page: u32, last: u32) -> bool
     requires { IsSome (page_in last pages.now) }
     ensures { IsTrue result ↔ IsSome (page_in page pages.now) }
@@ -56,7 +56,7 @@ fn is_there(pages: &Pages, page: u32, last: u32) -> bool
     page == last || pages.has(page)
 }
 
-// Adds a blank page with this number, unless it is there. `last` is the number of one that is.
+// Adds a blank page with this number, unless it is there. `last` is the number of a page that is among them.
 fn make_room(pages: &mut Pages, page: u32, last: u32) -> Result<(), AllocError>
     requires { IsSome (page_in last pages.old) }
     ensures there { OnOk result (IsSome (page_in page pages.new)) }

@@ -8,7 +8,8 @@ use Rattle.std.proofs.lemmas.Bool.Decides.{nat_tests}
 use Rattle.memchr.specs.Find.{IsFirstByte}
 use Rattle.tus_request.proofs.LineLemmas.{true_or_false}
 
-pub none_passes : (p : ℕ → Bool) (xs : List ℕ) → position p xs ≡ None → (k : ℕ) → k < length xs → p (get_or xs k 0) ≡ false
+pub none_passes : (p : ℕ → Bool) (xs : List ℕ) → position p xs ≡ None → (k : ℕ) → k < length xs
+    → p (get_or xs k 0) ≡ false
 none_passes p xs e k inside =
     let past : length xs ≤ position_or_len p xs =
     elim (true_or_false (nat_lt (position_or_len p xs) (length xs))) [

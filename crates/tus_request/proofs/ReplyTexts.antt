@@ -1,5 +1,6 @@
 -- The lines of a reply, one after the other, are the reply.
-use Rattle.std.specs.Prelude.{◌≡◌, ℕ, ◌+◌, ◌≤◌, ◌<◌, Bool, List, [], ◌∷◌, ◌++◌, length, take, Option, None, codes, OnOk, Result}
+use Rattle.std.specs.Prelude.{◌≡◌, ℕ, ◌+◌, ◌≤◌, ◌<◌, Bool, List, [], ◌∷◌, ◌++◌, length, take, Option, None, codes}
+use Rattle.std.specs.Prelude.{OnOk, Result}
 use Rattle.std.proofs.Common.{append_assoc, ap, sym, ◌∙◌, subst, get_or, arith}
 use Rattle.std.proofs.lemmas.List.{append-nil, length-append, take_more, take-take}
 use Rattle.std.proofs.Math.Seq.{take-append_seam}
@@ -11,7 +12,8 @@ use Rattle.tus_request.specs.ReplyParts.{line_shown, lines_shown, Keeps}
 use Rattle.tus_request.specs.declared.replies.parts.Line.{Line}
 
 -- one more line
-lines_append : (lines : List Line) (line : Line) → lines_shown (lines ++ line ∷ []) ≡ lines_shown lines ++ line_shown line
+lines_append : (lines : List Line) (line : Line)
+    → lines_shown (lines ++ line ∷ []) ≡ lines_shown lines ++ line_shown line
 lines_append [] line = append-nil (line_shown line)
 lines_append (l ∷ lines) line =
     ap (λ t. line_shown l ++ t) (lines_append lines line)
@@ -100,5 +102,5 @@ pub head_lines : (n : ℕ) (declared : Option ℕ) (metadata : List ℕ) (bare c
     → reply (codes "200 OK") (offset ++ (known ++ (metadata_line metadata ++ (size ++ [])))) None closes
     ≡ reply_head n declared metadata bare closes
 head_lines n declared metadata bare closes offset known size first second is =
-    rw (first, second) (three_lines (codes "200 OK") (header (codes "Upload-Offset") (decimal n)) (declared_line declared)
-    (metadata_line metadata) size (unless_bare bare 0) closes is)
+    rw (first, second) (three_lines (codes "200 OK") (header (codes "Upload-Offset") (decimal n))
+    (declared_line declared) (metadata_line metadata) size (unless_bare bare 0) closes is)

@@ -1,4 +1,5 @@
-use Rattle.std.proofs.Common.{◌∙◌, ◌+◌, ◌/◌, ◌<◌, ℕ, option_copied, IsSome, get_or, below_more, refl, sym, ap, subst, rules}
+use Rattle.std.proofs.Common.{◌∙◌, ◌+◌, ◌/◌, ◌<◌, ℕ, option_copied, IsSome, get_or, below_more, refl, sym, ap, subst}
+use Rattle.std.proofs.Common.{rules}
 use Rattle.std.proofs.Common.{arith}
 use Rattle.spool_journal.specs.Image.{journal_pages}
 use Rattle.spool_pages.specs.Changes.{page_in, row_number, SaysSlot}
@@ -26,7 +27,8 @@ loop-block-preserved c =
       there = below_more _ _
           (λ i lt. still_some c.row_number-page.result c.loop-block.pages c.make_room.new.pages made.there made.others
           (row_number c.args.layout.now (get_or c.args.blocks.now i 0)) (c.loop-block.invariant.there i lt))
-          (subst (λ (page : ℕ). IsSome (page_in page c.make_room.new.pages)) c.row_number-page.ensures.number made.there);
+          (subst (λ (page : ℕ). IsSome (page_in page c.make_room.new.pages)) c.row_number-page.ensures.number
+          made.there);
     }
 
 pub returns-clause-some : goal.returns-clause-some

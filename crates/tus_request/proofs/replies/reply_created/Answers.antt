@@ -17,5 +17,6 @@ returns c =
       ok = ok;
       err = c.append.ensures.err;
       short = appended c.append.result c.args.out.now.items (reply_created c.args.number c.args.bare c.args.closes)
-          c.append.new.out.items (created_short c.args.number c.args.bare c.args.closes c.ranges.number.fits) ok c.append.ensures.err;
+          c.append.new.out.items (created_short c.args.number c.args.bare c.args.closes c.ranges.number.fits) ok
+          c.append.ensures.err;
     }

@@ -14,7 +14,9 @@ returns c =
     record {
       ok = ok;
       err = c.append_head.ensures.err;
-      short = appended c.append_head.result c.args.out.now.items (reply_head c.args.offset c.args.declared c.args.metadata.now c.args.bare c.args.closes)
-          c.append_head.new.out.items (head_short c.args.offset c.args.declared c.args.metadata.now c.args.bare c.args.closes c.ranges.offset.fits
+      short = appended c.append_head.result c.args.out.now.items
+          (reply_head c.args.offset c.args.declared c.args.metadata.now c.args.bare c.args.closes)
+          c.append_head.new.out.items
+          (head_short c.args.offset c.args.declared c.args.metadata.now c.args.bare c.args.closes c.ranges.offset.fits
           (search rules) c.requires) ok c.append_head.ensures.err;
     }

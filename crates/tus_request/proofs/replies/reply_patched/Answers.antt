@@ -15,5 +15,6 @@ returns c =
       ok = ok;
       err = c.append.ensures.err;
       short = appended c.append.result c.args.out.now.items (reply_patched c.args.offset c.args.closes)
-          c.append.new.out.items (patched_short c.args.offset c.args.closes c.ranges.offset.fits) ok c.append.ensures.err;
+          c.append.new.out.items (patched_short c.args.offset c.args.closes c.ranges.offset.fits) ok
+          c.append.ensures.err;
     }

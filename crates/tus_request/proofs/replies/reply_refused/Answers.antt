@@ -14,6 +14,8 @@ returns c =
     record {
       ok = ok;
       err = c.append.ensures.err;
-      short = appended c.append.result c.args.out.now.items (reply_refused c.args.fault c.args.on_files c.args.bare c.args.closes)
-          c.append.new.out.items (refused_short c.args.fault c.args.on_files c.args.bare c.args.closes) ok c.append.ensures.err;
+      short = appended c.append.result c.args.out.now.items
+          (reply_refused c.args.fault c.args.on_files c.args.bare c.args.closes)
+          c.append.new.out.items (refused_short c.args.fault c.args.on_files c.args.bare c.args.closes) ok
+          c.append.ensures.err;
     }

@@ -16,6 +16,9 @@ returns c =
     record {
       ok = ok;
       err = c.append.ensures.err;
-      short = appended c.append.result c.args.out.now.items (reply_text c.args.to c.args.«length» c.args.bare c.args.closes)
-          c.append.new.out.items (text_short c.args.to c.args.«length» c.args.bare c.args.closes c.ranges.«length».fits) ok c.append.ensures.err;
+      short = appended c.append.result c.args.out.now.items
+          (reply_text c.args.to c.args.«length» c.args.bare c.args.closes)
+          c.append.new.out.items
+          (text_short c.args.to c.args.«length» c.args.bare c.args.closes c.ranges.«length».fits) ok
+          c.append.ensures.err;
     }
