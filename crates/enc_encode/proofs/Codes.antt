@@ -14,7 +14,8 @@ use Rattle.enc_model.specs.declared.Encoding.TheVariants as encodings
 use Rattle.enc_model.specs.declared.Mode.{Mode}
 use Rattle.enc_model.specs.declared.Mode.TheVariants.{Html, Fatal}
 use Rattle.enc_model.specs.Index.{Index}
-use Rattle.enc_model.specs.Encode.{Shift, InAscii, InRoman, InJis, Written, Wrote, Restore, Unmappable, Encoder, Coded, led_by}
+use Rattle.enc_model.specs.Encode.{Shift, InAscii, InRoman, InJis, Written, Wrote, Restore, Unmappable, Encoder}
+use Rattle.enc_model.specs.Encode.{Coded, led_by}
 use Rattle.enc_model.specs.Encode.{reference, coded, joined, all_codes, after_written, settled, code_within}
 use Rattle.enc_model.specs.Encode.{plain_code, code_of, IsNoRestore, Tables, is_jis, shift_jis_encoder, euc_jp_encoder}
 use Rattle.enc_model.specs.Encode.{iso2022_encoder, single_encoder, utf8_bytes, utf8_encoder, encoder}

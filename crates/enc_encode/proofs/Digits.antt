@@ -1,6 +1,7 @@
 -- A reference that is made from its end.
 use Rattle.std.proofs.Common.{ℕ, zero, suc, ◌≡◌, ◌<◌, ◌≤◌, ◌+◌, ◌-◌, ◌/◌, ◌%◌, ◌^◌, List, [], ◌∷◌, ◌++◌}
-use Rattle.std.proofs.Common.{sym, ◌∙◌, ap, subst, append_assoc, arith, length, length-append, take, drop, set, replicate}
+use Rattle.std.proofs.Common.{sym, ◌∙◌, ap, subst, append_assoc, arith, length, length-append, take, drop, set}
+use Rattle.std.proofs.Common.{replicate}
 use Rattle.std.proofs.lemmas.Fmt.{decimal_digit, decimal_step}
 use Rattle.std.proofs.lemmas.List.{drop-set, length-set, length-drop, length-replicate}
 use Rattle.std.proofs.Math.Nat.{pow-succ'}

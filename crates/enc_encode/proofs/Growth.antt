@@ -1,6 +1,7 @@
 -- A vector that grows in parts.
 use Rattle.std.proofs.Common.{ℕ, List, [], ◌++◌, ◌≡◌, ◌<◌, ◌≤◌, ◌+◌, refl, sym, ◌∙◌, ap, append_assoc, append-nil}
 use Rattle.std.proofs.Common.{arith, length, length-append, Vec, Result, Ok, Err, vec_capacity, vec_len, if◌then◌else◌}
+use Rattle.std.proofs.Common.{false, true≢false, take, drop, take-append-drop}
 use Rattle.std.specs.Result.{IsErrAnd, OnErr, is_ok}
 use Rattle.enc_model.specs.Transcode.{GrownByPrefix}
 use Rattle.enc_encode.specs.Growth.{Appended, Stopped, Grew}
@@ -35,6 +36,21 @@ module _ {Z : Type 0} where
   at_once old x new (Ok v) e a f = record { items = e; capacity = a }
   at_once old x new (Err v) e a f = record {
     items = grown_none old.items x new.items e;
+    full = let l = old.ok.0 in omega (arith, f, l);
+  }
+
+  -- by a call that is refused, and then by as many as there is room for
+  pub filled : {X E : Type 0} (old : Vec ℕ Z) (x : List ℕ) (n : ℕ) (mid new : Vec ℕ Z) (r : Result X E)
+      → is_ok r ≡ false → mid.items ≡ (if is_ok r then old.items ++ x else old.items)
+      → OnErr r (vec_capacity old < vec_len old + length x) → new.items ≡ mid.items ++ take n x → Grew old x new r
+  filled old x n mid new (Ok v) refused m f e = absurd (true≢false refused)
+  filled old x n mid new (Err v) refused m f e = record {
+    items = record {
+      prefix = take n x;
+      rest = drop n x;
+      parts = sym (take-append-drop n x);
+      out = e ∙ ap (λ z. z ++ take n x) m;
+    };
     full = let l = old.ok.0 in omega (arith, f, l);
   }
 

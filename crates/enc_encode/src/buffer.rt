@@ -12,7 +12,7 @@ ghost use Rattle.enc_encode.specs.State.{shift_of};
 ghost use Rattle.enc_model.specs.Encode.{encoder, reference};
 ghost use Rattle.enc_model.specs.Indexes.{tables};
 
-use crate::append::append;
+use crate::append::append_most;
 use crate::letters::Letters;
 use crate::pair_runs::put_pairs;
 use crate::reference::put_reference;
@@ -92,7 +92,7 @@ impl Buffer {
         ensures ok { OnOk result (Appended out.old self.old out.new × (self.new ≡ [])) }
         ensures err { OnErr result (Stopped out.old self.old out.new) }
     {
-        append(&self.bytes[..self.len], out)?;
+        append_most(&self.bytes[..self.len], out)?;
         self.len = 0;
         Ok(())
     }

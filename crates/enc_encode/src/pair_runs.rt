@@ -16,9 +16,9 @@ use enc_model::Encoding;
 /// What the three bytes of a character count, beside its code point, where the first counts 4,096 and the second 64.
 const THREE_BYTES: u32 = 0xE0 * 4096 + 0x80 * 64 + 0x80;
 
-/// The two bytes of a text's first character, whose first three bytes these are, if it is one that `pair` has. No other
-/// character's bytes count as much as those of U+3000 to U+FF60. The two ranges stand apart so that a code point of the
-/// first isn't tested once more.
+/// The two bytes of a text's first character, whose first three bytes these are, if it is one that `pair` has. No
+/// character outside U+3000 to U+FF60 has first three bytes that count from 3000 to FF60. The two ranges stand apart,
+/// so that no code point is tested for a surrogate.
 #[inline(always)]
 fn first_pair(
     set: &IndexSet,

@@ -53,7 +53,8 @@ loop-count-preserved c =
       IsUtf8-past_char rest left first.c v.3 first.parts,
       run_more _ text rest left (take c.args.from c.args.held.now) (take place held) _ (lead ∷ trail ∷ []) v.3 v.4
           first
-          (ap (λ k. take k (set (set held place lead) (place + 1) trail)) next ∙ take_two_set held place lead trail room),
+          (ap (λ k. take k (set (set held place lead) (place + 1) trail)) next
+          ∙ take_two_set held place lead trail room),
     )
 
 pub range_from-requires : goal.range_from-requires
