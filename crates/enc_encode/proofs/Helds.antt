@@ -89,14 +89,14 @@ module _ {Z : Type 0} where
   kept_given code old held mid new (Err (Unencodable c)) p q = (q.0, both p q.1)
 
 module _ (t : Tables) (e : EncoderState) {Z : Type 0} where
-  pub kept_then : (x y : List ℕ) (old : Vec ℕ Z) (mid : Vec ℕ Z) (kept : List ℕ) (new : Vec ℕ Z) (last : List ℕ)
-      (s : ShiftState) (r : Result ShiftState EncodeError) →
-      Kept (code_from t e x) old [] mid kept (Ok s) → Kept (coded (encoder t e.to) e.mode (shift_of s) y) mid kept new
-      last r → Kept (code_from t e (x ++ y)) old [] new last r
-  kept_then x y old mid kept new last s r p q =
+  pub kept_then : (x y : List ℕ) (old : Vec ℕ Z) (held : List ℕ) (mid : Vec ℕ Z) (kept : List ℕ) (new : Vec ℕ Z)
+      (last : List ℕ) (s : ShiftState) (r : Result ShiftState EncodeError) →
+      Kept (code_from t e x) old held mid kept (Ok s) → Kept (coded (encoder t e.to) e.mode (shift_of s) y) mid kept new
+      last r → Kept (code_from t e (x ++ y)) old held new last r
+  kept_then x y old held mid kept new last s r p q =
       let a = code_from t e x in
       rw (coded_both (encoder t e.to) (encoder_steady t e.to) e.mode e.shift x y p.0, ← p.1)
-      (kept_after a (coded (encoder t e.to) e.mode (shift_of s) y) old [] mid kept new last r p.2 q)
+      (kept_after a (coded (encoder t e.to) e.mode (shift_of s) y) old held mid kept new last r p.2 q)
 
 -- the bytes that switch to another set of characters, and then those of a character
 pub twice_kept : {Z : Type 0} (t : Tables) (e : EncoderState) (to : Encoding) (s : ShiftState) (c : ℕ) (b : Bytes)

@@ -26,9 +26,9 @@ use Rattle.enc_encode.specs.Held.{Passed, Kept, HeldPrefix, IsOwnPrefix, own_byt
 use Rattle.enc_encode.specs.Reasons.{Gave}
 use Rattle.enc_encode.specs.State.{shift_of, shifted, EncoderState, code_from}
 use Rattle.enc_encode.proofs.Codes.{own_code}
-use Rattle.enc_encode.specs.Runs.{RunPrefix, Stays}
+use Rattle.enc_encode.specs.Runs.{IsCoded, RunPrefix}
 use Rattle.enc_encode.proofs.Helds.{all_held, held_more, kept_given, kept_then, kept_error, nothing_appended}
-use Rattle.enc_encode.proofs.RunPrefixes.{char_own, char_one, run_code}
+use Rattle.enc_encode.proofs.RunPrefixes.{char_own, char_one, coded_run}
 use Rattle.enc_encode.proofs.Runs.{gave_nothing, gave_stop}
 
 -- LANES
@@ -126,16 +126,16 @@ module _ (t : Tables) (e : EncoderState) {Z : Type 0} where
       }
 
   -- characters whose bytes are known
-  pub run_held : (text rest : List ℕ) (s : ShiftState) (out : Vec ℕ Z) (held kept : List ℕ)
-      → RunPrefix (Stays (encoder t e.to) (shift_of s)) text rest held kept →
+  pub coded_held : (text rest : List ℕ) (s : ShiftState) (out : Vec ℕ Z) (held kept : List ℕ)
+      → RunPrefix (IsCoded t e.to e.mode (shift_of s)) text rest held kept →
       HeldPrefix (code_from t (shifted e (shift_of s))) text rest out held out kept (Ok s)
-  run_held text rest s out held kept p =
+  coded_held text rest s out held kept p =
       let code : code_from t (shifted e (shift_of s)) (chars p.prefix) ≡ record {
         bytes = p.bytes;
         state = shift_of s;
         fault = None;
       } =
-      run_code t e.to e.mode (shift_of s) (chars p.prefix) p.bytes p.given in
+      coded_run t e.to e.mode (shift_of s) (chars p.prefix) p.bytes p.given in
       record {
         prefix = p.prefix;
         parts = p.parts;
@@ -157,18 +157,18 @@ module _ (t : Tables) (e : EncoderState) {Z : Type 0} where
   }
 
   -- one prefix more
-  pub prefix_then : (text rest left : List ℕ) (old mid : Vec ℕ Z) (kept : List ℕ) (new : Vec ℕ Z) (last : List ℕ)
-      (s : ShiftState) (r : Result ShiftState EncodeError) →
-      HeldPrefix (code_from t e) text rest old [] mid kept (Ok s)
+  pub prefix_then : (text rest left : List ℕ) (old : Vec ℕ Z) (held : List ℕ) (mid : Vec ℕ Z) (kept : List ℕ)
+      (new : Vec ℕ Z) (last : List ℕ) (s : ShiftState) (r : Result ShiftState EncodeError) →
+      HeldPrefix (code_from t e) text rest old held mid kept (Ok s)
       → HeldPrefix (code_from t (shifted e (shift_of s))) rest
       left mid kept new last r →
-      HeldPrefix (code_from t e) text left old [] new last r
-  prefix_then text rest left old mid kept new last s r p q = record {
+      HeldPrefix (code_from t e) text left old held new last r
+  prefix_then text rest left old held mid kept new last s r p q = record {
     prefix = p.prefix ++ q.prefix;
     parts = p.parts ∙ ap (λ z. p.prefix ++ z) q.parts ∙ sym (append_assoc p.prefix q.prefix left);
     own = IsUtf8-append p.prefix q.prefix p.own q.own;
-    code = subst (λ z. Kept (code_from t e z) old [] new last r) (sym (chars-append p.prefix q.prefix p.own))
-        (kept_then t e (chars p.prefix) (chars q.prefix) old mid kept new last s r p.code q.code);
+    code = subst (λ z. Kept (code_from t e z) old held new last r) (sym (chars-append p.prefix q.prefix p.own))
+        (kept_then t e (chars p.prefix) (chars q.prefix) old held mid kept new last s r p.code q.code);
   }
 
   -- an error in a prefix is one of the text

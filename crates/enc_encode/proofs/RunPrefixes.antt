@@ -12,10 +12,12 @@ use Rattle.enc_model.proofs.Gathered.{ascii_chars, ascii_utf8}
 use lib.Utf8.{encode}
 use Rattle.enc_model.specs.declared.Encoding.{Encoding}
 use Rattle.enc_model.specs.declared.Mode.{Mode}
-use Rattle.enc_model.specs.Encode.{Shift, Encoder, Tables, all_codes, code_of, coded, encoder}
+use Rattle.enc_model.specs.Encode.{Shift, Encoder, Coded, Tables, all_codes, code_of, coded, encoder}
 use Rattle.enc_model.proofs.Coding.{coded_is}
+use Rattle.enc_model.proofs.Transcoding.{coded_both}
 use Rattle.enc_model.proofs.Steady.{encoder_steady}
-use Rattle.enc_encode.specs.Runs.{Stays, FirstGiven, AllGiven, RunPrefix}
+use Rattle.enc_encode.specs.Singles.{AreSingles, IsSingle}
+use Rattle.enc_encode.specs.Runs.{IsCoded, Stays, FirstGiven, AllGiven, RunPrefix}
 
 -- ONE CHARACTER
 
@@ -51,6 +53,20 @@ pub run_code : (t : Tables) (e : Encoding) (mode : Mode) (s : Shift) (cs bytes :
 run_code t e mode s cs bytes p =
     coded_is (encoder t e) (encoder_steady t e) mode s cs ∙ all_stay (encoder t e) mode s cs bytes p
 
+pub stays_coded : (t : Tables) (e : Encoding) (mode : Mode) (s : Shift) (c : ℕ) (b : List ℕ)
+    → Stays (encoder t e) s c b → IsCoded t e mode s c b
+stays_coded t e mode s c b h = run_code t e mode s (c ∷ []) b (b, [], sym (append-nil b), h, refl)
+
+pub coded_run : (t : Tables) (e : Encoding) (mode : Mode) (s : Shift) (cs bytes : List ℕ)
+    → AllGiven (IsCoded t e mode s) cs bytes →
+    coded (encoder t e) mode s cs ≡ record { bytes = bytes; state = s; fault = None }
+coded_run t e mode s [] bytes p =
+    coded_is (encoder t e) (encoder_steady t e) mode s [] ∙ rw p refl
+coded_run t e mode s (c ∷ cs) bytes p =
+    let h : coded (encoder t e) mode s (c ∷ []) ≡ record { bytes = p.0; state = s; fault = None } = p.3 in
+    coded_both (encoder t e) (encoder_steady t e) mode s (c ∷ []) cs (ap (λ (r : Coded). r.fault) h)
+    ∙ rw (h, coded_run t e mode s cs p.1 p.4, p.2) refl
+
 -- A FRONT
 
 all_more : (gives : ℕ → List ℕ → Type 0) (cs bytes : List ℕ) (c : ℕ) (b : List ℕ) → AllGiven gives cs bytes
@@ -81,6 +97,20 @@ run_weaker gives are text rest held new h p = record {
   kept = p.kept;
   given = all_weaker gives are h (chars p.prefix) p.bytes p.given;
 }
+
+-- what a single-byte encoding has
+pub singles_coded : (t : Tables) (e : Encoding) (mode : Mode) (s : Shift) (at : List ℕ) → AreSingles (encoder t e) at
+    → (text rest held new : List ℕ) → RunPrefix (IsSingle at) text rest held new
+    → RunPrefix (IsCoded t e mode s) text rest held new
+singles_coded t e mode s at are text rest held new =
+    run_weaker (IsSingle at) (IsCoded t e mode s) text rest held new
+    (λ c b h. stays_coded t e mode s c b (are s c b h))
+
+-- what an encoder writes in its state
+pub stays_run : (t : Tables) (e : Encoding) (mode : Mode) (s : Shift) (text rest held new : List ℕ)
+    → RunPrefix (Stays (encoder t e) s) text rest held new → RunPrefix (IsCoded t e mode s) text rest held new
+stays_run t e mode s text rest held new =
+    run_weaker (Stays (encoder t e) s) (IsCoded t e mode s) text rest held new (stays_coded t e mode s)
 
 module _ (gives : ℕ → List ℕ → Type 0) where
   -- no character yet

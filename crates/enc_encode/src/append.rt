@@ -27,7 +27,7 @@ pub fn append_most(bytes: &[u8], out: &mut Vec<u8>) -> Result<(), AllocError>
     ensures grew { Grew out.old bytes.now out.new result }
     ensures full { OnErr result (vec_capacity out.old ≤ length out.new.items) }
 {
-    let room = out.capacity().saturating_sub(out.len());
+    let room = out.capacity() - out.len();
     let appended = out.extend_from_slice(bytes);
     if appended.is_err() {
         fill(&bytes[..room.min(bytes.len())], out);

@@ -1,14 +1,15 @@
 //! Bytes that are gathered before they are appended.
 
 ghost use Rattle.std.specs.Prelude.{◌≡◌, ◌<◌, ◌≤◌, ◌+◌, ◌++◌, ◌∷◌, [], ℕ, OnOk, OnErr, IfSome, length};
-ghost use Rattle.std.specs.Prelude.{take};
+ghost use Rattle.std.specs.Prelude.{take, true, vec_capacity};
 ghost use Rattle.enc_encode.specs.Code.{bytes_of};
 ghost use Rattle.enc_encode.specs.Growth.{Appended, Stopped};
 ghost use Rattle.enc_encode.specs.Held.{Passed};
 ghost use Rattle.enc_encode.specs.Letters.{AreLetters};
-ghost use Rattle.enc_encode.specs.Runs.{RunPrefix, Stays};
+ghost use Rattle.enc_encode.specs.Runs.{IsCoded, RunPrefix, Stays};
 ghost use Rattle.enc_encode.specs.Singles.{AreSingles, FewPointers, IsSingle};
 ghost use Rattle.enc_encode.specs.State.{shift_of};
+ghost use Rattle.enc_model.specs.declared.Mode.TheVariants.{Html};
 ghost use Rattle.enc_model.specs.Encode.{encoder, reference};
 ghost use Rattle.enc_model.specs.Indexes.{tables};
 
@@ -16,11 +17,12 @@ use crate::append::append_most;
 use crate::letters::Letters;
 use crate::pair_runs::put_pairs;
 use crate::reference::put_reference;
+use crate::reference_runs::put_references;
 use crate::shift::ShiftState;
 use crate::single_runs::{put_last_ascii, put_run};
 use crate::written::Bytes;
 use enc_index::{IndexSet, Pointers};
-use enc_model::Encoding;
+use enc_model::{Encoding, Mode};
 use std::alloc::AllocError;
 use std::marker::Model;
 
@@ -45,6 +47,16 @@ impl Model for Buffer {
     ghost view = { λ b. take b.len b.bytes };
 
     ghost invariant = { λ b. b.len ≤ 2048 };
+}
+
+/// Whether a text may go on with more that stands for single bytes, after its start made so many bytes of so many: with
+/// ASCII. What isn't ASCII there has just been refused.
+#[inline(always)]
+fn goes_on(from: usize, end: usize, rest: &str) -> bool
+    requires { from ≤ end }
+    ensures { result ≡ true → from < end }
+{
+    from < end && rest.as_bytes().first().is_some_and(|byte| *byte < 0x80)
 }
 
 impl Buffer {
@@ -87,10 +99,12 @@ impl Buffer {
         }
     }
 
-    /// Appends all bytes to a vector, and is empty then.
+    /// Appends all bytes to a vector, and is empty then; or where there is no memory for them, as many as there is room
+    /// for.
     pub fn flush(&mut self, out: &mut Vec<u8>) -> Result<(), AllocError>
         ensures ok { OnOk result (Appended out.old self.old out.new × (self.new ≡ [])) }
         ensures err { OnErr result (Stopped out.old self.old out.new) }
+        ensures full { OnErr result (vec_capacity out.old ≤ length out.new.items) }
     {
         append_most(&self.bytes[..self.len], out)?;
         self.len = 0;
@@ -128,7 +142,7 @@ impl Buffer {
         let mut rest = text;
         while len < ROOM {
             let (after, end) = put_run(&mut self.bytes, len, letters, pointers, rest);
-            let stops = end == len;
+            let stops = !goes_on(len, end, after);
             len = end;
             rest = after;
             if stops {
@@ -158,13 +172,43 @@ impl Buffer {
         rest
     }
 
+    /// Puts the codes of characters at a text's start after the others: bytes of those that a single-byte encoding has,
+    /// and in html mode references of unmappable ones. Gives the rest of the text.
+    #[inline(always)]
+    fn push_coded<'a>(
+        &mut self,
+        to: Encoding,
+        set: &IndexSet,
+        mode: Mode,
+        pointers: &Pointers,
+        letters: Letters,
+        shift: ShiftState,
+        text: &'a str,
+    ) -> &'a str
+        requires singles { AreSingles (encoder (tables set.now) to) pointers.now }
+        requires few { FewPointers pointers.now }
+        requires letters { AreLetters pointers.now letters.low letters.byte letters.count }
+        ensures { RunPrefix (IsCoded (tables set.now) to mode (shift_of shift)) text.now result.now self.old self.new }
+    {
+        let mut rest = self.push_singles(letters, pointers, text);
+        while mode == Mode::Html {
+            let after = self.push_references(set, to, shift, rest);
+            if after.len() >= rest.len() {
+                return after;
+            }
+            rest = self.push_singles(letters, pointers, after);
+        }
+        rest
+    }
+
     /// Puts the bytes of characters at a text's start after the others: those that a single-byte encoding has, by the
-    /// table of its pointers, or else pairs. Gives the rest of the text.
+    /// table of its pointers, with references in html mode; or else pairs. Gives the rest of the text.
     #[inline(always)]
     pub fn push_run<'a>(
         &mut self,
         to: Encoding,
         set: &IndexSet,
+        mode: Mode,
         singles: Option<&Pointers>,
         letters: Letters,
         shift: ShiftState,
@@ -173,13 +217,29 @@ impl Buffer {
         requires singles { IfSome singles (λ p. AreSingles (encoder (tables set.now) to) p.now) }
         requires few { IfSome singles (λ p. FewPointers p.now) }
         requires letters { IfSome singles (λ p. AreLetters p.now letters.low letters.byte letters.count) }
-        ensures { RunPrefix (Stays (encoder (tables set.now) to) (shift_of shift)) text.now result.now self.old
-            self.new }
+        ensures { RunPrefix (IsCoded (tables set.now) to mode (shift_of shift)) text.now result.now self.old self.new }
     {
         match singles {
-            Some(pointers) => self.push_singles(letters, pointers, text),
+            Some(pointers) => self.push_coded(to, set, mode, pointers, letters, shift, text),
             None => self.push_pairs(set, to, shift, text),
         }
+    }
+
+    /// Puts the references of characters at a text's start after the others, in html mode: of as many as are
+    /// unmappable one after the other, and as there is room for. Gives the rest of the text.
+    #[inline(always)]
+    pub fn push_references<'a>(
+        &mut self,
+        set: &IndexSet,
+        to: Encoding,
+        shift: ShiftState,
+        text: &'a str,
+    ) -> &'a str
+        ensures { RunPrefix (IsCoded (tables set.now) to Html (shift_of shift)) text.now result.now self.old self.new }
+    {
+        let (rest, len) = put_references(&mut self.bytes, self.len, set, to, shift, text);
+        self.len = len;
+        rest
     }
 
     /// Sees to room for so many bytes as are put in at once.

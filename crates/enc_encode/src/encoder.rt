@@ -7,6 +7,7 @@ ghost use Rattle.std.specs.List.{prefix_len};
 ghost use Rattle.std.specs.Str.{chars};
 ghost use Rattle.enc_encode.specs.State.{EncoderState, shift_of, code_of_shift, code_of_shift_of, shifted, coder};
 ghost use Rattle.enc_encode.specs.State.{code_from};
+ghost use Rattle.enc_encode.specs.Code.{written_of};
 ghost use Rattle.enc_encode.specs.Growth.{NoRoom};
 ghost use Rattle.enc_encode.specs.Held.{Kept, HeldPrefix, IsOwnPrefix, own_byte};
 ghost use Rattle.enc_encode.specs.Reasons.{Gave, Explains, reason_of};
@@ -229,7 +230,8 @@ impl Encoder {
         Ok(())
     }
 
-    /// Puts a character's code after bytes that are held, or appends both, and gives the state that it leads to.
+    /// Puts a character's code after bytes that are held, or appends both, and gives the state that it leads to. What
+    /// the encoder gives for the character at first is given.
     #[inline(always)]
     fn hold(
         &self,
@@ -237,20 +239,17 @@ impl Encoder {
         set: &IndexSet,
         shift: ShiftState,
         c: char,
+        first: Written,
         held: &mut Buffer,
         out: &mut Vec<u8>,
     ) -> Result<ShiftState, EncodeError>
-        requires { to ≡ self.now.to }
+        requires same { to ≡ self.now.to }
+        requires first { written_of first ≡ encoder (tables set.now) to (shift_of shift) c }
         ensures { Kept (coded (encoder (tables set.now) self.now.to) self.now.mode (shift_of shift) (c ∷ [])) out.old
             held.old out.new held.new result }
     {
-        let first = written(set, to, shift, c);
         if let Written::Wrote(bytes, next) = first {
             held.hold(bytes, out)?;
-            return Ok(next);
-        }
-        if let (Mode::Html, Written::Unmappable(bytes, next, d)) = (self.mode, first) {
-            held.hold_reference(bytes, d, out)?;
             return Ok(next);
         }
         if let Written::Restore(bytes, between) = first {
@@ -264,8 +263,44 @@ impl Encoder {
         self.encode(set, shift, c, out)
     }
 
-    /// Puts the code of a text's start after bytes that are held, or appends both: of ASCII in lanes, or else of one
-    /// character. Gives the state that it leads to, and the rest of the text.
+    /// Puts the code of a text's first character after bytes that are held, or appends both. Where that is a reference,
+    /// those of the unmappable characters behind it go with it. Gives the state that it leads to, and
+    /// the rest of the text.
+    #[inline(always)]
+    fn hold_first<'a>(
+        &self,
+        to: Encoding,
+        set: &IndexSet,
+        shift: ShiftState,
+        text: &'a str,
+        held: &mut Buffer,
+        out: &mut Vec<u8>,
+    ) -> Result<(ShiftState, &'a str), EncodeError>
+        requires same { to ≡ self.now.to }
+        requires some { 0 < length text.now }
+        ensures shorter { IfOk result (λ r. length r.1.now < length text.now) }
+        ensures ok { IfOk result (λ r. HeldPrefix (code_from (tables set.now) (shifted self.now (shift_of shift)))
+            text.now r.1.now out.old held.old out.new held.new (Ok r.0)) }
+        ensures err { IfErr result
+            (λ e. (rest : List ℕ) × HeldPrefix (code_from (tables set.now) (shifted self.now (shift_of shift)))
+            text.now rest out.old held.old out.new held.new (Err e)) }
+    {
+        let mut chars = text.chars();
+        let Some(c) = chars.next() else {
+            unreachable!()
+        };
+        let first = written(set, to, shift, c);
+        if let (Mode::Html, Written::Unmappable(bytes, next, d)) = (self.mode, first) {
+            held.hold_reference(bytes, d, out)?;
+            let rest = held.push_references(set, to, next, chars.as_str());
+            return Ok((next, rest));
+        }
+        let next = self.hold(to, set, shift, c, first, held, out)?;
+        Ok((next, chars.as_str()))
+    }
+
+    /// Puts the code of a text's start after bytes that are held, or appends both: of ASCII in lanes, or else of a
+    /// character or more. Gives the state that it leads to, and the rest of the text.
     #[inline(always)]
     fn hold_prefix<'a>(
         &self,
@@ -290,14 +325,7 @@ impl Encoder {
             held.push_front(*lanes, prefix);
             return Ok((shift, &text[prefix..]));
         }
-        let mut chars = text.chars();
-        match chars.next() {
-            Some(c) => {
-                let next = self.hold(to, set, shift, c, held, out)?;
-                Ok((next, chars.as_str()))
-            }
-            None => unreachable!(),
-        }
+        self.hold_first(to, set, shift, text, held, out)
     }
 
     /// Appends the codes of a text's characters, and gives the state that they lead to. For a single-byte encoding the
@@ -323,7 +351,7 @@ impl Encoder {
         while !rest.is_empty() {
             let (next, after) = self.hold_prefix(to, set, shift, rest, &mut held, out)?;
             shift = next;
-            rest = held.push_run(to, set, singles, letters, shift, after);
+            rest = held.push_run(to, set, self.mode, singles, letters, shift, after);
         }
         held.flush(out)?;
         Ok(shift)

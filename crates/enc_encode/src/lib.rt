@@ -13,6 +13,7 @@ mod iso2022;
 mod letters;
 mod pair_runs;
 mod reference;
+mod reference_runs;
 mod shift;
 mod single_runs;
 mod sink;

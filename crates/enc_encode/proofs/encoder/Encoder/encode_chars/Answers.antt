@@ -1,9 +1,10 @@
-use Rattle.std.proofs.Common.{ap, Ok, Err}
+use Rattle.std.proofs.Common.{ap, subst, [], Ok, Err}
 use Rattle.std.proofs.lemmas.Result.{err_from_is_err_and}
 use Rattle.std.specs.Str.{chars}
 use Rattle.enc_model.specs.Indexes.{tables}
-use Rattle.enc_encode.specs.State.{EncoderState, code_from}
-use Rattle.enc_encode.proofs.Prefixes.{prefix_none, prefix_then, prefix_error, prefix_all, left_text, run_held}
+use Rattle.enc_encode.specs.Runs.{IsCoded, RunPrefix}
+use Rattle.enc_encode.specs.State.{EncoderState, shift_of, code_from}
+use Rattle.enc_encode.proofs.Prefixes.{prefix_none, prefix_then, prefix_error, prefix_all, left_text, coded_held}
 use Rattle.enc_encode.proofs.Helds.{flushed, unflushed}
 use Rattle.enc_encode.proofs.encoder.Encoder.encode_chars.Goals as goal
 
@@ -25,7 +26,7 @@ returns-in_err-next c =
     let stop = c.in_err-next.ensures.err in
     let new = c.hold_prefix.new in
     rw (p.1, p.2) (prefix_error t e run stop.0 c.args.out.now new.out new.held d
-    (prefix_then t e run c.loop-rest.rest.now stop.0 c.args.out.now c.loop-rest.out c.loop-rest.held new.out new.held
+    (prefix_then t e run c.loop-rest.rest.now stop.0 c.args.out.now [] c.loop-rest.out c.loop-rest.held new.out new.held
     c.loop-rest.shift (Err d) c.loop-rest.invariant.1 stop.1))
 
 pub push_run-rest-requires-clause-singles : goal.push_run-rest-requires-clause-singles
@@ -46,11 +47,14 @@ loop-rest-preserved c =
     let kept = c.push_run-rest.new.self in
     let runs = c.push_run-rest.ensures in
     let text = left_text rest more.prefix after c.loop-rest.invariant.0 more.own more.parts in
-    let by_prefix = prefix_then t e run rest after old c.loop-rest.out c.loop-rest.held new.out new.held
+    let by_prefix = prefix_then t e run rest after old [] c.loop-rest.out c.loop-rest.held new.out new.held
     c.loop-rest.shift (Ok next) c.loop-rest.invariant.1 more in
-    let by_run = run_held t e after left next new.out new.held kept (rw c.requires.same at runs) in (
+    let coded : RunPrefix (IsCoded t e.to e.mode (shift_of next)) after left new.held kept =
+    subst (λ m. RunPrefix (IsCoded t e.to m (shift_of next)) after left new.held kept)
+    (ap (λ (z : EncoderState). z.mode) c.self.view_is) (rw c.requires.same at runs) in
+    let by_run = coded_held t e after left next new.out new.held kept coded in (
       left_text after runs.prefix left text runs.own runs.parts,
-      prefix_then t e run after left old new.out new.held new.out kept next (Ok next) by_prefix by_run,
+      prefix_then t e run after left old [] new.out new.held new.out kept next (Ok next) by_prefix by_run,
     )
 
 pub returns-in_err-flush : goal.returns-in_err-flush

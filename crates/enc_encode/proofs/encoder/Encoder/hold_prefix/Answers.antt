@@ -1,13 +1,12 @@
-use Rattle.std.proofs.Common.{[], Ok, Err, refl, sym, ◌∙◌, subst}
+use Rattle.std.proofs.Common.{[], Ok, refl, sym, subst}
 use Rattle.std.proofs.lemmas.Result.{err_from_is_err_and}
 use Rattle.std.proofs.lemmas.Str.{IsUtf8-nil}
 use Rattle.std.specs.Str.{chars}
-use Rattle.std.specs.Str.Iter.{chars_rest}
 use Rattle.enc_model.specs.Indexes.{tables}
 use Rattle.enc_encode.specs.Held.{HeldPrefix}
 use Rattle.enc_encode.specs.State.{shift_of, shifted, code_from}
 use Rattle.enc_encode.proofs.Growth.{prefix}
-use Rattle.enc_encode.proofs.Prefixes.{own_cut, ascii_held, char_held}
+use Rattle.enc_encode.proofs.Prefixes.{own_cut, ascii_held}
 use Rattle.enc_encode.proofs.encoder.Encoder.hold_prefix.Goals as goal
 
 pub returns-in_err-make_room-clause-err : goal.returns-in_err-make_room-clause-err
@@ -40,29 +39,3 @@ returns-in-Some-clause-ok c =
     (ascii_held t e c.args.to text c.in-Some.lanes.now c.in-Some.prefix c.args.shift c.args.out.now c.args.held.now
     c.make_room.new.out c.make_room.new.self kept
     c.requires.same c.in-Some.ensures c.in_ok-make_room.ensures.ok c.push_front.ensures)
-
-pub returns-in_err-next-in-Some-next-clause-err : goal.returns-in_err-next-in-Some-next-clause-err
-returns-in_err-next-in-Some-next-clause-err c =
-    let r = c.from_residual-in_err-next-in-Some-next in
-    let p = err_from_is_err_and r.result r.ensures.1 in
-    let left = chars_rest c.next.new.self in
-    rw (p.1, p.2) (
-      left,
-      char_held (tables c.args.set.now) c.args.self.now c.args.text.now left c.in-Some-next.c c.args.shift
-          c.args.out.now c.args.held.now c.hold.new.out c.hold.new.held
-          (Err c.in_err-next-in-Some-next.field-0.0) c.utf8.text
-          (sym c.chars-chars.ensures.rest ∙ c.in-Some-next.ensures.steps.0) c.in_err-next-in-Some-next.ensures,
-    )
-
-pub returns-clause-ok : goal.returns-clause-ok
-returns-clause-ok c =
-    let t = tables c.args.set.now in
-    let e = c.args.self.now in
-    let text = c.args.text.now in
-    let next = c.in_ok-next-in-Some-next.next in
-    subst (λ z. HeldPrefix (code_from t (shifted e (shift_of c.args.shift))) text z c.args.out.now c.args.held.now
-    c.hold.new.out c.hold.new.held (Ok next)) (sym c.as_str.ensures)
-    (char_held t e text (chars_rest c.next.new.self) c.in-Some-next.c c.args.shift c.args.out.now c.args.held.now
-    c.hold.new.out c.hold.new.held
-    (Ok next) c.utf8.text (sym c.chars-chars.ensures.rest ∙ c.in-Some-next.ensures.steps.0)
-    c.in_ok-next-in-Some-next.ensures)
