@@ -8,3 +8,4 @@ pub mod SinkLaws
 pub mod Singles
 pub mod Runs
 pub mod Letters
+pub mod Pairs

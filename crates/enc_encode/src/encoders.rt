@@ -1,17 +1,19 @@
 //! What each encoder gives for one character.
 
-ghost use Rattle.std.specs.Prelude.{◌≡◌, ◌<◌, ◌≤◌, ◌+◌, ◌/◌, ◌%◌, ◌∷◌, [], IfSome};
+ghost use Rattle.std.specs.Prelude.{◌≡◌, ◌<◌, ◌≤◌, ◌+◌, ◌/◌, ◌%◌, ◌∷◌, [], IfSome, Some};
 ghost use Rattle.enc_encode.specs.Code.{written_of, bytes_of};
+ghost use Rattle.enc_encode.specs.Pairs.{ArePairPointers, JisPointers};
 ghost use Rattle.enc_encode.specs.State.{shift_of};
+ghost use Rattle.enc_index.specs.Entries.{found};
 ghost use Rattle.enc_model.specs.Encode.{utf8_bytes, minus, shift_jis_pointer, below_8836, encoder, single_encoder};
-ghost use Rattle.enc_model.specs.Encode.{Wrote, InJis, shift_jis_encoder, euc_jp_encoder, iso2022_encoder};
-ghost use Rattle.enc_model.specs.Index.{pointer};
+ghost use Rattle.enc_model.specs.Encode.{Tables, Wrote, InJis, shift_jis_encoder, euc_jp_encoder, iso2022_encoder};
+ghost use Rattle.enc_model.specs.Index.{Index, pointer, pointer_sjis};
 ghost use Rattle.enc_model.specs.Indexes.{tables};
 
 use crate::iso2022::iso2022_jp;
 use crate::shift::ShiftState;
 use crate::written::{Bytes, Written};
-use enc_index::{IndexSet, Kind};
+use enc_index::{IndexSet, Kind, Pointers};
 use enc_model::Encoding;
 
 /// The bytes of a character in UTF-8.
@@ -98,14 +100,22 @@ fn shift_jis(set: &IndexSet, shift: ShiftState, c: char) -> Written
     }
 }
 
+/// A pointer, where the encoders of EUC-JP and ISO-2022-JP may use it.
+#[inline(always)]
+fn below_8836(pointer: u32) -> Option<u32>
+    ensures value { result ≡ below_8836 (Some pointer) }
+    ensures bounded { IfSome result (λ p. p < 8836) }
+{
+    if pointer < 8836 { Some(pointer) } else { None }
+}
+
 /// The least pointer of a character in jis0208, where the encoders of EUC-JP and ISO-2022-JP may use it.
 #[inline(always)]
 pub fn pointer_below_8836(set: &IndexSet, c: char) -> Option<u32>
     ensures value { result ≡ below_8836 (pointer (tables set.now).jis0208 c) }
     ensures bounded { IfSome result (λ p. p < 8836) }
 {
-    let pointer = set.pointer(Kind::Jis0208, c)?;
-    if pointer < 8836 { Some(pointer) } else { None }
+    below_8836(set.pointer(Kind::Jis0208, c)?)
 }
 
 /// The two bytes of a pointer where each counts 94 from a start.
@@ -145,55 +155,70 @@ fn euc_jp(set: &IndexSet, shift: ShiftState, c: char) -> Written
     }
 }
 
+/// The pointers of jis0208 that `pair` looks a character up in, if its file was given.
+#[inline(always)]
+pub fn pair_pointers(set: &IndexSet, to: Encoding) -> Option<&Pointers>
+    ensures own { IfSome result (λ p. ArePairPointers (tables set.now) to p.now) }
+    ensures bounded { IfSome result (λ p. JisPointers p.now) }
+{
+    match to {
+        Encoding::ShiftJis => set.pointers_sjis(),
+        Encoding::EucJp | Encoding::Iso2022Jp => set.pointers(Kind::Jis0208),
+        _ => None,
+    }
+}
+
 /// The two bytes of a kana, an ideograph or a full-width form in Shift_JIS.
 #[tactic(auto, unfolding(enc_model::specs::Encode::shift_jis_encoder))]
 #[inline(always)]
-fn shift_jis_wide(set: &IndexSet, shift: ShiftState, c: char) -> Option<(u8, u8)>
+fn shift_jis_wide(pointers: &Pointers, shift: ShiftState, c: char) -> Option<(u8, u8)>
+    requires bounded { JisPointers pointers.now }
     requires from { 0x3000 ≤ c }
     requires to { c ≤ 0xFF60 }
-    ensures { IfSome result
-        (λ r. shift_jis_encoder (tables set.now).jis0208 (shift_of shift) c ≡ Wrote (r.0 ∷ r.1 ∷ []) (shift_of shift)) }
+    ensures { (jis0208 : Index) → found pointers.now c ≡ pointer_sjis jis0208 c → IfSome result
+        (λ r. shift_jis_encoder jis0208 (shift_of shift) c ≡ Wrote (r.0 ∷ r.1 ∷ []) (shift_of shift)) }
 {
-    Some(shift_jis_pair(set.pointer_sjis(c)?))
+    Some(shift_jis_pair(pointers.find(c)?))
 }
 
 /// The two bytes of a kana, an ideograph or a full-width form in EUC-JP.
 #[tactic(auto, unfolding(enc_model::specs::Encode::euc_jp_encoder))]
 #[inline(always)]
-fn euc_jp_wide(set: &IndexSet, shift: ShiftState, c: char) -> Option<(u8, u8)>
+fn euc_jp_wide(pointers: &Pointers, shift: ShiftState, c: char) -> Option<(u8, u8)>
     requires from { 0x3000 ≤ c }
     requires to { c ≤ 0xFF60 }
-    ensures { IfSome result
-        (λ r. euc_jp_encoder (tables set.now).jis0208 (shift_of shift) c ≡ Wrote (r.0 ∷ r.1 ∷ []) (shift_of shift)) }
+    ensures { (jis0208 : Index) → found pointers.now c ≡ pointer jis0208 c → IfSome result
+        (λ r. euc_jp_encoder jis0208 (shift_of shift) c ≡ Wrote (r.0 ∷ r.1 ∷ []) (shift_of shift)) }
 {
-    Some(pair_of_94(0xA1, pointer_below_8836(set, c)?))
+    Some(pair_of_94(0xA1, below_8836(pointers.find(c)?)?))
 }
 
 /// The two bytes of a kana, an ideograph or a full-width form in ISO-2022-JP, where it has switched to jis0208.
 #[tactic(auto, unfolding(enc_model::specs::Encode::iso2022_encoder))]
 #[inline(always)]
-fn iso2022_wide(set: &IndexSet, c: char) -> Option<(u8, u8)>
+fn iso2022_wide(pointers: &Pointers, c: char) -> Option<(u8, u8)>
     requires from { 0x3000 ≤ c }
     requires to { c ≤ 0xFF60 }
-    ensures { IfSome result (λ r. iso2022_encoder (tables set.now).jis0208 (tables set.now).katakana InJis c
-        ≡ Wrote (r.0 ∷ r.1 ∷ []) InJis) }
+    ensures { (jis0208 katakana : Index) → found pointers.now c ≡ pointer jis0208 c → IfSome result
+        (λ r. iso2022_encoder jis0208 katakana InJis c ≡ Wrote (r.0 ∷ r.1 ∷ []) InJis) }
 {
-    Some(pair_of_94(0x21, pointer_below_8836(set, c)?))
+    Some(pair_of_94(0x21, below_8836(pointers.find(c)?)?))
 }
 
 /// The two bytes of a character from U+3000 to U+FF60, where an encoder gives two and stays in its state: of a kana, an
-/// ideograph or a full-width form.
+/// ideograph or a full-width form. The pointers are those of `pair_pointers`, so that they are found once a run.
 #[inline(always)]
-pub fn pair(set: &IndexSet, to: Encoding, shift: ShiftState, c: char) -> Option<(u8, u8)>
+pub fn pair(pointers: &Pointers, to: Encoding, shift: ShiftState, c: char) -> Option<(u8, u8)>
+    requires bounded { JisPointers pointers.now }
     requires from { 0x3000 ≤ c }
     requires to { c ≤ 0xFF60 }
-    ensures { IfSome result
-        (λ r. encoder (tables set.now) to (shift_of shift) c ≡ Wrote (r.0 ∷ r.1 ∷ []) (shift_of shift)) }
+    ensures { (t : Tables) → ArePairPointers t to pointers.now → IfSome result
+        (λ r. encoder t to (shift_of shift) c ≡ Wrote (r.0 ∷ r.1 ∷ []) (shift_of shift)) }
 {
     match (to, shift) {
-        (Encoding::ShiftJis, _) => shift_jis_wide(set, shift, c),
-        (Encoding::EucJp, _) => euc_jp_wide(set, shift, c),
-        (Encoding::Iso2022Jp, ShiftState::Jis) => iso2022_wide(set, c),
+        (Encoding::ShiftJis, _) => shift_jis_wide(pointers, shift, c),
+        (Encoding::EucJp, _) => euc_jp_wide(pointers, shift, c),
+        (Encoding::Iso2022Jp, ShiftState::Jis) => iso2022_wide(pointers, c),
         _ => None,
     }
 }

@@ -2,15 +2,16 @@
 
 ghost use Rattle.std.specs.Prelude.{◌≡◌, ◌<◌, ◌≤◌, ◌+◌, ◌++◌, ◌∷◌, [], ℕ, List, IfSome, encode_utf8, take};
 ghost use Rattle.std.specs.Str.{IsUtf8};
+ghost use Rattle.enc_encode.specs.Pairs.{ArePairPointers, JisPointers};
 ghost use Rattle.enc_encode.specs.Runs.{FirstGiven, RunPrefix, Stays};
 ghost use Rattle.enc_encode.specs.State.{shift_of};
-ghost use Rattle.enc_model.specs.Encode.{encoder};
+ghost use Rattle.enc_model.specs.Encode.{Tables, encoder};
 ghost use Rattle.enc_model.specs.Indexes.{tables};
 
 use crate::buffer::ROOM;
-use crate::encoders::pair;
+use crate::encoders::{pair, pair_pointers};
 use crate::shift::ShiftState;
-use enc_index::IndexSet;
+use enc_index::{IndexSet, Pointers};
 use enc_model::Encoding;
 
 /// What the three bytes of a character count, beside its code point, where the first counts 4,096 and the second 64.
@@ -21,22 +22,22 @@ const THREE_BYTES: u32 = 0xE0 * 4096 + 0x80 * 64 + 0x80;
 /// so that no code point is tested for a surrogate.
 #[inline(always)]
 fn first_pair(
-    set: &IndexSet,
+    pointers: &Pointers,
     to: Encoding,
     shift: ShiftState,
     lead: u8,
     second: u8,
     third: u8,
 ) -> Option<(u8, u8)>
-    ensures { IfSome result
+    requires { JisPointers pointers.now }
+    ensures { (t : Tables) → ArePairPointers t to pointers.now → IfSome result
         (λ r. (more : List ℕ) → IsUtf8 (lead ∷ second ∷ third ∷ more) →
-        FirstGiven (Stays (encoder (tables set.now) to) (shift_of shift)) (lead ∷ second ∷ third ∷ more)
-        (r.0 ∷ r.1 ∷ []) more) }
+        FirstGiven (Stays (encoder t to) (shift_of shift)) (lead ∷ second ∷ third ∷ more) (r.0 ∷ r.1 ∷ []) more) }
 {
     let c = (lead as u32 * 4096 + second as u32 * 64 + third as u32).wrapping_sub(THREE_BYTES);
     match c {
-        0x3000..=0xD7FF => pair(set, to, shift, char::from_u32(c)?),
-        0xE000..=0xFF60 => pair(set, to, shift, char::from_u32(c)?),
+        0x3000..=0xD7FF => pair(pointers, to, shift, char::from_u32(c)?),
+        0xE000..=0xFF60 => pair(pointers, to, shift, char::from_u32(c)?),
         _ => None,
     }
 }
@@ -57,13 +58,16 @@ pub fn put_pairs<'a>(
     ensures run { RunPrefix (Stays (encoder (tables set.now) to) (shift_of shift)) text.now result.0.now
         (take from held.old) (take result.1 held.new) }
 {
+    let Some(pointers) = pair_pointers(set, to) else {
+        return (text, from);
+    };
     let bytes = text.as_bytes();
     let most = (bytes.len() / 3).min((ROOM - from) / 2);
     let mut count = 0;
     while count < most {
         let at = 3 * count;
         let Some((lead, trail)) = first_pair(
-            set,
+            pointers,
             to,
             shift,
             bytes[at],

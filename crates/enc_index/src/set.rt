@@ -246,10 +246,11 @@ impl IndexSet {
         Some(self.table(kind)?.pointers())
     }
 
-    /// The index Shift_JIS pointers by code point: the least ones of jis0208 outside 8272 to 8835.
+    /// The index Shift_JIS pointers by code point, if its file was given: the least ones of jis0208 outside 8272 to
+    /// 8835. A caller with many lookups asks for them once.
     #[tactic(auto, using(crate::proofs::Lookups::pointer_of_none))]
     #[inline(always)]
-    fn pointers_sjis(&self) -> Option<&Pointers>
+    pub fn pointers_sjis(&self) -> Option<&Pointers>
         ensures value { MatchOption result ((c : ℕ) → pointer_sjis (tables self.now).jis0208 c ≡ None)
             (λ p. (c : ℕ) → found p.now c ≡ pointer_sjis (tables self.now).jis0208 c) }
         ensures bounded { IfSome result (λ p. (c : ℕ) → IfSome (found p.now c) (λ n. n < 11280)) }

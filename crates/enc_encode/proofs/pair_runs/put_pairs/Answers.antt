@@ -1,4 +1,5 @@
-use Rattle.std.proofs.Common.{◌+◌, ◌*◌, ◌<◌, ◌≡◌, ◌∷◌, [], sym, ◌∙◌, ap, subst, arith, length, take, drop, get_or, set}
+use Rattle.std.proofs.Common.{◌+◌, ◌*◌, ◌<◌, ◌≡◌, ◌∷◌, [], refl, sym, ◌∙◌, ap, subst, arith}
+use Rattle.std.proofs.Common.{length, take, drop, get_or, set}
 use Rattle.std.specs.Str.{IsUtf8}
 use Rattle.std.proofs.lemmas.List.{length-set}
 use Rattle.std.proofs.lemmas.Str.{IsUtf8-past_char, IsCharBoundary-from_drop}
@@ -9,6 +10,10 @@ use Rattle.enc_encode.specs.State.{shift_of}
 use Rattle.enc_encode.proofs.Puts.{three_at}
 use Rattle.enc_encode.proofs.RunPrefixes.{run_none, run_more, take_two_set}
 use Rattle.enc_encode.proofs.pair_runs.put_pairs.Goals as goal
+
+pub returns-in_default-clause-run : goal.returns-in_default-clause-run
+returns-in_default-clause-run c =
+    run_none _ c.args.text.now (take c.args.from c.args.held.now) (take c.args.from c.args.held.now) refl
 
 pub loop-count-init : goal.loop-count-init
 loop-count-init c =
@@ -30,9 +35,11 @@ loop-count-preserved c =
     let n = c.loop-count.count in
     let place = c.args.from + 2 * n in
     let held = c.loop-count.held in
-    let lead = c.in-Some.lead in
-    let trail = c.in-Some.trail in
-    let gives = Stays (encoder (tables c.args.set.now) c.args.to) (shift_of c.args.shift) in
+    let lead = c.in-Some-first_pair.lead in
+    let trail = c.in-Some-first_pair.trail in
+    let t = tables c.args.set.now in
+    let found = c.in-Some-first_pair.ensures t c.in-Some.ensures.own in
+    let gives = Stays (encoder t c.args.to) (shift_of c.args.shift) in
     let rest = drop (3 * n) text in
     let left = drop (3 * (n + 1)) text in
     let value = c.as_bytes-bytes.ensures.value in
@@ -43,7 +50,7 @@ loop-count-preserved c =
     ∙ ap (λ k. get_or text (3 * n) 0 ∷ get_or text (3 * n + 1) 0 ∷ get_or text (3 * n + 2) 0 ∷ drop k text) places in
     let first : FirstGiven gives rest (lead ∷ trail ∷ []) left =
     subst (λ z. FirstGiven gives z (lead ∷ trail ∷ []) left) (sym parts)
-    ((rw value at c.in-Some.ensures) left (subst IsUtf8 parts v.3)) in
+    ((rw value at found) left (subst IsUtf8 parts v.3)) in
     let long = v.2 in
     let next : c.args.from + 2 * (n + 1) ≡ place + 2 = omega arith in
     let room : place + 1 < length held = omega (arith, test, most, long) in (
