@@ -230,7 +230,8 @@ pub(super) fn append(
     printed
 }
 
-/// Appends the reply to a HEAD, or leaves `out` unchanged.
+/// Appends the reply to a HEAD, or leaves `out` unchanged. It is a function of its own so that its lines, of which one
+/// borrows the metadata and others the caller's digits, have one lifetime.
 pub(super) fn append_head<'m>(
     offset: Line<'m>,
     declared: Line<'m>,
