@@ -1,6 +1,6 @@
 -- A reference that is made from its end.
 use Rattle.std.proofs.Common.{ℕ, zero, suc, ◌≡◌, ◌<◌, ◌≤◌, ◌+◌, ◌-◌, ◌/◌, ◌%◌, ◌^◌, List, [], ◌∷◌, ◌++◌}
-use Rattle.std.proofs.Common.{sym, ◌∙◌, ap, subst, append_assoc, arith, length, length-append, take, drop, set}
+use Rattle.std.proofs.Common.{sym, ◌∙◌, ap, ap₂, subst, append_assoc, arith, length, length-append, take, drop, set}
 use Rattle.std.proofs.Common.{replicate}
 use Rattle.std.proofs.lemmas.Fmt.{decimal_digit, decimal_step}
 use Rattle.std.proofs.lemmas.List.{drop-set, length-set, length-drop, length-replicate}
@@ -72,3 +72,46 @@ reference_taken c place bytes l m e =
     let last = length-replicate {A = ℕ} 16 0x3B in
     let count : 16 - place ≡ length r = omega (arith, l, m, all, some, more, last) in
     ap (take (16 - place)) e ∙ ap (λ k. take k (r ++ rest)) count ∙ take-append_seam r rest
+
+-- the digits of a number that has two, three, four or five
+two : (n : ℕ) → 10 ≤ n → n < 100 → (48 + n / 10) ∷ (48 + n % 10) ∷ [] ≡ decimal n
+two n l h = sym (decimal_step n l (omega (arith, h))
+    ∙ ap (λ z. z ++ (48 + n % 10) ∷ []) (decimal_digit (n / 10) (omega (arith, h))))
+
+-- one digit behind those of the tenth
+behind : (n : ℕ) (digits : List ℕ) → 10 ≤ n → n < 100000 → digits ≡ decimal (n / 10)
+    → digits ++ (48 + n % 10) ∷ [] ≡ decimal n
+behind n digits l h e = ap (λ z. z ++ (48 + n % 10) ∷ []) e ∙ sym (decimal_step n l (omega (arith, h)))
+
+pub three : (n : ℕ) → 100 ≤ n → n < 1000
+    → (48 + n / 100 % 10) ∷ (48 + n / 10 % 10) ∷ (48 + n % 10) ∷ [] ≡ decimal n
+three n l h =
+    let first : n / 100 % 10 ≡ n / 10 / 10 = omega (arith, h) in
+    behind n ((48 + n / 100 % 10) ∷ (48 + n / 10 % 10) ∷ []) (omega (arith, l)) (omega (arith, h))
+    (ap (λ i. (48 + i) ∷ (48 + n / 10 % 10) ∷ []) first ∙ two (n / 10) (omega (arith, l)) (omega (arith, h)))
+
+pub four : (n : ℕ) → 1000 ≤ n → n < 10000
+    → (48 + n / 1000 % 10) ∷ (48 + n / 100 % 10) ∷ (48 + n / 10 % 10) ∷ (48 + n % 10) ∷ [] ≡ decimal n
+four n l h =
+    let first : n / 1000 % 10 ≡ n / 10 / 100 % 10 = omega arith in
+    let second : n / 100 % 10 ≡ n / 10 / 10 % 10 = omega arith in
+    behind n ((48 + n / 1000 % 10) ∷ (48 + n / 100 % 10) ∷ (48 + n / 10 % 10) ∷ []) (omega (arith, l))
+    (omega (arith, h)) (ap₂ (λ i k. (48 + i) ∷ (48 + k) ∷ (48 + n / 10 % 10) ∷ []) first second
+    ∙ three (n / 10) (omega (arith, l)) (omega (arith, h)))
+
+pub five : (n : ℕ) → 10000 ≤ n → n < 100000
+    → (48 + n / 10000 % 10) ∷ (48 + n / 1000 % 10) ∷ (48 + n / 100 % 10) ∷ (48 + n / 10 % 10) ∷ (48 + n % 10) ∷ []
+    ≡ decimal n
+five n l h =
+    let first : n / 10000 % 10 ≡ n / 10 / 1000 % 10 = omega arith in
+    let second : n / 1000 % 10 ≡ n / 10 / 100 % 10 = omega arith in
+    let third : n / 100 % 10 ≡ n / 10 / 10 % 10 = omega arith in
+    behind n ((48 + n / 10000 % 10) ∷ (48 + n / 1000 % 10) ∷ (48 + n / 100 % 10) ∷ (48 + n / 10 % 10) ∷ [])
+    (omega (arith, l)) h (ap₂ (λ i k. (48 + i) ∷ (48 + k) ∷ (48 + n / 100 % 10) ∷ (48 + n / 10 % 10) ∷ []) first second
+    ∙ ap (λ i. (48 + n / 10 / 1000 % 10) ∷ (48 + n / 10 / 100 % 10) ∷ (48 + i) ∷ (48 + n / 10 % 10) ∷ []) third
+    ∙ four (n / 10) (omega (arith, l)) (omega (arith, h)))
+
+-- a reference, by its digits
+pub reference_by : (c : ℕ) (digits : List ℕ) → digits ≡ decimal c
+    → 0x26 ∷ 0x23 ∷ (digits ++ 0x3B ∷ []) ≡ reference c
+reference_by c digits e = ap (λ z. 0x26 ∷ 0x23 ∷ (z ++ 0x3B ∷ [])) e

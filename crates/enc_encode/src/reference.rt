@@ -1,12 +1,13 @@
-//! The reference of a character, as bytes that are stored at once.
+//! The reference of a character.
 
 ghost use Rattle.std.specs.Prelude.{◌≡◌, ◌<◌, ◌≤◌, ◌+◌, ◌++◌, ◌∷◌, [], decimal, length, replicate, take, drop};
+ghost use Rattle.std.specs.Prelude.{slice_index};
 ghost use Rattle.enc_model.specs.Encode.{reference};
 
 use crate::buffer::{LANES, ROOM};
 use std::simd::prelude::*;
 
-/// How many bytes are stored for a reference: more than the longest has.
+/// The room for a reference: more bytes than the longest has. One of any length is stored whole, in so many.
 pub const AT_ONCE: usize = 16;
 
 /// A code point's digits and `;`, from a place up to the sixteenth byte. The bytes behind are `;` too.
@@ -43,8 +44,9 @@ fn reference_at(c: char) -> ([u8; LANES], usize)
     (bytes, place - 2)
 }
 
-/// Puts a character's reference after the first so many bytes, and gives how many there are then.
-pub fn put_reference(held: &mut [u8; ROOM], from: usize, c: char) -> usize
+/// Puts a reference of any length after the first so many bytes, and gives how many there are then. It is made from its
+/// end and then stored whole.
+fn put_any(held: &mut [u8; ROOM], from: usize, c: char) -> usize
     requires { from + AT_ONCE ≤ ROOM }
     ensures room { result ≤ ROOM }
     ensures put { take result held.new ≡ take from held.old ++ reference c }
@@ -52,4 +54,57 @@ pub fn put_reference(held: &mut [u8; ROOM], from: usize, c: char) -> usize
     let (bytes, place) = reference_at(c);
     u8x16::from_slice(&bytes[place..]).copy_to_slice(&mut held[from..]);
     from + (AT_ONCE - place)
+}
+
+/// Puts some bytes after the first so many, and gives how many there are then.
+#[inline(always)]
+fn put_bytes<const N: usize>(held: &mut [u8; ROOM], from: usize, bytes: [u8; N]) -> usize
+    requires { from + N ≤ ROOM }
+    ensures room { result ≤ ROOM }
+    ensures put { take result held.new ≡ take from held.old ++ bytes.entry }
+{
+    let end = from + N;
+    held[from..end].copy_from_slice(&bytes);
+    end
+}
+
+/// The last five digits of a number, the last one at the end.
+#[inline(always)]
+fn last_digits(number: u32) -> [u8; 5]
+    ensures three { 100 ≤ number → number < 1000
+        → slice_index result 2 ∷ slice_index result 3 ∷ slice_index result 4 ∷ [] ≡ decimal number }
+    ensures four { 1000 ≤ number → number < 10000
+        → slice_index result 1 ∷ slice_index result 2 ∷ slice_index result 3 ∷ slice_index result 4 ∷ [] ≡ decimal
+        number }
+    ensures five { 10000 ≤ number → number < 100000 → slice_index result 0 ∷ slice_index result 1
+        ∷ slice_index result 2 ∷ slice_index result 3 ∷ slice_index result 4 ∷ [] ≡ decimal number }
+{
+    [
+        b'0' + (number / 10000 % 10) as u8,
+        b'0' + (number / 1000 % 10) as u8,
+        b'0' + (number / 100 % 10) as u8,
+        b'0' + (number / 10 % 10) as u8,
+        b'0' + (number % 10) as u8,
+    ]
+}
+
+/// Puts a character's reference after the first so many bytes, and gives how many there are then. One of three to five
+/// digits, as those of nearly all letters have, is stored from registers: no byte of it is read back.
+#[inline(always)]
+pub fn put_reference(held: &mut [u8; ROOM], from: usize, c: char) -> usize
+    requires { from + AT_ONCE ≤ ROOM }
+    ensures room { result ≤ ROOM }
+    ensures put { take result held.new ≡ take from held.old ++ reference c }
+{
+    let [first, second, third, fourth, fifth] = last_digits(c as u32);
+    match c as u32 {
+        100..=999 => put_bytes(held, from, [b'&', b'#', third, fourth, fifth, b';']),
+        1000..=9999 => put_bytes(held, from, [b'&', b'#', second, third, fourth, fifth, b';']),
+        10000..=99999 => put_bytes(
+            held,
+            from,
+            [b'&', b'#', first, second, third, fourth, fifth, b';'],
+        ),
+        _ => put_any(held, from, c),
+    }
 }
