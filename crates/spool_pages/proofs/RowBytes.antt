@@ -57,12 +57,13 @@ module _ (f : ℕ → ℕ) (at : ℕ) where
       subst (λ (xs : List ℕ). Stands f at 8 xs) (owned_is slot ordinal)
       (stands_both (to_be_bytes w32 (slot + 1)) _ 4 4 refl first second)
 
--- a row put into a page
-pub row_there : (new bytes : List ℕ) (at : ℕ) (row : Option (ℕ × ℕ))
-    → ((k : ℕ) → k < length bytes → get_or new (at + k) 0 ≡ get_or bytes k 0) → length bytes ≡ 8
-    → IsPadded bytes (row_bytes row) → Stands (byte_of new) at 8 (row_bytes row)
-row_there new bytes at row inside long padded =
-    record { each = λ i lt. inside i (omega (arith, lt, long)) ∙ padded.each i }
+-- a number put into a page
+pub number_there : (new bytes : List ℕ) (at n : ℕ) → bytes ≡ to_be_bytes w32 n
+    → ((k : ℕ) → k < length bytes → get_or new (at + k) 0 ≡ get_or bytes k 0)
+    → Stands (byte_of new) at 4 (to_be_bytes w32 n)
+number_there new bytes at n is inside =
+    let long : length bytes ≡ 4 = ap length is in
+    record { each = λ i lt. inside i (omega (arith, lt, long)) ∙ ap (λ (xs : List ℕ). get_or xs i 0) is }
 
 -- zeros where no row is
 pub free_there : (page : List ℕ) (from at : ℕ) (row : Option (ℕ × ℕ))

@@ -1,6 +1,7 @@
 //! The rows: which slot owns a text block, and at which ordinal.
-ghost use Rattle.std.specs.Prelude.{◌≡◌, ◌≤◌, ◌<◌, ◌+◌, ◌*◌, ◌^◌};
+ghost use Rattle.std.specs.Prelude.{◌≡◌, ◌≤◌, ◌<◌, ◌+◌, ◌*◌};
 ghost use Rattle.std.specs.Prelude.{ℕ, Option, [], None, Some, true, Ok, IfOk, length, get_or};
+ghost use Rattle.std.specs.Int.{to_be_bytes, w32};
 ghost use Rattle.spool_disk.specs.Disk.{In};
 ghost use Rattle.spool_journal.specs.Image.{byte_of};
 ghost use Rattle.spool_pages.specs.Bytes.{IsPadded};
@@ -15,29 +16,31 @@ use spool_journal::PAGE;
 /// How many rows a page has.
 pub const ROWS: usize = 512;
 
-// The bytes of a row whose block is owned.
-fn owned_bytes(slot: u32, ordinal: u32) -> [u8; 8]
-    requires { slot + 1 < 2 ^ 32 }
-    ensures { IsPadded result (row_bytes (Some (slot, ordinal))) }
+// The two numbers of a row: its slot + 1 and its ordinal, or zeros if the block is free.
+#[inline(always)]
+fn fields_of(row: Row) -> (u32, u32)
+    requires { FitsRow row }
+    ensures { (image : ℕ → ℕ) → (at : ℕ) → Stands image at 4 (to_be_bytes w32 result.0)
+        → Stands image (at + 4) 4 (to_be_bytes w32 result.1) → Stands image at 8 (row_bytes row) }
 {
-    let mut bytes = [0; 8];
-    put(&mut bytes, 0, &(slot + 1).to_be_bytes());
-    put(&mut bytes, 4, &ordinal.to_be_bytes());
-    bytes
+    match row {
+        Some((slot, ordinal)) => (slot + 1, ordinal),
+        None => (0, 0),
+    }
 }
 
-// Writes a row into a page that has zeros at its place.
+// Writes a row into a page. A free row is written as zeros: where owned and free rows are mixed, a branch for each row
+// costs more than the writes. The two numbers go straight into the page, so that several rows can be written at once.
 #[inline(always)]
 fn put_row(page: &mut [u8], at: usize, row: Row)
     requires room { at + 8 ≤ length page.old }
     requires fits { FitsRow row }
-    requires blank { Stands (byte_of page.old) at 8 [] }
     ensures outside { (p : ℕ) → (In at 8 p → ⊥) → get_or page.new p 0 ≡ get_or page.old p 0 }
     ensures stands { Stands (byte_of page.new) at 8 (row_bytes row) }
 {
-    if let Some((slot, ordinal)) = row {
-        put(page, at, &owned_bytes(slot, ordinal));
-    }
+    let (slot, ordinal) = fields_of(row);
+    put(page, at, &slot.to_be_bytes());
+    put(page, at + 4, &ordinal.to_be_bytes());
 }
 
 // Writes at most 512 rows into a blank page.
@@ -62,6 +65,18 @@ fn rows_of(rows: &[Row], page: usize) -> &[Row]
     let first = rows.len().min(ROWS * page);
     let end = rows.len().min(first + ROWS);
     &rows[first..end]
+}
+
+// The rows up to the last owned one. The others are free, and have only to be looked at.
+fn up_to_owned(rows: &[Row]) -> &[Row]
+    ensures few { length result.now ≤ length rows.now }
+    ensures rows { (k : ℕ) → get_or result.now k None ≡ get_or rows.now k None }
+{
+    let mut len = rows.len();
+    while len > 0 && rows[len - 1].is_none() {
+        len -= 1;
+    }
+    &rows[..len]
 }
 
 /// The row at an offset in a page.
@@ -104,6 +119,6 @@ pub fn row_page(rows: &[Row], page: usize) -> [u8; PAGE]
         → Stands (byte_of result) (8 * k) 8 (row_bytes (get_or rows.now (512 * page + k) None)) }
 {
     let mut bytes = blank_page();
-    write_rows(&mut bytes, rows_of(rows, page));
+    write_rows(&mut bytes, up_to_owned(rows_of(rows, page)));
     bytes
 }

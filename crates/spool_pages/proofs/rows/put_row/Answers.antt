@@ -1,16 +1,13 @@
-use Rattle.std.proofs.Common.{ℕ, List, Option, rules, sym, ◌∙◌, ap, subst}
+use Rattle.std.proofs.Common.{◌+◌, arith}
 use Rattle.spool_journal.specs.Image.{byte_of}
-use Rattle.spool_pages.specs.View.{Stands, row_bytes}
-use Rattle.spool_pages.proofs.RowBytes.{row_there, free_is}
+use Rattle.spool_pages.proofs.RowBytes.{number_there}
+use Rattle.spool_pages.proofs.Says.{stands_same}
 use Rattle.spool_pages.proofs.rows.put_row.Goals as goal
 
-pub returns-in-Some-clause-stands : goal.returns-in-Some-clause-stands
-returns-in-Some-clause-stands c =
-    subst (λ (row : Option (ℕ × ℕ)). Stands (byte_of c.put.new.page) c.args.at 8 (row_bytes row)) (sym c.in-Some.is)
-    (row_there c.put.new.page c.owned_bytes.result c.args.at _ c.put.ensures.inside (search rules)
-    c.owned_bytes.ensures)
-
-pub returns-in_default-clause-stands : goal.returns-in_default-clause-stands
-returns-in_default-clause-stands c =
-    subst (λ (bytes : List ℕ). Stands (byte_of c.args.page.now) c.args.at 8 bytes)
-    (sym (ap row_bytes c.in_default.is ∙ free_is)) c.requires.blank
+pub returns-clause-stands : goal.returns-clause-stands
+returns-clause-stands c =
+    let slot = number_there c.put.new.page _ c.args.at _ c.to_be_bytes.ensures c.put.ensures.inside in
+    let ordinal = number_there c.put-2.new.page _ (c.args.at + 4) _ c.to_be_bytes-2.ensures c.put-2.ensures.inside in
+    c.fields_of-slot.ensures (byte_of c.put-2.new.page) c.args.at
+    (stands_same (λ i lt. c.put-2.ensures.outside (c.args.at + i) (λ within. omega (arith, lt, within.from))) slot)
+    ordinal
