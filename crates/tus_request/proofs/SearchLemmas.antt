@@ -19,7 +19,7 @@ use Rattle.tus_request.specs.declared.search.Search.{Search}
 use Rattle.tus_request.specs.declared.search.Search.TheVariants.{Front, FrontCr, Text, Start, StartCr, Over}
 use Rattle.tus_request.proofs.LineLemmas.{true_or_false}
 
-abbrev Lines : Type 0
+abbrev pub Lines : Type 0
 Lines = List (List ℕ)
 
 has : {A : Type 0} → Option A → Bool
@@ -65,10 +65,10 @@ sees_cr StartCr (line ∷ ls) = has_map (λ more. (13 ∷ 13 ∷ line) ∷ more)
 sees_cr Over ls = refl
 
 -- ANOTHER BYTE
-not_empty : (b : ℕ) (line : List ℕ) → (b == 10) ≡ false → (b == 13) ≡ false → is_empty_line (b ∷ line) ≡ false
+pub not_empty : (b : ℕ) (line : List ℕ) → (b == 10) ≡ false → (b == 13) ≡ false → is_empty_line (b ∷ line) ≡ false
 not_empty b line e f = rw (e, f) refl
 
-not_empty_cr : (b : ℕ) (line : List ℕ) → (b == 10) ≡ false → is_empty_line (13 ∷ b ∷ line) ≡ false
+pub not_empty_cr : (b : ℕ) (line : List ℕ) → (b == 10) ≡ false → is_empty_line (13 ∷ b ∷ line) ≡ false
 not_empty_cr b line e = rw e refl
 
 head_text : (line : List ℕ) (ls : Lines) → is_empty_line line ≡ false → has (head_lines (line ∷ ls)) ≡ has
@@ -94,7 +94,7 @@ text_case StartCr b [] e f = refl
 text_case StartCr b (line ∷ ls) e f = up_text (13 ∷ b ∷ line) ls (not_empty_cr b line e)
 text_case Over b ls e f = refl
 
-becomes : (s : Search) (b : ℕ) → (b == 10) ≡ false → (b == 13) ≡ false → after_byte s b ≡ after_text_byte s
+pub becomes : (s : Search) (b : ℕ) → (b == 10) ≡ false → (b == 13) ≡ false → after_byte s b ≡ after_text_byte s
 becomes s b e f = rw (e, f) refl
 
 sees_text : (s : Search) (b : ℕ) (ls : Lines) → (b == 10) ≡ false → (b == 13) ≡ false
@@ -102,7 +102,7 @@ sees_text : (s : Search) (b : ℕ) (ls : Lines) → (b == 10) ≡ false → (b =
 sees_text s b ls e f = text_case s b ls e f ∙ ap (λ t. sees t ls) (sym (becomes s b e f))
 
 -- ANY BYTE
-lines_feed : (bytes : List ℕ) (b : ℕ) (c : Bool) → (b == 10) ≡ c
+pub lines_feed : (bytes : List ℕ) (b : ℕ) (c : Bool) → (b == 10) ≡ c
     → lines (b ∷ bytes) ≡ (if c then (b ∷ []) ∷ lines bytes else onto_first b (lines bytes))
 lines_feed bytes b c e = rw e refl
 

@@ -2,13 +2,13 @@
 ghost use Rattle.std.specs.Prelude.{◌≡◌, ◌++◌, ◌≤◌, [], length, take, vec_len, is_ok, IfOk, if◌then◌else◌};
 ghost use Rattle.enc_model.specs.Indexes.{offers};
 ghost use Rattle.tus_request.specs.Answers.{answer_of};
-ghost use Rattle.tus_request.specs.Searches.{after_bytes};
-ghost use Rattle.tus_request.specs.declared.search.Search.TheVariants.{Front};
+ghost use Rattle.tus_request.specs.Searches.{IsScanOf};
 ghost use Rattle.tus_request.specs.Shown.{answer_shown};
 
-use crate::heads::{MAX_HEAD, parse};
+use crate::heads::{MAX_HEAD, parse, parse_measured};
+use crate::lines::Reach;
 use crate::requests::Parsed;
-use crate::search::Search;
+use crate::search::{START, Scan};
 use enc_index::IndexSet;
 use std::alloc::{AllocError, Global};
 
@@ -16,10 +16,11 @@ use std::alloc::{AllocError, Global};
 #[derive(Drop)]
 pub struct HeadBuffer {
     bytes: Vec<u8>,
-    // The state of the search for the head's end after these bytes, so that no byte is searched twice.
-    search: Search,
+    // How far the search for the head's end has come in these bytes, so that no byte is searched twice, and the lines
+    // of a finished head aren't gone through again.
+    scan: Scan,
     ghost short: { vec_len bytes ≤ 8192 },
-    ghost searched: { search ≡ after_bytes Front bytes.items },
+    ghost searched: { IsScanOf bytes.items scan },
 }
 
 impl HeadBuffer {
@@ -31,7 +32,7 @@ impl HeadBuffer {
     {
         HeadBuffer {
             bytes: Vec::new(alloc),
-            search: Search::Front,
+            scan: START,
         }
     }
 
@@ -65,7 +66,7 @@ impl HeadBuffer {
         if !self.is_judged() {
             return Ok(Parsed::More);
         }
-        let parsed = parse(alloc, &self.bytes, set)?;
+        let parsed = self.judge(alloc, set)?;
         self.clear();
         Ok(parsed)
     }
@@ -74,7 +75,21 @@ impl HeadBuffer {
     fn is_judged(&self) -> bool
         ensures { result ≡ is_judged (bytes_of self.now) }
     {
-        self.search.is_over() || self.bytes.len() >= MAX_HEAD
+        self.scan.search.is_over() || self.bytes.len() >= MAX_HEAD
+    }
+
+    /// The answer to these bytes.
+    fn judge(&self, alloc: Global, set: &IndexSet) -> Result<Parsed, AllocError>
+        ensures { IfOk result (λ answer. answer_shown answer ≡ answer_of (offers set.now) (bytes_of self.now)) }
+    {
+        if !self.scan.search.is_over() {
+            return parse(alloc, &self.bytes, set);
+        }
+        let extent = Reach {
+            len: self.scan.len,
+            texts: self.scan.texts,
+        };
+        parse_measured(alloc, &self.bytes, extent, set)
     }
 
     /// Empties the buffer.
@@ -82,7 +97,7 @@ impl HeadBuffer {
         ensures { bytes_of self.new ≡ [] }
     {
         self.bytes.clear();
-        self.search = Search::Front;
+        self.scan = START;
     }
 
     /// Appends those bytes of the piece that may belong to the head.
@@ -93,7 +108,7 @@ impl HeadBuffer {
         let room = MAX_HEAD - self.bytes.len();
         let prefix = &piece[..piece.len().min(room)];
         self.bytes.extend_from_slice(prefix)?;
-        self.search = self.search.after(prefix);
+        self.scan = self.scan.after(prefix);
         Ok(())
     }
 }

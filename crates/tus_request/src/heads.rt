@@ -58,7 +58,7 @@ fn parse_head(alloc: Global, bytes: &[u8], set: &IndexSet) -> Result<Parsed, All
 }
 
 /// Parses the head at the start of a stream, where its extent is known.
-fn parse_measured(
+pub(crate) fn parse_measured(
     alloc: Global,
     bytes: &[u8],
     extent: Reach,

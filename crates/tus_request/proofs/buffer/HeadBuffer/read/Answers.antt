@@ -20,8 +20,7 @@ pub returns-clause-function : goal.returns-clause-function
 returns-clause-function c =
     let all : List ℕ = bytes_of c.args.self.now ++ c.args.piece.now in
     let set = offers c.args.set.now in
-    c.in_ok-parsed.ensures.function
-    ∙ (ap (answer_of set) (c.deref.ensures.value ∙ c.in_ok-fill.ensures) ∙ limited set all)
+    c.in_ok-parsed.ensures ∙ (ap (answer_of set) c.in_ok-fill.ensures ∙ limited set all)
 
 pub returns-clause-rest : goal.returns-clause-rest
 returns-clause-rest c =
@@ -31,4 +30,4 @@ returns-clause-rest c =
     c.clear.ensures
     ∙ sym (nothing_left c.in_ok-parsed.parsed all (λ more.
     judged set bytes (sym c.is_judged.ensures ∙ c.if-not-is_judged.false)
-    (sym (ap (answer_of set) c.deref.ensures.value) ∙ (sym c.in_ok-parsed.ensures.function ∙ ap answer_shown more))))
+    (sym c.in_ok-parsed.ensures ∙ ap answer_shown more)))
