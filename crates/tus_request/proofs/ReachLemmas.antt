@@ -11,11 +11,15 @@ use Rattle.tus_request.specs.Lines.{lines, onto_first, is_empty_line, up_to_empt
 use Rattle.tus_request.specs.Lines.{head_extent}
 use Rattle.tus_request.specs.Searches.{after_text_byte, after_byte, up_extent, ahead, is_in_start, Passes}
 use Rattle.tus_request.specs.Searches.{IsScanOf, after_bytes, is_over}
-use Rattle.tus_request.proofs.SearchLemmas.{Lines, not_empty, not_empty_cr, lines_feed, becomes, search_on}
+use Rattle.tus_request.proofs.SearchLemmas.{not_empty, not_empty_cr, lines_feed, becomes, over_byte, search_on}
+use Rattle.tus_request.proofs.SearchLemmas.{text_byte}
 use Rattle.tus_request.specs.declared.search.Search.{Search}
 use Rattle.tus_request.specs.declared.search.Search.TheVariants.{Front, FrontCr, Text, Start, StartCr, Over}
 use Rattle.tus_request.specs.declared.search.Scan.{Scan}
 use Rattle.tus_request.proofs.LineLemmas.{true_or_false, further_twice, extent_cons, further_zero}
+
+abbrev Lines : Type 0
+Lines = List (List ℕ)
 
 -- a byte more
 one_more : (n texts : ℕ) (o : Option Extent) → further (suc n) texts o ≡ further 1 0 (further n texts o)
@@ -129,9 +133,9 @@ byte_passes s t b e state len texts = record {
 }
 
 -- A LINE THAT ISN'T EMPTY
-text_byte : (b : ℕ) (ls : Lines) → ahead Text (onto_first b ls) ≡ further 1 0 (ahead Text ls)
-text_byte b [] = refl
-text_byte b (line ∷ ls) = one_more (length line) 1 (up_extent ls)
+text_on : (b : ℕ) (ls : Lines) → ahead Text (onto_first b ls) ≡ further 1 0 (ahead Text ls)
+text_on b [] = refl
+text_on b (line ∷ ls) = one_more (length line) 1 (up_extent ls)
 
 -- without a LF it goes on
 text_stays : (bytes more : List ℕ) → ((k : ℕ) → k < length bytes → (get_or bytes k 0 == 10) ≡ false)
@@ -139,7 +143,7 @@ text_stays : (bytes more : List ℕ) → ((k : ℕ) → k < length bytes → (ge
 text_stays [] more none = further_zero (ahead Text (lines more))
 text_stays (b ∷ bytes) more none =
     ap (ahead Text) (lines_feed (bytes ++ more) b false (none 0 (omega arith)))
-    ∙ text_byte b (lines (bytes ++ more))
+    ∙ text_on b (lines (bytes ++ more))
     ∙ ap (further 1 0) (text_stays bytes more (λ k h. none (suc k) (omega arith)))
     ∙ sym (one_more (length bytes) 0 (ahead Text (lines more)))
 
@@ -152,7 +156,7 @@ text_ends (b ∷ bytes) more zero inside feed none =
     ap (ahead Text) (lines_feed (bytes ++ more) b true feed)
 text_ends (b ∷ bytes) more (suc i) inside feed none =
     ap (ahead Text) (lines_feed (bytes ++ more) b false (none 0 (omega arith)))
-    ∙ text_byte b (lines (bytes ++ more))
+    ∙ text_on b (lines (bytes ++ more))
     ∙ ap (further 1 0) (text_ends bytes more i (omega arith) feed (λ k h. none (suc k) (omega arith)))
     ∙ sym (one_more (suc i) 1 (ahead Start (lines (drop (suc i) bytes ++ more))))
 
@@ -220,6 +224,51 @@ in_start Text o t = absurd (t refl)
 in_start Start o t = refl
 in_start StartCr o t = refl
 in_start Over o t = absurd (o refl)
+
+-- WHETHER THE END IS THERE
+abbrev pub has : {A : Type 0} → Option A → Bool
+has None = false
+has (Some x) = true
+
+has_further : (len texts : ℕ) (o : Option Extent) → has (further len texts o) ≡ has o
+has_further len texts None = refl
+has_further len texts (Some e) = refl
+
+has_text : (b : ℕ) (bytes : List ℕ) → ((b == 10) ≡ true) ⊎ ((b == 10) ≡ false)
+    → has (ahead Text (lines (b ∷ bytes))) ≡ has (ahead (after_byte Text b) (lines bytes))
+has_text b bytes (inl lf) =
+    let t : after_byte Text b ≡ Start = rw lf refl in
+    ap (λ ls. has (ahead Text ls)) (lines_feed bytes b true lf) ∙ has_further 1 1 (up_extent (lines bytes))
+    ∙ ap (λ t. has (ahead t (lines bytes))) (sym t)
+has_text b bytes (inr no_lf) =
+    ap (λ ls. has (ahead Text ls)) (lines_feed bytes b false no_lf) ∙ ap has (text_on b (lines bytes))
+    ∙ has_further 1 0 (ahead Text (lines bytes))
+    ∙ ap (λ t. has (ahead t (lines bytes))) (sym (text_byte b (b == 13) no_lf refl))
+
+has_start : (s : Search) (b : ℕ) (bytes : List ℕ) → is_in_start s ≡ true
+    → has (ahead s (lines (b ∷ bytes))) ≡ has (ahead (after_byte s b) (lines bytes))
+has_start s b bytes e = ap has (step s b bytes e) ∙ has_further 1 0 (ahead (after_byte s b) (lines bytes))
+
+has_step : (s : Search) (b : ℕ) (bytes : List ℕ)
+    → has (ahead s (lines (b ∷ bytes))) ≡ has (ahead (after_byte s b) (lines bytes))
+has_step Front b bytes = has_start Front b bytes refl
+has_step FrontCr b bytes = has_start FrontCr b bytes refl
+has_step Text b bytes = has_text b bytes (true_or_false (b == 10))
+has_step Start b bytes = has_start Start b bytes refl
+has_step StartCr b bytes = has_start StartCr b bytes refl
+has_step Over b bytes = ap (λ t. has (ahead t (lines bytes))) (sym (over_byte (b == 10) (b == 13)))
+
+has_none_left : (s : Search) → has (ahead s []) ≡ is_over s
+has_none_left Front = refl
+has_none_left FrontCr = refl
+has_none_left Text = refl
+has_none_left Start = refl
+has_none_left StartCr = refl
+has_none_left Over = refl
+
+pub has_all : (s : Search) (bytes : List ℕ) → has (ahead s (lines bytes)) ≡ is_over (after_bytes s bytes)
+has_all s [] = has_none_left s
+has_all s (b ∷ bytes) = has_step s b bytes ∙ has_all (after_byte s b) bytes
 
 -- IN A BUFFER
 pub scan_on : (s t : Scan) (old bytes new : List ℕ) → IsScanOf old s → t.search ≡ after_bytes s.search bytes
