@@ -7,8 +7,8 @@ use Rattle.std.proofs.lemmas.List.{length-drop, length-append, append_assoc, app
 use Rattle.std.proofs.lemmas.List.Quantifiers.{position-Some}
 use Rattle.std.proofs.lemmas.Bool.{eqb-true}
 use Rattle.tus_request.proofs.Positions.{none_passes}
-use Rattle.tus_request.specs.Lines.{lines, onto_first, is_empty_line, up_to_empty, head_lines, Extent, extent_of, further}
-use Rattle.tus_request.specs.Lines.{head_extent}
+use Rattle.tus_request.specs.Lines.{lines, onto_first, is_empty_line, up_to_empty, head_lines, Extent, extent_of}
+use Rattle.tus_request.specs.Lines.{head_extent, further}
 use Rattle.tus_request.specs.Searches.{after_text_byte, after_byte, up_extent, ahead, is_in_start, Passes}
 use Rattle.tus_request.specs.Searches.{IsScanOf, after_bytes, is_over}
 use Rattle.tus_request.proofs.SearchLemmas.{not_empty, not_empty_cr, lines_feed, becomes, over_byte, search_on}

@@ -1,6 +1,6 @@
 -- The answer to a stream's start, by the grammar of request heads.
-use Rattle.std.specs.Prelude.{◌≡◌, ℕ, ◌+◌, Bool, ◌≤◌, ◌⊎◌, List, [], ◌++◌, length, take, nat_lt, if◌then◌else◌, Option, Some}
-use Rattle.std.specs.Prelude.{None}
+use Rattle.std.specs.Prelude.{◌≡◌, ℕ, Bool, ◌≤◌, ◌⊎◌, List, [], ◌++◌, length, take, nat_lt, if◌then◌else◌, Option, Some}
+use Rattle.std.specs.Prelude.{None, ◌+◌}
 use Rattle.httparse.specs.Grammar.{RequestHead, ReadsRequest, HasNoRequest}
 use Rattle.enc_model.specs.declared.Encoding.{Encoding}
 use Rattle.tus_request.specs.Lines.{Extent, head_extent}

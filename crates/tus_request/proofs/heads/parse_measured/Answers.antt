@@ -44,4 +44,5 @@ returns-else-extent-2-clause-grammar c =
 
 pub returns-else-extent-2-clause-memory : goal.returns-else-extent-2-clause-memory
 returns-else-extent-2-clause-memory c =
-    on_err c.read_whole-else-extent-2.result (whole_prefix c.args.bytes.now (shown c.args.extent) c.requires (omega arith))
+    on_err c.read_whole-else-extent-2.result
+    (whole_prefix c.args.bytes.now (shown c.args.extent) c.requires (omega arith))

@@ -11,7 +11,10 @@ pub returns-in-Err : goal.returns-in-Err
 returns-in-Err c =
     let n : length c.new-request.result.headers.now ≡ length c.args.table.now = ap length c.new-request.ensures.room in
     let over : RequestOverflows (length c.new-request.result.headers.now) c.args.head.now = c.in-Err.ensures.no_room in
-    inl (none_where_failed (length c.args.table.now) c.args.head.now c.requires (rw n at over), c.no_head-in-Err.ensures)
+    inl (
+      none_where_failed (length c.args.table.now) c.args.head.now c.requires (rw n at over),
+      c.no_head-in-Err.ensures,
+    )
 
 pub returns : goal.returns
 returns c =

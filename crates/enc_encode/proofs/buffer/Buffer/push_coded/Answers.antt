@@ -47,6 +47,6 @@ loop-to-preserved c =
     let singles = singles_coded t c.args.to c.args.mode s c.args.pointers.now c.requires.singles after left kept new
     c.push_singles-rest-in-loop-to.ensures in (
       c.push_singles-rest-in-loop-to.utf8,
-      run_both gives text after left old kept new (run_both gives text rest after old held kept c.loop-to.invariant.1 more)
-          singles,
+      run_both gives text after left old kept new
+          (run_both gives text rest after old held kept c.loop-to.invariant.1 more) singles,
     )
