@@ -4,6 +4,7 @@ ghost use Rattle.std.specs.Prelude.{replicate, IfOk, IfSome};
 ghost use Rattle.spool_blocks.specs.Blocks.{Row, slot_count, IsWhole};
 ghost use Rattle.spool_blocks.specs.Chains.{Owns, rank, Linked, Taken};
 
+use crate::link::Link;
 use crate::lists::fill;
 use crate::{BlockNo, Row, SLOTS};
 use std::alloc::{AllocError, Global};
@@ -14,7 +15,7 @@ use std::marker::Model;
 #[derive(Drop)]
 pub(crate) struct Chains {
     rows: Vec<Row>,
-    below: Vec<Option<BlockNo>>,
+    below: Vec<Link>,
     tops: Vec<Option<BlockNo>>,
     counts: Vec<u32>,
 }
@@ -34,7 +35,7 @@ impl Chains {
         ensures { IfOk result (λ chains. chains ≡ replicate blocks None) }
     {
         let rows = vec![in alloc; None; blocks]?;
-        let below = vec![in alloc; None; blocks]?;
+        let below = vec![in alloc; Link::none(); blocks]?;
         let tops = vec![in alloc; None; SLOTS as usize]?;
         let counts = vec![in alloc; 0; SLOTS as usize]?;
         Ok(Chains {
@@ -62,7 +63,7 @@ impl Chains {
         ensures { self.new ≡ slice_set self.old block (Some (slot, ordinal)) }
     {
         let at = slot as usize;
-        self.below[block as usize] = self.tops[at];
+        self.below[block as usize] = Link::to(self.tops[at]);
         self.tops[at] = Some(block);
         self.counts[at] += 1;
         self.rows[block as usize] = Some((slot, ordinal));
@@ -81,7 +82,7 @@ impl Chains {
         if ordinal < first {
             return None;
         }
-        self.tops[at] = self.below[block as usize];
+        self.tops[at] = self.below[block as usize].block();
         self.counts[at] -= 1;
         self.rows[block as usize] = None;
         Some(block)

@@ -3,12 +3,13 @@ ghost use Rattle.std.specs.Prelude.{◌≡◌, ◌≤◌, ◌<◌, ℕ, Some, le
 ghost use Rattle.spool_blocks.specs.Blocks.{IsWhole};
 ghost use Rattle.spool_blocks.specs.Chains.{Owns, Links, ListedFrom};
 
+use crate::link::Link;
 use crate::{BlockNo, Row};
 
 /// Stores each of the slot's blocks at its ordinal, from the highest down.
 pub(crate) fn fill(
     rows: &[Row],
-    below: &[Option<BlockNo>],
+    below: &[Link],
     top: Option<BlockNo>,
     slot: u32,
     list: &mut [BlockNo],
@@ -24,7 +25,7 @@ pub(crate) fn fill(
     let mut next = top;
     while let Some(block) = next {
         place(list, rows[block as usize], block);
-        next = below[block as usize];
+        next = below[block as usize].block();
     }
 }
 

@@ -54,9 +54,9 @@ invariant_of-self c =
     let is = read_top c.self.invariant c.args.slot c.requires c.index.ensures c.in_ok-block.was in
     let row = read_row c.self.invariant c.args.slot c.in_ok-block.block is c.index-2.ensures c.in_ok-ordinal.was in
     let own = top_owned c.self.invariant c.args.slot c.in_ok-block.block _ _ is row in
-    popped_at c.self.invariant c.args.slot c.in_ok-block.block c.in_ok-ordinal.ordinal _ _ is own
+    rw c.block.ensures (popped_at c.self.invariant c.args.slot c.in_ok-block.block c.in_ok-ordinal.ordinal _ _ is own
     (read_below c.self.invariant c.args.slot c.in_ok-block.block is c.index-3.ensures)
-    (read_count c.self.invariant c.args.slot c.requires c.index_mut-2.ensures.value)
+    (read_count c.self.invariant c.args.slot c.requires c.index_mut-2.ensures.value))
 
 pub returns-clause-some : goal.returns-clause-some
 returns-clause-some c =
