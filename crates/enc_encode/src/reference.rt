@@ -7,7 +7,7 @@ ghost use Rattle.enc_model.specs.Encode.{reference};
 use crate::buffer::{LANES, ROOM};
 use std::simd::prelude::*;
 
-/// The room for a reference: more bytes than the longest has. One of any length is stored whole, in so many.
+/// The room that a reference is given: more bytes than the longest has. `put_any` stores so many at once.
 pub const AT_ONCE: usize = 16;
 
 /// A code point's digits and `;`, from a place up to the sixteenth byte. The bytes behind are `;` too.
@@ -89,7 +89,7 @@ fn last_digits(number: u32) -> [u8; 5]
 }
 
 /// Puts a character's reference after the first so many bytes, and gives how many there are then. One of three to five
-/// digits, as those of nearly all letters have, is stored from registers: no byte of it is read back.
+/// digits, as those of nearly all letters are, is stored from registers: no byte of it is read back.
 #[inline(always)]
 pub fn put_reference(held: &mut [u8; ROOM], from: usize, c: char) -> usize
     requires { from + AT_ONCE ≤ ROOM }

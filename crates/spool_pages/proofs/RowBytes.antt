@@ -10,12 +10,12 @@ use Rattle.spool_pages.proofs.Bytes.{padded_zeros}
 use Rattle.spool_pages.proofs.Numbers.{four_are}
 use Rattle.spool_pages.proofs.RecordBytes.{stands_prefix, stands_beyond, stands_both}
 
-pub owned_is : (slot ordinal : ℕ)
+owned_is : (slot ordinal : ℕ)
     → to_be_bytes w32 (slot + 1) ++ to_be_bytes w32 ordinal ≡ row_bytes (Some (slot, ordinal))
 unfolding row_bytes
 owned_is slot ordinal = refl
 
-pub free_is : row_bytes None ≡ []
+free_is : row_bytes None ≡ []
 unfolding row_bytes
 free_is = refl
 

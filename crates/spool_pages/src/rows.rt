@@ -67,7 +67,7 @@ fn rows_of(rows: &[Row], page: usize) -> &[Row]
     &rows[first..end]
 }
 
-// The rows up to the last owned one. The others are free, and have only to be looked at.
+// The rows up to the last owned one. Those after it are free, and a blank page has their zeros already.
 fn up_to_owned(rows: &[Row]) -> &[Row]
     ensures few { length result.now ≤ length rows.now }
     ensures rows { (k : ℕ) → get_or result.now k None ≡ get_or rows.now k None }
