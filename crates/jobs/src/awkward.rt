@@ -112,6 +112,7 @@ impl Writer {
         let head = self.heads.patch(self.number, 0, self.bytes.len())?;
         self.script.came(head, 1)?;
         self.script.came(&self.bytes, 1)?;
+        self.read()?;
         self.delete()
     }
 
@@ -165,7 +166,7 @@ impl Writer {
     fn transfer(&mut self, from: &str, to: &str, step: usize) -> Result<(), AllocError> {
         self.post(from, to)?;
         self.patch(0, step)?;
-        self.script.say(self.heads.ask("GET", self.number)?)?;
+        self.read()?;
         self.delete()
     }
 
@@ -178,12 +179,14 @@ impl Writer {
         }
         self.post(UTF_8, UTF_8)?;
         self.patch(0, 16_384)?;
+        self.read()?;
         let long = self.number;
         self.noise(random.between(9000, 12_000), random)?;
         self.post(UTF_8, UTF_8)?;
         self.patch(0, 4096)?;
         self.script.say(self.heads.ask("DELETE", long)?)?;
         self.patch(0, 4096)?;
+        self.read()?;
         self.delete()
     }
 
@@ -213,6 +216,10 @@ impl Writer {
         let head = self.heads.patch(self.number, offset, self.bytes.len())?;
         self.script.say(head)?;
         self.script.came(&self.bytes, step)
+    }
+
+    fn read(&mut self) -> Result<(), AllocError> {
+        self.script.say(self.heads.ask("GET", self.number)?)
     }
 
     fn delete(&mut self) -> Result<(), AllocError> {

@@ -2,9 +2,9 @@
 
 use std::fmt;
 
-const FACTOR: u64 = 0x9E37_79B9_7F4A_7C15;
-
 /// A checksum of all bytes in their order, and their number. Four lanes keep it cheap beside the work that it judges.
+/// No step multiplies: the compiler makes a multiplication of 64 bits by vectors in one program and not in another, and
+/// the digest would then be a part of the difference.
 #[derive(Drop)]
 pub(crate) struct Digest {
     sums: [u64; 4],
@@ -43,9 +43,10 @@ impl Digest {
     }
 }
 
-// A sum and one more word.
+// A sum and one more word. Another word, or another sum, gives another result.
 fn mix(sum: u64, word: u64) -> u64 {
-    (sum ^ word).wrapping_mul(FACTOR).rotate_left(29)
+    let mixed = sum ^ word;
+    mixed.wrapping_add(mixed << 5).rotate_left(29)
 }
 
 // The eight bytes at an offset as a number, and 0 where there are fewer.

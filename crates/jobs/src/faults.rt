@@ -25,6 +25,8 @@ pub(crate) enum Fault {
     Spool,
     /// The gateway refused a call.
     Call,
+    /// The gateway answered a request with 4xx or 5xx.
+    Refused,
 }
 
 impl fmt::Display for Fault {
@@ -37,6 +39,7 @@ impl fmt::Display for Fault {
             Fault::Text => "a text can't be made in its encoding",
             Fault::Spool => "the spool can't be made or opened",
             Fault::Call => "the gateway refused a call",
+            Fault::Refused => "a request was answered with 4xx or 5xx",
         })
     }
 }

@@ -1,4 +1,5 @@
-//! Starting again: a full spool with all index files is opened, with its gate closed or open, and a little is changed.
+//! Starting again: a spool of 511 uploads with all index files is opened, with its gate closed or open, some texts are
+//! read, and a little is changed.
 
 use crate::digest::Digest;
 use crate::faults::Fault;
@@ -18,7 +19,7 @@ const SAMPLE: usize = 262_144;
 const UPLOADS: u64 = 511;
 
 const SIDE_BY_SIDE: usize = 15;
-// How many uploads are looked at after each opening.
+// How many uploads are read after each opening.
 const LOOKS: usize = 4;
 
 /// Opens the spool so many times.
@@ -155,7 +156,7 @@ fn tongue_of(samples: &[(Tongue, Sample)], number: u64) -> &'static str {
     }
 }
 
-// Looks at some uploads, makes one longer, and makes a new one in the place of the last.
+// Reads some uploads, and makes a new one in the place of the last.
 fn live(
     server: &mut Server,
     heads: &mut Heads,
@@ -165,8 +166,9 @@ fn live(
 ) -> Result<(), Fault> {
     server.connect(0)?;
     for _ in 0..LOOKS {
-        let number = random.between(1, UPLOADS as u32);
-        server.send(0, heads.ask("HEAD", number as u64)?)?;
+        let number = random.between(1, UPLOADS as u32) as u64;
+        server.send(0, heads.ask("HEAD", number)?)?;
+        server.send(0, heads.ask("GET", number)?)?;
     }
     let newest = UPLOADS.saturating_add(round as u64);
     if round > 0 {

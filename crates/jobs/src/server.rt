@@ -49,12 +49,19 @@ impl Server {
     }
 
     /// A client sends bytes, and gets all that they are answered with.
+    ///
+    /// # Errors
+    ///
+    /// `Refused` at an answer of 4xx or 5xx: no job that sends by this call has a request that is to be refused.
     pub(crate) fn send(&mut self, conn: usize, bytes: &[u8]) -> Result<(), Fault> {
         let mut rest = bytes;
         for _ in 0..bytes.len() {
             self.out.clear();
             let answer = self.gateway.came(conn, rest, &mut self.out)?;
             self.digest.add(&self.out);
+            if is_refused(&self.out) {
+                return Err(Fault::Refused);
+            }
             if answer.more {
                 self.drain(conn)?;
             }
@@ -78,4 +85,9 @@ impl Server {
         }
         Ok(())
     }
+}
+
+// Whether what a client gets begins with a status of 4xx or 5xx.
+fn is_refused(out: &[u8]) -> bool {
+    matches!(out.strip_prefix(b"HTTP/1.1 "), Some([b'4' | b'5', ..]))
 }

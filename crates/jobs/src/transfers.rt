@@ -70,14 +70,14 @@ impl Direction {
     }
 }
 
-/// One of the uploads that are under way.
+/// One of the uploads that are under way. Its text is of whole lines, so that no character is cut at its end.
 #[derive(Drop)]
 struct Transfer<'a> {
     conn: usize,
     number: u64,
     piece: usize,
-    left: usize,
-    sample: &'a Sample,
+    text: Vec<&'a [u8]>,
+    sent: usize,
     kind: Kind,
 }
 
@@ -119,21 +119,11 @@ fn transfer_all(
             .wrapping_add(1);
         let mut transfers = Vec::new(alloc);
         for (conn, (kind, sample)) in (0..SIDE_BY_SIDE).zip(samples.iter().chain(samples.iter())) {
-            let transfer = Transfer {
-                conn,
-                number: first.wrapping_add(conn as u64),
-                piece: PIECES
-                    .get(random.below(PIECES.len()))
-                    .copied()
-                    .unwrap_or(4096),
-                left: 0,
-                sample,
-                kind: *kind,
-            };
-            transfers.push(transfer)?;
+            let number = first.wrapping_add(conn as u64);
+            transfers.push(Transfer::drawn(alloc, conn, number, *kind, sample, random)?)?;
         }
-        begin_all(alloc, server, &mut heads, &mut transfers, random)?;
-        feed_all(server, &mut transfers, random)?;
+        begin_all(alloc, server, &mut heads, &transfers)?;
+        feed_all(server, &mut transfers)?;
         read_all(server, &mut heads, &transfers)?;
     }
     Ok(())
@@ -144,14 +134,13 @@ fn begin_all(
     alloc: Global,
     server: &mut Server,
     heads: &mut Heads,
-    transfers: &mut [Transfer<'_>],
-    random: &mut Random,
+    transfers: &[Transfer<'_>],
 ) -> Result<(), Fault> {
-    for transfer in transfers.iter_mut() {
-        transfer.left = random.between(TEXT as u32 / 2, TEXT as u32);
+    for transfer in transfers {
+        let len = transfer.len();
         let metadata = metadata_of(alloc, transfer.kind)?;
-        server.send(transfer.conn, heads.post(transfer.left, metadata.as_str())?)?;
-        let head = heads.patch(transfer.number, 0, transfer.left)?;
+        server.send(transfer.conn, heads.post(len, metadata.as_str())?)?;
+        let head = heads.patch(transfer.number, 0, len)?;
         server.send(transfer.conn, head)?;
     }
     Ok(())
@@ -164,17 +153,13 @@ fn metadata_of(alloc: Global, kind: Kind) -> Result<String, AllocError> {
 }
 
 // Sends lines of each text by turns, until all are sent.
-fn feed_all(
-    server: &mut Server,
-    transfers: &mut [Transfer<'_>],
-    random: &mut Random,
-) -> Result<(), Fault> {
+fn feed_all(server: &mut Server, transfers: &mut [Transfer<'_>]) -> Result<(), Fault> {
     for _ in 0..TEXT {
-        let mut sent = 0;
+        let mut goes_on = false;
         for transfer in transfers.iter_mut() {
-            sent |= transfer.feed(server, random)?;
+            goes_on |= transfer.feed(server)?;
         }
-        if sent == 0 {
+        if !goes_on {
             break;
         }
     }
@@ -194,15 +179,56 @@ fn read_all(
     Ok(())
 }
 
-impl Transfer<'_> {
-    // Sends some pieces: how many bytes.
-    fn feed(&mut self, server: &mut Server, random: &mut Random) -> Result<usize, Fault> {
-        let lines = self.sample.draw(self.piece.max(16_384), random);
-        let some = lines.get(..self.left).unwrap_or(lines);
-        for piece in some.chunks(self.piece.max(1)) {
+impl<'a> Transfer<'a> {
+    // An upload of a text of lines that are drawn.
+    fn drawn(
+        alloc: Global,
+        conn: usize,
+        number: u64,
+        kind: Kind,
+        sample: &'a Sample,
+        random: &mut Random,
+    ) -> Result<Self, AllocError> {
+        let at = random.below(PIECES.len());
+        let piece = PIECES.get(at).copied().unwrap_or(4096);
+        let most = random.between(TEXT as u32 / 2, TEXT as u32);
+        let mut text = Vec::new(alloc);
+        let mut len = 0usize;
+        for _ in 0..most {
+            let lines = sample.draw(piece.max(16_384), random);
+            len = len.saturating_add(lines.len());
+            text.push(lines)?;
+            if len >= most || lines.is_empty() {
+                break;
+            }
+        }
+        Ok(Transfer {
+            conn,
+            number,
+            piece,
+            text,
+            sent: 0,
+            kind,
+        })
+    }
+
+    fn len(&self) -> usize {
+        let mut len = 0usize;
+        for lines in self.text.iter() {
+            len = len.saturating_add(lines.len());
+        }
+        len
+    }
+
+    // Sends the next lines in pieces: whether there were any.
+    fn feed(&mut self, server: &mut Server) -> Result<bool, Fault> {
+        let Some(lines) = self.text.get(self.sent) else {
+            return Ok(false);
+        };
+        for piece in lines.chunks(self.piece.max(1)) {
             server.send(self.conn, piece)?;
         }
-        self.left = self.left.saturating_sub(some.len());
-        Ok(some.len())
+        self.sent = self.sent.saturating_add(1);
+        Ok(true)
     }
 }
