@@ -9,6 +9,7 @@ mod drops;
 mod faults;
 mod heads;
 mod mails;
+mod marks;
 mod openings;
 mod ram_disk;
 mod random;
@@ -71,6 +72,7 @@ fn job(
     match name {
         "texts" => transfers::run(alloc, Direction::In, count, material, random),
         "back" => transfers::run(alloc, Direction::Back, count, material, random),
+        "marks" => transfers::run(alloc, Direction::Marked, count, material, random),
         "mails" => mails::run(alloc, count, material, random),
         "drops" => drops::run(alloc, count, material, random),
         "openings" => openings::run(alloc, count, material, random),

@@ -51,6 +51,8 @@ pub(crate) const WINDOWS_1251: &str = "d2luZG93cy0xMjUx";
 pub(crate) const WINDOWS_1252: &str = "d2luZG93cy0xMjUy";
 /// The label of KOI8-R in Base64.
 pub(crate) const KOI8_R: &str = "a29pOC1y";
+/// The label of IBM866 in Base64.
+pub(crate) const IBM866: &str = "aWJtODY2";
 /// The label of UTF-16LE in Base64.
 pub(crate) const UTF_16LE: &str = "dXRmLTE2bGU=";
 

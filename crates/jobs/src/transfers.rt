@@ -8,7 +8,8 @@ use crate::random::Random;
 use crate::server::Server;
 use crate::texts::Sample;
 use crate::tongues::{
-    EUC_JP, ISO_2022_JP, SHIFT_JIS, Tongue, UTF_8, WINDOWS_1251, WINDOWS_1252, archived, in_utf8,
+    EUC_JP, IBM866, ISO_2022_JP, KOI8_R, SHIFT_JIS, Tongue, UTF_8, WINDOWS_1251, WINDOWS_1252,
+    archived, in_utf8,
 };
 use crate::words::{Language, Material};
 use std::alloc::{AllocError, Global};
@@ -24,11 +25,13 @@ const TEXT: usize = 4_194_304;
 
 const PIECES: [usize; 4] = [4096, 16_384, 65_536, 4096];
 
-/// Whether legacy texts become UTF-8, or UTF-8 is written in a legacy encoding.
+/// Whether legacy texts become UTF-8, or UTF-8 is written in a legacy encoding: plain texts in both modes, or texts
+/// that are full of marks in html mode.
 #[derive(Clone, Copy, Drop)]
 pub(crate) enum Direction {
     In,
     Back,
+    Marked,
 }
 
 /// A text's language and encodings, and the mode in which it is written.
@@ -43,31 +46,67 @@ const HTML: &str = "aHRtbA==";
 
 const FATAL: &str = "ZmF0YWw=";
 
+static BACK: [(Language, &str, &str); 8] = [
+    (Language::Japanese, SHIFT_JIS, FATAL),
+    (Language::Japanese, EUC_JP, HTML),
+    (Language::Japanese, ISO_2022_JP, HTML),
+    (Language::Russian, WINDOWS_1251, FATAL),
+    (Language::German, WINDOWS_1252, FATAL),
+    (Language::Japanese, SHIFT_JIS, HTML),
+    (Language::Russian, WINDOWS_1252, HTML),
+    (Language::German, WINDOWS_1251, HTML),
+];
+
+static MARKED: [(Language, &str, &str); 16] = [
+    (Language::HalfWidth, SHIFT_JIS, HTML),
+    (Language::HalfWidth, EUC_JP, HTML),
+    (Language::HalfAndFull, SHIFT_JIS, HTML),
+    (Language::Russian, SHIFT_JIS, HTML),
+    (Language::Russian, EUC_JP, HTML),
+    (Language::Russian, ISO_2022_JP, HTML),
+    (Language::Frames, KOI8_R, HTML),
+    (Language::Frames, IBM866, HTML),
+    (Language::Quoted, WINDOWS_1252, HTML),
+    (Language::Quoted, WINDOWS_1251, HTML),
+    (Language::Marks, WINDOWS_1252, HTML),
+    (Language::Sparse, SHIFT_JIS, HTML),
+    (Language::Sparse, EUC_JP, HTML),
+    (Language::Sparse, ISO_2022_JP, HTML),
+    (Language::Short, SHIFT_JIS, HTML),
+    (Language::Pictures, WINDOWS_1252, HTML),
+];
+
 impl Direction {
-    fn kinds(self) -> [Kind; 8] {
+    // The kinds of sixteen texts, or of eight that come twice.
+    fn kinds(self, alloc: Global) -> Result<Vec<Kind>, Fault> {
         match self {
-            Direction::In => archived().map(|tongue| Kind {
-                tongue,
-                to: UTF_8,
-                mode: HTML,
-            }),
-            Direction::Back => [
-                (Language::Japanese, SHIFT_JIS, FATAL),
-                (Language::Japanese, EUC_JP, HTML),
-                (Language::Japanese, ISO_2022_JP, HTML),
-                (Language::Russian, WINDOWS_1251, FATAL),
-                (Language::German, WINDOWS_1252, FATAL),
-                (Language::Japanese, SHIFT_JIS, HTML),
-                (Language::Russian, WINDOWS_1252, HTML),
-                (Language::German, WINDOWS_1251, HTML),
-            ]
-            .map(|(language, to, mode)| Kind {
-                tongue: in_utf8(language),
-                to,
-                mode,
-            }),
+            Direction::In => Ok(Vec::from_array(
+                alloc,
+                archived().map(|tongue| Kind {
+                    tongue,
+                    to: UTF_8,
+                    mode: HTML,
+                }),
+            )?),
+            Direction::Back => kinds_of(alloc, &BACK),
+            Direction::Marked => kinds_of(alloc, &MARKED),
         }
     }
+}
+
+fn kinds_of(
+    alloc: Global,
+    rows: &[(Language, &'static str, &'static str)],
+) -> Result<Vec<Kind>, Fault> {
+    let mut kinds = Vec::new(alloc);
+    for (language, to, mode) in rows {
+        kinds.push(Kind {
+            tongue: in_utf8(*language),
+            to,
+            mode,
+        })?;
+    }
+    Ok(kinds)
 }
 
 /// One of the uploads that are under way. Its text is of whole lines, so that no character is cut at its end.
@@ -90,9 +129,9 @@ pub(crate) fn run(
     mut random: Random,
 ) -> Result<Digest, Fault> {
     let mut samples = Vec::new(alloc);
-    for kind in direction.kinds() {
+    for kind in direction.kinds(alloc)?.iter() {
         let sample = Sample::new(alloc, kind.tongue, SAMPLE, material, &mut random)?;
-        samples.push((kind, sample))?;
+        samples.push((*kind, sample))?;
     }
     let disk = RamDisk::spool(alloc, BLOCKS, &material.indexes)?;
     let mut server = Server::open(alloc, disk, Digest::new())?;

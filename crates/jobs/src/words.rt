@@ -1,6 +1,7 @@
 //! The files of the folder that a job runs in: index files, and the words of four languages.
 
 use crate::faults::Fault;
+use crate::marks;
 use crate::random::Random;
 use enc_index::{Index, IndexSet, Kind};
 use enc_model::Encoding;
@@ -57,13 +58,21 @@ static INDEXES: [(&str, Kind); 18] = [
     ),
 ];
 
-/// The language of a text.
+/// The language of a text, or what it is full of.
 #[derive(Clone, Copy, Drop)]
 pub(crate) enum Language {
     English,
     German,
     Russian,
     Japanese,
+    HalfWidth,
+    HalfAndFull,
+    Frames,
+    Quoted,
+    Marks,
+    Sparse,
+    Short,
+    Pictures,
 }
 
 /// What all inputs are made of.
@@ -91,10 +100,18 @@ impl Material {
     /// The words of a language.
     pub(crate) fn words(&self, alloc: Global, language: Language) -> Result<Words<'_>, AllocError> {
         let (list, gap, end) = match language {
-            Language::English => (&self.english, " ", ".\n"),
-            Language::German => (&self.german, " ", ".\n"),
-            Language::Russian => (&self.russian, " ", ".\n"),
-            Language::Japanese => (&self.japanese, "", "。\n"),
+            Language::English => (self.english.as_str(), " ", ".\n"),
+            Language::German => (self.german.as_str(), " ", ".\n"),
+            Language::Russian => (self.russian.as_str(), " ", ".\n"),
+            Language::Japanese => (self.japanese.as_str(), "", "。\n"),
+            Language::HalfWidth => (marks::HALF_WIDTH, " ", "\n"),
+            Language::HalfAndFull => (marks::HALF_AND_FULL, "", "。\n"),
+            Language::Frames => (marks::FRAMES, " ", "\n"),
+            Language::Quoted => (marks::QUOTED, " ", ".\n"),
+            Language::Marks => (marks::MARKS, "", "\n"),
+            Language::Sparse => (marks::SPARSE, " ", "\n"),
+            Language::Short => (marks::SHORT, " ", "\n"),
+            Language::Pictures => (marks::PICTURES, " ", "\n"),
         };
         let list = list.lines().collect(alloc)?;
         Ok(Words { list, gap, end })
