@@ -1,8 +1,8 @@
 -- The lines of a script, and its end.
 use Rattle.std.specs.Io.BufRead.{take_through}
-use Rattle.std.proofs.Math.Seq.{take-append_seam, drop-append_seam}
-use Rattle.std.proofs.Common.{◌≡◌, ◌==◌, ◌<◌, ◌≤◌, ◌⊎◌, inl, inr, arith, ◌+◌, ◌-◌, Bool, true, false, ◌||◌, ℕ, zero}
-use Rattle.std.proofs.Common.{suc, List, [], ◌∷◌, ◌++◌, length, length-append, take, drop, Option, Some, None, Result}
+use Rattle.std.proofs.Math.Seq.{drop-append_seam}
+use Rattle.std.proofs.Common.{◌≡◌, ◌==◌, ◌<◌, ◌⊎◌, inl, inr, arith, ◌+◌, Bool, true, false, ◌||◌, ℕ, zero}
+use Rattle.std.proofs.Common.{suc, List, [], ◌∷◌, ◌++◌, length, drop, Option, Some, None, Result}
 use Rattle.std.proofs.Common.{Ok, Err, refl, sym, subst, ap, ◌∙◌, if◌then◌else◌}
 use Rattle.tus_session.specs.History.{State, Ended, Served, OutOfMemory, Failed, Done, Refused, step, ended_at, lost_at}
 use Rattle.tus_session.specs.History.{most_open}
@@ -341,21 +341,6 @@ both_case b bytes false is = ap (λ l. b ∷ l) is
 line_both : (bytes : List ℕ) → take_through 10 bytes ++ after 10 bytes ≡ bytes
 line_both [] = refl
 line_both (b ∷ bytes) = both_case b bytes (b == 10) (line_both bytes)
-
--- the bytes before what is after the first line
-pub line_prefix : (bytes : List ℕ) → take (length bytes - length (after 10 bytes)) bytes ≡ take_through 10 bytes
-line_prefix bytes =
-    let n : length (take_through 10 bytes) + length (after 10 bytes) ≡ length bytes =
-    sym (length-append (take_through 10 bytes) (after 10 bytes)) ∙ ap length (line_both bytes) in
-    let e : length bytes - length (after 10 bytes) ≡ length (take_through 10 bytes) = omega arith in
-    ap (λ k. take k bytes) e ∙ (ap (take (length (take_through 10 bytes))) (sym (line_both bytes))
-    ∙ take-append_seam (take_through 10 bytes) (after 10 bytes))
-
-pub after_size : (bytes : List ℕ) → length (after 10 bytes) ≤ length bytes
-after_size bytes =
-    let n : length (take_through 10 bytes) + length (after 10 bytes) ≡ length bytes =
-    sym (length-append (take_through 10 bytes) (after 10 bytes)) ∙ ap length (line_both bytes) in
-    omega arith
 
 line_after : (bytes : List ℕ) → drop (length (take_through 10 bytes)) bytes ≡ after 10 bytes
 line_after bytes = ap (drop (length (take_through 10 bytes))) (sym (line_both bytes))

@@ -6,5 +6,4 @@ pub mod Turns
 pub mod Reaching
 pub mod Cuts
 pub mod Ending
-pub mod Hexes
 pub mod Sure

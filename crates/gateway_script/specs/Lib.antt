@@ -1,6 +1,5 @@
 pub mod Faults
 pub mod Script
-pub mod Digits
 pub mod Inputs
 pub mod Lines
 pub mod Shown

@@ -2,7 +2,6 @@
 #![tactic(auto)]
 
 mod calls;
-mod digits;
 mod faults;
 mod lines;
 mod orders;

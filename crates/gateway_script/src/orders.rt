@@ -3,7 +3,7 @@ ghost use Rattle.std.specs.Prelude.{◌≡◌, IfOk};
 ghost use Rattle.gateway_script.specs.Script.{bared, order_of, conn_number, order_of_word};
 ghost use Rattle.gateway_script.specs.Shown.{order_shown, say_of, came_of};
 
-use crate::digits::hex_bytes;
+use hex::FromHexError;
 use std::alloc::{AllocError, Global};
 use tus_request::number::number;
 use tus_request::texts::{after, prefix};
@@ -64,9 +64,14 @@ fn came(alloc: Global, rest: &[u8]) -> Result<Order, AllocError>
     let Some(conn) = connection(prefix(rest, b' ')) else {
         return Ok(Order::Bad);
     };
-    match hex_bytes(alloc, after(rest, b' '))? {
-        Some(bytes) if !bytes.is_empty() => Ok(Order::Give(conn as usize, bytes)),
-        _ => Ok(Order::Bad),
+    match hex::decode(alloc, after(rest, b' ')) {
+        Ok(bytes) => Ok(if bytes.is_empty() {
+            Order::Bad
+        } else {
+            Order::Give(conn as usize, bytes)
+        }),
+        Err(FromHexError::OutOfMemory) => Err(AllocError),
+        Err(_) => Ok(Order::Bad),
     }
 }
 

@@ -85,14 +85,9 @@ fn text_of(line: &[u8]) -> &[u8]
     requires { IsLine line.now }
     ensures { result.now ≡ before 10 line.now }
 {
-    if line.is_empty() {
-        return line;
-    }
-    let last = line.len() - 1;
-    if line[last] == b'\n' {
-        &line[..last]
-    } else {
-        line
+    match line.last() {
+        Some(b'\n') => &line[..line.len() - 1],
+        _ => line,
     }
 }
 

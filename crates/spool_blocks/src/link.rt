@@ -4,8 +4,8 @@ ghost use Rattle.std.specs.Prelude.{◌≡◌, ◌<◌, None, IfSome};
 use crate::BlockNo;
 use std::marker::Model;
 
-// No block has this number.
-const NO_BLOCK: u32 = u32::MAX;
+/// No block has this number.
+pub(crate) const NO_BLOCK: BlockNo = u32::MAX;
 
 /// A block, or none, in four bytes: an `Option` takes eight, and a spool has up to 65,536 links.
 #[derive(Clone, Copy)]

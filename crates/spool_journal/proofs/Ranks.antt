@@ -1,6 +1,8 @@
 -- Pages by ascending number.
-use Rattle.std.proofs.Common.{◌≡◌, ℕ, zero, suc, ◌+◌, ◌<◌, ◌≤◌, List, length, arith, ⊎_elim}
+use Rattle.std.proofs.Common.{◌≡◌, ℕ, zero, suc, ◌+◌, ◌<◌, ◌≤◌, List, [], length, arith, ⊎_elim}
+use Rattle.std.specs.List.Sorted.{IsNonDecreasingBy}
 use Rattle.std.proofs.lemmas.Bool.{cases_lt}
+use Rattle.std.proofs.lemmas.List.Sorted.{IsNonDecreasingBy-from_default}
 use Rattle.spool_journal.specs.Image.{Ascends, page_number}
 
 pub rises : (pages : List (ℕ × List ℕ)) → Ascends pages → (i k : ℕ) → i ≤ k → k < length pages
@@ -16,6 +18,9 @@ rises pages ascends i (suc k) le lt = ⊎_elim
     rw next (omega (arith, before, step)))
     (λ (from : suc k ≤ i). let same : i ≡ suc k = omega (arith, from, le) in rw same (omega arith))
     (cases_lt i (suc k))
+
+pub not_falling : (pages : List (ℕ × List ℕ)) → Ascends pages → IsNonDecreasingBy (λ (p : ℕ × List ℕ). p.0) pages
+not_falling pages ascends = IsNonDecreasingBy-from_default (λ (p : ℕ × List ℕ). p.0) pages (0, []) (rises pages ascends)
 
 -- where no page before `at` has the number and the one at it has another, none has it
 pub not_there : (pages : List (ℕ × List ℕ)) → Ascends pages → (page at : ℕ)

@@ -140,6 +140,7 @@ fn text_of(alloc: Global, bytes: &[u8]) -> Result<String, CheckError>
     ensures same { IfOk result (λ text. text.bytes.items ≡ bytes.now) }
     ensures printable { OnOk result (All (λ b. (0x20 ≤ b) × (b ≤ 0x7E)) bytes.now) }
 {
+    // Memory is asked for before the check: of both faults, its lack is the one that is answered.
     let mut copy = Vec::with_capacity(alloc, bytes.len())?;
     if !are_printable(bytes) {
         return Err(CheckError::Damaged);

@@ -1,6 +1,8 @@
 -- The bytes of a row.
-use Rattle.std.proofs.Common.{◌≡◌, ℕ, ◌+◌, ◌<◌, ◌≤◌, ◌++◌, List, [], Option, Some, None, length, get_or, refl}
-use Rattle.std.proofs.Common.{sym, ◌∙◌, ap, subst, arith}
+use Rattle.std.proofs.Common.{◌≡◌, ℕ, ◌+◌, ◌*◌, ◌/◌, ◌%◌, ◌<◌, ◌≤◌, ◌++◌, List, [], Option, Some, None, length, get_or}
+use Rattle.std.proofs.Common.{refl, sym, ◌∙◌, ap, subst, arith, inl, inr}
+use Rattle.std.proofs.Math.ListN.{get_or-eq_default}
+use Rattle.std.proofs.lemmas.Bool.{cases_lt}
 use Rattle.std.specs.Int.{to_be_bytes, w32}
 use Rattle.spool_journal.specs.Image.{byte_of}
 use Rattle.spool_pages.specs.Bytes.{IsPadded}
@@ -71,6 +73,21 @@ pub free_there : (page : List ℕ) (from at : ℕ) (row : Option (ℕ × ℕ))
     → Stands (byte_of page) at 8 (row_bytes row)
 free_there page from at row blank le is = subst (λ (bytes : List ℕ). Stands (byte_of page) at 8 bytes)
     (sym (ap row_bytes is ∙ free_is)) record { each = λ i lt. blank (at + i) (omega (arith, le)) }
+
+-- a page of free rows
+pub all_free : (page : List ℕ) → length page ≡ 4096
+    → ((k : ℕ) → k < 512 → Stands (byte_of page) (8 * k) 8 (row_bytes None)) → IsPadded page []
+all_free page full rows = record {
+  each = λ i. elim (cases_lt i 4096) [
+    | inl below ↦
+        let free : Stands (byte_of page) (8 * (i / 8)) 8 [] =
+        subst (λ (bytes : List ℕ). Stands (byte_of page) (8 * (i / 8)) 8 bytes) free_is
+        (rows (i / 8) (omega (arith, below))) in
+        let at : 8 * (i / 8) + i % 8 ≡ i = omega arith in
+        subst (λ (p : ℕ). get_or page p 0 ≡ 0) at (free.each (i % 8) (omega arith))
+    | inr from ↦ get_or-eq_default page 0 (omega (arith, from, full))
+  ];
+}
 
 -- a row that stands where all is zeros
 pub free_only : (page : List ℕ) (at : ℕ) (row : Option (ℕ × ℕ)) → IsPadded page [] → FitsRow row

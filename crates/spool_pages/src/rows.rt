@@ -1,6 +1,6 @@
 //! The rows: which slot owns a text block, and at which ordinal.
 ghost use Rattle.std.specs.Prelude.{◌≡◌, ◌≤◌, ◌<◌, ◌+◌, ◌*◌};
-ghost use Rattle.std.specs.Prelude.{ℕ, Option, [], None, Some, true, Ok, IfOk, length, get_or};
+ghost use Rattle.std.specs.Prelude.{ℕ, Option, [], None, Some, IsTrue, ◌↔◌, true, Ok, IfOk, length, get_or};
 ghost use Rattle.std.specs.Int.{to_be_bytes, w32};
 ghost use Rattle.spool_disk.specs.Disk.{In};
 ghost use Rattle.spool_journal.specs.Image.{byte_of};
@@ -104,7 +104,7 @@ pub fn row_at(page: &[u8], at: usize) -> Result<Row, Damaged>
 
 /// Whether all 512 rows of a page are free.
 pub fn are_free(page: &[u8; PAGE]) -> bool
-    ensures stands { result ≡ true → (k : ℕ) → k < 512 → Stands (byte_of page.now) (8 * k) 8 (row_bytes None) }
+    ensures free { IsTrue result ↔ ((k : ℕ) → k < 512 → Stands (byte_of page.now) (8 * k) 8 (row_bytes None)) }
     ensures only { result ≡ true → (k : ℕ) → k < 512 → (row : Option (ℕ × ℕ)) → FitsRow row
         → Stands (byte_of page.now) (8 * k) 8 (row_bytes row) → row ≡ None }
 {

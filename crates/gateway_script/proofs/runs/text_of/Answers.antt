@@ -1,7 +1,8 @@
-use Rattle.std.proofs.Common.{◌≡◌, ◌==◌, ◌<◌, ◌-◌, ℕ, suc, true, false, length, slice_index, List, arith, inl, inr}
-use Rattle.std.proofs.Common.{ap, ◌∙◌}
-use Rattle.std.proofs.lemmas.Bool.Decides.{nat_tests}
-use Rattle.std.proofs.lemmas.Bool.{cases_lt}
+use Rattle.std.proofs.Common.{◌≡◌, ◌==◌, ◌-◌, ℕ, suc, false, length, slice_index, List, arith, rules, inl, inr}
+use Rattle.std.proofs.Common.{sym, ap, ◌∙◌, eq-eqb}
+use Rattle.std.specs.Option.{option_copied}
+use Rattle.std.proofs.lemmas.Bool.{cases_lt, ne_eqb}
+use Rattle.std.proofs.lemmas.Option.{get_or_from_slice_get, slice_get_within}
 use Rattle.gateway_script.specs.Lines.{IsLine}
 use Rattle.gateway_script.proofs.Cuts.{NoneIn, text_to, text_all}
 use Rattle.gateway_script.proofs.runs.text_of.Goals as goal
@@ -15,16 +16,19 @@ none_at_all line one last k h =
       | inr g ↦ (let same : k ≡ length line - 1 = omega arith in ap (λ j. slice_index line j == 10) same ∙ last)
     ]
 
-pub returns-then-line-last-eq10 : goal.returns-then-line-last-eq10
-returns-then-line-last-eq10 c =
+pub returns-in-Some-eq10 : goal.returns-in-Some-eq10
+returns-in-Some-eq10 c =
     let line = c.args.line.now in
-    let some : 0 < length line = grind (arith, nat_tests) in
-    let here : (slice_index line (length line - 1) == 10) ≡ true = grind (arith, nat_tests, c.if-line-last-eq10.true) in
-    text_to (length line - 1) line (omega arith) (λ k l. c.requires k (omega arith)) here
+    let is = sym c.in-Some-eq10.ensures.value in
+    let last : slice_index line (length line - 1) ≡ 10 =
+    get_or_from_slice_get line _ _ 0 is ∙ c.in-Some-eq10.field-0-test in
+    text_to (length line - 1) line (slice_get_within line _ _ is) (λ k l. c.requires k (omega (arith, l)))
+    (eq-eqb _ 10 last)
 
-pub returns-else-line-last-eq10 : goal.returns-else-line-last-eq10
-returns-else-line-last-eq10 c =
+pub returns-in_default : goal.returns-in_default
+returns-in_default c =
     let line = c.args.line.now in
-    let none : (slice_index line (length line - 1) == 10) ≡ false =
-    grind (arith, nat_tests, c.if-line-last-eq10.false) in
-    text_all line (none_at_all line c.requires none)
+    let is = sym c.last.ensures.value ∙ ap option_copied c.in_default.is in
+    let other : c.in_default.field-0.now ≡ 10 → ⊥ = search rules in
+    text_all line (none_at_all line c.requires
+    (ne_eqb _ 10 (λ e. other (sym (get_or_from_slice_get line _ _ 0 is) ∙ e))))

@@ -8,7 +8,7 @@ listed : (c : goal.After-block-next) → ListedFrom c.args.rows.now c.args.slot 
 listed c = subst (λ (x : Option ℕ). ListedFrom c.args.rows.now c.args.slot x c.loop-next.list) c.in-Some.is
     c.loop-next.invariant.listed
 
--- the block that was read is the one below
+-- the link that was read is the block's
 link : (c : goal.After-block-next) → c.block-next.result ≡ get_or c.args.below.now c.in-Some.block None
 link c =
     let here = block_in c.requires.few c.requires.links (listed c) in

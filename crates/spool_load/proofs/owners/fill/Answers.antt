@@ -21,7 +21,7 @@ returns-then-are_free-clause-said c all long fits stands was = record {
 pub returns-then-are_free-clause-valid : goal.returns-then-are_free-clause-valid
 returns-then-are_free-clause-valid c k lt =
     subst (λ (row : Option (ℕ × ℕ)). Stands (byte_of c.args.page.now) (8 * k) 8 (row_bytes row))
-    (sym (c.requires.free.each (c.args.first + k) (omega arith))) (c.are_free.ensures.stands c.if-are_free.true k lt)
+    (sym (c.requires.free.each (c.args.first + k) (omega arith))) (c.are_free.ensures.free.0 c.if-are_free.true k lt)
 
 pub returns-then-are_free-clause-after : goal.returns-then-are_free-clause-after
 returns-then-are_free-clause-after c = record { each = λ k from. c.requires.free.each k (omega (arith, from)) }

@@ -12,8 +12,8 @@ overflow_add-index_mut c =
 
 pub invariant_of-self : goal.invariant_of-self
 invariant_of-self c =
-    rw c.to.ensures (pushed_view c.self.invariant c.self.view_is c.args.slot c.args.block c.args.ordinal _ _ c.requires.below
-    c.requires.free c.requires.slot c.requires.above c.index.ensures c.index_mut-3.ensures.value)
+    rw c.to.ensures (pushed_view c.self.invariant c.self.view_is c.args.slot c.args.block c.args.ordinal _ _
+    c.requires.below c.requires.free c.requires.slot c.requires.above c.index.ensures c.index_mut-3.ensures.value)
 
 pub to-requires : goal.to-requires
 to-requires c = top_few c.self.invariant c.args.slot c.index.result.now c.requires.slot c.index.ensures
