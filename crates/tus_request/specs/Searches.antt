@@ -39,3 +39,9 @@ after_bytes s (b ∷ bytes) = after_bytes (after_byte s b) bytes
 abbrev pub is_over : Search → Bool
 is_over Over = true
 is_over _ = false
+
+-- The search is at the start of a line, or after a CR there.
+abbrev pub is_in_start : Search → Bool
+is_in_start Text = false
+is_in_start Over = false
+is_in_start _ = true

@@ -1,6 +1,6 @@
 //! The search for a head's end.
-ghost use Rattle.std.specs.Prelude.{◌≡◌, ◌<◌, length};
-ghost use Rattle.tus_request.specs.Searches.{after_byte, after_bytes, is_over};
+ghost use Rattle.std.specs.Prelude.{◌≡◌, ◌<◌, true, length};
+ghost use Rattle.tus_request.specs.Searches.{after_byte, after_bytes, is_over, is_in_start};
 ghost use Rattle.tus_request.specs.declared.search.Search.TheVariants.{Text};
 
 use crate::lines::line_feed;
@@ -30,15 +30,15 @@ impl Search {
         matches!(self, Search::Over)
     }
 
-    /// The state after one more byte.
+    /// The state after one more byte at the start of a line, or after a CR there.
     fn after_byte(self, byte: u8) -> Self
+        requires { is_in_start self ≡ true }
         ensures { result ≡ after_byte self byte }
     {
         match (self, byte) {
-            (Search::Over, _) | (Search::Start | Search::StartCr, b'\n') => Search::Over,
+            (Search::Start | Search::StartCr, b'\n') => Search::Over,
             (Search::Front | Search::FrontCr, b'\n') => Search::Front,
             (Search::Front, b'\r') => Search::FrontCr,
-            (Search::Text, b'\n') => Search::Start,
             (Search::Start, b'\r') => Search::StartCr,
             _ => Search::Text,
         }
