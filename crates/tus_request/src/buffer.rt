@@ -6,7 +6,8 @@ ghost use Rattle.tus_request.specs.Searches.{after_bytes};
 ghost use Rattle.tus_request.specs.declared.search.Search.TheVariants.{Front};
 ghost use Rattle.tus_request.specs.Shown.{answer_shown};
 
-use crate::heads::{MAX_HEAD, parse};
+use crate::heads::{MAX_HEAD, parse_by};
+use crate::places::Routes;
 use crate::requests::Parsed;
 use crate::search::Search;
 use enc_index::IndexSet;
@@ -61,11 +62,47 @@ impl HeadBuffer {
         ensures rest { IfOk result (λ answer. bytes_of self.new ≡ unfinished (answer_shown answer)
             (bytes_of self.old ++ piece.now)) }
     {
+        self.take(alloc, piece, set, None)
+    }
+
+    /// The same; the path is looked up in these routes.
+    ///
+    /// # Errors
+    ///
+    /// `AllocError` as for `read`.
+    pub fn read_by(
+        &mut self,
+        alloc: Global,
+        piece: &[u8],
+        set: &IndexSet,
+        routes: &Routes,
+    ) -> Result<Parsed, AllocError>
+        ensures function { IfOk result
+            (λ answer. answer_shown answer ≡ answer_of (offers set.now) (bytes_of self.old ++ piece.now)) }
+        ensures rest { IfOk result (λ answer. bytes_of self.new ≡ unfinished (answer_shown answer)
+            (bytes_of self.old ++ piece.now)) }
+    {
+        self.take(alloc, piece, set, Some(routes))
+    }
+
+    /// Reads the head together with a further piece, by routes if there are any.
+    fn take(
+        &mut self,
+        alloc: Global,
+        piece: &[u8],
+        set: &IndexSet,
+        routes: Option<&Routes>,
+    ) -> Result<Parsed, AllocError>
+        ensures function { IfOk result
+            (λ answer. answer_shown answer ≡ answer_of (offers set.now) (bytes_of self.old ++ piece.now)) }
+        ensures rest { IfOk result (λ answer. bytes_of self.new ≡ unfinished (answer_shown answer)
+            (bytes_of self.old ++ piece.now)) }
+    {
         self.fill(piece)?;
         if !self.is_judged() {
             return Ok(Parsed::More);
         }
-        let parsed = parse(alloc, &self.bytes, set)?;
+        let parsed = parse_by(alloc, &self.bytes, set, routes)?;
         self.clear();
         Ok(parsed)
     }

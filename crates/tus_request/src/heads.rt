@@ -11,6 +11,7 @@ ghost use Rattle.tus_request.specs.Shown.{answer_shown};
 use crate::checks::{Line, Verdict, check};
 use crate::faults::Fault;
 use crate::lines::measure;
+use crate::places::Routes;
 use crate::requests::Parsed;
 use enc_index::IndexSet;
 use httparse::{Request, Status};
@@ -36,11 +37,30 @@ pub fn parse(alloc: Global, bytes: &[u8], set: &IndexSet) -> Result<Parsed, Allo
     ensures grammar { IfOk result (λ answer. IsAnswer (offers set.now) bytes.now (answer_shown answer)) }
     ensures memory { OnErr result (IsWhole (prefix bytes.now)) }
 {
-    parse_head(alloc, bytes, set)
+    parse_by(alloc, bytes, set, None)
+}
+
+/// The same, by routes if there are any.
+pub(crate) fn parse_by(
+    alloc: Global,
+    bytes: &[u8],
+    set: &IndexSet,
+    routes: Option<&Routes>,
+) -> Result<Parsed, AllocError>
+    ensures function { IfOk result (λ answer. answer_shown answer ≡ answer_of (offers set.now) bytes.now) }
+    ensures grammar { IfOk result (λ answer. IsAnswer (offers set.now) bytes.now (answer_shown answer)) }
+    ensures memory { OnErr result (IsWhole (prefix bytes.now)) }
+{
+    parse_head(alloc, bytes, set, routes)
 }
 
 /// The same, stated by the grammar alone.
-fn parse_head(alloc: Global, bytes: &[u8], set: &IndexSet) -> Result<Parsed, AllocError>
+fn parse_head(
+    alloc: Global,
+    bytes: &[u8],
+    set: &IndexSet,
+    routes: Option<&Routes>,
+) -> Result<Parsed, AllocError>
     ensures grammar { IfOk result (λ answer. IsAnswer (offers set.now) bytes.now (answer_shown answer)) }
     ensures memory { OnErr result (IsWhole (prefix bytes.now)) }
 {
@@ -51,7 +71,7 @@ fn parse_head(alloc: Global, bytes: &[u8], set: &IndexSet) -> Result<Parsed, All
     if extent.texts > MAX_LINES + 1 {
         return Ok(no_head(extent.len, Fault::HeadTooLong));
     }
-    read_whole(alloc, &prefix[..extent.len], set)
+    read_whole(alloc, &prefix[..extent.len], set, routes)
 }
 
 /// The answer to an unfinished head of `came` bytes.
@@ -97,7 +117,12 @@ fn answer(taken: usize, verdict: Verdict) -> Parsed
 }
 
 /// Parses a finished head.
-fn read_whole(alloc: Global, head: &[u8], set: &IndexSet) -> Result<Parsed, AllocError>
+fn read_whole(
+    alloc: Global,
+    head: &[u8],
+    set: &IndexSet,
+    routes: Option<&Routes>,
+) -> Result<Parsed, AllocError>
     requires { IsShortHead head.now }
     ensures { IfOk result (λ answer. IsHeadAnswer (offers set.now) head.now (answer_shown answer)) }
 {
@@ -113,6 +138,6 @@ fn read_whole(alloc: Global, head: &[u8], set: &IndexSet) -> Result<Parsed, Allo
         target: request.path.unwrap(),
         minor: request.version.unwrap(),
     };
-    let verdict = check(alloc, line, request.headers, set)?;
+    let verdict = check(alloc, line, request.headers, set, routes)?;
     Ok(answer(head.len(), verdict))
 }

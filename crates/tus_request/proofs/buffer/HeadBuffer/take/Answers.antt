@@ -5,7 +5,7 @@ use Rattle.tus_request.specs.Shown.{answer_shown}
 use Rattle.tus_request.specs.Buffers.{bytes_of}
 use Rattle.tus_request.proofs.Limits.{limited, more_short, nothing_left}
 use Rattle.tus_request.proofs.SearchLemmas.{unjudged, judged}
-use Rattle.tus_request.proofs.buffer.HeadBuffer.read.Goals as goal
+use Rattle.tus_request.proofs.buffer.HeadBuffer.take.Goals as goal
 
 pub returns-then-not-is_judged : goal.returns-then-not-is_judged
 returns-then-not-is_judged c =

@@ -5,7 +5,7 @@ use Rattle.tus_request.specs.Fields.{values}
 use Rattle.tus_request.specs.CheckParts.{line_shown, asking_shown}
 use Rattle.tus_request.proofs.ParseLemmas.{if_ok_more}
 use Rattle.tus_request.proofs.CheckLemmas.{checked_is}
-use Rattle.tus_request.proofs.checks.check.Goals as goal
+use Rattle.tus_request.proofs.checks.judge.Goals as goal
 
 pub returns : goal.returns
 returns c =
