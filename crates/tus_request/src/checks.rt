@@ -7,7 +7,7 @@ ghost use Rattle.tus_request.specs.CheckParts.{asking_shown, line_shown, refusal
 ghost use Rattle.tus_request.specs.Requests.{Refuses};
 
 use crate::faults::Fault;
-use crate::lookups::{body_length, first_or, has_word, is_given, lists};
+use crate::lookups::{awaits_continue, body_length, has_coding, method_or, wants_close};
 use crate::methods::{Verb, verb_of};
 use crate::places::{Place, Routes, named_by, on_files};
 use crate::requests::Request;
@@ -89,7 +89,7 @@ fn judge(
     ensures { IfOk result
         (λ v. verdict_shown v ≡ checked (offers set.now) (line_shown line.entry) (values fields.now)) }
 {
-    if is_given(fields, "transfer-encoding") {
+    if has_coding(fields) {
         return Ok(Verdict::Refuses(cut_off(line, place, Fault::Coding)));
     }
     let Some(length) = body_length(fields) else {
@@ -111,16 +111,13 @@ fn ask<'h>(
     ensures { asking_shown result ≡ asking (line_shown line.entry) (values fields.now) length }
 {
     Asking {
-        verb: verb_of(
-            alloc,
-            first_or(fields, "x-http-method-override", line.method),
-        ),
+        verb: verb_of(alloc, method_or(fields, line.method)),
         place,
         fields,
         length,
         bare: is_bare(line),
-        expects: line.minor == 1 && length > 0 && has_word(fields, "expect", "100-continue"),
-        closes: line.minor == 0 || lists(fields, "connection", "close"),
+        expects: line.minor == 1 && length > 0 && awaits_continue(fields),
+        closes: line.minor == 0 || wants_close(fields),
     }
 }
 
