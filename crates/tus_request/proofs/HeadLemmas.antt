@@ -13,8 +13,8 @@ use Rattle.httparse.specs.Grammar.{is_token_byte, is_uri_byte, is_value_byte, Al
 use Rattle.httparse.specs.Grammar.{print_blank, print_version, Field, IsField, print_field, RequestHead, IsRequestHead}
 use Rattle.httparse.specs.Grammar.{print_request}
 use Rattle.httparse.proofs.GrammarLemmas.{print_request-append, cons-append}
-use Rattle.tus_request.specs.Lines.{lines, is_empty_line, Extent, further, head_extent}
-use Rattle.tus_request.proofs.LineLemmas.{extent_after, after_text, after_empty, at_end, further_zero}
+use Rattle.tus_request.specs.Lines.{lines, is_empty_line, Extent, head_extent}
+use Rattle.tus_request.proofs.LineLemmas.{further, extent_after, after_text, after_empty, at_end, further_zero}
 
 -- no byte is a LF
 abbrev pub HasNoFeed : List ℕ → Type 0

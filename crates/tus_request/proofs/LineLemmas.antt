@@ -8,8 +8,7 @@ use Rattle.std.proofs.lemmas.List.Sums.{fails_before_first}
 use Rattle.std.proofs.lemmas.Bool.Decides.{nat_tests}
 use Rattle.std.specs.List.{position_or_len}
 use Rattle.std.proofs.lemmas.List.{length-take-le, length-drop}
-use Rattle.tus_request.specs.Lines.{lines, is_empty_line, up_to_empty, head_lines, Extent, extent_of, further}
-use Rattle.tus_request.specs.Lines.{head_extent}
+use Rattle.tus_request.specs.Lines.{lines, is_empty_line, up_to_empty, head_lines, Extent, extent_of, head_extent}
 
 pub true_or_false : (v : Bool) → (v ≡ true) ⊎ (v ≡ false)
 true_or_false true = inl refl
@@ -46,6 +45,10 @@ lines_some bytes i e =
     let p = position-Some (λ b. b == 10) bytes i 0 e in
     (p.0, rw add-one (one_line bytes i p.0 p.1 p.2))
 
+-- with the bytes and the lines at the start
+abbrev pub further : ℕ → ℕ → Option Extent → Option Extent
+further len texts o = option_map (λ e. record { len = len + e.len; texts = texts + e.texts }) o
+
 -- what the lines that are left make of a head, after so many lines that aren't empty
 abbrev pub extent_after : ℕ → List (List ℕ) → Option Extent
 extent_after zero rest = option_map extent_of (head_lines rest)
@@ -55,13 +58,13 @@ further_none : (len texts n : ℕ) → further len texts (extent_after n []) ≡
 further_none len texts zero = refl
 further_none len texts (suc n) = refl
 
-pub extent_cons : (line : List ℕ) (o : Option (List (List ℕ)))
+extent_cons : (line : List ℕ) (o : Option (List (List ℕ)))
     → option_map extent_of (option_map (λ more. line ∷ more) o) ≡ further (length line)
     (if is_empty_line line then 0 else 1) (option_map extent_of o)
 extent_cons line None = refl
 extent_cons line (Some head) = refl
 
-pub further_twice : (len texts m n : ℕ) (o : Option Extent) → further len texts (further m n o) ≡ further (len + m)
+further_twice : (len texts m n : ℕ) (o : Option Extent) → further len texts (further m n o) ≡ further (len + m)
     (texts + n) o
 further_twice len texts m n None = refl
 further_twice len texts m n (Some e) = rw (add_assoc, add_assoc)

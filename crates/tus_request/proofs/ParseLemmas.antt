@@ -16,7 +16,7 @@ use Rattle.enc_model.specs.declared.Encoding.{Encoding}
 use Rattle.tus_request.specs.Answers.{Answer, More, Judged, answer_with, whole_answer as answer_whole, answer_of}
 use Rattle.tus_request.specs.Grammar.{HeadPrefix, unfinished, too_long, whole, prefix_with, prefix, IsWhole}
 use Rattle.tus_request.specs.Grammar.{IsPrefixAnswer}
-use Rattle.tus_request.specs.Grammar.{IsAnswer, IsShortHeadOf, IsShortHeadBy, IsHeadAnswer}
+use Rattle.tus_request.specs.Grammar.{IsAnswer, IsShortHead, IsShortHeadOf, IsHeadAnswer}
 use Rattle.tus_request.specs.declared.faults.Fault.TheVariants.{HeadTooLong}
 use Rattle.tus_request.specs.Requests.{Verdict}
 use Rattle.tus_request.specs.Fields.{values_in}
@@ -24,12 +24,11 @@ use Rattle.tus_request.specs.Checks.{Line, line_of, checked, verdict_on, no_head
 use Rattle.tus_request.specs.Reading.{request_of}
 use Rattle.tus_request.proofs.ReadingLemmas.{finds, found_reads}
 use Rattle.tus_request.proofs.HeadLemmas.{request_extent}
-use Rattle.tus_request.proofs.Prefixes.{extent_fits, take_bound, prefix_length}
 
 -- a request head at the start of a whole head is all of it, and has as many fields as lines after the first
 pub fills : (head more : List ℕ) (e : Extent) (h : RequestHead) (rest : List ℕ) → IsShortHeadOf head more e
     → ReadsRequest head h rest
-    → (suc (length h.fields) ≡ e.texts) × (length (print_request h) ≡ length head) × (rest ≡ [])
+    → (length h.fields ≤ 64) × (length (print_request h) ≡ length head) × (rest ≡ [])
 fills head more e h rest is reads =
     let whole : head ++ more ≡ print_request h ++ (rest ++ more) =
     ap (λ t. t ++ more) reads.1 ∙ append_assoc (print_request h) rest more in
@@ -39,19 +38,18 @@ fills head more e h rest is reads =
     let texts : e.texts ≡ suc (length h.fields) = cc in
     let sum : length head ≡ length (print_request h) + length rest =
     ap length reads.1 ∙ length-append (print_request h) rest in
-    (sym texts, omega (arith, is.all), no_length rest (omega (arith, is.all)))
+    (omega (arith, is.few), omega (arith, is.all), no_length rest (omega (arith, is.all)))
   where
     no_length : (xs : List ℕ) → length xs ≡ 0 → xs ≡ []
     no_length [] e = refl
     no_length (x ∷ xs) e = absurd (omega arith)
 
--- where the parser fails in this room, no prefix is a request head
-pub none_where_failed : (lines : ℕ) (head : List ℕ) → IsShortHeadBy lines head → RequestOverflows lines head
-    → HasNoRequest head
-none_where_failed lines head is over h rest reads =
-    let f = fills head is.0.0 is.0.1 h rest is.0.2 reads in
-    let o : lines < length h.fields = over [] h rest (reads.0, append-nil head ∙ reads.1) in
-    absurd (omega (arith, f.0, is.1))
+-- where the parser fails, no prefix is a request head
+pub none_where_failed : (head : List ℕ) → IsShortHead head → RequestOverflows 64 head → HasNoRequest head
+none_where_failed head is over h rest reads =
+    let f = fills head is.0 is.1 h rest is.2 reads in
+    let o : 64 < length h.fields = over [] h rest (reads.0, append-nil head ∙ reads.1) in
+    absurd (omega (arith, f.0))
 
 pub take_min : (n : ℕ) (bytes : List ℕ) → take (min (length bytes) n) bytes ≡ take n bytes
 take_min n bytes =
@@ -69,39 +67,20 @@ pub shown_by : (o : Option (Bor (List ℕ))) (r : Bor (List ℕ)) (v : List ℕ)
 shown_by o r v e k = let t : option_copied (Some r) ≡ Some v = rw e at k in cc
 
 -- what is read is a whole head within the limits
-pub short_head : (lines : ℕ) (start : List ℕ) (e : Extent) → length start ≤ 8192 → head_extent start ≡ Some e
-    → e.len ≤ length start → e.texts ≤ 65 → e.texts ≤ lines + 1 → IsShortHeadBy lines (take e.len start)
-short_head lines start e short some within few by =
+pub short_head : (start : List ℕ) (e : Extent) → length start ≤ 8192 → head_extent start ≡ Some e → e.len ≤ length start
+    → e.texts ≤ 65
+    → IsShortHead (take e.len start)
+short_head start e short some within few =
     let n : length (take e.len start) ≡ e.len = length-take-le e.len start within in (
-      (
-        drop e.len start,
-        e,
-        record {
-          short = omega arith;
-          extent = rw (take-append-drop e.len start) some;
-          all = sym n;
-          few = few;
-        },
-      ),
-      by,
+      drop e.len start,
+      e,
+      record {
+        short = omega arith;
+        extent = rw (take-append-drop e.len start) some;
+        all = sym n;
+        few = few;
+      },
     )
-
--- an extent that is known is within the bytes
-pub measured_fits : (bytes : List ℕ) (e : Extent) → head_extent (take 8192 bytes) ≡ Some e → e.len ≤ length bytes
-measured_fits bytes e some =
-    let fits = (extent_fits (take 8192 bytes) e some).bound in
-    let all = prefix_length 8192 bytes in omega arith
-
--- what is read by an extent that is known
-pub measured_head : (lines : ℕ) (bytes : List ℕ) (e : Extent) → head_extent (take 8192 bytes) ≡ Some e → e.texts ≤ 65
-    → e.texts ≤ lines + 1 → IsShortHeadBy lines (take e.len bytes)
-measured_head lines bytes e some few by =
-    let within = (extent_fits (take 8192 bytes) e some).bound in
-    let same : take e.len bytes ≡ take e.len (take 8192 bytes) =
-    ap (take e.len) (sym (take-append-drop 8192 bytes)) ∙ take-append-le e.len (take 8192 bytes) (drop 8192 bytes)
-    within in
-    subst (λ head. IsShortHeadBy lines head) (sym same)
-    (short_head lines (take 8192 bytes) e (take_bound 8192 bytes) some within few by)
 
 pub start_is : (bytes : List ℕ) (m : ℕ) → m ≡ min (length bytes) 8192 → take m bytes ≡ take 8192 bytes
 start_is bytes m e = rw e (take_min 8192 bytes)
@@ -184,11 +163,15 @@ module _ (offers : Encoding → Bool) where
       rw f r
 
   pub whole_answer : (bytes : List ℕ) (e : Extent) (a : Answer) → head_extent (take 8192 bytes) ≡ Some e
-      → e.texts ≤ 65 → IsHeadAnswer offers (take e.len bytes) a → IsAnswer offers bytes a
-  whole_answer bytes e a some few is =
+      → e.len ≤ length (take 8192 bytes) → e.texts ≤ 65
+      → IsHeadAnswer offers (take e.len (take 8192 bytes)) a → IsAnswer offers bytes a
+  whole_answer bytes e a some within few is =
       let l : nat_lt 65 e.texts ≡ false = grind (arith, nat_tests) in
       let f : prefix bytes ≡ whole (take e.len bytes) = rw (some, l) in
-      rw f is
+      let same : take e.len bytes ≡ take e.len (take 8192 bytes) =
+      ap (take e.len) (sym (take-append-drop 8192 bytes)) ∙ take-append-le e.len (take 8192 bytes) (drop 8192 bytes)
+      within in
+      rw f (rw same is)
 
   head_answer_unique : (head : List ℕ) (x y : Answer) → IsHeadAnswer offers head x → IsHeadAnswer offers head y → x ≡ y
   head_answer_unique head x y (inl a) (inl b) = a.1 ∙ sym b.1

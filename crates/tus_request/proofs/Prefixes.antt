@@ -289,7 +289,7 @@ take_bound zero s = omega arith
 take_bound (suc n) [] = omega arith
 take_bound (suc n) (b ∷ s) = let h = take_bound n s in omega arith
 
-pub prefix_length : (n : ℕ) (s : List ℕ) → length (take n s) ≤ length s
+prefix_length : (n : ℕ) (s : List ℕ) → length (take n s) ≤ length s
 prefix_length n s =
     let e : length (take n s) + length (drop n s) ≡ length s =
     sym (length-append (take n s) (drop n s)) ∙ ap length (take-append-drop n s) in

@@ -1,14 +1,13 @@
 -- The lines of a reply, one after the other, are the reply.
-use Rattle.std.specs.Prelude.{◌≡◌, ℕ, ◌+◌, ◌≤◌, ◌<◌, Bool, List, [], ◌∷◌, ◌++◌, length, take, Option, None, codes}
-use Rattle.std.specs.Prelude.{OnOk, Result}
+use Rattle.std.specs.Prelude.{◌≡◌, ℕ, ◌+◌, ◌≤◌, ◌<◌, Bool, List, [], ◌∷◌, ◌++◌, length, take, drop, Option, None}
+use Rattle.std.specs.Prelude.{codes, OnOk, Result}
 use Rattle.std.proofs.Common.{append_assoc, ap, sym, ◌∙◌, subst, get_or, arith}
-use Rattle.std.proofs.lemmas.List.{append-nil, length-append, take_more, take-take}
-use Rattle.std.proofs.Math.Seq.{take-append_seam}
+use Rattle.std.proofs.lemmas.List.{append-nil, length-append, take_more, at_drop_more, at_drop_all}
 use Rattle.std.specs.Fmt.{decimal}
 use Rattle.tus_request.specs.declared.faults.Fault.{Fault}
 use Rattle.tus_request.specs.Replies.{crlf, header, close_line, length_line, declared_line, metadata_line, refusal_lead}
 use Rattle.tus_request.specs.Replies.{refusal_line, status_of, unless_bare, reply, reply_refused, reply_head}
-use Rattle.tus_request.specs.ReplyParts.{line_shown, lines_shown, Keeps}
+use Rattle.tus_request.specs.ReplyParts.{line_shown, lines_shown}
 use Rattle.tus_request.specs.declared.replies.parts.Line.{Line}
 
 -- one more line
@@ -24,14 +23,51 @@ lines_more : (lines : List Line) (i : ℕ) (d : Line) → i < length lines
 lines_more lines i d inside =
     ap lines_shown (take_more lines i d inside) ∙ lines_append (take i lines) (get_or lines i d)
 
--- what was appended may be taken off again
-pub keeps : (old more new : List ℕ) → new ≡ old ++ more → Keeps old new
-keeps old more new is = ap (take (length old)) is ∙ take-append_seam old more
+-- the bytes of the lines from one on
+pub line_length : (line : Line)
+    → length (line_shown line) ≡ length line.name.now + length line.value.now + length line.end.now
+line_length line =
+    omega (
+      arith,
+      length-append line.name.now (line.value.now ++ line.end.now),
+      length-append line.value.now line.end.now,
+    )
 
-pub keeps_on : (old mid new more : List ℕ) → mid ≡ old ++ more → Keeps mid new → Keeps old new
-keeps_on old mid new more is kept =
-    let few : length old ≤ length mid = omega (arith, ap length is, length-append old more) in
-    sym (take-take (length old) (length mid) new few) ∙ ap (take (length old)) kept ∙ keeps old more mid is
+pub rest_length : (lines : List Line) (i : ℕ) (d : Line) → i < length lines
+    → length (lines_shown (drop i lines))
+    ≡ length (line_shown (get_or lines i d)) + length (lines_shown (drop (i + 1) lines))
+rest_length lines i d inside =
+    ap length (at_drop_more lines_shown lines i d inside)
+    ∙ length-append (line_shown (get_or lines i d)) (lines_shown (drop (i + 1) lines))
+
+-- there is room for the rest of the lines after one more
+pub room_kept : (lines : List Line) (i : ℕ) (d : Line) (last len new room more : ℕ) → i < length lines
+    → len + (length (lines_shown (drop i lines)) + last) ≤ room
+    → new ≡ len + length (line_shown (get_or lines i d)) → room ≤ more
+    → new + (length (lines_shown (drop (i + 1) lines)) + last) ≤ more
+room_kept lines i d last len new room more inside was is grown =
+    omega (arith, rest_length lines i d inside, was, is, grown)
+
+pub no_rest : (lines : List Line) (i : ℕ) → length lines ≤ i → length (lines_shown (drop i lines)) ≡ 0
+no_rest lines i all = ap length (at_drop_all lines_shown lines i all)
+
+-- the bytes of a reply: 9 and 49 stand around the status
+pub reply_length : (status own : List ℕ) (closes : Bool)
+    → length (reply status own None closes)
+    ≡ 58 + length status + length own + length (close_line closes ++ crlf)
+reply_length status own closes =
+    let tus = header (codes "Tus-Resumable") (codes "1.0.0") in
+    let cache = header (codes "Cache-Control") (codes "no-store") in
+    let close = close_line closes ++ crlf in
+    omega (
+      arith,
+      length-append (codes "HTTP/1.1 ") (status ++ (crlf ++ (tus ++ (cache ++ (own ++ close))))),
+      length-append status (crlf ++ (tus ++ (cache ++ (own ++ close)))),
+      length-append crlf (tus ++ (cache ++ (own ++ close))),
+      length-append tus (cache ++ (own ++ close)),
+      length-append cache (own ++ close),
+      length-append own close,
+    )
 
 -- a reply's first line and what all replies have, and these lines
 abbrev pub begun : List ℕ → List ℕ → List ℕ
@@ -88,19 +124,23 @@ three_lines status a b c size n closes is =
     ap (λ t. reply status (a ++ t) None closes) (sym (append_assoc b c (size ++ [])))
     ∙ two_lines status a (b ++ c) size n closes is
 
-pub refused_lines : (fault : Fault) (on_files bare closes : Bool) (status first number size : List ℕ)
+pub refused_reply : (fault : Fault) (on_files bare closes : Bool) (status first number size : List ℕ)
     → status ≡ status_of fault → first ≡ refusal_lead fault on_files → number ≡ refusal_line fault
     → size ≡ length_line (unless_bare bare 0)
     → reply status (first ++ (number ++ (size ++ []))) None closes ≡ reply_refused fault on_files bare closes
-refused_lines fault on_files bare closes status first number size stands leads line is =
+refused_reply fault on_files bare closes status first number size stands leads line is =
     rw (stands, leads, line) (two_lines (status_of fault) (refusal_lead fault on_files) (refusal_line fault) size
     (unless_bare bare 0) closes is)
 
-pub head_lines : (n : ℕ) (declared : Option ℕ) (metadata : List ℕ) (bare closes : Bool) (offset known size : List ℕ)
+pub head_reply : (n : ℕ) (declared : Option ℕ) (metadata : List ℕ) (bare closes : Bool) (offset known size : List ℕ)
     → offset ≡ header (codes "Upload-Offset") (decimal n) → known ≡ declared_line declared
     → size ≡ length_line (unless_bare bare 0)
     → reply (codes "200 OK") (offset ++ (known ++ (metadata_line metadata ++ (size ++ [])))) None closes
     ≡ reply_head n declared metadata bare closes
-head_lines n declared metadata bare closes offset known size first second is =
+head_reply n declared metadata bare closes offset known size first second is =
     rw (first, second) (three_lines (codes "200 OK") (header (codes "Upload-Offset") (decimal n))
     (declared_line declared) (metadata_line metadata) size (unless_bare bare 0) closes is)
+
+-- what is short in other words is short
+pub short_as : (text said : List ℕ) (most : ℕ) → text ≡ said → length said ≤ most → length text ≤ most
+short_as text said most same short = subst (λ (t : List ℕ). length t ≤ most) (sym same) short

@@ -1,6 +1,6 @@
 -- The answer to a stream's start, by the grammar of request heads.
 use Rattle.std.specs.Prelude.{◌≡◌, ℕ, Bool, ◌≤◌, ◌⊎◌, List, [], ◌++◌, length, take, nat_lt, if◌then◌else◌, Option, Some}
-use Rattle.std.specs.Prelude.{None, ◌+◌}
+use Rattle.std.specs.Prelude.{None}
 use Rattle.httparse.specs.Grammar.{RequestHead, ReadsRequest, HasNoRequest}
 use Rattle.enc_model.specs.declared.Encoding.{Encoding}
 use Rattle.tus_request.specs.Lines.{Extent, head_extent}
@@ -55,7 +55,3 @@ pub record IsShortHeadOf (head more : List ℕ) (e : Extent) : Type 0 where
 -- The bytes are a finished head within the limits.
 abbrev pub IsShortHead : List ℕ → Type 0
 IsShortHead head = (more : List ℕ) × (e : Extent) × IsShortHeadOf head more e
-
--- The bytes are such a head, with at most this many lines after the first one that isn't empty.
-abbrev pub IsShortHeadBy : ℕ → List ℕ → Type 0
-IsShortHeadBy lines head = (is : IsShortHead head) × (is.1.texts ≤ lines + 1)

@@ -1,5 +1,5 @@
 -- The lines that replies are made of.
-use Rattle.std.specs.Prelude.{◌≡◌, ℕ, List, [], ◌∷◌, ◌++◌, length, take}
+use Rattle.std.specs.Prelude.{ℕ, List, [], ◌∷◌, ◌++◌}
 use Rattle.tus_request.specs.declared.replies.parts.Line.{Line}
 
 -- The bytes of a header line.
@@ -10,7 +10,3 @@ line_shown l = l.name.now ++ (l.value.now ++ l.end.now)
 abbrev pub lines_shown : List Line → List ℕ
 lines_shown [] = []
 lines_shown (line ∷ lines) = line_shown line ++ lines_shown lines
-
--- What was there is there still, at the start.
-abbrev pub Keeps : List ℕ → List ℕ → Type 0
-Keeps old new = take (length old) new ≡ old

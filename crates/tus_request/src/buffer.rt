@@ -2,13 +2,14 @@
 ghost use Rattle.std.specs.Prelude.{◌≡◌, ◌++◌, ◌≤◌, [], length, take, vec_len, is_ok, IfOk, if◌then◌else◌};
 ghost use Rattle.enc_model.specs.Indexes.{offers};
 ghost use Rattle.tus_request.specs.Answers.{answer_of};
-ghost use Rattle.tus_request.specs.Searches.{IsScanOf};
+ghost use Rattle.tus_request.specs.Searches.{after_bytes};
+ghost use Rattle.tus_request.specs.declared.search.Search.TheVariants.{Front};
 ghost use Rattle.tus_request.specs.Shown.{answer_shown};
 
-use crate::heads::{MAX_HEAD, parse, parse_measured};
-use crate::lines::Reach;
+use crate::heads::{MAX_HEAD, parse_by};
+use crate::places::Routes;
 use crate::requests::Parsed;
-use crate::search::{START, Scan};
+use crate::search::Search;
 use enc_index::IndexSet;
 use std::alloc::{AllocError, Global};
 
@@ -16,11 +17,10 @@ use std::alloc::{AllocError, Global};
 #[derive(Drop)]
 pub struct HeadBuffer {
     bytes: Vec<u8>,
-    // How far the search for the head's end has come in these bytes, so that no byte is searched twice, and the lines
-    // of a finished head aren't gone through again.
-    scan: Scan,
+    // The state of the search for the head's end after these bytes, so that no byte is searched twice.
+    search: Search,
     ghost short: { vec_len bytes ≤ 8192 },
-    ghost searched: { IsScanOf bytes.items scan },
+    ghost searched: { search ≡ after_bytes Front bytes.items },
 }
 
 impl HeadBuffer {
@@ -32,7 +32,7 @@ impl HeadBuffer {
     {
         HeadBuffer {
             bytes: Vec::new(alloc),
-            scan: START,
+            search: Search::Front,
         }
     }
 
@@ -62,11 +62,47 @@ impl HeadBuffer {
         ensures rest { IfOk result (λ answer. bytes_of self.new ≡ unfinished (answer_shown answer)
             (bytes_of self.old ++ piece.now)) }
     {
+        self.take(alloc, piece, set, None)
+    }
+
+    /// The same; the path is looked up in these routes.
+    ///
+    /// # Errors
+    ///
+    /// `AllocError` as for `read`.
+    pub fn read_by(
+        &mut self,
+        alloc: Global,
+        piece: &[u8],
+        set: &IndexSet,
+        routes: &Routes,
+    ) -> Result<Parsed, AllocError>
+        ensures function { IfOk result
+            (λ answer. answer_shown answer ≡ answer_of (offers set.now) (bytes_of self.old ++ piece.now)) }
+        ensures rest { IfOk result (λ answer. bytes_of self.new ≡ unfinished (answer_shown answer)
+            (bytes_of self.old ++ piece.now)) }
+    {
+        self.take(alloc, piece, set, Some(routes))
+    }
+
+    /// Reads the head together with a further piece, by routes if there are any.
+    fn take(
+        &mut self,
+        alloc: Global,
+        piece: &[u8],
+        set: &IndexSet,
+        routes: Option<&Routes>,
+    ) -> Result<Parsed, AllocError>
+        ensures function { IfOk result
+            (λ answer. answer_shown answer ≡ answer_of (offers set.now) (bytes_of self.old ++ piece.now)) }
+        ensures rest { IfOk result (λ answer. bytes_of self.new ≡ unfinished (answer_shown answer)
+            (bytes_of self.old ++ piece.now)) }
+    {
         self.fill(piece)?;
         if !self.is_judged() {
             return Ok(Parsed::More);
         }
-        let parsed = self.judge(alloc, set)?;
+        let parsed = parse_by(alloc, &self.bytes, set, routes)?;
         self.clear();
         Ok(parsed)
     }
@@ -75,21 +111,7 @@ impl HeadBuffer {
     fn is_judged(&self) -> bool
         ensures { result ≡ is_judged (bytes_of self.now) }
     {
-        self.scan.search.is_over() || self.bytes.len() >= MAX_HEAD
-    }
-
-    /// The answer to these bytes.
-    fn judge(&self, alloc: Global, set: &IndexSet) -> Result<Parsed, AllocError>
-        ensures { IfOk result (λ answer. answer_shown answer ≡ answer_of (offers set.now) (bytes_of self.now)) }
-    {
-        if !self.scan.search.is_over() {
-            return parse(alloc, &self.bytes, set);
-        }
-        let extent = Reach {
-            len: self.scan.len,
-            texts: self.scan.texts,
-        };
-        parse_measured(alloc, &self.bytes, extent, set)
+        self.search.is_over() || self.bytes.len() >= MAX_HEAD
     }
 
     /// Empties the buffer.
@@ -97,7 +119,7 @@ impl HeadBuffer {
         ensures { bytes_of self.new ≡ [] }
     {
         self.bytes.clear();
-        self.scan = START;
+        self.search = Search::Front;
     }
 
     /// Appends those bytes of the piece that may belong to the head.
@@ -108,7 +130,7 @@ impl HeadBuffer {
         let room = MAX_HEAD - self.bytes.len();
         let prefix = &piece[..piece.len().min(room)];
         self.bytes.extend_from_slice(prefix)?;
-        self.scan = self.scan.after(prefix);
+        self.search = self.search.after(prefix);
         Ok(())
     }
 }

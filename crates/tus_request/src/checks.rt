@@ -7,9 +7,9 @@ ghost use Rattle.tus_request.specs.CheckParts.{asking_shown, line_shown, refusal
 ghost use Rattle.tus_request.specs.Requests.{Refuses};
 
 use crate::faults::Fault;
-use crate::lookups::{body_length, first_or, has_word, is_given, lists};
+use crate::lookups::{awaits_continue, body_length, has_coding, method_or, wants_close};
 use crate::methods::{Verb, verb_of};
-use crate::places::{Place, named_by, on_files};
+use crate::places::{Place, Routes, named_by, on_files};
 use crate::requests::Request;
 use crate::texts::path;
 use enc_index::IndexSet;
@@ -58,30 +58,50 @@ pub(crate) enum Verdict {
     Refuses(Refusal),
 }
 
-/// Checks a request line and its fields. A body of unknown length is refused first, since nothing after it could be
-/// read.
+/// Checks a request line and its fields. Without a router the path is compared with both routes.
 pub(crate) fn check(
     alloc: Global,
     line: Line<'_>,
     fields: &[Header<'_>],
     set: &IndexSet,
+    routes: Option<&Routes>,
 ) -> Result<Verdict, AllocError>
     ensures { IfOk result
         (λ v. verdict_shown v ≡ checked (offers set.now) (line_shown line.entry) (values fields.now)) }
 {
-    let place = named_by(path(line.target));
-    if is_given(fields, "transfer-encoding") {
+    let place = match routes {
+        Some(routes) => routes.place_of(path(line.target)),
+        None => named_by(path(line.target)),
+    };
+    judge(alloc, line, place, fields, set)
+}
+
+/// Checks a request line, what its path names, and its fields. A body of unknown length is refused first, since nothing
+/// after it could be read.
+fn judge(
+    alloc: Global,
+    line: Line<'_>,
+    place: Option<Place>,
+    fields: &[Header<'_>],
+    set: &IndexSet,
+) -> Result<Verdict, AllocError>
+    requires { place ≡ line_place (line_shown line) }
+    ensures { IfOk result
+        (λ v. verdict_shown v ≡ checked (offers set.now) (line_shown line.entry) (values fields.now)) }
+{
+    if has_coding(fields) {
         return Ok(Verdict::Refuses(cut_off(line, place, Fault::Coding)));
     }
     let Some(length) = body_length(fields) else {
         return Ok(Verdict::Refuses(cut_off(line, place, Fault::BadLength)));
     };
-    let asking = ask(line, place, fields, length);
+    let asking = ask(alloc, line, place, fields, length);
     decide(alloc, &asking, set)
 }
 
 /// Collects what the further checks read.
 fn ask<'h>(
+    alloc: Global,
     line: Line<'h>,
     place: Option<Place>,
     fields: &'h [Header<'h>],
@@ -91,13 +111,13 @@ fn ask<'h>(
     ensures { asking_shown result ≡ asking (line_shown line.entry) (values fields.now) length }
 {
     Asking {
-        verb: verb_of(first_or(fields, "x-http-method-override", line.method)),
+        verb: verb_of(alloc, method_or(fields, line.method)),
         place,
         fields,
         length,
         bare: is_bare(line),
-        expects: line.minor == 1 && length > 0 && has_word(fields, "expect", "100-continue"),
-        closes: line.minor == 0 || lists(fields, "connection", "close"),
+        expects: line.minor == 1 && length > 0 && awaits_continue(fields),
+        closes: line.minor == 0 || wants_close(fields),
     }
 }
 

@@ -1,31 +1,26 @@
 //! Parsing the head at the start of a stream.
-ghost use Rattle.std.specs.Prelude.{◌≡◌, length, take, Some, IfOk, OnErr, nat_lt, if◌then◌else◌};
+ghost use Rattle.std.specs.Prelude.{◌≡◌, IfOk, OnErr, nat_lt, if◌then◌else◌};
 ghost use Rattle.enc_model.specs.Indexes.{offers};
 ghost use Rattle.tus_request.specs.Answers.{More, Judged, answer_of};
 ghost use Rattle.tus_request.specs.Checks.{no_head};
 ghost use Rattle.tus_request.specs.CheckParts.{verdict_shown};
 ghost use Rattle.tus_request.specs.declared.faults.Fault.TheVariants.{HeadTooLong};
-ghost use Rattle.tus_request.specs.Grammar.{prefix, IsWhole, IsAnswer, IsHeadAnswer, IsShortHeadBy};
-ghost use Rattle.tus_request.specs.Lines.{head_extent};
-ghost use Rattle.tus_request.specs.Extents.{shown};
+ghost use Rattle.tus_request.specs.Grammar.{prefix, IsWhole, IsAnswer, IsHeadAnswer, IsShortHead};
 ghost use Rattle.tus_request.specs.Shown.{answer_shown};
 
 use crate::checks::{Line, Verdict, check};
 use crate::faults::Fault;
-use crate::lines::{Reach, measure};
+use crate::lines::measure;
+use crate::places::Routes;
 use crate::requests::Parsed;
 use enc_index::IndexSet;
-use httparse::{Header, Request, Status};
+use httparse::{Request, Status};
 use std::alloc::{AllocError, Global};
 
 // The most bytes of a head. `MAX_LINES` is the most lines after its request line.
 pub(crate) const MAX_HEAD: usize = 8192;
 
 const MAX_LINES: usize = 64;
-
-// The entries of the table for a head with at most so many lines after its request line, as nearly every head is. Each
-// entry of a table is written before the parser starts, so that a small table costs less.
-const FEW_LINES: usize = 16;
 
 /// Parses the head at the start of a stream: of all bytes that arrived and aren't taken yet.
 ///
@@ -42,11 +37,30 @@ pub fn parse(alloc: Global, bytes: &[u8], set: &IndexSet) -> Result<Parsed, Allo
     ensures grammar { IfOk result (λ answer. IsAnswer (offers set.now) bytes.now (answer_shown answer)) }
     ensures memory { OnErr result (IsWhole (prefix bytes.now)) }
 {
-    parse_head(alloc, bytes, set)
+    parse_by(alloc, bytes, set, None)
+}
+
+/// The same, by routes if there are any.
+pub(crate) fn parse_by(
+    alloc: Global,
+    bytes: &[u8],
+    set: &IndexSet,
+    routes: Option<&Routes>,
+) -> Result<Parsed, AllocError>
+    ensures function { IfOk result (λ answer. answer_shown answer ≡ answer_of (offers set.now) bytes.now) }
+    ensures grammar { IfOk result (λ answer. IsAnswer (offers set.now) bytes.now (answer_shown answer)) }
+    ensures memory { OnErr result (IsWhole (prefix bytes.now)) }
+{
+    parse_head(alloc, bytes, set, routes)
 }
 
 /// The same, stated by the grammar alone.
-fn parse_head(alloc: Global, bytes: &[u8], set: &IndexSet) -> Result<Parsed, AllocError>
+fn parse_head(
+    alloc: Global,
+    bytes: &[u8],
+    set: &IndexSet,
+    routes: Option<&Routes>,
+) -> Result<Parsed, AllocError>
     ensures grammar { IfOk result (λ answer. IsAnswer (offers set.now) bytes.now (answer_shown answer)) }
     ensures memory { OnErr result (IsWhole (prefix bytes.now)) }
 {
@@ -54,29 +68,10 @@ fn parse_head(alloc: Global, bytes: &[u8], set: &IndexSet) -> Result<Parsed, All
     let Some(extent) = measure(prefix) else {
         return Ok(unmeasured(prefix.len()));
     };
-    parse_measured(alloc, bytes, extent, set)
-}
-
-/// Parses the head at the start of a stream, where its extent is known.
-pub(crate) fn parse_measured(
-    alloc: Global,
-    bytes: &[u8],
-    extent: Reach,
-    set: &IndexSet,
-) -> Result<Parsed, AllocError>
-    requires { head_extent (take 8192 bytes.now) ≡ Some (shown extent) }
-    ensures grammar { IfOk result (λ answer. IsAnswer (offers set.now) bytes.now (answer_shown answer)) }
-    ensures memory { OnErr result (IsWhole (prefix bytes.now)) }
-{
     if extent.texts > MAX_LINES + 1 {
         return Ok(no_head(extent.len, Fault::HeadTooLong));
     }
-    let head = &bytes[..extent.len];
-    if extent.texts > FEW_LINES + 1 {
-        read_whole(alloc, head, &mut [httparse::EMPTY_HEADER; MAX_LINES], set)
-    } else {
-        read_whole(alloc, head, &mut [httparse::EMPTY_HEADER; FEW_LINES], set)
-    }
+    read_whole(alloc, &prefix[..extent.len], set, routes)
 }
 
 /// The answer to an unfinished head of `came` bytes.
@@ -121,17 +116,18 @@ fn answer(taken: usize, verdict: Verdict) -> Parsed
     }
 }
 
-/// Parses a finished head whose lines after the request line fit into the table.
-fn read_whole<'h>(
+/// Parses a finished head.
+fn read_whole(
     alloc: Global,
-    head: &'h [u8],
-    table: &mut [Header<'h>],
+    head: &[u8],
     set: &IndexSet,
+    routes: Option<&Routes>,
 ) -> Result<Parsed, AllocError>
-    requires { IsShortHeadBy (length table.old) head.now }
+    requires { IsShortHead head.now }
     ensures { IfOk result (λ answer. IsHeadAnswer (offers set.now) head.now (answer_shown answer)) }
 {
-    let mut request = Request::new(table);
+    let mut headers = [httparse::EMPTY_HEADER; MAX_LINES];
+    let mut request = Request::new(&mut headers);
     match request.parse(head) {
         Ok(Status::Complete(_)) => {}
         Ok(Status::Partial) => return Ok(no_head(head.len(), Fault::Malformed)),
@@ -142,6 +138,6 @@ fn read_whole<'h>(
         target: request.path.unwrap(),
         minor: request.version.unwrap(),
     };
-    let verdict = check(alloc, line, request.headers, set)?;
+    let verdict = check(alloc, line, request.headers, set, routes)?;
     Ok(answer(head.len(), verdict))
 }

@@ -2,6 +2,12 @@
 ghost use Rattle.std.specs.Prelude.{◌≡◌};
 ghost use Rattle.tus_request.specs.Methods.{verb_of};
 
+use http::Method;
+use std::alloc::Global;
+
+// The most bytes of a method's name that `http` keeps without memory. No method of tus is longer.
+const SHORT: usize = 15;
+
 /// The methods that tus uses, and all others as one.
 #[derive(Clone, Copy, Drop)]
 pub(crate) enum Verb {
@@ -14,17 +20,24 @@ pub(crate) enum Verb {
     Other,
 }
 
-/// The method of this name.
-pub(crate) fn verb_of(name: &[u8]) -> Verb
+/// The method of this name. It needs no memory.
+pub(crate) fn verb_of(alloc: Global, name: &[u8]) -> Verb
     ensures { result ≡ verb_of name.now }
 {
-    match name {
-        b"OPTIONS" => Verb::Options,
-        b"POST" => Verb::Post,
-        b"HEAD" => Verb::Head,
-        b"PATCH" => Verb::Patch,
-        b"GET" => Verb::Get,
-        b"DELETE" => Verb::Delete,
+    if name.len() > SHORT {
+        return Verb::Other;
+    }
+    // An error means that the name is no token, since a short name needs no memory.
+    let Ok(method) = Method::from_bytes(alloc, name) else {
+        return Verb::Other;
+    };
+    match method.as_str() {
+        "OPTIONS" => Verb::Options,
+        "POST" => Verb::Post,
+        "HEAD" => Verb::Head,
+        "PATCH" => Verb::Patch,
+        "GET" => Verb::Get,
+        "DELETE" => Verb::Delete,
         _ => Verb::Other,
     }
 }

@@ -1,8 +1,11 @@
 //! The resources that paths name.
-ghost use Rattle.std.specs.Prelude.{◌≡◌};
+ghost use Rattle.std.specs.Prelude.{◌≡◌, IfOk};
 ghost use Rattle.tus_request.specs.Places.{place_of, is_files};
+ghost use Rattle.tus_request.specs.RouteTable.{table};
 
 use crate::number::upload;
+use matchit::{InsertError, Router};
+use std::alloc::{AllocError, Global};
 
 /// A resource.
 #[derive(Clone, Copy, Drop)]
@@ -13,7 +16,62 @@ pub(crate) enum Place {
     Upload(u64),
 }
 
-/// The resource of the path, if it has one.
+/// The route that a path matches.
+#[derive(Clone, Copy, Drop)]
+enum Kind {
+    Files,
+    Upload,
+}
+
+/// The two routes of the server. Made once, they serve every head.
+#[derive(Drop)]
+pub struct Routes {
+    router: Router<Kind>,
+    ghost both: { router ≡ table },
+}
+
+impl Routes {
+    /// Makes the routes. To look a path up needs no memory.
+    ///
+    /// # Errors
+    ///
+    /// `AllocError`.
+    pub fn new(alloc: Global) -> Result<Self, AllocError> {
+        match routed(alloc) {
+            Ok(router) => Ok(Routes { router }),
+            // The two routes are right, so that only memory can be short.
+            Err(_) => Err(AllocError),
+        }
+    }
+
+    /// The resource of the path, if it has one.
+    pub(crate) fn place_of(&self, path: &str) -> Option<Place>
+        ensures { result ≡ place_of path.now }
+    {
+        let Ok(found) = self.router.at(path) else {
+            return None;
+        };
+        match found.value {
+            Kind::Files => Some(Place::Files),
+            Kind::Upload => match found.params.get("number") {
+                Some(part) => upload(part.as_bytes()).map(Place::Upload),
+                None => None,
+            },
+        }
+    }
+}
+
+/// A router with the two routes.
+fn routed(alloc: Global) -> Result<Router<Kind>, InsertError>
+    ensures { IfOk result (λ router. router ≡ table) }
+{
+    let mut router = Router::new(alloc);
+    router.insert("/files", Kind::Files)?;
+    router.insert("/files/{number}", Kind::Upload)?;
+    Ok(router)
+}
+
+/// The resource of the path, if it has one. It is compared with the two routes, so that no router is needed.
 pub(crate) fn named_by(path: &str) -> Option<Place>
     ensures { result ≡ place_of path.now }
 {

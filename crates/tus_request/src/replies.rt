@@ -1,7 +1,8 @@
 //! The replies of the server, each as its exact bytes without the body.
 //!
 //! Each call appends to `out`, and leaves it unchanged on an error. `bare` means that the request's method was HEAD,
-//! `closes` that the connection closes after the reply.
+//! `closes` that the connection closes after the reply. A reply is put together without memory of its own, so `alloc`
+//! serves none of these calls.
 ghost use Rattle.std.specs.Prelude.{◌≡◌, ◌<◌, ◌≤◌, ◌+◌, ◌++◌, OnOk, OnErr, length};
 ghost use Rattle.std.specs.Vec.{vec_capacity, vec_len};
 ghost use Rattle.tus_request.specs.Replies.{reply_options, reply_created, reply_head, reply_patched, reply_deleted};

@@ -21,7 +21,7 @@ use crate::turns::waits;
 use std::alloc::Global;
 use tus_action::{Done, OpenPatch, PieceBuffer, Stop, act};
 use tus_request::replies::reply_refused;
-use tus_request::{Action, HeadBuffer, Parsed, Request};
+use tus_request::{Action, HeadBuffer, Parsed, Request, Routes};
 use upload_rules::Uploads;
 
 // The offset after a PATCH's body; 0 for other requests.
@@ -115,6 +115,7 @@ fn head_of<U: Uploads>(
     store: &mut U,
     head: HeadBuffer,
     bytes: &[u8],
+    routes: &Routes,
     buffer: &mut PieceBuffer,
     out: &mut Vec<u8>,
 ) -> Result<(Option<Link<U::Draft>>, Answer), Stop>
@@ -134,7 +135,7 @@ fn head_of<U: Uploads>(
 {
     let mut head = head;
     let had = head.len();
-    let parsed = head.read(alloc, bytes, store.indexes())?;
+    let parsed = head.read_by(alloc, bytes, store.indexes(), routes)?;
     match parsed {
         Parsed::More => {
             let awaiting = Awaiting::Head;
@@ -166,6 +167,7 @@ pub(crate) fn came_of<U: Uploads>(
     store: &mut U,
     link: Link<U::Draft>,
     bytes: &[u8],
+    routes: &Routes,
     buffer: &mut PieceBuffer,
     out: &mut Vec<u8>,
 ) -> Result<(Option<Link<U::Draft>>, Answer), Stop>
@@ -186,7 +188,7 @@ pub(crate) fn came_of<U: Uploads>(
 {
     let Link { head, awaiting } = link;
     match awaiting {
-        Awaiting::Head => head_of(alloc, store, head, bytes, buffer, out),
+        Awaiting::Head => head_of(alloc, store, head, bytes, routes, buffer, out),
         Awaiting::Patch { patch, left } => body_of(alloc, store, head, patch, left, 0, bytes, out),
         Awaiting::Skip { left } => Ok(skip(head, left, 0, bytes.len(), false)),
         Awaiting::Text { giving, left } => {

@@ -16,7 +16,7 @@ use crate::{Answer, SessionError};
 use std::alloc::{AllocError, Global};
 use std::mem;
 use tus_action::{PIECE, PieceBuffer};
-use tus_request::HeadBuffer;
+use tus_request::{HeadBuffer, Routes};
 use upload_rules::Uploads;
 
 /// How many connections may be open at once.
@@ -26,12 +26,14 @@ pub const MOST_OPEN: usize = 16;
 pub struct Session<U: Uploads> {
     alloc: Global,
     links: Vec<Option<Link<U::Draft>>>,
+    // The routes by which the heads of all connections are read.
+    routes: Routes,
     // One buffer for all connections: it holds a piece of a text only during a call.
     buffer: Box<PieceBuffer>,
 }
 
 impl<U: Uploads> Session<U> {
-    /// A session without connections. The places and the piece buffer are allocated here, once.
+    /// A session without connections. The places, the piece buffer and the routes are allocated here, once.
     ///
     /// # Errors
     ///
@@ -40,6 +42,7 @@ impl<U: Uploads> Session<U> {
         ensures { (sure : Bool) (store : U) (m : Store) (blocks : Option ℕ) → U.stands store sure (at_rest m blocks)
             → IfOk result (λ s. SessionStands U.Uploads sure (places_of s) store (beginning m blocks)) }
     {
+        let routes = Routes::new(alloc)?;
         let buffer = Box::new(alloc, [0; PIECE])?;
         let mut links = Vec::with_capacity(alloc, MOST_OPEN)?;
         for _ in 0..MOST_OPEN {
@@ -51,6 +54,7 @@ impl<U: Uploads> Session<U> {
         Ok(Session {
             alloc,
             links,
+            routes,
             buffer,
         })
     }
@@ -111,7 +115,15 @@ impl<U: Uploads> Session<U> {
         ensures few { GivesFew out.old.items out.new.items }
     {
         let link = self.take(conn)?;
-        let (next, answer) = came_of(self.alloc, store, link, bytes, &mut self.buffer, out)?;
+        let (next, answer) = came_of(
+            self.alloc,
+            store,
+            link,
+            bytes,
+            &self.routes,
+            &mut self.buffer,
+            out,
+        )?;
         put_back(&mut self.links[conn], next);
         Ok(answer)
     }
@@ -196,6 +208,7 @@ impl<U: Uploads> Session<U> {
         let Session {
             alloc: _,
             mut links,
+            routes: _,
             buffer: _,
         } = self;
         while let Some(place) = links.pop() {

@@ -10,8 +10,7 @@ ghost use Rattle.tus_request.specs.CheckParts.{asking_shown, verdict_shown};
 use super::rules::{passed, refused};
 use super::{Asking, Verdict};
 use crate::faults::Fault;
-use crate::fields::find;
-use crate::lookups::{declared_in, is_given};
+use crate::lookups::{declared_in, has_metadata, metadata_in};
 use crate::metadata::{Choice, choice_of, read};
 use crate::requests::Action;
 use enc_index::IndexSet;
@@ -45,10 +44,10 @@ fn check_metadata(
     ensures { IfOk result (λ v. verdict_shown v ≡ with_metadata (offers set.now) (asking_shown asking.now) declared
         (values asking.now.fields.now (codes "upload-metadata"))) }
 {
-    let Some(found) = find(asking.fields, "upload-metadata") else {
+    let Some(found) = metadata_in(asking.fields) else {
         return check_pairs(alloc, asking, set, declared, "");
     };
-    if is_given(found.rest, "upload-metadata") {
+    if has_metadata(found.rest) {
         return Ok(refused(asking, Fault::BadHeader));
     }
     check_value(alloc, asking, set, declared, found.value)

@@ -9,7 +9,7 @@ ghost use Rattle.tus_request.specs.Shown.{action_shown};
 use super::post::check_post;
 use super::{Asking, Refusal, Verdict};
 use crate::faults::Fault;
-use crate::lookups::{is_only, is_patch_media, number_in, optional_number_in};
+use crate::lookups::{has_version, is_patch_media, new_length_in, offset_in};
 use crate::methods::Verb;
 use crate::places::{Place, on_files};
 use crate::requests::{Action, Request};
@@ -65,7 +65,7 @@ fn lacks_version(asking: &Asking<'_>) -> bool
 {
     match asking.verb {
         Verb::Options | Verb::Get => false,
-        _ => !is_only(asking.fields, "tus-resumable", "1.0.0"),
+        _ => !has_version(asking.fields),
     }
 }
 
@@ -76,10 +76,10 @@ fn check_patch(asking: &Asking<'_>, number: u64) -> Verdict
     if !is_patch_media(asking.fields) {
         return refused(asking, Fault::MediaType);
     }
-    let Some(offset) = number_in(asking.fields, "upload-offset") else {
+    let Some(offset) = offset_in(asking.fields) else {
         return refused(asking, Fault::BadHeader);
     };
-    let Some(declare) = optional_number_in(asking.fields, "upload-length") else {
+    let Some(declare) = new_length_in(asking.fields) else {
         return refused(asking, Fault::BadHeader);
     };
     passed_patch(asking, number, offset, declare)

@@ -1,10 +1,11 @@
 //! The lines that replies are made of.
-ghost use Rattle.std.specs.Prelude.{◌≡◌, ◌++◌, [], None, codes, OnOk, OnErr};
+ghost use Rattle.std.specs.Prelude.{◌≡◌, ◌+◌, ◌<◌, ◌≤◌, ◌++◌, [], None, codes, length, OnOk, OnErr};
+ghost use Rattle.std.specs.Prelude.{vec_len, vec_capacity};
 ghost use Rattle.std.specs.Fmt.{decimal};
 ghost use Rattle.enc_labels.specs.Labels.{name_of};
 ghost use Rattle.tus_request.specs.Replies.{header, crlf, length_line, close_line, declared_line, metadata_line};
-ghost use Rattle.tus_request.specs.Replies.{status_of, refusal_lead, refusal_line, reply};
-ghost use Rattle.tus_request.specs.ReplyParts.{line_shown, lines_shown, Keeps};
+ghost use Rattle.tus_request.specs.Replies.{status_of, refusal_lead, refusal_line, reply, longest_reply};
+ghost use Rattle.tus_request.specs.ReplyParts.{line_shown, lines_shown};
 
 use crate::faults::Fault;
 use enc_labels::name_of;
@@ -26,7 +27,7 @@ pub(super) struct Line<'m> {
     end: &'m str,
 }
 
-/// A line that is one text.
+/// A text that stands for a line, for several, or for none.
 pub(super) fn whole_line(text: &str) -> Line<'_>
     ensures { line_shown result ≡ text.now }
 {
@@ -166,68 +167,76 @@ fn last_lines(closes: bool) -> &'static str
 }
 
 /// How many bytes a reply with these lines has.
-fn room_for(status: &str, lines: &[Line<'_>], closes: bool) -> usize {
-    let mut room = (FIRST.len() + COMMON.len() + last_lines(closes).len()).saturating_add(
-        status.len(),
-    );
+fn room_for(status: &str, lines: &[Line<'_>], closes: bool) -> usize
+    requires { length (reply status.now (lines_shown lines.now) None closes) ≤ longest_reply }
+    ensures { result ≡ length (reply status.now (lines_shown lines.now) None closes) }
+{
+    let mut room = FIRST.len() + status.len() + COMMON.len() + last_lines(closes).len();
     for line in lines {
-        room = room
-            .saturating_add(line.name.len())
-            .saturating_add(line.value.len())
-            .saturating_add(line.end.len());
+        room += line.name.len() + line.value.len() + line.end.len();
     }
     room
 }
 
-/// Appends a line. An error may leave a part of it.
-fn put(line: Line<'_>, out: &mut Vec<u8>) -> Result<(), AllocError>
-    ensures ok { OnOk result (out.new.items ≡ out.old.items ++ line_shown line.entry) }
-    ensures err { OnErr result (Keeps out.old.items out.new.items) }
+/// Appends a text, for which there is room.
+fn put_text(text: &str, out: &mut Vec<u8>)
+    requires { vec_len out.old + length text.now ≤ vec_capacity out.old }
+    ensures items { out.new.items ≡ out.old.items ++ text.now }
+    ensures len { vec_len out.new ≡ vec_len out.old + length text.now }
+    ensures capacity { vec_capacity out.old ≤ vec_capacity out.new }
 {
-    out.extend_from_slice(line.name.as_bytes())?;
-    out.extend_from_slice(line.value.as_bytes())?;
-    out.extend_from_slice(line.end.as_bytes())
+    match out.extend_from_slice(text.as_bytes()) {
+        Ok(()) => {}
+        Err(_full) => unreachable!(),
+    }
 }
 
-/// Appends a reply. An error may leave a part of it.
-fn print(
-    status: &str,
-    lines: &[Line<'_>],
-    closes: bool,
-    out: &mut Vec<u8>,
-) -> Result<(), AllocError>
-    ensures ok { OnOk result (out.new.items ≡ out.old.items ++ reply status.now (lines_shown lines.now) None closes) }
-    ensures err { OnErr result (Keeps out.old.items out.new.items) }
+/// Appends a line, for which there is room.
+fn put(line: Line<'_>, out: &mut Vec<u8>)
+    requires { vec_len out.old + length (line_shown line) ≤ vec_capacity out.old }
+    ensures items { out.new.items ≡ out.old.items ++ line_shown line.entry }
+    ensures len { vec_len out.new ≡ vec_len out.old + length (line_shown line.entry) }
+    ensures capacity { vec_capacity out.old ≤ vec_capacity out.new }
+{
+    put_text(line.name, out);
+    put_text(line.value, out);
+    put_text(line.end, out);
+}
+
+/// Appends a reply, for which there is room.
+fn print(status: &str, lines: &[Line<'_>], closes: bool, out: &mut Vec<u8>)
+    requires { vec_len out.old + length (reply status.now (lines_shown lines.now) None closes) ≤ vec_capacity out.old }
+    ensures { out.new.items ≡ out.old.items ++ reply status.now (lines_shown lines.now) None closes }
 {
     let first = Line {
         name: FIRST,
         value: status,
         end: COMMON,
     };
-    put(first, out)?;
+    put(first, out);
     for line in lines {
-        put(*line, out)?;
+        put(*line, out);
     }
-    out.extend_from_slice(last_lines(closes).as_bytes())
+    put_text(last_lines(closes), out);
 }
 
-/// Appends a reply with these lines of its own, or leaves `out` unchanged. Room is made for all of it at once.
+/// Appends a reply with these lines of its own, or leaves `out` unchanged. Room is made for all of it at once, so that
+/// nothing after that can fail.
 pub(super) fn append(
     status: &str,
     lines: &[Line<'_>],
     closes: bool,
     out: &mut Vec<u8>,
 ) -> Result<(), AllocError>
+    requires { length (reply status.now (lines_shown lines.now) None closes) ≤ longest_reply }
     ensures ok { OnOk result (out.new.items ≡ out.old.items ++ reply status.now (lines_shown lines.now) None closes) }
     ensures err { OnErr result (out.new.items ≡ out.old.items) }
+    ensures full { OnErr result (vec_capacity out.old
+        < vec_len out.old + length (reply status.now (lines_shown lines.now) None closes)) }
 {
-    let before = out.len();
     out.reserve(room_for(status, lines, closes))?;
-    let printed = print(status, lines, closes, out);
-    if printed.is_err() {
-        out.truncate(before);
-    }
-    printed
+    print(status, lines, closes, out);
+    Ok(())
 }
 
 /// Appends the reply to a HEAD, or leaves `out` unchanged. It is a function of its own so that its lines, of which one
@@ -236,15 +245,17 @@ pub(super) fn append_head<'m>(
     offset: Line<'m>,
     declared: Line<'m>,
     metadata: &'m str,
-    length: Line<'m>,
+    size: Line<'m>,
     closes: bool,
     out: &mut Vec<u8>,
 ) -> Result<(), AllocError>
+    requires { length (reply (codes "200 OK") (line_shown offset ++ (line_shown declared
+        ++ (metadata_line metadata.now ++ (line_shown size ++ [])))) None closes) ≤ longest_reply }
     ensures ok { OnOk result (out.new.items ≡ out.old.items ++ reply (codes "200 OK")
         (line_shown offset.entry ++ (line_shown declared.entry ++ (metadata_line metadata.now
-        ++ (line_shown length.entry ++ [])))) None closes) }
+        ++ (line_shown size.entry ++ [])))) None closes) }
     ensures err { OnErr result (out.new.items ≡ out.old.items) }
 {
-    let lines = [offset, declared, metadata_line(metadata), length];
+    let lines = [offset, declared, metadata_line(metadata), size];
     append("200 OK", &lines, closes, out)
 }

@@ -9,18 +9,15 @@ use Rattle.tus_request.proofs.heads.read_whole.Goals as goal
 
 pub returns-in-Err : goal.returns-in-Err
 returns-in-Err c =
-    let n : length c.new-request.result.headers.now ≡ length c.args.table.now = ap length c.new-request.ensures.room in
+    let n : length c.new-request.result.headers.now ≡ 64 = ap length c.new-request.ensures.room in
     let over : RequestOverflows (length c.new-request.result.headers.now) c.args.head.now = c.in-Err.ensures.no_room in
-    inl (
-      none_where_failed (length c.args.table.now) c.args.head.now c.requires (rw n at over),
-      c.no_head-in-Err.ensures,
-    )
+    inl (none_where_failed c.args.head.now c.requires (rw n at over), c.no_head-in-Err.ensures)
 
 pub returns : goal.returns
 returns c =
     let holds : HoldsSomeRequest c.args.head.now c.parse.new.self c.in-Ok-Complete.field-0-0 =
     rw c.in-Ok-Complete.field-0-is at c.in-Ok-Complete.ensures.complete in
-    let q = c.requires.0 in
+    let q = c.requires in
     let f = fills c.args.head.now q.0 q.1 holds.0 _ q.2 holds.1.reads in
     let all = rw f.2 at holds.1.reads in
     let m = shown_by c.parse.new.self.method c.unwrap.result holds.0.method (search rules) holds.1.method in

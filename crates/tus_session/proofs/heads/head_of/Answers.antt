@@ -60,7 +60,7 @@ returns-in-More-clause-answer g c sure w conn stands inside =
     let j = judged_by c.indexes.result.now (bytes_of c.args.head ++ c.args.bytes.now) _ _
     c.in_ok-parsed.ensures.function
     c.in-More.is in
-    more_told g.U.Uploads sure _ _ _ w conn (bytes_of c.args.head) c.args.bytes.now c.read.new.self stands inside
+    more_told g.U.Uploads sure _ _ _ w conn (bytes_of c.args.head) c.args.bytes.now c.read_by.new.self stands inside
     (in_world w c.indexes.result.now _ _ (c.indexes.ensures sure w stands) j)
     (rw c.in-More.is at c.in_ok-parsed.ensures.rest) c.waits.ensures
 
@@ -83,7 +83,7 @@ returns-in_ok-reply_refused-in-Refused-clause-answer g c sure w conn stands insi
       judged = in_world w c.indexes.result.now _ _ (c.indexes.ensures sure w stands) j;
       before_is = omega (arith, c.len-had.ensures, c.saturating_sub-before.ensures);
     })
-    _ _ _ _ c.read.new.self _
+    _ _ _ _ c.read_by.new.self _
     (slice_rest c.saturating_sub-before.result c.args.bytes.now) stands
     (still w None) refl refl c.skip.ensures.link
     (rw c.in-Refused.is at c.in_ok-parsed.ensures.rest) c.skip.ensures.answer

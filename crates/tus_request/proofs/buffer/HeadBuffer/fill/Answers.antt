@@ -1,13 +1,17 @@
-use Rattle.std.proofs.Common.{◌-◌, min, length, take, ◌∙◌, ap, arith}
+use Rattle.std.proofs.Common.{◌-◌, List, ℕ, min, length, take, sym, ◌∙◌, ap, arith}
+use Rattle.tus_request.specs.Searches.{after_bytes}
+use Rattle.tus_request.specs.declared.search.Search.TheVariants.{Front}
 use Rattle.tus_request.proofs.Limits.{filled}
-use Rattle.tus_request.proofs.ReachLemmas.{scan_on}
+use Rattle.tus_request.proofs.SearchLemmas.{search_on}
 use Rattle.tus_request.proofs.buffer.HeadBuffer.fill.Goals as goal
 
 pub invariant_of-self-2-clause-searched : goal.invariant_of-self-2-clause-searched
 invariant_of-self-2-clause-searched c =
-    scan_on c.args.self.now.scan c.after-self.result c.args.self.now.bytes.items (take c.min.result c.args.piece.now) _
-    c.args.self.now.searched c.after-self.ensures.search c.after-self.ensures.reach
-    c.in_ok-extend_from_slice.ensures.items
+    let old : List ℕ = c.args.self.now.bytes.items in
+    let prefix = take c.min.result c.args.piece.now in
+    c.after-self.ensures
+    ∙ (ap (λ s. after_bytes s prefix) c.args.self.now.searched
+    ∙ (sym (search_on Front old prefix) ∙ ap (after_bytes Front) (sym c.in_ok-extend_from_slice.ensures.items)))
 
 pub returns : goal.returns
 returns c =

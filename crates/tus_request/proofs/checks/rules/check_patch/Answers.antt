@@ -7,6 +7,6 @@ pub returns : goal.returns
 returns c =
     c.passed_patch.ensures
     ∙ patch_passes (asking_shown c.args.asking.now) c.args.number c.in-Some.offset
-    c.in-Some-optional_number_in.declare (sym c.is_patch_media.ensures ∙ c.if-not-is_patch_media.false)
-    (sym c.number_in.ensures ∙ c.in-Some.is)
-    (sym c.optional_number_in.ensures ∙ c.in-Some-optional_number_in.is)
+    c.in-Some-new_length_in.declare (sym c.is_patch_media.ensures ∙ c.if-not-is_patch_media.false)
+    (sym c.offset_in.ensures ∙ c.in-Some.is)
+    (sym c.new_length_in.ensures ∙ c.in-Some-new_length_in.is)

@@ -4,8 +4,8 @@ use Rattle.tus_request.specs.Answers.{More, answer_of}
 use Rattle.tus_request.specs.Shown.{answer_shown}
 use Rattle.tus_request.specs.Buffers.{bytes_of}
 use Rattle.tus_request.proofs.Limits.{limited, more_short, nothing_left}
-use Rattle.tus_request.proofs.EndLemmas.{unjudged, judged}
-use Rattle.tus_request.proofs.buffer.HeadBuffer.read.Goals as goal
+use Rattle.tus_request.proofs.SearchLemmas.{unjudged, judged}
+use Rattle.tus_request.proofs.buffer.HeadBuffer.take.Goals as goal
 
 pub returns-then-not-is_judged : goal.returns-then-not-is_judged
 returns-then-not-is_judged c =
@@ -20,7 +20,8 @@ pub returns-clause-function : goal.returns-clause-function
 returns-clause-function c =
     let all : List ℕ = bytes_of c.args.self.now ++ c.args.piece.now in
     let set = offers c.args.set.now in
-    c.in_ok-parsed.ensures ∙ (ap (answer_of set) c.in_ok-fill.ensures ∙ limited set all)
+    c.in_ok-parsed.ensures.function
+    ∙ (ap (answer_of set) (c.deref.ensures.value ∙ c.in_ok-fill.ensures) ∙ limited set all)
 
 pub returns-clause-rest : goal.returns-clause-rest
 returns-clause-rest c =
@@ -30,4 +31,4 @@ returns-clause-rest c =
     c.clear.ensures
     ∙ sym (nothing_left c.in_ok-parsed.parsed all (λ more.
     judged set bytes (sym c.is_judged.ensures ∙ c.if-not-is_judged.false)
-    (sym c.in_ok-parsed.ensures ∙ ap answer_shown more)))
+    (sym (ap (answer_of set) c.deref.ensures.value) ∙ (sym c.in_ok-parsed.ensures.function ∙ ap answer_shown more))))

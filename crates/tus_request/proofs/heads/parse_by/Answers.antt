@@ -1,7 +1,7 @@
 use Rattle.enc_model.specs.Indexes.{offers}
 use Rattle.tus_request.specs.Shown.{answer_shown}
 use Rattle.tus_request.proofs.ParseLemmas.{if_ok_more, answer_is}
-use Rattle.tus_request.proofs.heads.parse.Goals as goal
+use Rattle.tus_request.proofs.heads.parse_by.Goals as goal
 
 pub returns-clause-function : goal.returns-clause-function
 returns-clause-function c =

@@ -1,9 +1,0 @@
-use Rattle.std.proofs.Common.{List, ℕ, sym, ap, ◌∙◌}
-use Rattle.tus_request.specs.Searches.{after_bytes}
-use Rattle.tus_request.proofs.SearchLemmas.{over_stays}
-use Rattle.tus_request.proofs.search.Scan.after.Goals as goal
-
-pub returns-in-Over-clause-search : goal.returns-in-Over-clause-search
-returns-in-Over-clause-search c =
-    let rest : List ℕ = c.loop-byte.rest.now in
-    c.in-Over.is ∙ (sym (ap (λ s. after_bytes s rest) c.in-Over.is ∙ over_stays rest) ∙ c.loop-byte.invariant.search)
