@@ -1,13 +1,10 @@
 -- The least pointers, from the last entry to the first.
 use Rattle.std.proofs.Common.{◌≡◌, ℕ, zero, suc, ◌+◌, ◌<◌, Bool, true, false, cond, ◌&&◌, List, [], ◌∷◌, length, drop}
-use Rattle.std.proofs.Common.{◌≤◌, ◌∙◌}
 use Rattle.std.proofs.Common.{Option, Some, None, refl, arith, slice_index_or, ◌==◌, add-one, ◌≢◌, set, replicate}
 use Rattle.std.proofs.lemmas.Bool.Decides.{nat_tests}
 use Rattle.std.proofs.lemmas.List.{drop_more, drop_all, get_or-set_same, get_or-set_other}
 use Rattle.enc_model.specs.Index.{Index, pointer_where, least}
-use Rattle.enc_index.specs.Entries.{GivesLeast, pairs_from, entry, found}
-use Rattle.enc_index.specs.Usable.{keeps}
-use Rattle.enc_index.specs.declared.usable.Usable.TheVariants.{All, OfShiftJis}
+use Rattle.enc_index.specs.Entries.{pairs_from, entry, found}
 
 -- a pointer below the least of two is the least of three
 below_both : (p q : ℕ) (r : Option ℕ) → p < q → least p r ≡ Some p → least p (least q r) ≡ Some p
@@ -95,24 +92,3 @@ found_set pointers d p c inside below = go (d == c) refl
         grind (arith, nat_tests, e) in rw (← same, get_or-set_same pointers d p 0xFFFF inside) (entry_some p below)
     go false e = let other : c ≢ d =
         grind (arith, nat_tests, e) in rw (get_or-set_other pointers d c p 0xFFFF other) refl
-
--- THE SHIFT_JIS ENCODER'S
-
-kept_below : (p : ℕ) → p < 8272 → keeps OfShiftJis p ≡ true
-kept_below p l = grind (arith, nat_tests, l)
-
-kept_all : (p : ℕ) → keeps All p ≡ true
-kept_all p = grind (arith, nat_tests)
-
-least_same : (p c : ℕ) (entries : List (Option ℕ)) → p + length entries ≤ 8272
-    → pointer_where (keeps All) (pairs_from p entries) c ≡ pointer_where (keeps OfShiftJis) (pairs_from p entries) c
-unfolding pairs_from pointer_where
-least_same p c [] l = refl
-least_same p c (None ∷ entries) l = least_same (suc p) c entries (omega (arith, l))
-least_same p c (Some d ∷ entries) l =
-    rw (kept_all p, kept_below p (omega (arith, l)), least_same (suc p) c entries (omega (arith, l))) refl
-
--- none is left out of few pointers
-pub none_left_out : (entries : List (Option ℕ)) (pointers : List ℕ) → length entries ≤ 8272
-    → GivesLeast (keeps All) entries pointers → GivesLeast (keeps OfShiftJis) entries pointers
-none_left_out entries pointers l all c = all c ∙ least_same 0 c entries (omega (arith, l))

@@ -1,5 +1,5 @@
 -- The pointers that an encoder may use.
-use Rattle.std.specs.Prelude.{ℕ, Bool, List, Option, None, Some, not, nat_le}
+use Rattle.std.specs.Prelude.{ℕ, Bool, not, nat_le}
 use Rattle.enc_model.specs.Index.{within}
 use Rattle.enc_index.specs.declared.usable.Usable.{Usable}
 use Rattle.enc_index.specs.declared.usable.Usable.TheVariants.{All, OfShiftJis}
@@ -8,8 +8,3 @@ use Rattle.enc_index.specs.declared.usable.Usable.TheVariants.{All, OfShiftJis}
 abbrev pub keeps : Usable → ℕ → Bool
 keeps All p = nat_le 0 p
 keeps OfShiftJis p = not (within 8272 8835 p)
-
--- The table of the pointers that the Shift_JIS encoder may use: its own, or else that of all.
-abbrev pub own_or_all : Option (List ℕ) → List ℕ → List ℕ
-own_or_all None pointers = pointers
-own_or_all (Some own) pointers = own

@@ -1,9 +1,8 @@
 //! The least pointers by code point, for encoders.
 
-ghost use Rattle.std.specs.Prelude.{◌≡◌, ℕ, List, Option, IfOk, IfSome, None, ◌<◌, length, slice_index_or};
+ghost use Rattle.std.specs.Prelude.{◌≡◌, ℕ, Option, IfOk, IfSome, None, ◌<◌, length, slice_index_or};
 ghost use Rattle.enc_index.specs.Entries.{found, GivesLeast};
-ghost use Rattle.enc_index.specs.Usable.{keeps, own_or_all};
-ghost use Rattle.enc_index.specs.declared.usable.Usable.TheVariants.{All, OfShiftJis};
+ghost use Rattle.enc_index.specs.Usable.{keeps};
 
 use crate::usable::Usable;
 use std::alloc::{AllocError, Global};
@@ -11,9 +10,6 @@ use std::marker::Model;
 
 /// The entry of a code point without a pointer.
 const NO_POINTER: u16 = u16::MAX;
-
-/// The first pointer that the Shift_JIS encoder leaves out.
-const FIRST_LEFT_OUT: usize = 8272;
 
 /// The pointers of an index by code point. A lookup takes one step. The table has two bytes for each code point up to
 /// the greatest.
@@ -80,26 +76,6 @@ impl Pointers {
             }
         }
         Ok(Pointers { at })
-    }
-
-    /// The least pointers that the Shift_JIS encoder may use, where they can be others than the least of all: it leaves
-    /// out none below 8272.
-    ///
-    /// # Errors
-    ///
-    /// `AllocError` when out of memory.
-    pub(crate) fn of_shift_jis(
-        alloc: Global,
-        codes: &[Option<char>],
-    ) -> Result<Option<Pointers>, AllocError>
-        requires { length codes.now < 0xFFFF }
-        ensures { (pointers : List ℕ) → GivesLeast (keeps All) codes.now pointers → IfOk result
-            (λ own. GivesLeast (keeps OfShiftJis) codes.now (own_or_all own pointers)) }
-    {
-        if codes.len() <= FIRST_LEFT_OUT {
-            return Ok(None);
-        }
-        Ok(Some(Pointers::least(alloc, codes, Usable::OfShiftJis)?))
     }
 
     /// The pointer of a code point.

@@ -4,7 +4,6 @@ ghost use Rattle.std.specs.Prelude.{◌≡◌, ℕ, ◌<◌, IfOk, None, length,
 ghost use Rattle.enc_model.specs.Index.{Index, code, pointer, pointer_sjis};
 ghost use Rattle.enc_index.specs.Entries.{pairs_from, found, AreAgreed};
 ghost use Rattle.enc_index.specs.Bytes.{byte_char};
-ghost use Rattle.enc_index.specs.Usable.{own_or_all};
 
 use crate::pointers::Pointers;
 use crate::ready::{ready, ready_bytes};
@@ -24,8 +23,8 @@ pub struct Table {
     ready_bytes: Vec<Utf8Char>,
     /// The least pointer of each code point.
     pointers: Pointers,
-    /// The least pointer of each code point that the Shift_JIS encoder may use, where that can be another one.
-    sjis_pointers: Option<Pointers>,
+    /// The least pointer of each code point that the Shift_JIS encoder may use.
+    sjis_pointers: Pointers,
 }
 
 impl Model for Table {
@@ -33,8 +32,7 @@ impl Model for Table {
 
     ghost view = { λ t. pairs_from 0 t.codes.items };
 
-    ghost invariant = { λ t. AreAgreed t.codes.items t.ready.items t.ready_bytes.items t.pointers
-        (own_or_all t.sjis_pointers t.pointers) };
+    ghost invariant = { λ t. AreAgreed t.codes.items t.ready.items t.ready_bytes.items t.pointers t.sjis_pointers };
 }
 
 impl Table {
@@ -50,7 +48,7 @@ impl Table {
         let ready = ready(alloc, &codes)?;
         let ready_bytes = ready_bytes(alloc, &codes)?;
         let pointers = Pointers::least(alloc, &codes, Usable::All)?;
-        let sjis_pointers = Pointers::of_shift_jis(alloc, &codes)?;
+        let sjis_pointers = Pointers::least(alloc, &codes, Usable::OfShiftJis)?;
         Ok(Table {
             codes,
             ready,
@@ -103,10 +101,7 @@ impl Table {
     pub fn pointers_sjis(&self) -> &Pointers
         ensures { (c : ℕ) → found result.now c ≡ pointer_sjis self.now c }
     {
-        match &self.sjis_pointers {
-            Some(pointers) => pointers,
-            None => &self.pointers,
-        }
+        &self.sjis_pointers
     }
 
     /// The least pointer of a code point.
@@ -122,6 +117,6 @@ impl Table {
     pub fn pointer_sjis(&self, c: char) -> Option<u32>
         ensures { result ≡ pointer_sjis self.now c }
     {
-        self.pointers_sjis().find(c)
+        self.sjis_pointers.find(c)
     }
 }
