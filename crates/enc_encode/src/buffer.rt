@@ -1,7 +1,7 @@
 //! Bytes that are gathered before they are appended.
 
 ghost use Rattle.std.specs.Prelude.{◌≡◌, ◌<◌, ◌≤◌, ◌+◌, ◌++◌, ◌∷◌, [], ℕ, OnOk, OnErr, IfSome, length};
-ghost use Rattle.std.specs.Prelude.{take, true, vec_capacity};
+ghost use Rattle.std.specs.Prelude.{◌↔◌, IsSomeAnd, IsTrue, slice_get, take, vec_capacity};
 ghost use Rattle.enc_encode.specs.Code.{bytes_of};
 ghost use Rattle.enc_encode.specs.Growth.{Appended, Stopped};
 ghost use Rattle.enc_encode.specs.Held.{Passed};
@@ -49,14 +49,16 @@ impl Model for Buffer {
     ghost invariant = { λ b. b.len ≤ 2048 };
 }
 
-/// Whether a text may go on with more that stands for single bytes, after its start made so many bytes of so many: with
-/// ASCII. What isn't ASCII there has just been refused.
+/// After a round that put the bytes from `from` to `end`: whether another round can put more. Only if ASCII follows,
+/// since what isn't ASCII has just been refused.
 #[inline(always)]
 fn goes_on(from: usize, end: usize, rest: &str) -> bool
-    requires { from ≤ end }
-    ensures { result ≡ true → from < end }
+    ensures { IsTrue result ↔ (from < end) × IsSomeAnd (slice_get rest.now 0) (λ b. b < 0x80) }
 {
-    from < end && rest.as_bytes().first().is_some_and(|byte| *byte < 0x80)
+    match rest.as_bytes().first() {
+        Some(byte) => from < end && *byte < 0x80,
+        None => false,
+    }
 }
 
 impl Buffer {
