@@ -97,6 +97,18 @@ module _ {Z : Type 0} where
         ];
       }
 
+  -- after one that appends nothing
+  pub roomier : {X E : Type 0} (old : Vec ℕ Z) (x : List ℕ) (mid new : Vec ℕ Z) (r : Result X E)
+      → mid.items ≡ old.items → vec_capacity old ≤ vec_capacity mid → Grew mid x new r → Grew old x new r
+  roomier old x mid new (Ok v) e a p = record {
+    items = p.items ∙ ap (λ z. z ++ x) e;
+    capacity = let b = p.capacity in omega (arith, a, b);
+  }
+  roomier old x mid new (Err v) e a p = record {
+    items = subst (λ z. GrownByPrefix z x new.items) e p.items;
+    full = let f = p.full in let l : length mid.items ≡ length old.items = ap length e in omega (arith, a, f, l);
+  }
+
   -- by a call that is refused, and then by another
   pub again : {X E : Type 0} (old : Vec ℕ Z) (x : List ℕ) (mid new : Vec ℕ Z) (r : Result X E)
       → mid.items ≡ old.items → vec_capacity old ≤ vec_capacity mid → vec_capacity old < vec_len old + length x

@@ -6,10 +6,33 @@ ghost use Rattle.enc_encode.specs.Growth.{Grew};
 
 use std::alloc::AllocError;
 
+/// Asks for memory for so many more bytes: as a vector grows, or if that is refused, for exactly as many.
+#[inline(never)]
+fn ask_for(count: usize, out: &mut Vec<u8>)
+    ensures items { out.new.items ≡ out.old.items }
+    ensures capacity { vec_capacity out.old ≤ vec_capacity out.new }
+{
+    if out.reserve(count).is_err() {
+        let _ = out.reserve_exact(count);
+    }
+}
+
+/// Sees to room for so many more bytes, if there is memory for exactly as many.
+#[inline(always)]
+pub fn make_room_for(count: usize, out: &mut Vec<u8>)
+    ensures items { out.new.items ≡ out.old.items }
+    ensures capacity { vec_capacity out.old ≤ vec_capacity out.new }
+{
+    if out.capacity() - out.len() < count {
+        ask_for(count, out);
+    }
+}
+
 /// Appends bytes.
 pub fn append(bytes: &[u8], out: &mut Vec<u8>) -> Result<(), AllocError>
     ensures { Grew out.old bytes.now out.new result }
 {
+    make_room_for(bytes.len(), out);
     out.extend_from_slice(bytes)
 }
 

@@ -19,7 +19,7 @@ ghost use Rattle.enc_model.specs.Transcode.{Took, Refused};
 ghost use Rattle.enc_model.specs.Sink.{Given};
 ghost use Rattle.enc_model.specs.Indexes.{tables};
 
-use crate::append::append;
+use crate::append::{append, make_room_for};
 use crate::buffer::{Buffer, LANES};
 use crate::encoders::written;
 use crate::error::EncodeError;
@@ -458,6 +458,7 @@ impl Encoder {
         match self.shift {
             ShiftState::Ascii => Ok(()),
             ShiftState::Roman | ShiftState::Jis => {
+                make_room_for(TO_ASCII.as_slice().len(), out);
                 out.extend_from_slice(TO_ASCII.as_slice())?;
                 self.shift = ShiftState::Ascii;
                 Ok(())
