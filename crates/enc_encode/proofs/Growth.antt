@@ -1,7 +1,9 @@
 -- A vector that grows in parts.
 use Rattle.std.proofs.Common.{ℕ, List, [], ◌++◌, ◌≡◌, ◌<◌, ◌≤◌, ◌+◌, refl, sym, ◌∙◌, ap, append_assoc, append-nil}
 use Rattle.std.proofs.Common.{arith, length, length-append, Vec, Result, Ok, Err, vec_capacity, vec_len, if◌then◌else◌}
-use Rattle.std.proofs.Common.{false, true≢false, take, drop, take-append-drop}
+use Rattle.std.proofs.Common.{subst, take, drop, take-append-drop, ◌⊎◌, inl, inr}
+use Rattle.std.proofs.lemmas.List.{take_all, take-take, length-take, length-take-le}
+use Rattle.std.proofs.Math.Seq.{take-add}
 use Rattle.std.specs.Result.{IsErrAnd, OnErr, is_ok}
 use Rattle.enc_model.specs.Transcode.{GrownByPrefix}
 use Rattle.enc_encode.specs.Growth.{Appended, Stopped, Grew}
@@ -28,6 +30,13 @@ grown_more old x y mid new m p = record {
   out = p.out ∙ ap (λ w. w ++ p.prefix) m ∙ append_assoc old x p.prefix;
 }
 
+-- by the first so many bytes, which fill what room there was, or are all
+pub record Filled {Z : Type 0} (old : Vec ℕ Z) (x : List ℕ) (n : ℕ) (new : Vec ℕ Z) : Type 0 where
+  pub within : n ≤ length x
+  pub items : new.items ≡ old.items ++ take n x
+  pub capacity : vec_capacity old ≤ vec_capacity new
+  pub full : (vec_capacity old ≤ length old.items + n) ⊎ (length x ≤ n)
+
 module _ {Z : Type 0} where
   -- by one call that appends all or nothing
   pub at_once : {X E : Type 0} (old : Vec ℕ Z) (x : List ℕ) (new : Vec ℕ Z) (r : Result X E) →
@@ -39,18 +48,77 @@ module _ {Z : Type 0} where
     full = let l = old.ok.0 in omega (arith, f, l);
   }
 
-  -- by a call that is refused, and then by as many as there is room for
-  pub filled : {X E : Type 0} (old : Vec ℕ Z) (x : List ℕ) (n : ℕ) (mid new : Vec ℕ Z) (r : Result X E)
-      → is_ok r ≡ false → mid.items ≡ (if is_ok r then old.items ++ x else old.items)
-      → OnErr r (vec_capacity old < vec_len old + length x) → new.items ≡ mid.items ++ take n x → Grew old x new r
-  filled old x n mid new (Ok v) refused m f e = absurd (true≢false refused)
-  filled old x n mid new (Err v) refused m f e = record {
-    items = record {
-      prefix = take n x;
-      rest = drop n x;
-      parts = sym (take-append-drop n x);
-      out = e ∙ ap (λ z. z ++ take n x) m;
-    };
+  -- by the first so many bytes, for all of which there was no room
+  pub some_of : (old : Vec ℕ Z) (x : List ℕ) (n : ℕ) (new : Vec ℕ Z) → Filled old x n new → n < length x
+      → Stopped old x new
+  some_of old x n new p short = record {
+    items = record { prefix = take n x; rest = drop n x; parts = sym (take-append-drop n x); out = p.items };
+    full = elim p.full [
+      | inl l ↦ omega (arith, l, short)
+      | inr l ↦ absurd (omega (arith, l, short))
+    ];
+  }
+
+  pub some_full : (old : Vec ℕ Z) (x : List ℕ) (n : ℕ) (new : Vec ℕ Z) → Filled old x n new → n < length x
+      → vec_capacity old ≤ length new.items
+  some_full old x n new p short =
+      let e : length new.items ≡ length (old.items ++ take n x) = ap length p.items in
+      let l = length-append old.items (take n x) in
+      let m = length-take-le n x (omega (arith, short)) in
+      elim p.full [
+        | inl f ↦ omega (arith, e, l, m, f)
+        | inr f ↦ absurd (omega (arith, f, short))
+      ]
+
+  -- by all of them
+  pub all_of : (old : Vec ℕ Z) (x : List ℕ) (n : ℕ) (new : Vec ℕ Z) → Filled old x n new → length x ≤ n
+      → Appended old x new
+  all_of old x n new p l = record {
+    items = p.items ∙ ap (λ z. old.items ++ z) (take_all n x l);
+    capacity = p.capacity;
+  }
+
+  -- by some more
+  pub more_of : (old : Vec ℕ Z) (x : List ℕ) (n k m : ℕ) (mid new : Vec ℕ Z) → Filled old x n mid
+      → n + k ≤ length x → m ≤ length (take k (drop n x)) → new.items ≡ mid.items ++ take m (take k (drop n x))
+      → vec_capacity mid ≤ vec_capacity new → Filled old x (n + m) new
+  more_of old x n k m mid new p inside few e a =
+      let l = length-take k (drop n x) in
+      let small : m ≤ k = omega (arith, few, l) in
+      let b = p.capacity in record {
+        within = omega (arith, small, inside);
+        items = e ∙ ap (λ z. mid.items ++ z) (take-take m k (drop n x) small)
+            ∙ ap (λ z. z ++ take m (drop n x)) p.items ∙ append_assoc old.items (take n x) (take m (drop n x))
+            ∙ ap (λ z. old.items ++ z) (sym (take-add n m x));
+        capacity = omega (arith, a, b);
+        full = elim p.full [
+          | inl f ↦ inl (omega (arith, f))
+          | inr f ↦ inr (omega (arith, f))
+        ];
+      }
+
+  -- after one that appends nothing
+  pub roomier : {X E : Type 0} (old : Vec ℕ Z) (x : List ℕ) (mid new : Vec ℕ Z) (r : Result X E)
+      → mid.items ≡ old.items → vec_capacity old ≤ vec_capacity mid → Grew mid x new r → Grew old x new r
+  roomier old x mid new (Ok v) e a p = record {
+    items = p.items ∙ ap (λ z. z ++ x) e;
+    capacity = let b = p.capacity in omega (arith, a, b);
+  }
+  roomier old x mid new (Err v) e a p = record {
+    items = subst (λ z. GrownByPrefix z x new.items) e p.items;
+    full = let f = p.full in let l : length mid.items ≡ length old.items = ap length e in omega (arith, a, f, l);
+  }
+
+  -- by a call that is refused, and then by another
+  pub again : {X E : Type 0} (old : Vec ℕ Z) (x : List ℕ) (mid new : Vec ℕ Z) (r : Result X E)
+      → mid.items ≡ old.items → vec_capacity old ≤ vec_capacity mid → vec_capacity old < vec_len old + length x
+      → Grew mid x new r → Grew old x new r
+  again old x mid new (Ok v) e a f p = record {
+    items = p.items ∙ ap (λ z. z ++ x) e;
+    capacity = let b = p.capacity in omega (arith, a, b);
+  }
+  again old x mid new (Err v) e a f p = record {
+    items = subst (λ z. GrownByPrefix z x new.items) e p.items;
     full = let l = old.ok.0 in omega (arith, f, l);
   }
 

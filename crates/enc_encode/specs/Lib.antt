@@ -9,3 +9,4 @@ pub mod Singles
 pub mod Runs
 pub mod Letters
 pub mod Pairs
+pub mod Loops

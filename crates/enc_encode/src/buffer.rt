@@ -1,7 +1,7 @@
 //! Bytes that are gathered before they are appended.
 
 ghost use Rattle.std.specs.Prelude.{◌≡◌, ◌<◌, ◌≤◌, ◌+◌, ◌++◌, ◌∷◌, [], ℕ, OnOk, OnErr, IfSome, length};
-ghost use Rattle.std.specs.Prelude.{take, true, vec_capacity};
+ghost use Rattle.std.specs.Prelude.{◌↔◌, IsSomeAnd, IsTrue, slice_get, take, vec_capacity};
 ghost use Rattle.enc_encode.specs.Code.{bytes_of};
 ghost use Rattle.enc_encode.specs.Growth.{Appended, Stopped};
 ghost use Rattle.enc_encode.specs.Held.{Passed};
@@ -22,7 +22,7 @@ use crate::shift::ShiftState;
 use crate::single_runs::{put_last_ascii, put_run};
 use crate::written::Bytes;
 use enc_index::{IndexSet, Pointers};
-use enc_model::{Encoding, Mode};
+use enc_model::Encoding;
 use std::alloc::AllocError;
 use std::marker::Model;
 
@@ -49,14 +49,16 @@ impl Model for Buffer {
     ghost invariant = { λ b. b.len ≤ 2048 };
 }
 
-/// Whether a text may go on with more that stands for single bytes, after its start made so many bytes of so many: with
-/// ASCII. What isn't ASCII there has just been refused.
+/// After a round that put the bytes from `from` to `end`: whether another round can put more. Only if ASCII follows,
+/// since what isn't ASCII has just been refused.
 #[inline(always)]
 fn goes_on(from: usize, end: usize, rest: &str) -> bool
-    requires { from ≤ end }
-    ensures { result ≡ true → from < end }
+    ensures { IsTrue result ↔ (from < end) × IsSomeAnd (slice_get rest.now 0) (λ b. b < 0x80) }
 {
-    from < end && rest.as_bytes().first().is_some_and(|byte| *byte < 0x80)
+    match rest.as_bytes().first() {
+        Some(byte) => from < end && *byte < 0x80,
+        None => false,
+    }
 }
 
 impl Buffer {
@@ -172,43 +174,13 @@ impl Buffer {
         rest
     }
 
-    /// Puts the codes of characters at a text's start after the others: bytes of those that a single-byte encoding has,
-    /// and in html mode references of unmappable ones. Gives the rest of the text.
-    #[inline(always)]
-    fn push_coded<'a>(
-        &mut self,
-        to: Encoding,
-        set: &IndexSet,
-        mode: Mode,
-        pointers: &Pointers,
-        letters: Letters,
-        shift: ShiftState,
-        text: &'a str,
-    ) -> &'a str
-        requires singles { AreSingles (encoder (tables set.now) to) pointers.now }
-        requires few { FewPointers pointers.now }
-        requires letters { AreLetters pointers.now letters.low letters.byte letters.count }
-        ensures { RunPrefix (IsCoded (tables set.now) to mode (shift_of shift)) text.now result.now self.old self.new }
-    {
-        let mut rest = self.push_singles(letters, pointers, text);
-        while mode == Mode::Html {
-            let after = self.push_references(set, to, shift, rest);
-            if after.len() >= rest.len() {
-                return after;
-            }
-            rest = self.push_singles(letters, pointers, after);
-        }
-        rest
-    }
-
     /// Puts the bytes of characters at a text's start after the others: those that a single-byte encoding has, by the
-    /// table of its pointers, with references in html mode; or else pairs. Gives the rest of the text.
+    /// table of its pointers, or else pairs. Gives the rest of the text.
     #[inline(always)]
     pub fn push_run<'a>(
         &mut self,
         to: Encoding,
         set: &IndexSet,
-        mode: Mode,
         singles: Option<&Pointers>,
         letters: Letters,
         shift: ShiftState,
@@ -217,10 +189,11 @@ impl Buffer {
         requires singles { IfSome singles (λ p. AreSingles (encoder (tables set.now) to) p.now) }
         requires few { IfSome singles (λ p. FewPointers p.now) }
         requires letters { IfSome singles (λ p. AreLetters p.now letters.low letters.byte letters.count) }
-        ensures { RunPrefix (IsCoded (tables set.now) to mode (shift_of shift)) text.now result.now self.old self.new }
+        ensures { RunPrefix (Stays (encoder (tables set.now) to) (shift_of shift)) text.now result.now self.old
+            self.new }
     {
         match singles {
-            Some(pointers) => self.push_coded(to, set, mode, pointers, letters, shift, text),
+            Some(pointers) => self.push_singles(letters, pointers, text),
             None => self.push_pairs(set, to, shift, text),
         }
     }
@@ -228,7 +201,7 @@ impl Buffer {
     /// Puts the references of characters at a text's start after the others, in html mode: of as many as are
     /// unmappable one after the other, and as there is room for. Gives the rest of the text.
     #[inline(always)]
-    pub fn push_references<'a>(
+    fn push_references<'a>(
         &mut self,
         set: &IndexSet,
         to: Encoding,
@@ -240,6 +213,56 @@ impl Buffer {
         let (rest, len) = put_references(&mut self.bytes, self.len, set, to, shift, text);
         self.len = len;
         rest
+    }
+
+    /// Puts the codes of characters at a text's start after the others, in html mode: references of unmappable ones,
+    /// and by turns with them bytes of those that a single-byte encoding has. Gives the rest of the text.
+    #[inline(always)]
+    fn push_turns<'a>(
+        &mut self,
+        to: Encoding,
+        set: &IndexSet,
+        pointers: &Pointers,
+        letters: Letters,
+        shift: ShiftState,
+        text: &'a str,
+    ) -> &'a str
+        requires singles { AreSingles (encoder (tables set.now) to) pointers.now }
+        requires few { FewPointers pointers.now }
+        requires letters { AreLetters pointers.now letters.low letters.byte letters.count }
+        ensures { RunPrefix (IsCoded (tables set.now) to Html (shift_of shift)) text.now result.now self.old self.new }
+    {
+        let mut rest = text;
+        let mut after = self.push_references(set, to, shift, rest);
+        while after.len() < rest.len() {
+            rest = self.push_singles(letters, pointers, after);
+            after = self.push_references(set, to, shift, rest);
+        }
+        after
+    }
+
+    /// Puts the codes of characters that follow a reference after the others, in html mode: references of unmappable
+    /// ones, and bytes between them in a single-byte encoding. Gives the rest of the text. Texts that have no reference
+    /// never come here, so it stands apart from their loop.
+    #[inline(never)]
+    pub fn push_coded<'a>(
+        &mut self,
+        to: Encoding,
+        set: &IndexSet,
+        singles: Option<&Pointers>,
+        letters: Letters,
+        shift: ShiftState,
+        text: &'a str,
+    ) -> &'a str
+        requires singles { IfSome singles (λ p. AreSingles (encoder (tables set.now) to) p.now) }
+        requires few { IfSome singles (λ p. FewPointers p.now) }
+        requires letters { IfSome singles (λ p. AreLetters p.now letters.low letters.byte letters.count) }
+        ensures { RunPrefix (IsCoded (tables set.now) to Html (shift_of shift)) text.now result.now self.old self.new }
+    {
+        match singles {
+            Some(pointers) => self.push_turns(to, set, pointers, letters, shift, text),
+            None => self.push_references(set, to, shift, text),
+        }
     }
 
     /// Sees to room for so many bytes as are put in at once.
@@ -267,6 +290,7 @@ impl Buffer {
     }
 
     /// Puts some bytes and a character's reference after the others, after it has seen to room.
+    #[inline(never)]
     pub fn hold_reference(
         &mut self,
         bytes: Bytes,

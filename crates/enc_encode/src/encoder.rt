@@ -10,6 +10,8 @@ ghost use Rattle.enc_encode.specs.State.{code_from};
 ghost use Rattle.enc_encode.specs.Code.{written_of};
 ghost use Rattle.enc_encode.specs.Growth.{NoRoom};
 ghost use Rattle.enc_encode.specs.Held.{Kept, HeldPrefix, IsOwnPrefix, own_byte};
+ghost use Rattle.enc_encode.specs.Letters.{AreLetters};
+ghost use Rattle.enc_encode.specs.Loops.{IsLoopOf};
 ghost use Rattle.enc_encode.specs.Reasons.{Gave, Explains, reason_of};
 ghost use Rattle.enc_encode.specs.Singles.{AreSingles, FewPointers};
 ghost use Rattle.enc_model.specs.Encode.{Tables, coded, encoder, encoder_end, InAscii};
@@ -17,12 +19,12 @@ ghost use Rattle.enc_model.specs.Transcode.{Took, Refused};
 ghost use Rattle.enc_model.specs.Sink.{Given};
 ghost use Rattle.enc_model.specs.Indexes.{tables};
 
-use crate::append::append;
+use crate::append::{append, make_room_for};
 use crate::buffer::{Buffer, LANES};
 use crate::encoders::written;
 use crate::error::EncodeError;
 use crate::iso2022::{TO_ASCII, iso2022_ascii};
-use crate::letters::letters_of;
+use crate::letters::{Letters, letters_of};
 use crate::shift::ShiftState;
 use crate::written::Written;
 use crate::written_out::write_out;
@@ -49,6 +51,18 @@ impl Model for Encoder {
 
     ghost inverse_ok = { λ e h. code_of_shift_of e.shift (λ s. record { to = e.to; mode = e.mode; shift = s }) };
 }
+
+/// The loop over characters for Shift_JIS, among those that are made for one encoding.
+const SHIFT_JIS: usize = 1;
+
+/// The loop for EUC-JP.
+const EUC_JP: usize = 2;
+
+/// The loop for ISO-2022-JP.
+const ISO_2022_JP: usize = 3;
+
+/// The loop for all other encodings.
+const OTHERS: usize = 0;
 
 /// How many of the lanes, from the first, are ASCII that an encoder writes as it is.
 #[inline(always)]
@@ -83,6 +97,21 @@ fn own_prefix(to: Encoding, shift: ShiftState, text: &str) -> Option<(&[u8; LANE
         return None;
     }
     Some((lanes, count))
+}
+
+/// The encoding that a loop over characters is for, where this one is given. But for the loop of all others it is known
+/// when the loop is compiled, so that none is chosen in it.
+#[inline(always)]
+fn encoding_of<const LOOP: usize>(given: Encoding) -> Encoding
+    requires { IsLoopOf LOOP given }
+    ensures { result ≡ given }
+{
+    match LOOP {
+        SHIFT_JIS => Encoding::ShiftJis,
+        EUC_JP => Encoding::EucJp,
+        ISO_2022_JP => Encoding::Iso2022Jp,
+        _ => given,
+    }
 }
 
 impl Encoder {
@@ -231,9 +260,10 @@ impl Encoder {
     }
 
     /// Puts a character's code after bytes that are held, or appends both, and gives the state that it leads to. What
-    /// the encoder gives for the character at first is given.
-    #[inline(always)]
-    fn hold(
+    /// the encoder gives for the character at first is given. This is for bytes that switch, and for an error, and
+    /// stands apart: what holds all other characters is small enough then to go into the loop over them.
+    #[inline(never)]
+    fn hold_otherwise(
         &self,
         to: Encoding,
         set: &IndexSet,
@@ -248,10 +278,6 @@ impl Encoder {
         ensures { Kept (coded (encoder (tables set.now) self.now.to) self.now.mode (shift_of shift) (c ∷ [])) out.old
             held.old out.new held.new result }
     {
-        if let Written::Wrote(bytes, next) = first {
-            held.hold(bytes, out)?;
-            return Ok(next);
-        }
         if let Written::Restore(bytes, between) = first {
             if let Written::Wrote(more, next) = written(set, to, between, c) {
                 held.hold(bytes, out)?;
@@ -263,49 +289,16 @@ impl Encoder {
         self.encode(set, shift, c, out)
     }
 
-    /// Puts the code of a text's first character after bytes that are held, or appends both. Where that is a reference,
-    /// those of the unmappable characters behind it go with it. Gives the state that it leads to, and
-    /// the rest of the text.
-    #[inline(always)]
-    fn hold_first<'a>(
-        &self,
-        to: Encoding,
-        set: &IndexSet,
-        shift: ShiftState,
-        text: &'a str,
-        held: &mut Buffer,
-        out: &mut Vec<u8>,
-    ) -> Result<(ShiftState, &'a str), EncodeError>
-        requires same { to ≡ self.now.to }
-        requires some { 0 < length text.now }
-        ensures shorter { IfOk result (λ r. length r.1.now < length text.now) }
-        ensures ok { IfOk result (λ r. HeldPrefix (code_from (tables set.now) (shifted self.now (shift_of shift)))
-            text.now r.1.now out.old held.old out.new held.new (Ok r.0)) }
-        ensures err { IfErr result
-            (λ e. (rest : List ℕ) × HeldPrefix (code_from (tables set.now) (shifted self.now (shift_of shift)))
-            text.now rest out.old held.old out.new held.new (Err e)) }
-    {
-        let mut chars = text.chars();
-        let Some(c) = chars.next() else {
-            unreachable!()
-        };
-        let first = written(set, to, shift, c);
-        if let (Mode::Html, Written::Unmappable(bytes, next, d)) = (self.mode, first) {
-            held.hold_reference(bytes, d, out)?;
-            let rest = held.push_references(set, to, next, chars.as_str());
-            return Ok((next, rest));
-        }
-        let next = self.hold(to, set, shift, c, first, held, out)?;
-        Ok((next, chars.as_str()))
-    }
-
-    /// Puts the code of a text's start after bytes that are held, or appends both: of ASCII in lanes, or else of a
-    /// character or more. Gives the state that it leads to, and the rest of the text.
+    /// Puts the code of a text's start after bytes that are held, or appends both: of ASCII in lanes, or else of one
+    /// character, and where that is a reference, of those behind it. Gives the state that it leads to, and the rest of
+    /// the text.
     #[inline(always)]
     fn hold_prefix<'a>(
         &self,
         to: Encoding,
         set: &IndexSet,
+        singles: Option<&Pointers>,
+        letters: Letters,
         shift: ShiftState,
         text: &'a str,
         held: &mut Buffer,
@@ -313,6 +306,9 @@ impl Encoder {
     ) -> Result<(ShiftState, &'a str), EncodeError>
         requires same { to ≡ self.now.to }
         requires some { 0 < length text.now }
+        requires singles { IfSome singles (λ p. AreSingles (encoder (tables set.now) to) p.now) }
+        requires few { IfSome singles (λ p. FewPointers p.now) }
+        requires letters { IfSome singles (λ p. AreLetters p.now letters.low letters.byte letters.count) }
         ensures shorter { IfOk result (λ r. length r.1.now < length text.now) }
         ensures ok { IfOk result (λ r. HeldPrefix (code_from (tables set.now) (shifted self.now (shift_of shift)))
             text.now r.1.now out.old held.old out.new held.new (Ok r.0)) }
@@ -325,33 +321,49 @@ impl Encoder {
             held.push_front(*lanes, prefix);
             return Ok((shift, &text[prefix..]));
         }
-        self.hold_first(to, set, shift, text, held, out)
+        let mut chars = text.chars();
+        let Some(c) = chars.next() else {
+            unreachable!()
+        };
+        let first = written(set, to, shift, c);
+        if let Written::Wrote(bytes, next) = first {
+            held.hold(bytes, out)?;
+            return Ok((next, chars.as_str()));
+        }
+        if let (Written::Unmappable(bytes, next, d), Mode::Html) = (first, self.mode) {
+            held.hold_reference(bytes, d, out)?;
+            let rest = held.push_coded(to, set, singles, letters, next, chars.as_str());
+            return Ok((next, rest));
+        }
+        let next = self.hold_otherwise(to, set, shift, c, first, held, out)?;
+        Ok((next, chars.as_str()))
     }
 
-    /// Appends the codes of a text's characters, and gives the state that they lead to. For a single-byte encoding the
-    /// table of its pointers is given, so that it is found once a text.
-    #[inline(always)]
-    fn encode_chars(
+    /// Appends the codes of a text's characters by one of the loops, and gives the state that they lead to. For a
+    /// single-byte encoding the table of its pointers is given, so that it is found once a text.
+    fn encode_chars<const LOOP: usize>(
         &self,
-        to: Encoding,
         set: &IndexSet,
         singles: Option<&Pointers>,
         run: &str,
         out: &mut Vec<u8>,
     ) -> Result<ShiftState, EncodeError>
-        requires same { to ≡ self.now.to }
+        requires own { IsLoopOf LOOP self.now.to }
         requires singles { IfSome singles (λ p. AreSingles (encoder (tables set.now) self.now.to) p.now) }
         requires few { IfSome singles (λ p. FewPointers p.now) }
         ensures { Gave (code_from (tables set.now) self.now (chars run.now)) out.old out.new result }
     {
+        let to = encoding_of::<LOOP>(self.to);
         let letters = letters_of(singles);
         let mut held = Buffer::new();
         let mut shift = self.shift;
         let mut rest = run;
         while !rest.is_empty() {
-            let (next, after) = self.hold_prefix(to, set, shift, rest, &mut held, out)?;
+            let (next, after) = self.hold_prefix(
+                to, set, singles, letters, shift, rest, &mut held, out,
+            )?;
             shift = next;
-            rest = held.push_run(to, set, self.mode, singles, letters, shift, after);
+            rest = held.push_run(to, set, singles, letters, shift, after);
         }
         held.flush(out)?;
         Ok(shift)
@@ -378,12 +390,12 @@ impl Encoder {
     {
         match self.to {
             Encoding::Utf8 | Encoding::Utf16Be | Encoding::Utf16Le => self.encode_utf8(run, out),
-            Encoding::ShiftJis => self.encode_chars(Encoding::ShiftJis, set, None, run, out),
-            Encoding::EucJp => self.encode_chars(Encoding::EucJp, set, None, run, out),
-            Encoding::Iso2022Jp => self.encode_chars(Encoding::Iso2022Jp, set, None, run, out),
+            Encoding::ShiftJis => self.encode_chars::<SHIFT_JIS>(set, None, run, out),
+            Encoding::EucJp => self.encode_chars::<EUC_JP>(set, None, run, out),
+            Encoding::Iso2022Jp => self.encode_chars::<ISO_2022_JP>(set, None, run, out),
             single => {
                 let singles = set.pointers(Kind::Single(single));
-                self.encode_chars(single, set, singles, run, out)
+                self.encode_chars::<OTHERS>(set, singles, run, out)
             }
         }
     }
@@ -446,6 +458,7 @@ impl Encoder {
         match self.shift {
             ShiftState::Ascii => Ok(()),
             ShiftState::Roman | ShiftState::Jis => {
+                make_room_for(TO_ASCII.as_slice().len(), out);
                 out.extend_from_slice(TO_ASCII.as_slice())?;
                 self.shift = ShiftState::Ascii;
                 Ok(())

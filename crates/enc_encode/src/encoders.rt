@@ -155,15 +155,17 @@ fn euc_jp(set: &IndexSet, shift: ShiftState, c: char) -> Written
     }
 }
 
-/// The pointers of jis0208 that `pair` looks a character up in, if its file was given.
+/// The pointers of jis0208 that `pair` looks a character up in, if its file was given, and if characters have two bytes
+/// in this state.
 #[inline(always)]
-pub fn pair_pointers(set: &IndexSet, to: Encoding) -> Option<&Pointers>
+pub fn pair_pointers(set: &IndexSet, to: Encoding, shift: ShiftState) -> Option<&Pointers>
     ensures own { IfSome result (λ p. ArePairPointers (tables set.now) to p.now) }
     ensures bounded { IfSome result (λ p. JisPointers p.now) }
 {
     match to {
         Encoding::ShiftJis => set.pointers_sjis(),
-        Encoding::EucJp | Encoding::Iso2022Jp => set.pointers(Kind::Jis0208),
+        Encoding::EucJp => set.pointers(Kind::Jis0208),
+        Encoding::Iso2022Jp if shift == ShiftState::Jis => set.pointers(Kind::Jis0208),
         _ => None,
     }
 }

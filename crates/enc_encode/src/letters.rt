@@ -12,7 +12,7 @@ use enc_index::Pointers;
 use std::simd::prelude::*;
 
 /// How many letters are looked at at once.
-pub const AT_ONCE: usize = 16;
+pub const LETTERS_AT_ONCE: usize = 16;
 
 /// The first letter of the Cyrillic alphabet, from which on encodings have the others in its order.
 const FIRST: u32 = 0x410;
@@ -99,7 +99,7 @@ fn first_of_16(mask: u64) -> usize
     ensures { result ≡ first_set mask 16 }
 {
     if mask == 0 {
-        AT_ONCE
+        LETTERS_AT_ONCE
     } else {
         mask.trailing_zeros() as usize
     }
@@ -115,7 +115,7 @@ fn count_below(places: u16x16, count: u16) -> usize
 
 /// The bytes at places from a first one on.
 #[inline(always)]
-fn bytes_at(places: u16x16, byte: u16) -> [u8; AT_ONCE]
+fn bytes_at(places: u16x16, byte: u16) -> [u8; LETTERS_AT_ONCE]
     ensures { result ≡ map (λ p. (p + byte) % 256) places }
 {
     ((places + u16x16::splat(byte)) & u16x16::splat(255))
@@ -125,10 +125,10 @@ fn bytes_at(places: u16x16, byte: u16) -> [u8; AT_ONCE]
 
 /// The letters' bytes of leads and trails, and how many are letters before the first that isn't.
 #[inline(always)]
-pub fn lettered(letters: Letters, lanes: &[u8; 32]) -> ([u8; AT_ONCE], usize)
+pub fn lettered(letters: Letters, lanes: &[u8; 32]) -> ([u8; LETTERS_AT_ONCE], usize)
     requires { letters.low + letters.count ≤ 14464 }
-    ensures few { result.1 ≤ AT_ONCE }
-    ensures long { length result.0 ≡ AT_ONCE }
+    ensures few { result.1 ≤ LETTERS_AT_ONCE }
+    ensures long { length result.0 ≡ LETTERS_AT_ONCE }
     ensures letters { (k : ℕ) → k < result.1 → IsLetter letters.low letters.byte letters.count
         (slice_index lanes.now (2 * k)) (slice_index lanes.now (2 * k + 1)) (slice_index result.0 k) }
 {

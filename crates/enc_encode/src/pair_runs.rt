@@ -18,8 +18,9 @@ use enc_model::Encoding;
 const THREE_BYTES: u32 = 0xE0 * 4096 + 0x80 * 64 + 0x80;
 
 /// The two bytes of a text's first character, whose first three bytes these are, if it is one that `pair` has. No
-/// character outside U+3000 to U+FF60 has first three bytes that count from 3000 to FF60. The two ranges stand apart,
-/// so that no code point is tested for a surrogate.
+/// character outside U+3000 to U+FF60 has first three bytes that count from 3000 to FF60. The first byte alone tells of
+/// most others, and is looked at before that. The two ranges stand apart, so that no code point is tested for a
+/// surrogate.
 #[inline(always)]
 fn first_pair(
     pointers: &Pointers,
@@ -34,6 +35,9 @@ fn first_pair(
         (λ r. (more : List ℕ) → IsUtf8 (lead ∷ second ∷ third ∷ more) →
         FirstGiven (Stays (encoder t to) (shift_of shift)) (lead ∷ second ∷ third ∷ more) (r.0 ∷ r.1 ∷ []) more) }
 {
+    if lead < 0xE3 {
+        return None;
+    }
     let c = (lead as u32 * 4096 + second as u32 * 64 + third as u32).wrapping_sub(THREE_BYTES);
     match c {
         0x3000..=0xD7FF => pair(pointers, to, shift, char::from_u32(c)?),
@@ -43,7 +47,8 @@ fn first_pair(
 }
 
 /// Puts the bytes of characters at a text's start after the first so many: as many as `pair` has one after the other,
-/// and as there is room for. Gives the rest of the text, and how many bytes there are then.
+/// and as there is room for. Gives the rest of the text, and how many bytes there are then. It is tried behind each
+/// other character too, so nothing but the pointers is made ready before the first character is looked at.
 #[inline(always)]
 pub fn put_pairs<'a>(
     held: &mut [u8; ROOM],
@@ -58,14 +63,13 @@ pub fn put_pairs<'a>(
     ensures run { RunPrefix (Stays (encoder (tables set.now) to) (shift_of shift)) text.now result.0.now
         (take from held.old) (take result.1 held.new) }
 {
-    let Some(pointers) = pair_pointers(set, to) else {
+    let Some(pointers) = pair_pointers(set, to, shift) else {
         return (text, from);
     };
     let bytes = text.as_bytes();
-    let most = (bytes.len() / 3).min((ROOM - from) / 2);
-    let mut count = 0;
-    while count < most {
-        let at = 3 * count;
+    let mut at = 0;
+    let mut len = from;
+    while bytes.len() - at >= 3 && ROOM - len >= 2 {
         let Some((lead, trail)) = first_pair(
             pointers,
             to,
@@ -76,9 +80,10 @@ pub fn put_pairs<'a>(
         ) else {
             break;
         };
-        held[from + 2 * count] = lead;
-        held[from + 2 * count + 1] = trail;
-        count += 1;
+        held[len] = lead;
+        held[len + 1] = trail;
+        at += 3;
+        len += 2;
     }
-    (&text[3 * count..], from + 2 * count)
+    (&text[at..], len)
 }

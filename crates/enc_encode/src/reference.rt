@@ -8,18 +8,18 @@ use crate::buffer::{LANES, ROOM};
 use std::simd::prelude::*;
 
 /// The room that a reference is given: more bytes than the longest has. `put_any` stores so many at once.
-pub const AT_ONCE: usize = 16;
+pub const REFERENCE_ROOM: usize = 16;
 
 /// A code point's digits and `;`, from a place up to the sixteenth byte. The bytes behind are `;` too.
 #[inline(always)]
 fn digits_at(number: u32) -> ([u8; LANES], usize)
     requires { number < 10000000 }
-    ensures place { (8 ≤ result.1) × (result.1 < AT_ONCE) }
+    ensures place { (8 ≤ result.1) × (result.1 < REFERENCE_ROOM) }
     ensures long { length result.0 ≡ LANES }
     ensures digits { drop result.1 result.0 ≡ decimal number ++ replicate 17 0x3B }
 {
     let mut bytes = [b';'; LANES];
-    let mut place = AT_ONCE - 1;
+    let mut place = REFERENCE_ROOM - 1;
     let mut left = number;
     while left >= 10 {
         place -= 1;
@@ -34,7 +34,7 @@ fn digits_at(number: u32) -> ([u8; LANES], usize)
 /// A character's reference, from a place up to the sixteenth byte. The bytes behind are `;`.
 #[inline(always)]
 fn reference_at(c: char) -> ([u8; LANES], usize)
-    ensures place { result.1 < AT_ONCE }
+    ensures place { result.1 < REFERENCE_ROOM }
     ensures long { length result.0 ≡ LANES }
     ensures bytes { drop result.1 result.0 ≡ reference c ++ replicate 16 0x3B }
 {
@@ -47,13 +47,13 @@ fn reference_at(c: char) -> ([u8; LANES], usize)
 /// Puts a reference of any length after the first so many bytes, and gives how many there are then. It is made from its
 /// end and then stored whole.
 fn put_any(held: &mut [u8; ROOM], from: usize, c: char) -> usize
-    requires { from + AT_ONCE ≤ ROOM }
+    requires { from + REFERENCE_ROOM ≤ ROOM }
     ensures room { result ≤ ROOM }
     ensures put { take result held.new ≡ take from held.old ++ reference c }
 {
     let (bytes, place) = reference_at(c);
     u8x16::from_slice(&bytes[place..]).copy_to_slice(&mut held[from..]);
-    from + (AT_ONCE - place)
+    from + (REFERENCE_ROOM - place)
 }
 
 /// Puts some bytes after the first so many, and gives how many there are then.
@@ -92,7 +92,7 @@ fn last_digits(number: u32) -> [u8; 5]
 /// digits, as those of nearly all letters are, is stored from registers: no byte of it is read back.
 #[inline(always)]
 pub fn put_reference(held: &mut [u8; ROOM], from: usize, c: char) -> usize
-    requires { from + AT_ONCE ≤ ROOM }
+    requires { from + REFERENCE_ROOM ≤ ROOM }
     ensures room { result ≤ ROOM }
     ensures put { take result held.new ≡ take from held.old ++ reference c }
 {

@@ -9,7 +9,7 @@ ghost use Rattle.enc_model.specs.Indexes.{tables};
 
 use crate::buffer::ROOM;
 use crate::encoders::written;
-use crate::reference::{AT_ONCE, put_reference};
+use crate::reference::{REFERENCE_ROOM, put_reference};
 use crate::shift::ShiftState;
 use crate::written::{Bytes, Written};
 use enc_index::IndexSet;
@@ -45,7 +45,7 @@ pub fn put_references<'a>(
 {
     let mut len = from;
     let mut rest = text;
-    while ROOM - len >= AT_ONCE {
+    while ROOM - len >= REFERENCE_ROOM {
         let mut chars = rest.chars();
         let Some(c) = chars.next() else {
             break;

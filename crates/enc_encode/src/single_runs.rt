@@ -7,7 +7,7 @@ ghost use Rattle.enc_encode.specs.Runs.{FirstGiven, RunPrefix};
 ghost use Rattle.enc_encode.specs.Singles.{FewPointers, IsSingle};
 
 use crate::buffer::{LANES, ROOM};
-use crate::letters::{AT_ONCE, Letters, TWO_BYTES, lettered};
+use crate::letters::{LETTERS_AT_ONCE, Letters, TWO_BYTES, lettered};
 use enc_index::Pointers;
 use lane_kernels::ascii_chunk;
 use std::simd::prelude::*;
@@ -134,9 +134,9 @@ fn put_each(held: &mut [u8; ROOM], from: usize, bytes: &[u8]) -> usize
 
 /// Puts the bytes of a few letters after the first so many, as `store_prefix` those of lanes.
 #[inline(always)]
-fn store_letters(held: &mut [u8; ROOM], from: usize, bytes: &[u8; AT_ONCE], count: usize)
-    requires few { count ≤ AT_ONCE }
-    requires room { from + AT_ONCE ≤ ROOM }
+fn store_letters(held: &mut [u8; ROOM], from: usize, bytes: &[u8; LETTERS_AT_ONCE], count: usize)
+    requires few { count ≤ LETTERS_AT_ONCE }
+    requires room { from + LETTERS_AT_ONCE ≤ ROOM }
     ensures { take (from + count) held.new ≡ take from held.old ++ take count bytes.now }
 {
     u8x16::from_array(*bytes).copy_to_slice(&mut held[from..]);
@@ -160,7 +160,7 @@ fn put_letters<'a>(
     ensures run { RunPrefix (IsSingle pointers.now) text.now result.0.now (take from held.old)
         (take result.1 held.new) }
 {
-    if letters.count == 0 || text.len() < LANES || ROOM - from < AT_ONCE {
+    if letters.count == 0 || text.len() < LANES || ROOM - from < LETTERS_AT_ONCE {
         return (text, from);
     }
     let (bytes, count) = lettered(letters, &lanes_at(text.as_bytes(), 0));

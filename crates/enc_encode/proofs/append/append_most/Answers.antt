@@ -1,9 +1,8 @@
-use Rattle.std.proofs.Common.{rules}
-use Rattle.enc_encode.proofs.Growth.{filled}
+use Rattle.enc_encode.proofs.Growth.{again}
 use Rattle.enc_encode.proofs.append.append_most.Goals as goal
 
-pub returns-then-is_err-clause-grew : goal.returns-then-is_err-clause-grew
-returns-then-is_err-clause-grew c =
-    let e = c.extend_from_slice-appended.ensures in
-    filled c.args.out.now c.args.bytes.now _ c.extend_from_slice-appended.new.self c.fill.new.out
-    c.extend_from_slice-appended.result (search rules) e.items e.full c.fill.ensures
+pub returns-in-Err-clause-grew : goal.returns-in-Err-clause-grew
+returns-in-Err-clause-grew c =
+    let e = c.in-Err.ensures in
+    again c.args.out.now c.args.bytes.now c.extend_from_slice.new.self c.append_in_parts.new.out
+    c.append_in_parts.result e.items e.capacity e.full c.append_in_parts.ensures.grew

@@ -1,8 +1,16 @@
+use Rattle.std.proofs.Common.{IfSome, subst}
+use Rattle.enc_model.specs.Encode.{encoder}
 use Rattle.enc_model.specs.Indexes.{tables}
+use Rattle.enc_encode.specs.Runs.{Stays}
+use Rattle.enc_encode.specs.Singles.{AreSingles, IsSingle}
 use Rattle.enc_encode.specs.State.{shift_of}
-use Rattle.enc_encode.proofs.RunPrefixes.{stays_run}
+use Rattle.enc_encode.proofs.RunPrefixes.{run_weaker}
 use Rattle.enc_encode.proofs.buffer.Buffer.push_run.Goals as goal
 
-pub returns-in-None : goal.returns-in-None
-returns-in-None c =
-    stays_run (tables c.args.set.now) c.args.to c.args.mode (shift_of c.args.shift) _ _ _ _ c.push_pairs.ensures
+pub returns-in-Some : goal.returns-in-Some
+returns-in-Some c =
+    let f = encoder (tables c.args.set.now) c.args.to in
+    let s = shift_of c.args.shift in
+    let singles = subst (λ z. IfSome z (λ p. AreSingles f p.now)) c.in-Some.is c.requires.singles in
+    run_weaker (IsSingle c.in-Some.pointers.now) (Stays f s) _ _ _ _ (λ x b h. singles s x b h)
+    c.push_singles.ensures

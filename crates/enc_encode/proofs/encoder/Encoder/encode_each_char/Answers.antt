@@ -18,7 +18,11 @@ encode_chars-requires-in_default c =
     other.not-Iso2022Jp in
     let found = c.pointers-singles.ensures in
     let same = ap (λ (e : EncoderState). e.to) c.self.view_is in record {
-      same = same;
+      own = record {
+        shift_jis = λ e. absurd cc;
+        euc_jp = λ e. absurd cc;
+        iso_2022_jp = λ e. absurd cc;
+      };
       singles = subst (λ z. IfSome c.pointers-singles.result (λ p. AreSingles (encoder t z) p.now)) same
           (singles_found t to c.pointers-singles.result is found.value);
       few = found.bounded;

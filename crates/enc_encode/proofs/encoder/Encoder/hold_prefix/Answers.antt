@@ -1,12 +1,21 @@
-use Rattle.std.proofs.Common.{[], Ok, refl, sym, subst}
+use Rattle.std.proofs.Common.{◌≡◌, [], ◌∷◌, ◌++◌, Ok, Err, refl, sym, ◌∙◌, ap, subst}
 use Rattle.std.proofs.lemmas.Result.{err_from_is_err_and}
 use Rattle.std.proofs.lemmas.Str.{IsUtf8-nil}
 use Rattle.std.specs.Str.{chars}
+use Rattle.std.specs.Str.Iter.{chars_rest}
+use lib.Utf8.{encode}
+use Rattle.enc_model.specs.declared.Mode.TheVariants.{Html}
+use Rattle.enc_model.specs.Encode.{Wrote, coded, encoder}
+use Rattle.enc_encode.specs.Code.{bytes_of}
+use Rattle.enc_encode.proofs.Codes.{coded_once}
 use Rattle.enc_model.specs.Indexes.{tables}
-use Rattle.enc_encode.specs.Held.{HeldPrefix}
-use Rattle.enc_encode.specs.State.{shift_of, shifted, code_from}
+use Rattle.enc_encode.specs.Held.{HeldPrefix, Kept}
+use Rattle.enc_encode.specs.Runs.{IsCoded, RunPrefix}
+use Rattle.enc_encode.specs.State.{EncoderState, shift_of, shifted, code_from}
+use Rattle.enc_encode.specs.declared.error.EncodeError.TheVariants.{NoMemory}
 use Rattle.enc_encode.proofs.Growth.{prefix}
-use Rattle.enc_encode.proofs.Prefixes.{own_cut, ascii_held}
+use Rattle.enc_encode.proofs.Helds.{reference_code}
+use Rattle.enc_encode.proofs.Prefixes.{own_cut, ascii_held, char_held, coded_held, prefix_then}
 use Rattle.enc_encode.proofs.encoder.Encoder.hold_prefix.Goals as goal
 
 pub returns-in_err-make_room-clause-err : goal.returns-in_err-make_room-clause-err
@@ -39,3 +48,105 @@ returns-in-Some-clause-ok c =
     (ascii_held t e c.args.to text c.in-Some.lanes.now c.in-Some.prefix c.args.shift c.args.out.now c.args.held.now
     c.make_room.new.out c.make_room.new.self kept
     c.requires.same c.in-Some.ensures c.in_ok-make_room.ensures.ok c.push_front.ensures)
+
+pub returns-in_err-hold-clause-err : goal.returns-in_err-hold-clause-err
+returns-in_err-hold-clause-err c =
+    let p = err_from_is_err_and c.from_residual-in_err-hold.result c.from_residual-in_err-hold.ensures.1 in
+    let e = c.args.self.now in
+    let left = chars_rest c.next.new.self in
+    let code = coded (encoder (tables c.args.set.now) e.to) e.mode (shift_of c.args.shift) (c.in-Some-next.c ∷ []) in
+    rw (p.1, p.2) (
+      left,
+      char_held (tables c.args.set.now) e c.args.text.now left c.in-Some-next.c c.args.shift c.args.out.now
+          c.args.held.now c.hold.new.out c.hold.new.self (Err NoMemory) c.utf8.text
+          (sym c.chars-chars.ensures.rest ∙ c.in-Some-next.ensures.steps.0)
+          (prefix code.bytes c.in_err-hold.ensures.err),
+    )
+
+pub returns-in-Wrote-clause-ok : goal.returns-in-Wrote-clause-ok
+returns-in-Wrote-clause-ok c =
+    let t = tables c.args.set.now in
+    let e = c.args.self.now in
+    let text = c.args.text.now in
+    let next = c.in-Wrote.next in
+    let x = c.in-Some-next.c in
+    let once = coded_once t e.to e.mode (shift_of c.args.shift) x (Wrote (bytes_of c.in-Wrote.bytes) (shift_of next))
+    (rw (c.requires.same, c.in-Wrote.is) at c.written-first.ensures) tt in
+    let kept : Kept (coded (encoder t e.to) e.mode (shift_of c.args.shift) (x ∷ [])) c.args.out.now c.args.held.now
+    c.hold.new.out c.hold.new.self (Ok next) =
+    subst (λ code. Kept code c.args.out.now c.args.held.now c.hold.new.out c.hold.new.self (Ok next)) (sym once)
+    (refl, refl, c.in_ok-hold.ensures.ok) in
+    subst (λ z. HeldPrefix (code_from t (shifted e (shift_of c.args.shift))) text z c.args.out.now c.args.held.now
+    c.hold.new.out c.hold.new.self (Ok next)) (sym c.as_str.ensures)
+    (char_held t e text (chars_rest c.next.new.self) x c.args.shift c.args.out.now c.args.held.now
+    c.hold.new.out c.hold.new.self (Ok next) c.utf8.text
+    (sym c.chars-chars.ensures.rest ∙ c.in-Some-next.ensures.steps.0) kept)
+
+pub returns-in_err-hold_reference-clause-err : goal.returns-in_err-hold_reference-clause-err
+returns-in_err-hold_reference-clause-err c =
+    let p = err_from_is_err_and c.from_residual-in_err-hold_reference.result
+    c.from_residual-in_err-hold_reference.ensures.1 in
+    let e = c.args.self.now in
+    let left = chars_rest c.next.new.self in
+    let code = coded (encoder (tables c.args.set.now) e.to) e.mode (shift_of c.args.shift) (c.in-Some-next.c ∷ []) in
+    rw (p.1, p.2) (
+      left,
+      char_held (tables c.args.set.now) e c.args.text.now left c.in-Some-next.c c.args.shift c.args.out.now
+          c.args.held.now c.hold_reference.new.out c.hold_reference.new.self (Err NoMemory) c.utf8.text
+          (sym c.chars-chars.ensures.rest ∙ c.in-Some-next.ensures.steps.0)
+          (prefix code.bytes c.in_err-hold_reference.ensures.err),
+    )
+
+pub returns-in-Unmappable-Html-clause-ok : goal.returns-in-Unmappable-Html-clause-ok
+returns-in-Unmappable-Html-clause-ok c =
+    let t = tables c.args.set.now in
+    let e = c.args.self.now in
+    let s = shift_of c.args.shift in
+    let lacks = c.in-Unmappable-Html in
+    let next = shift_of lacks.next in
+    let text = c.args.text.now in
+    let after = c.as_str-in-Unmappable-Html.result.now in
+    let left = c.push_coded-rest.result.now in
+    let old = c.args.out.now in
+    let out = c.hold_reference.new.out in
+    let mid = c.hold_reference.new.self in
+    let kept = c.push_coded-rest.new.self in
+    let html : e.mode ≡ Html = sym (ap (λ (z : EncoderState). z.mode) c.self.view_is) ∙ lacks.is-1 in
+    let code = reference_code t e c.args.to c.args.shift c.in-Some-next.c lacks.bytes lacks.next lacks.d
+    c.requires.same html (rw lacks.is-0 at c.written-first.ensures) in
+    let parts = sym c.chars-chars.ensures.rest ∙ c.in-Some-next.ensures.steps.0
+    ∙ ap (λ z. encode c.in-Some-next.c ++ z) (sym c.as_str-in-Unmappable-Html.ensures) in
+    let one : HeldPrefix (code_from t (shifted e s)) text after old c.args.held.now out mid (Ok lacks.next) =
+    char_held t e text after c.in-Some-next.c c.args.shift old c.args.held.now out mid (Ok lacks.next) c.utf8.text parts
+    (subst (λ z. Kept z old c.args.held.now out mid (Ok lacks.next)) (sym code)
+    (refl, refl, c.in_ok-hold_reference.ensures.ok)) in
+    let gives : RunPrefix (IsCoded t e.to e.mode next) after left mid kept =
+    subst (λ m. RunPrefix (IsCoded t e.to m next) after left mid kept) (sym html)
+    (subst (λ to. RunPrefix (IsCoded t to Html next) after left mid kept) c.requires.same
+    c.push_coded-rest.ensures) in
+    prefix_then t (shifted e s) text after left old c.args.held.now out mid out kept lacks.next (Ok lacks.next) one
+    (coded_held t (shifted e s) after left lacks.next out mid kept gives)
+
+pub returns-in_err-next-clause-err : goal.returns-in_err-next-clause-err
+returns-in_err-next-clause-err c =
+    let p = err_from_is_err_and c.from_residual-in_err-next.result c.from_residual-in_err-next.ensures.1 in
+    let left = chars_rest c.next.new.self in
+    rw (p.1, p.2) (
+      left,
+      char_held (tables c.args.set.now) c.args.self.now c.args.text.now left c.in-Some-next.c c.args.shift
+          c.args.out.now c.args.held.now c.hold_otherwise.new.out c.hold_otherwise.new.held
+          (Err c.in_err-next.field-0.0) c.utf8.text
+          (sym c.chars-chars.ensures.rest ∙ c.in-Some-next.ensures.steps.0) c.in_err-next.ensures,
+    )
+
+pub returns-clause-ok : goal.returns-clause-ok
+returns-clause-ok c =
+    let t = tables c.args.set.now in
+    let e = c.args.self.now in
+    let text = c.args.text.now in
+    let next = c.in_ok-next.next in
+    subst (λ z. HeldPrefix (code_from t (shifted e (shift_of c.args.shift))) text z c.args.out.now c.args.held.now
+    c.hold_otherwise.new.out c.hold_otherwise.new.held (Ok next)) (sym c.as_str-2.ensures)
+    (char_held t e text (chars_rest c.next.new.self) c.in-Some-next.c c.args.shift c.args.out.now c.args.held.now
+    c.hold_otherwise.new.out c.hold_otherwise.new.held (Ok next) c.utf8.text
+    (sym c.chars-chars.ensures.rest ∙ c.in-Some-next.ensures.steps.0) c.in_ok-next.ensures)
