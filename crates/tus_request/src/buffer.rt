@@ -65,7 +65,7 @@ impl HeadBuffer {
         self.take(alloc, piece, set, None)
     }
 
-    /// The same; the path is looked up in these routes.
+    /// Reads as `read` does, and looks the path up in these routes.
     ///
     /// # Errors
     ///

@@ -54,7 +54,7 @@ pub(crate) fn awaits_continue(fields: &[Header<'_>]) -> bool
     has_word(fields, &EXPECT, "100-continue")
 }
 
-/// Whether the client closes the connection.
+/// Whether the client asks that the connection closes after the reply.
 pub(crate) fn wants_close(fields: &[Header<'_>]) -> bool
     ensures { result ≡ list_any (lists_word (codes "close")) (values fields.now (codes "connection")) }
 {

@@ -13,5 +13,6 @@ returns c =
     let e = checked_is (offers c.args.set.now) (line_shown c.args.line) (values c.args.fields.now)
     (values c.args.fields.now (codes "transfer-encoding"))
     (values c.args.fields.now (codes "content-length")) (asking_shown c.ask-asking.result) c.in-Some.length
-    (sym c.has_coding.ensures ∙ c.if-has_coding.false) (sym c.body_length.ensures ∙ c.in-Some.is) c.ask-asking.ensures in
+    (sym c.has_coding.ensures ∙ c.if-has_coding.false) (sym c.body_length.ensures ∙ c.in-Some.is)
+    c.ask-asking.ensures in
     if_ok_more c.decide.result c.decide.ensures (λ v is. is ∙ e)
