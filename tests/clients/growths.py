@@ -5,9 +5,10 @@
 
 A small C library, made in a temporary folder and loaded before the C library, refuses the allocation of one number.
 Each case is a script over a spool that holds its uploads already. Without a refusal it has exactly the replies that
-stand beside it. For each number the run ends in one of two ways: with status 2 and `refused: 0 NoMemory` after a prefix
-of the output; or with status 0, where one connection got `! N 0` in place of an answer and then only `! N 30`, and the
-others got what they get without it. Afterwards each upload that was told (also before the run) is there, with at least
+stand beside it. For each number the run ends in one of three ways: with status 2 and `refused: 0 NoMemory` after a
+prefix of the output; or with status 0, where one connection got `! N 0` in place of an answer and then only `! N 30`,
+and the others got what they get without it; or with status 0 and all answers, where less memory was asked for at once
+and granted. Afterwards each upload that was told (also before the run) is there, with at least
 the bytes that were told to be accepted, at status 0 exactly these, and exactly their text; no other is there; one whose
 deletion was told is gone; and a length that came with an upload's last bytes is known where they are there. Last comes
 an upgrade of a spool of version 1: it ends with status 2 and `refused: 0 NoMemory`, and no byte of the spool is

@@ -7,6 +7,7 @@ use crate::heads::{Client, Heads};
 use crate::ram_disk::RamDisk;
 use crate::random::Random;
 use crate::scripts::Script;
+use crate::server::is_refused;
 use crate::texts::Sample;
 use crate::tongues::{
     ISO_2022_JP, SHIFT_JIS, UTF_8, UTF_16LE, WINDOWS_1252, in_utf8, japanese_sjis,
@@ -31,6 +32,9 @@ static REFUSED: [&str; 7] = [
     "PATCH /files/1 HTTP/1.1\r\nTus-Resumable: 1.0.0\r\nUpload-Offset: 0\r\nContent-Type: text/plain\r\n",
     "PATCH /files/1 HTTP/1.1\r\nTus-Resumable: 1.0.0\r\nTransfer-Encoding: chunked\r\n",
 ];
+
+// The refused requests of a script: those above, four of a missing upload, its PATCH, and, in most, one without room.
+const MOST_REFUSED: usize = 13;
 
 /// Runs so many scripts over one spool.
 pub(crate) fn run(
@@ -63,9 +67,39 @@ pub(crate) fn run(
             Ok(disk) => disk,
             Err((_, fault)) => return Err(Fault::from(fault)),
         };
+        if refusals(&output) > MOST_REFUSED {
+            return Err(Fault::Refused);
+        }
         digest.add(&output);
     }
     Ok(digest)
+}
+
+// How many replies of 4xx and 5xx a script's output has. Each reply follows a line `< N k` and has k bytes.
+fn refusals(output: &[u8]) -> usize {
+    let mut count = 0usize;
+    let mut rest = output;
+    for _ in 0..output.len() {
+        let mut parts = rest.splitn(2, |byte| *byte == b'\n');
+        let (Some(line), Some(after)) = (parts.next(), parts.next()) else {
+            break;
+        };
+        rest = match given(line) {
+            Some(len) => {
+                count = count.saturating_add(is_refused(after) as usize);
+                after.get(len.saturating_add(1)..).unwrap_or(&[])
+            }
+            None => after,
+        };
+    }
+    count
+}
+
+// How many bytes follow a line of a script's output.
+fn given(line: &[u8]) -> Option<usize> {
+    let line = str::from_utf8(line).ok()?;
+    let (_conn, len) = line.strip_prefix("< ")?.split_once(' ')?;
+    len.parse().ok()
 }
 
 /// A writer of scripts.

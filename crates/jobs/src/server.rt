@@ -87,7 +87,8 @@ impl Server {
     }
 }
 
-// Whether what a client gets begins with a status of 4xx or 5xx.
-fn is_refused(out: &[u8]) -> bool {
+/// Whether what a client gets from one call begins with a status of 4xx or 5xx. No job gives a call two heads, and no
+/// text begins so.
+pub(crate) fn is_refused(out: &[u8]) -> bool {
     matches!(out.strip_prefix(b"HTTP/1.1 "), Some([b'4' | b'5', ..]))
 }

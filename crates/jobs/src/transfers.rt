@@ -20,7 +20,8 @@ const SIDE_BY_SIDE: usize = 16;
 const BLOCKS: u32 = 32_768;
 // The bytes of the lines of which a text is put together.
 const SAMPLE: usize = 262_144;
-// The bytes of each text, at most, and the sizes of the pieces in which they come.
+// The bytes of each text, at most, but that its last lines may go beyond, and the sizes of the pieces in which they
+// come.
 const TEXT: usize = 4_194_304;
 
 const PIECES: [usize; 4] = [4096, 16_384, 65_536, 4096];
