@@ -1,3 +1,4 @@
+pub mod Hexes
 pub mod Outputs
 pub mod Taking
 pub mod Passing

@@ -1,5 +1,6 @@
 pub mod Faults
 pub mod Script
+pub mod Digits
 pub mod Inputs
 pub mod Lines
 pub mod Shown

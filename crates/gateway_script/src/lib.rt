@@ -2,6 +2,7 @@
 #![tactic(auto)]
 
 mod calls;
+mod digits;
 mod faults;
 mod lines;
 mod orders;

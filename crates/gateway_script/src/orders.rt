@@ -3,7 +3,7 @@ ghost use Rattle.std.specs.Prelude.{◌≡◌, IfOk};
 ghost use Rattle.gateway_script.specs.Script.{bared, order_of, conn_number, order_of_word};
 ghost use Rattle.gateway_script.specs.Shown.{order_shown, say_of, came_of};
 
-use hex::FromHexError;
+use crate::digits::HexDigits;
 use std::alloc::{AllocError, Global};
 use tus_request::number::number;
 use tus_request::texts::{after, prefix};
@@ -58,36 +58,40 @@ fn say(alloc: Global, rest: &[u8]) -> Result<Order, AllocError>
 }
 
 /// The rest of a line after `came`: at least one byte in hex.
-fn came(alloc: Global, rest: &[u8]) -> Result<Order, AllocError>
+fn came(alloc: Global, digits: &HexDigits, rest: &[u8]) -> Result<Order, AllocError>
     ensures { IfOk result (λ o. order_shown o ≡ came_of rest.now) }
 {
     let Some(conn) = connection(prefix(rest, b' ')) else {
         return Ok(Order::Bad);
     };
-    match hex::decode(alloc, after(rest, b' ')) {
-        Ok(bytes) => Ok(if bytes.is_empty() {
-            Order::Bad
-        } else {
-            Order::Give(conn as usize, bytes)
-        }),
-        Err(FromHexError::OutOfMemory) => Err(AllocError),
-        Err(_) => Ok(Order::Bad),
-    }
+    Ok(match digits.decode(alloc, after(rest, b' '))? {
+        Some(bytes) if !bytes.is_empty() => Order::Give(conn as usize, bytes),
+        _ => Order::Bad,
+    })
 }
 
 /// What a line asks for.
-pub(crate) fn read_order(alloc: Global, line: &[u8]) -> Result<Order, AllocError>
+pub(crate) fn read_order(
+    alloc: Global,
+    digits: &HexDigits,
+    line: &[u8],
+) -> Result<Order, AllocError>
     ensures { IfOk result (λ o. order_shown o ≡ order_of (bared line.now)) }
 {
     let line = bare(line);
     match line.first() {
         None | Some(b'#') => Ok(Order::Skip),
-        Some(_) => read_word(alloc, prefix(line, b' '), after(line, b' ')),
+        Some(_) => read_word(alloc, digits, prefix(line, b' '), after(line, b' ')),
     }
 }
 
 /// What a line asks for by its first word.
-fn read_word(alloc: Global, word: &[u8], rest: &[u8]) -> Result<Order, AllocError>
+fn read_word(
+    alloc: Global,
+    digits: &HexDigits,
+    word: &[u8],
+    rest: &[u8],
+) -> Result<Order, AllocError>
     ensures { IfOk result (λ o. order_shown o ≡ order_of_word word.now rest.now) }
 {
     match word {
@@ -100,7 +104,7 @@ fn read_word(alloc: Global, word: &[u8], rest: &[u8]) -> Result<Order, AllocErro
             None => Order::Bad,
         }),
         b"say" => say(alloc, rest),
-        b"came" => came(alloc, rest),
+        b"came" => came(alloc, digits, rest),
         _ => Ok(Order::Bad),
     }
 }

@@ -10,6 +10,7 @@ ghost use Rattle.gateway_script.specs.Shown.{order_shown};
 ghost use Rattle.gateway_script.specs.Runs.{view, IsAt, Went, CutOne, LineRan, Ends};
 
 use crate::calls::{cut, open, refused};
+use crate::digits::HexDigits;
 use crate::faults::{CallFault, ScriptFault};
 use crate::lines::give;
 use crate::orders::{Order, read_order};
@@ -111,6 +112,7 @@ fn run_line<C: Connections, W: CountedWrite>(
     alloc: Global,
     core: &mut C,
     writer: &mut W,
+    digits: &HexDigits,
     number: u64,
     start: u64,
     line: &[u8],
@@ -127,7 +129,7 @@ fn run_line<C: Connections, W: CountedWrite>(
     if too_long(start, line) {
         return Err(ScriptFault::Script(number));
     }
-    let order = read_order(alloc, text_of(line))?;
+    let order = read_order(alloc, digits, text_of(line))?;
     if is_no_order(&order) {
         return Err(ScriptFault::Script(number));
     }
@@ -170,12 +172,13 @@ pub fn run_script<C: Connections, W: CountedWrite>(
     ensures counts { Counts (IsErrOf result ScriptFault.DiskFault) (C.failures core.old) (C.failures core.new) }
     ensures io { Counts (IsErrOf result ScriptFault.Io) (W.refusals writer.old) (W.refusals writer.new) }
 {
+    let digits = HexDigits::new();
     let mut rest = script;
     let mut number = 1;
     let mut start = 0;
     while !rest.is_empty() {
         let line = first_line(rest);
-        run_line(alloc, core, writer, number, start, line)?;
+        run_line(alloc, core, writer, &digits, number, start, line)?;
         rest = &rest[line.len()..];
         number += 1;
         start += line.len() as u64;
