@@ -47,19 +47,6 @@ pub digit_last : (n left place : ℕ) (bytes rest : List ℕ) → 1 ≤ place �
 digit_last n left place bytes rest l m small e =
     before bytes place (48 + left) l m ∙ ap (λ z. z ++ drop place bytes) (sym (decimal_digit left small)) ∙ sym e
 
--- `&#` before the digits
-pub reference_before : (c place : ℕ) (bytes : List ℕ) → 2 ≤ place → place ≤ length bytes
-    → drop place bytes ≡ decimal c ++ replicate 17 0x3B →
-    drop (place - 2) (set (set bytes (place - 1) 0x23) (place - 2) 0x26) ≡ reference c ++ replicate 16 0x3B
-reference_before c place bytes l m e =
-    let one = set bytes (place - 1) 0x23 in
-    let long = length-set bytes (place - 1) 0x23 in
-    let next : place - 2 + 1 ≡ place - 1 = omega (arith, l) in
-    drop-set one (place - 2) 0x26 (omega (arith, l, m, long))
-    ∙ ap (λ k. 0x26 ∷ drop k one) next
-    ∙ ap (λ z. 0x26 ∷ z) (before bytes place 0x23 (omega (arith, l)) m)
-    ∙ ap (λ z. 0x26 ∷ 0x23 ∷ z) (e ∙ sym (append_assoc (decimal c) (0x3B ∷ []) (replicate 16 0x3B)))
-
 -- as many bytes as there are up to the sixteenth
 pub reference_taken : (c place : ℕ) (bytes : List ℕ) → place ≤ 16 → length bytes ≡ 32
     → drop place bytes ≡ reference c ++ replicate 16 0x3B → take (16 - place) (drop place bytes) ≡ reference c

@@ -8,10 +8,6 @@ use Rattle.std.specs.Result.{IsErrAnd, OnErr, is_ok}
 use Rattle.enc_model.specs.Transcode.{GrownByPrefix}
 use Rattle.enc_encode.specs.Growth.{Appended, Stopped, Grew}
 
--- not at all
-grown_none : (old x new : List ℕ) → new ≡ old → GrownByPrefix old x new
-grown_none old x new e = record { prefix = []; rest = x; parts = refl; out = e ∙ sym (append-nil old) }
-
 -- what is a part of the prefix is one of the whole
 grown_prefix : (old x y new : List ℕ) → GrownByPrefix old x new → GrownByPrefix old (x ++ y) new
 grown_prefix old x y new p = record {
@@ -38,16 +34,6 @@ pub record Filled {Z : Type 0} (old : Vec ℕ Z) (x : List ℕ) (n : ℕ) (new :
   pub full : (vec_capacity old ≤ length old.items + n) ⊎ (length x ≤ n)
 
 module _ {Z : Type 0} where
-  -- by one call that appends all or nothing
-  pub at_once : {X E : Type 0} (old : Vec ℕ Z) (x : List ℕ) (new : Vec ℕ Z) (r : Result X E) →
-      new.items ≡ (if is_ok r then old.items ++ x else old.items) → vec_capacity old ≤ vec_capacity new →
-      OnErr r (vec_capacity old < vec_len old + length x) → Grew old x new r
-  at_once old x new (Ok v) e a f = record { items = e; capacity = a }
-  at_once old x new (Err v) e a f = record {
-    items = grown_none old.items x new.items e;
-    full = let l = old.ok.0 in omega (arith, f, l);
-  }
-
   -- by the first so many bytes, for all of which there was no room
   pub some_of : (old : Vec ℕ Z) (x : List ℕ) (n : ℕ) (new : Vec ℕ Z) → Filled old x n new → n < length x
       → Stopped old x new
@@ -96,18 +82,6 @@ module _ {Z : Type 0} where
           | inr f ↦ inr (omega (arith, f))
         ];
       }
-
-  -- after one that appends nothing
-  pub roomier : {X E : Type 0} (old : Vec ℕ Z) (x : List ℕ) (mid new : Vec ℕ Z) (r : Result X E)
-      → mid.items ≡ old.items → vec_capacity old ≤ vec_capacity mid → Grew mid x new r → Grew old x new r
-  roomier old x mid new (Ok v) e a p = record {
-    items = p.items ∙ ap (λ z. z ++ x) e;
-    capacity = let b = p.capacity in omega (arith, a, b);
-  }
-  roomier old x mid new (Err v) e a p = record {
-    items = subst (λ z. GrownByPrefix z x new.items) e p.items;
-    full = let f = p.full in let l : length mid.items ≡ length old.items = ap length e in omega (arith, a, f, l);
-  }
 
   -- by a call that is refused, and then by another
   pub again : {X E : Type 0} (old : Vec ℕ Z) (x : List ℕ) (mid new : Vec ℕ Z) (r : Result X E)

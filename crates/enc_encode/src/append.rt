@@ -6,39 +6,9 @@ ghost use Rattle.enc_encode.specs.Growth.{Grew};
 
 use std::alloc::AllocError;
 
-/// Asks for memory for so many more bytes: as a vector grows, or if that is refused, for exactly as many.
-#[inline(never)]
-fn ask_for(count: usize, out: &mut Vec<u8>)
-    ensures items { out.new.items ≡ out.old.items }
-    ensures capacity { vec_capacity out.old ≤ vec_capacity out.new }
-{
-    if out.reserve(count).is_err() {
-        let _ = out.reserve_exact(count);
-    }
-}
-
-/// Sees to room for so many more bytes, if there is memory for exactly as many.
-#[inline(always)]
-pub fn make_room_for(count: usize, out: &mut Vec<u8>)
-    ensures items { out.new.items ≡ out.old.items }
-    ensures capacity { vec_capacity out.old ≤ vec_capacity out.new }
-{
-    if out.capacity() - out.len() < count {
-        ask_for(count, out);
-    }
-}
-
-/// Appends bytes.
-pub fn append(bytes: &[u8], out: &mut Vec<u8>) -> Result<(), AllocError>
-    ensures { Grew out.old bytes.now out.new result }
-{
-    make_room_for(bytes.len(), out);
-    out.extend_from_slice(bytes)
-}
-
 /// Appends bytes that there is room for.
 #[cold]
-fn fill(bytes: &[u8], out: &mut Vec<u8>)
+pub fn fill(bytes: &[u8], out: &mut Vec<u8>)
     requires { vec_len out.old + length bytes.now ≤ vec_capacity out.old }
     ensures items { out.new.items ≡ out.old.items ++ bytes.now }
     ensures capacity { vec_capacity out.old ≤ vec_capacity out.new }
@@ -85,9 +55,9 @@ fn append_in_parts(bytes: &[u8], out: &mut Vec<u8>) -> Result<(), AllocError>
     Ok(())
 }
 
-/// Appends bytes, or if there is no memory for all of them, as many as there is memory for. A refused request for more
-/// than the bytes lack, as a vector makes to grow seldom, refuses none of them.
-pub fn append_most(bytes: &[u8], out: &mut Vec<u8>) -> Result<(), AllocError>
+/// Appends bytes, or if memory ends, as many of them as there is memory for. A vector asks for more than it needs, so
+/// that it grows seldom: where only that is refused, all are appended.
+pub fn append(bytes: &[u8], out: &mut Vec<u8>) -> Result<(), AllocError>
     ensures grew { Grew out.old bytes.now out.new result }
     ensures full { OnErr result (vec_capacity out.old ≤ length out.new.items) }
 {

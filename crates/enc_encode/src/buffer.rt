@@ -1,6 +1,6 @@
 //! Bytes that are gathered before they are appended.
 
-ghost use Rattle.std.specs.Prelude.{◌≡◌, ◌<◌, ◌≤◌, ◌+◌, ◌++◌, ◌∷◌, [], ℕ, OnOk, OnErr, IfSome, length};
+ghost use Rattle.std.specs.Prelude.{◌≡◌, ◌<◌, ◌≤◌, ◌+◌, ◌++◌, [], ℕ, OnOk, OnErr, IfSome, length};
 ghost use Rattle.std.specs.Prelude.{◌↔◌, IsSomeAnd, IsTrue, slice_get, take, vec_capacity};
 ghost use Rattle.enc_encode.specs.Code.{bytes_of};
 ghost use Rattle.enc_encode.specs.Growth.{Appended, Stopped};
@@ -13,7 +13,7 @@ ghost use Rattle.enc_model.specs.declared.Mode.TheVariants.{Html};
 ghost use Rattle.enc_model.specs.Encode.{encoder, reference};
 ghost use Rattle.enc_model.specs.Indexes.{tables};
 
-use crate::append::append_most;
+use crate::append::append;
 use crate::letters::Letters;
 use crate::pair_runs::put_pairs;
 use crate::reference::put_reference;
@@ -101,14 +101,13 @@ impl Buffer {
         }
     }
 
-    /// Appends all bytes to a vector, and is empty then; or where there is no memory for them, as many as there is room
-    /// for.
+    /// Appends all bytes to a vector, and is empty then; or if memory ends, as many of them as there is memory for.
     pub fn flush(&mut self, out: &mut Vec<u8>) -> Result<(), AllocError>
         ensures ok { OnOk result (Appended out.old self.old out.new × (self.new ≡ [])) }
         ensures err { OnErr result (Stopped out.old self.old out.new) }
         ensures full { OnErr result (vec_capacity out.old ≤ length out.new.items) }
     {
-        append_most(&self.bytes[..self.len], out)?;
+        append(&self.bytes[..self.len], out)?;
         self.len = 0;
         Ok(())
     }

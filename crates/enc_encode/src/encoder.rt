@@ -19,7 +19,7 @@ ghost use Rattle.enc_model.specs.Transcode.{Took, Refused};
 ghost use Rattle.enc_model.specs.Sink.{Given};
 ghost use Rattle.enc_model.specs.Indexes.{tables};
 
-use crate::append::{append, make_room_for};
+use crate::append::{append, fill};
 use crate::buffer::{Buffer, LANES};
 use crate::encoders::written;
 use crate::error::EncodeError;
@@ -52,7 +52,10 @@ impl Model for Encoder {
     ghost inverse_ok = { λ e h. code_of_shift_of e.shift (λ s. record { to = e.to; mode = e.mode; shift = s }) };
 }
 
-/// The loop over characters for Shift_JIS, among those that are made for one encoding.
+/// The loop over characters for the single-byte encodings.
+const OTHERS: usize = 0;
+
+/// The loop for Shift_JIS.
 const SHIFT_JIS: usize = 1;
 
 /// The loop for EUC-JP.
@@ -60,9 +63,6 @@ const EUC_JP: usize = 2;
 
 /// The loop for ISO-2022-JP.
 const ISO_2022_JP: usize = 3;
-
-/// The loop for all other encodings.
-const OTHERS: usize = 0;
 
 /// How many of the lanes, from the first, are ASCII that an encoder writes as it is.
 #[inline(always)]
@@ -99,8 +99,7 @@ fn own_prefix(to: Encoding, shift: ShiftState, text: &str) -> Option<(&[u8; LANE
     Some((lanes, count))
 }
 
-/// The encoding that a loop over characters is for, where this one is given. But for the loop of all others it is known
-/// when the loop is compiled, so that none is chosen in it.
+/// The encoding given, which the compiler knows in a loop that is made for one encoding. So nothing is chosen in it.
 #[inline(always)]
 fn encoding_of<const LOOP: usize>(given: Encoding) -> Encoding
     requires { IsLoopOf LOOP given }
@@ -458,8 +457,8 @@ impl Encoder {
         match self.shift {
             ShiftState::Ascii => Ok(()),
             ShiftState::Roman | ShiftState::Jis => {
-                make_room_for(TO_ASCII.as_slice().len(), out);
-                out.extend_from_slice(TO_ASCII.as_slice())?;
+                out.reserve_exact(TO_ASCII.as_slice().len())?;
+                fill(TO_ASCII.as_slice(), out);
                 self.shift = ShiftState::Ascii;
                 Ok(())
             }

@@ -1,6 +1,6 @@
 //! The bytes of a text's start in the Japanese encodings, where each character has two.
 
-ghost use Rattle.std.specs.Prelude.{◌≡◌, ◌<◌, ◌≤◌, ◌+◌, ◌++◌, ◌∷◌, [], ℕ, List, IfSome, encode_utf8, take};
+ghost use Rattle.std.specs.Prelude.{◌<◌, ◌≤◌, ◌+◌, ◌∷◌, [], ℕ, List, IfSome, take};
 ghost use Rattle.std.specs.Str.{IsUtf8};
 ghost use Rattle.enc_encode.specs.Pairs.{ArePairPointers, JisPointers};
 ghost use Rattle.enc_encode.specs.Runs.{FirstGiven, RunPrefix, Stays};

@@ -2,7 +2,7 @@
 use Rattle.std.specs.Prelude.{◌≡◌, ℕ, ◌+◌, ◌≤◌, ◌<◌, Bool, List, [], ◌∷◌, ◌++◌, length, take, drop, Option, None}
 use Rattle.std.specs.Prelude.{codes, OnOk, Result}
 use Rattle.std.proofs.Common.{append_assoc, ap, sym, ◌∙◌, subst, get_or, arith}
-use Rattle.std.proofs.lemmas.List.{append-nil, length-append, take_more, at_drop_more, at_drop_all}
+use Rattle.std.proofs.lemmas.List.{append-nil, length-append, take_more, at_drop_more}
 use Rattle.std.specs.Fmt.{decimal}
 use Rattle.tus_request.specs.declared.faults.Fault.{Fault}
 use Rattle.tus_request.specs.Replies.{crlf, header, close_line, length_line, declared_line, metadata_line, refusal_lead}
@@ -24,15 +24,6 @@ lines_more lines i d inside =
     ap lines_shown (take_more lines i d inside) ∙ lines_append (take i lines) (get_or lines i d)
 
 -- the bytes of the lines from one on
-pub line_length : (line : Line)
-    → length (line_shown line) ≡ length line.name.now + length line.value.now + length line.end.now
-line_length line =
-    omega (
-      arith,
-      length-append line.name.now (line.value.now ++ line.end.now),
-      length-append line.value.now line.end.now,
-    )
-
 pub rest_length : (lines : List Line) (i : ℕ) (d : Line) → i < length lines
     → length (lines_shown (drop i lines))
     ≡ length (line_shown (get_or lines i d)) + length (lines_shown (drop (i + 1) lines))
@@ -47,27 +38,6 @@ pub room_kept : (lines : List Line) (i : ℕ) (d : Line) (last len new room more
     → new + (length (lines_shown (drop (i + 1) lines)) + last) ≤ more
 room_kept lines i d last len new room more inside was is grown =
     omega (arith, rest_length lines i d inside, was, is, grown)
-
-pub no_rest : (lines : List Line) (i : ℕ) → length lines ≤ i → length (lines_shown (drop i lines)) ≡ 0
-no_rest lines i all = ap length (at_drop_all lines_shown lines i all)
-
--- the bytes of a reply: 9 and 49 stand around the status
-pub reply_length : (status own : List ℕ) (closes : Bool)
-    → length (reply status own None closes)
-    ≡ 58 + length status + length own + length (close_line closes ++ crlf)
-reply_length status own closes =
-    let tus = header (codes "Tus-Resumable") (codes "1.0.0") in
-    let cache = header (codes "Cache-Control") (codes "no-store") in
-    let close = close_line closes ++ crlf in
-    omega (
-      arith,
-      length-append (codes "HTTP/1.1 ") (status ++ (crlf ++ (tus ++ (cache ++ (own ++ close))))),
-      length-append status (crlf ++ (tus ++ (cache ++ (own ++ close)))),
-      length-append crlf (tus ++ (cache ++ (own ++ close))),
-      length-append tus (cache ++ (own ++ close)),
-      length-append cache (own ++ close),
-      length-append own close,
-    )
 
 -- a reply's first line and what all replies have, and these lines
 abbrev pub begun : List ℕ → List ℕ → List ℕ

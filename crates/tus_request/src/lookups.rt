@@ -153,7 +153,7 @@ fn declared_by(fields: &[Header<'_>], name: &HeaderName, other: &HeaderName) -> 
     Some(None)
 }
 
-/// Whether the protocol's version is given, once.
+/// Whether the protocol's version is given once and is 1.0.0.
 pub(crate) fn has_version(fields: &[Header<'_>]) -> bool
     ensures { result ≡ is_word_when (codes "1.0.0") (only (values fields.now (codes "tus-resumable"))) }
 {

@@ -5,7 +5,7 @@ use Rattle.enc_encode.proofs.Growth.{prefix, more, exit}
 use Rattle.enc_encode.proofs.append.+append_decimal.Goals as goal
 
 pub returns-then-number-lt10 : goal.returns-then-number-lt10
-returns-then-number-lt10 t c = rw (decimal_digit c.args.number c.if-number-lt10.true) c.append.ensures
+returns-then-number-lt10 t c = rw (decimal_digit c.args.number c.if-number-lt10.true) c.append.ensures.grew
 
 pub returns-in_err-append_decimal : goal.returns-in_err-append_decimal
 returns-in_err-append_decimal t c =
@@ -18,4 +18,4 @@ pub returns : goal.returns
 returns t c =
     let small : c.args.number < 2 ^ 64 = omega arith in
     rw (decimal_step c.args.number c.if-number-lt10.false small)
-    (more _ _ c.append-2.result c.in_ok-append_decimal.ensures c.append-2.ensures)
+    (more _ _ c.append-2.result c.in_ok-append_decimal.ensures c.append-2.ensures.grew)

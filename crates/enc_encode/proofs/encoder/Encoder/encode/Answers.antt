@@ -18,7 +18,7 @@ returns-in_err-append-in-Restore c =
     (shift_of c.in-Restore.next) w c.in-Restore.ensures refl in
     let p = err_from_is_err_and c.from_residual.result c.from_residual.ensures.1 in
     rw (← c.self.view_is, e, p.1, p.2)
-    (prefix (final i.mode w).bytes (rw c.as_slice.ensures at c.in_err-append-in-Restore.ensures))
+    (prefix (final i.mode w).bytes (rw c.as_slice.ensures at c.in_err-append-in-Restore.ensures.grew))
 
 pub returns-in_ok-append-in-Restore : goal.returns-in_ok-append-in-Restore
 returns-in_ok-append-in-Restore c =
@@ -31,7 +31,7 @@ returns-in_ok-append-in-Restore c =
     (gave_after (bytes_of c.in-Restore.bytes) (final i.mode
     (written_of c.written-in-Restore.result)) c.write_out.new.out
     c.write_out.result
-    (rw c.as_slice.ensures at c.in_ok-append-in-Restore.ensures) c.write_out.ensures)
+    (rw c.as_slice.ensures at c.in_ok-append-in-Restore.ensures.grew) c.write_out.ensures)
 
 pub returns-in_default : goal.returns-in_default
 returns-in_default c =

@@ -15,7 +15,7 @@ returns-in_err-append-in_default c t =
       p.1,
       p.2,
     )
-    c.in_err-append-in_default.ensures
+    c.in_err-append-in_default.ensures.grew
 
 pub returns-in_ok-append-in_default : goal.returns-in_ok-append-in_default
 returns-in_ok-append-in_default c t =
@@ -25,4 +25,4 @@ returns-in_ok-append-in_default c t =
       ascii_code t i.to i.mode (shift_of i.shift) c.args.run.now c.in_default.not-Iso2022Jp
           c.requires,
     )
-    (refl, refl, c.in_ok-append-in_default.ensures)
+    (refl, refl, c.in_ok-append-in_default.ensures.grew)

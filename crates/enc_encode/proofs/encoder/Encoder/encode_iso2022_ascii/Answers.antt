@@ -16,7 +16,7 @@ returns-in_err-append-in-Restore c t =
     let code = coded_twice t e.to e.mode (shift_of c.args.shift) c.args.b (bytes_of c.in-Restore.bytes)
     (shift_of c.in-Restore.next) w (rw c.requires.to (c.in-Restore.ensures t.jis0208 t.katakana)) refl in
     let p = err_from_is_err_and c.from_residual.result c.from_residual.ensures.1 in
-    rw (code, p.1, p.2) (prefix (final e.mode w).bytes (rw c.as_slice.ensures at c.in_err-append-in-Restore.ensures))
+    rw (code, p.1, p.2) (prefix (final e.mode w).bytes (rw c.as_slice.ensures at c.in_err-append-in-Restore.ensures.grew))
 
 pub returns-in_ok-append-in-Restore : goal.returns-in_ok-append-in-Restore
 returns-in_ok-append-in-Restore c t =
@@ -28,7 +28,7 @@ returns-in_ok-append-in-Restore c t =
     (rw c.requires.to (c.iso2022_ascii-in-Restore.ensures t.jis0208 t.katakana)) in
     rw code
     (gave_after bytes (final e.mode w) c.write_out.new.out c.write_out.result
-    (rw c.as_slice.ensures at c.in_ok-append-in-Restore.ensures)
+    (rw c.as_slice.ensures at c.in_ok-append-in-Restore.ensures.grew)
     (subst (λ m. Gave (final m w) c.append.new.out c.write_out.new.out c.write_out.result)
     (ap (λ (z : EncoderState). z.mode) c.self.view_is) c.write_out.ensures))
 
