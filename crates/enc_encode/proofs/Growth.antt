@@ -1,10 +1,10 @@
 -- A vector that grows in parts.
-use Rattle.std.proofs.Common.{ℕ, List, [], ◌++◌, ◌≡◌, ◌<◌, ◌≤◌, ◌+◌, refl, sym, ◌∙◌, ap, append_assoc, append-nil}
-use Rattle.std.proofs.Common.{arith, length, length-append, Vec, Result, Ok, Err, vec_capacity, vec_len, if◌then◌else◌}
+use Rattle.std.proofs.Common.{ℕ, List, ◌++◌, ◌≡◌, ◌<◌, ◌≤◌, ◌+◌, sym, ◌∙◌, ap, append_assoc}
+use Rattle.std.proofs.Common.{arith, length, length-append, Vec, Result, Ok, Err, vec_capacity, vec_len}
 use Rattle.std.proofs.Common.{subst, take, drop, take-append-drop, ◌⊎◌, inl, inr}
 use Rattle.std.proofs.lemmas.List.{take_all, take-take, length-take, length-take-le}
 use Rattle.std.proofs.Math.Seq.{take-add}
-use Rattle.std.specs.Result.{IsErrAnd, OnErr, is_ok}
+use Rattle.std.specs.Result.{IsErrAnd}
 use Rattle.enc_model.specs.Transcode.{GrownByPrefix}
 use Rattle.enc_encode.specs.Growth.{Appended, Stopped, Grew}
 

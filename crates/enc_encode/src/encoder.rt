@@ -86,6 +86,15 @@ fn are_ascii(bytes: &[u8]) -> bool
     ascii_front(bytes) == bytes.len()
 }
 
+/// Whether a text's first character is ASCII.
+#[inline(always)]
+fn starts_in_ascii(text: &str) -> bool {
+    match text.as_bytes().first() {
+        Some(byte) => *byte < 0x80,
+        None => false,
+    }
+}
+
 /// Whole lanes at the start of a text that begins with ASCII, and how much of it there is, where it stands for itself.
 #[inline(always)]
 fn own_prefix(to: Encoding, shift: ShiftState, text: &str) -> Option<(&[u8; LANES], usize)>
@@ -258,41 +267,46 @@ impl Encoder {
         Ok(())
     }
 
-    /// Puts a character's code after bytes that are held, or appends both, and gives the state that it leads to. What
-    /// the encoder gives for the character at first is given. This is for bytes that switch, and for an error, and
-    /// stands apart: what holds all other characters is small enough then to go into the loop over them.
+    /// Puts a character's code after bytes that are held, or appends both, and gives the state that it leads to. This is
+    /// for bytes that switch, for references and for errors. It stands apart, so that what holds all other characters
+    /// is small enough to go into the loop over them.
     #[inline(never)]
-    fn hold_otherwise(
+    fn hold_otherwise<const LOOP: usize>(
         &self,
-        to: Encoding,
         set: &IndexSet,
         shift: ShiftState,
         c: char,
-        first: Written,
         held: &mut Buffer,
         out: &mut Vec<u8>,
     ) -> Result<ShiftState, EncodeError>
-        requires same { to ≡ self.now.to }
-        requires first { written_of first ≡ encoder (tables set.now) to (shift_of shift) c }
+        requires { IsLoopOf LOOP self.now.to }
         ensures { Kept (coded (encoder (tables set.now) self.now.to) self.now.mode (shift_of shift) (c ∷ [])) out.old
             held.old out.new held.new result }
     {
-        if let Written::Restore(bytes, between) = first {
-            if let Written::Wrote(more, next) = written(set, to, between, c) {
-                held.hold(bytes, out)?;
-                held.hold(more, out)?;
+        let to = encoding_of::<LOOP>(self.to);
+        match (written(set, to, shift, c), self.mode) {
+            (Written::Unmappable(bytes, next, d), Mode::Html) => {
+                held.hold_reference(bytes, d, out)?;
                 return Ok(next);
             }
+            (Written::Restore(bytes, between), _) => {
+                if let Written::Wrote(more, next) = written(set, to, between, c) {
+                    held.hold(bytes, out)?;
+                    held.hold(more, out)?;
+                    return Ok(next);
+                }
+            }
+            _ => {}
         }
         held.flush(out)?;
         self.encode(set, shift, c, out)
     }
 
     /// Puts the code of a text's start after bytes that are held, or appends both: of ASCII in lanes, or else of one
-    /// character, and where that is a reference, of those behind it. Gives the state that it leads to, and the rest of
+    /// character, and where that is a reference, of those after it. Gives the state that it leads to, and the rest of
     /// the text.
     #[inline(always)]
-    fn hold_prefix<'a>(
+    fn hold_prefix<'a, const LOOP: usize>(
         &self,
         to: Encoding,
         set: &IndexSet,
@@ -303,6 +317,7 @@ impl Encoder {
         held: &mut Buffer,
         out: &mut Vec<u8>,
     ) -> Result<(ShiftState, &'a str), EncodeError>
+        requires own { IsLoopOf LOOP self.now.to }
         requires same { to ≡ self.now.to }
         requires some { 0 < length text.now }
         requires singles { IfSome singles (λ p. AreSingles (encoder (tables set.now) to) p.now) }
@@ -324,18 +339,19 @@ impl Encoder {
         let Some(c) = chars.next() else {
             unreachable!()
         };
-        let first = written(set, to, shift, c);
-        if let Written::Wrote(bytes, next) = first {
+        if let Written::Wrote(bytes, next) = written(set, to, shift, c) {
             held.hold(bytes, out)?;
             return Ok((next, chars.as_str()));
         }
-        if let (Written::Unmappable(bytes, next, d), Mode::Html) = (first, self.mode) {
-            held.hold_reference(bytes, d, out)?;
-            let rest = held.push_coded(to, set, singles, letters, next, chars.as_str());
-            return Ok((next, rest));
+        let next = self.hold_otherwise::<LOOP>(set, shift, c, held, out)?;
+        let rest = chars.as_str();
+        match self.mode {
+            Mode::Html if !starts_in_ascii(rest) => {
+                let left = held.push_coded(to, set, singles, letters, next, rest);
+                Ok((next, left))
+            }
+            _ => Ok((next, rest)),
         }
-        let next = self.hold_otherwise(to, set, shift, c, first, held, out)?;
-        Ok((next, chars.as_str()))
     }
 
     /// Appends the codes of a text's characters by one of the loops, and gives the state that they lead to. For a
@@ -358,7 +374,7 @@ impl Encoder {
         let mut shift = self.shift;
         let mut rest = run;
         while !rest.is_empty() {
-            let (next, after) = self.hold_prefix(
+            let (next, after) = self.hold_prefix::<LOOP>(
                 to, set, singles, letters, shift, rest, &mut held, out,
             )?;
             shift = next;

@@ -14,12 +14,11 @@ use Rattle.enc_encode.specs.Runs.{IsCoded, RunPrefix}
 use Rattle.enc_encode.specs.State.{EncoderState, shift_of, shifted, code_from}
 use Rattle.enc_encode.specs.declared.error.EncodeError.TheVariants.{NoMemory}
 use Rattle.enc_encode.proofs.Growth.{prefix}
-use Rattle.enc_encode.proofs.Helds.{reference_code}
 use Rattle.enc_encode.proofs.Prefixes.{own_cut, ascii_held, char_held, coded_held, prefix_then}
 use Rattle.enc_encode.proofs.encoder.Encoder.hold_prefix.Goals as goal
 
 pub returns-in_err-make_room-clause-err : goal.returns-in_err-make_room-clause-err
-returns-in_err-make_room-clause-err c =
+returns-in_err-make_room-clause-err g c =
     let p = err_from_is_err_and c.from_residual.result c.from_residual.ensures.1 in
     let code = code_from (tables c.args.set.now) (shifted c.args.self.now (shift_of c.args.shift)) (chars []) in
     rw (p.1, p.2) (
@@ -33,12 +32,12 @@ returns-in_err-make_room-clause-err c =
     )
 
 pub range_from-requires : goal.range_from-requires
-range_from-requires c = λ some. own_cut c.args.to (shift_of c.args.shift) c.args.text.now c.in-Some.lanes.now
+range_from-requires g c = λ some. own_cut c.args.to (shift_of c.args.shift) c.args.text.now c.in-Some.lanes.now
     c.in-Some.prefix c.utf8.text
     c.in-Some.ensures
 
 pub returns-in-Some-clause-ok : goal.returns-in-Some-clause-ok
-returns-in-Some-clause-ok c =
+returns-in-Some-clause-ok g c =
     let t = tables c.args.set.now in
     let e = c.args.self.now in
     let text = c.args.text.now in
@@ -50,7 +49,7 @@ returns-in-Some-clause-ok c =
     c.requires.same c.in-Some.ensures c.in_ok-make_room.ensures.ok c.push_front.ensures)
 
 pub returns-in_err-hold-clause-err : goal.returns-in_err-hold-clause-err
-returns-in_err-hold-clause-err c =
+returns-in_err-hold-clause-err g c =
     let p = err_from_is_err_and c.from_residual-in_err-hold.result c.from_residual-in_err-hold.ensures.1 in
     let e = c.args.self.now in
     let left = chars_rest c.next.new.self in
@@ -64,14 +63,14 @@ returns-in_err-hold-clause-err c =
     )
 
 pub returns-in-Wrote-clause-ok : goal.returns-in-Wrote-clause-ok
-returns-in-Wrote-clause-ok c =
+returns-in-Wrote-clause-ok g c =
     let t = tables c.args.set.now in
     let e = c.args.self.now in
     let text = c.args.text.now in
     let next = c.in-Wrote.next in
     let x = c.in-Some-next.c in
     let once = coded_once t e.to e.mode (shift_of c.args.shift) x (Wrote (bytes_of c.in-Wrote.bytes) (shift_of next))
-    (rw (c.requires.same, c.in-Wrote.is) at c.written-first.ensures) tt in
+    (rw (c.requires.same, c.in-Wrote.is) at c.written.ensures) tt in
     let kept : Kept (coded (encoder t e.to) e.mode (shift_of c.args.shift) (x ∷ [])) c.args.out.now c.args.held.now
     c.hold.new.out c.hold.new.self (Ok next) =
     subst (λ code. Kept code c.args.out.now c.args.held.now c.hold.new.out c.hold.new.self (Ok next)) (sym once)
@@ -82,53 +81,8 @@ returns-in-Wrote-clause-ok c =
     c.hold.new.out c.hold.new.self (Ok next) c.utf8.text
     (sym c.chars-chars.ensures.rest ∙ c.in-Some-next.ensures.steps.0) kept)
 
-pub returns-in_err-hold_reference-clause-err : goal.returns-in_err-hold_reference-clause-err
-returns-in_err-hold_reference-clause-err c =
-    let p = err_from_is_err_and c.from_residual-in_err-hold_reference.result
-    c.from_residual-in_err-hold_reference.ensures.1 in
-    let e = c.args.self.now in
-    let left = chars_rest c.next.new.self in
-    let code = coded (encoder (tables c.args.set.now) e.to) e.mode (shift_of c.args.shift) (c.in-Some-next.c ∷ []) in
-    rw (p.1, p.2) (
-      left,
-      char_held (tables c.args.set.now) e c.args.text.now left c.in-Some-next.c c.args.shift c.args.out.now
-          c.args.held.now c.hold_reference.new.out c.hold_reference.new.self (Err NoMemory) c.utf8.text
-          (sym c.chars-chars.ensures.rest ∙ c.in-Some-next.ensures.steps.0)
-          (prefix code.bytes c.in_err-hold_reference.ensures.err),
-    )
-
-pub returns-in-Unmappable-Html-clause-ok : goal.returns-in-Unmappable-Html-clause-ok
-returns-in-Unmappable-Html-clause-ok c =
-    let t = tables c.args.set.now in
-    let e = c.args.self.now in
-    let s = shift_of c.args.shift in
-    let lacks = c.in-Unmappable-Html in
-    let next = shift_of lacks.next in
-    let text = c.args.text.now in
-    let after = c.as_str-in-Unmappable-Html.result.now in
-    let left = c.push_coded-rest.result.now in
-    let old = c.args.out.now in
-    let out = c.hold_reference.new.out in
-    let mid = c.hold_reference.new.self in
-    let kept = c.push_coded-rest.new.self in
-    let html : e.mode ≡ Html = sym (ap (λ (z : EncoderState). z.mode) c.self.view_is) ∙ lacks.is-1 in
-    let code = reference_code t e c.args.to c.args.shift c.in-Some-next.c lacks.bytes lacks.next lacks.d
-    c.requires.same html (rw lacks.is-0 at c.written-first.ensures) in
-    let parts = sym c.chars-chars.ensures.rest ∙ c.in-Some-next.ensures.steps.0
-    ∙ ap (λ z. encode c.in-Some-next.c ++ z) (sym c.as_str-in-Unmappable-Html.ensures) in
-    let one : HeldPrefix (code_from t (shifted e s)) text after old c.args.held.now out mid (Ok lacks.next) =
-    char_held t e text after c.in-Some-next.c c.args.shift old c.args.held.now out mid (Ok lacks.next) c.utf8.text parts
-    (subst (λ z. Kept z old c.args.held.now out mid (Ok lacks.next)) (sym code)
-    (refl, refl, c.in_ok-hold_reference.ensures.ok)) in
-    let gives : RunPrefix (IsCoded t e.to e.mode next) after left mid kept =
-    subst (λ m. RunPrefix (IsCoded t e.to m next) after left mid kept) (sym html)
-    (subst (λ to. RunPrefix (IsCoded t to Html next) after left mid kept) c.requires.same
-    c.push_coded-rest.ensures) in
-    prefix_then t (shifted e s) text after left old c.args.held.now out mid out kept lacks.next (Ok lacks.next) one
-    (coded_held t (shifted e s) after left lacks.next out mid kept gives)
-
 pub returns-in_err-next-clause-err : goal.returns-in_err-next-clause-err
-returns-in_err-next-clause-err c =
+returns-in_err-next-clause-err g c =
     let p = err_from_is_err_and c.from_residual-in_err-next.result c.from_residual-in_err-next.ensures.1 in
     let left = chars_rest c.next.new.self in
     rw (p.1, p.2) (
@@ -139,14 +93,40 @@ returns-in_err-next-clause-err c =
           (sym c.chars-chars.ensures.rest ∙ c.in-Some-next.ensures.steps.0) c.in_err-next.ensures,
     )
 
-pub returns-clause-ok : goal.returns-clause-ok
-returns-clause-ok c =
+pub returns-in_default-mode-clause-ok : goal.returns-in_default-mode-clause-ok
+returns-in_default-mode-clause-ok g c =
     let t = tables c.args.set.now in
     let e = c.args.self.now in
     let text = c.args.text.now in
     let next = c.in_ok-next.next in
     subst (λ z. HeldPrefix (code_from t (shifted e (shift_of c.args.shift))) text z c.args.out.now c.args.held.now
-    c.hold_otherwise.new.out c.hold_otherwise.new.held (Ok next)) (sym c.as_str-2.ensures)
+    c.hold_otherwise.new.out c.hold_otherwise.new.held (Ok next)) (sym c.as_str-rest.ensures)
     (char_held t e text (chars_rest c.next.new.self) c.in-Some-next.c c.args.shift c.args.out.now c.args.held.now
     c.hold_otherwise.new.out c.hold_otherwise.new.held (Ok next) c.utf8.text
     (sym c.chars-chars.ensures.rest ∙ c.in-Some-next.ensures.steps.0) c.in_ok-next.ensures)
+
+pub returns-in-Html-clause-ok : goal.returns-in-Html-clause-ok
+returns-in-Html-clause-ok g c =
+    let t = tables c.args.set.now in
+    let e = c.args.self.now in
+    let text = c.args.text.now in
+    let next = c.in_ok-next.next in
+    let after = c.as_str-rest.result.now in
+    let left = c.push_coded-left.result.now in
+    let old = c.args.out.now in
+    let out = c.hold_otherwise.new.out in
+    let mid = c.hold_otherwise.new.held in
+    let kept = c.push_coded-left.new.self in
+    let html : e.mode ≡ Html = sym (ap (λ (z : EncoderState). z.mode) c.self.view_is) ∙ c.in-Html.is in
+    let parts = sym c.chars-chars.ensures.rest ∙ c.in-Some-next.ensures.steps.0
+    ∙ ap (λ z. encode c.in-Some-next.c ++ z) (sym c.as_str-rest.ensures) in
+    let one : HeldPrefix (code_from t (shifted e (shift_of c.args.shift))) text after old c.args.held.now out mid
+    (Ok next) =
+    char_held t e text after c.in-Some-next.c c.args.shift old c.args.held.now out mid (Ok next) c.utf8.text parts
+    c.in_ok-next.ensures in
+    let gives : RunPrefix (IsCoded t e.to e.mode (shift_of next)) after left mid kept =
+    subst (λ m. RunPrefix (IsCoded t e.to m (shift_of next)) after left mid kept) (sym html)
+    (subst (λ to. RunPrefix (IsCoded t to Html (shift_of next)) after left mid kept) c.requires.same
+    c.push_coded-left.ensures) in
+    prefix_then t (shifted e (shift_of c.args.shift)) text after left old c.args.held.now out mid out kept next (Ok next)
+    one (coded_held t (shifted e (shift_of c.args.shift)) after left next out mid kept gives)
