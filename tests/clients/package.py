@@ -1,32 +1,44 @@
-"""The Debian package in a fresh Debian: installed, served by systemd, upgraded, removed and purged.
+"""The Debian package in a fresh Debian where no service manager runs: installed, served, upgraded, removed and purged.
 
 usage: package.py [--program PATH] [--indexes DIR] [--seed N] [--root TAR]
 
-It needs root, dpkg-deb, Linux's namespaces, and mmdebstrap, which makes the Debian of its packages (or TAR, an archive
-of one that has systemd, systemd-sysv, curl, iproute2 and procps). The machine is booted in namespaces of its own
-(machine.py), so that no port and no file of this one is touched. Uploads are sent by curl in pieces, and their texts
-compared with Python's codecs: they stay over a gateway that is ended hard, an upgrade, a removal, a purge, and an
-installation after it. What the unit forbids is looked up in the process, and tried of the network.
+It needs root, dpkg-deb, curl, procps, and mmdebstrap, which makes the Debian of its packages (or TAR, an archive of a
+fresh one that has the package systemd). What is run there is run by chroot: nothing is booted, and of systemd's
+programs only those that start nothing are run, which make the user and the folder and read the units. Each gateway is
+the command line of its unit, run directly as the unit's user with its settings, at a port of 127.0.0.1 that is free.
+Uploads are sent by curl in pieces, and their texts compared with Python's codecs: they stay over gateways that are
+ended hard, an upgrade, a removal, a purge, and an installation after it. What the units forbid is compared with
+docs/OPERATING.md; that systemd forbids it, and starts a gateway again, only a running systemd would show.
 """
 
+import gzip
 import hashlib
+import os
+import re
+import runpy
 import subprocess
 import tempfile
 from pathlib import Path
 
-from harness import OCTETS, ROOT, TUS, Wrong, fields, header, holds, indexes_in, parser_of, random_sample, rng_of, same
-from machine import Machine, make_root
+from clients import made_by_curl, patch_by_curl
+from harness import ROOT, TUS, curl, fields, header, holds, indexes_in, parser_of, random_sample, rng_of, same
+from roots import SETTINGS, UNITS, Debian, Gateway
 
 # Versions of the same program, which dpkg takes as an older and a newer one.
 OLD, NEW = "0.9", "1.0"
+PROGRAM = "/usr/bin/gateway"
 HOME = "/var/lib/wovelatsa"
-SPOOL = f"{HOME}/spool"
-UNIT = "wovelatsa.service"
-# Each further instance, and where it listens.
-INSTANCES = {"a": "127.0.0.1:8081", "b": "127.0.0.1:8082"}
-MOVED = "127.0.0.1:8090"
-# An address that isn't of the machine alone, and its network.
-FAR, FAR_PORT, FAR_NET = "10.9.0.1", "10.9.0.1:8080", "10.9.0.0/24"
+DOCUMENTS = "/usr/share/doc/wovelatsa"
+ENABLED = "/etc/systemd/system/multi-user.target.wants"
+# The unit of each spool.
+NAMED = {"spool": "wovelatsa.service", "a": "wovelatsa@.service"}
+# What the package has beside the program and files of the repository.
+PAGE, CHANGES, COPYRIGHT = "/usr/share/man/man1/gateway.1.gz", f"{DOCUMENTS}/changelog.gz", f"{DOCUMENTS}/copyright"
+MADE = (PAGE, CHANGES, COPYRIGHT, f"{UNITS}/wovelatsa.service")
+# What dpkg reads of it, and the scripts that dpkg runs.
+READ, SCRIPTS = ("conffiles", "control", "md5sums"), ("postinst", "postrm", "prerm")
+# A unit's lines that say how its gateway is run; the others say what it may do.
+RUNNING = "Type EnvironmentFile ExecStart SyslogIdentifier Restart RestartSec RestartPreventExitStatus".split()
 PAGES = 64
 
 
@@ -42,191 +54,238 @@ def packages(program, folder):
     return made["old"], made["new"]
 
 
-def property_of(machine, unit, name):
-    return machine.says("systemctl", "show", "--value", "--property", name, unit)
+def told_of(deb, what, *words):
+    """What dpkg-deb prints of a package."""
+    return subprocess.run(["dpkg-deb", what, deb, *words], check=True, capture_output=True, text=True).stdout
 
 
-def is_active(machine, unit):
-    return machine.says("systemctl", "is-active", unit) == "active"
+def taken():
+    """What the package takes from the repository: where each file goes."""
+    for pattern, place in runpy.run_path(str(ROOT / "tools/package"))["LAYOUT"].items():
+        for file in ROOT.glob(pattern):
+            yield f"/{place}/{file.name}" if "*" in pattern else f"/{place}", file
 
 
-def answers(machine, address):
-    """Whether a gateway serves at an address."""
-    return machine.run("curl", "-sf", "--max-time", "3", "-X", "OPTIONS", f"http://{address}/files")[0] == 0
+def mode_of(place):
+    """The mode that a place of the package has to have."""
+    return "drwxr-xr-x" if place.endswith("/") else "-rwxr-xr-x" if place == PROGRAM else "-rw-r--r--"
 
 
-def listens_at(machine, name, address):
-    """Writes the settings of an instance."""
-    machine.does("sh", "-c", f"echo LISTEN={address} > /etc/wovelatsa/{name}.env")
+def contents(deb, program, folder):
+    """It has the files that it has to have and no others, all of root, and each with its bytes: how many files."""
+    listed = [line.split(maxsplit=5) for line in told_of(deb, "--contents").splitlines()]
+    listed = {place[1:]: (mode, owner) for mode, owner, _size, _day, _time, place in listed}
+    others = {it: told for it, told in listed.items() if told != (mode_of(it), "root/root")}
+    same("files with another mode or owner", others, {})
+    files = {**dict(taken()), PROGRAM: Path(program)}
+    same("the files", sorted(it for it in listed if it[-1] != "/"), sorted([*files, *MADE]))
+    told_of(deb, "--extract", folder)
+    for place, file in files.items():
+        holds(f"{place} is {file}", Path(f"{folder}{place}").read_bytes() == file.read_bytes())
+    page, change = (gzip.decompress(Path(f"{folder}{it}").read_bytes()).decode() for it in (PAGE, CHANGES))
+    holds("the manual page", page.startswith("'\\\" t\n") and ".SH NAME\ngateway \\- " in page)
+    commit = subprocess.run(["git", "rev-parse", "HEAD"], cwd=ROOT, check=True, capture_output=True, text=True).stdout
+    holds(f"the changelog: {change}", change.startswith(f"wovelatsa ({NEW}) ") and commit.strip() in change)
+    licensed(Path(f"{folder}{COPYRIGHT}").read_text())
+    return len(files) + len(MADE)
 
 
-def installed(machine, deb):
-    """Installs it: the user and the folder are there, the units are sound, and nothing runs yet."""
-    machine.put(deb, "/root/wovelatsa.deb")
-    machine.does("dpkg", "--install", "/root/wovelatsa.deb")
-    same("the folder", machine.says("stat", "-c", "%U:%G %a", HOME), "wovelatsa:wovelatsa 750")
-    same("is it active", is_active(machine, UNIT), False)
-    units = [f"/usr/lib/systemd/system/{it}" for it in (UNIT, "wovelatsa@.service")]
-    status, out, err = machine.run("systemd-analyze", "verify", "--man=no", *units)
-    same("what systemd-analyze verify says", (status, out + err.encode()), (0, b""))
-    holds("the manual page", b".SH NAME" in machine.does("zcat", "/usr/share/man/man1/gateway.1.gz"))
+def licensed(text):
+    """The copyright has the licence of each of the kit's crates that crates.txt names, and of no other."""
+    lines = re.findall(r"^(\w+)[^:#]*:(.*)", (ROOT / "crates.txt").read_text(), re.MULTILINE)
+    crates = {it for _name, below in lines for it in below.split()} - {name for name, _below in lines}
+    same("crates with a licence", {it.name for it in (ROOT / "packaging/licences").iterdir()}, crates)
+    same("crates that the copyright names", set(re.findall(r"contains the crate (\w+), under", text)), crates)
+    for it in (ROOT / "packaging/licences").glob("*/*"):
+        holds(f"the copyright has {it}", it.read_text() in text)
 
 
-def without_spool(machine):
-    """Started before there is a spool it ends with status 3, and isn't started again."""
-    machine.run("systemctl", "enable", "--now", UNIT)
-    machine.until("it failed", lambda: property_of(machine, UNIT, "ActiveState") == "failed")
-    same("the status", property_of(machine, UNIT, "ExecMainStatus"), "3")
-    same("how often it was started again", property_of(machine, UNIT, "NRestarts"), "0")
+def control(deb, folder):
+    """What dpkg reads: the scripts, which are run, and the settings, which stay at an upgrade."""
+    told_of(deb, "--control", folder)
+    modes = {it.name: oct(it.stat().st_mode & 0o777) for it in Path(folder).iterdir()}
+    same("what dpkg reads", modes, {**dict.fromkeys(SCRIPTS, "0o755"), **dict.fromkeys(READ, "0o644")})
+    same("settings", Path(folder, "conffiles").read_text(), f"{SETTINGS}/spool.env\n")
 
 
-def served(machine, name, address, indexes):
-    """Makes a spool as the gateway's user, and has systemd serve it."""
-    unit = UNIT if name == "spool" else f"wovelatsa@{name}.service"
-    words = ["format", f"{HOME}/{name}", "--blocks", PAGES, "--indexes", indexes]
-    machine.does("runuser", "-u", "wovelatsa", "--", "gateway", *words)
-    machine.does("systemctl", "enable", "--quiet", unit)
-    machine.does("systemctl", "restart", unit)
-    machine.until(f"{unit} serves at {address}", lambda: answers(machine, address))
-    return unit
+def processes():
+    """Every process of this machine, with the number of its user."""
+    lines = subprocess.run(["ps", "-eo", "pid=,uid="], check=True, capture_output=True, text=True).stdout.splitlines()
+    return {tuple(line.split()) for line in lines}
 
 
-def hardened(machine):
-    """What the kernel says of the process: no capability, no new privileges, a filter of system calls, and no folder to
-    write but its own. Returns how exposed systemd-analyze says that it is."""
-    main = property_of(machine, UNIT, "MainPID")
-    status = dict(line.split(":\t", 1) for line in machine.says("cat", f"/proc/{main}/status").splitlines())
-    same("capabilities", {int(status[it], 16) for it in ("CapEff", "CapPrm", "CapBnd")}, {0})
-    same("no new privileges, a filter", (status["NoNewPrivs"], status["Seccomp"]), ("1", "2"))
-    mounts = [line.split() for line in machine.says("cat", f"/proc/{main}/mounts").splitlines()]
-    options = {it[1]: it[3].split(",")[0] for it in mounts}
-    same("the root and the spool's folder", (options["/"], options[HOME]), ("ro", "rw"))
-    said = machine.says("systemd-analyze", "security", "--no-pager", UNIT).splitlines()[-1]
-    return said.rpartition(": ")[2].split()[0]
+def installed(debian, deb, version):
+    """Installs it: the user and the folder are there, each file is as it was packed, and nothing runs by itself."""
+    before = processes()
+    debian.install(deb)
+    same("the version", debian.does("dpkg-query", "-W", "-f", "${Version}", "wovelatsa"), version)
+    same("what isn't as it was packed", debian.does("dpkg", "--verify", "wovelatsa"), "")
+    user = debian.does("getent", "passwd", "wovelatsa").split(":")
+    same("the user's folder and shell", user[5:], [HOME, "/usr/sbin/nologin"])
+    same("the folder", debian.does("stat", "-c", "%U:%G %a", HOME), "wovelatsa:wovelatsa 750")
+    same("processes of the user", [it for it in processes() - before if it[1] == user[2]], [])
+    same("units that are enabled", list(debian.at(ENABLED).glob("wovelatsa*")), [])
 
 
-def upload(machine, address, rng):
-    """Sends an upload by curl, in two pieces: its URL, and the text that it has to give."""
+def sound(debian):
+    """The units are sound to systemd, which says something of a line that it doesn't know."""
+    units = [f"{UNITS}/{it}" for it in NAMED.values()]
+    same("what systemd-analyze says", debian.run("systemd-analyze", "verify", "--man=no", *units), (0, "", ""))
+    text = debian.at(units[0]).read_text().replace("ProtectSystem", "ProtectSistem")
+    debian.at("/root/wrong.service").write_text(text)
+    said = debian.run("systemd-analyze", "verify", "--man=no", "/root/wrong.service")[2]
+    holds(f"systemd-analyze says {said!r} of a wrong line", "ProtectSistem" in said)
+
+
+def forbidden(debian):
+    """What each unit lets its gateway do is what docs/OPERATING.md says, line by line: how many lines."""
+    section = (ROOT / "docs/OPERATING.md").read_text().partition("\n## The package\n")[2].partition("\n## ")[0]
+    cells = [line.split("|")[1] for line in section.splitlines() if line.startswith("| `")]
+    told = sorted(re.findall(r"`([^`]+)`", " ".join(cells)))
+    for unit in NAMED.values():
+        lines = [it for it in debian.lines_of(unit) if it.partition("=")[0] not in RUNNING]
+        same(f"lines of {unit} that docs/OPERATING.md lacks", sorted(set(lines) - set(told)), [])
+        same(f"lines of docs/OPERATING.md that {unit} lacks", sorted(set(told) - set(lines)), [])
+        same(f"how often {unit} and docs/OPERATING.md have each line", sorted(lines), told)
+    return len(told)
+
+
+def without_spool(debian, gateway):
+    """Without a spool, or with an address that is none, it ends with a status after which it isn't started again."""
+    lines = debian.lines_of(gateway.unit)
+    holds("when it is started again", {"Restart=on-failure", "RestartPreventExitStatus=1 3"} <= set(lines))
+    gateway.listens_at("nowhere")
+    same("the status with a wrong address", gateway.ended()[0], 1)
+    gateway.listens_at(f"127.0.0.1:{gateway.port}")
+    status, said = gateway.ended()
+    same("the status without a spool", status, 3)
+    holds(f"what it says without a spool: {said}", f"cannot open the spool {HOME}/{gateway.name}" in said)
+
+
+def served(debian, gateway, rng):
+    """Makes a spool as the gateway's user, serves it, and sends an upload by curl in two pieces. The gateway is ended
+    hard after each, and has everything once it is started again: the upload's path and text."""
+    words = ["format", f"{HOME}/{gateway.name}", "--blocks", PAGES, "--indexes", "/srv/idx"]
+    debian.does("runuser", "-u", "wovelatsa", "--", "gateway", *words)
+    gateway.start()
     sample = random_sample(rng, "shift_jis")
-    half, base = len(sample.data) // 2, f"http://{address}"
-    made = {**TUS, "Upload-Length": len(sample.data), "Upload-Metadata": sample.metadata()}
-    reply = machine.does("curl", "-sS", "-i", "-X", "POST", *fields(made), f"{base}/files").decode().replace("\r", "")
-    url = base + header(reply, "Location")
-    for offset, piece in ((0, sample.data[:half]), (half, sample.data[half:])):
-        words = fields({**OCTETS, "Upload-Offset": offset})
-        machine.does("curl", "-sSf", "-X", "PATCH", *words, "--data-binary", "@-", url, body=piece)
-    return url, sample.text
+    half = len(sample.data) // 2
+    url = made_by_curl(gateway, sample, {"Upload-Length": len(sample.data)})
+    patch_by_curl(url, 0, sample.data[:half])
+    gateway.start_again()
+    same("the offset", header(curl("-I", *fields(TUS), url).decode(), "Upload-Offset"), str(half))
+    patch_by_curl(url, half, sample.data[half:])
+    path = url.removeprefix(f"http://127.0.0.1:{gateway.port}")
+    gateway.start_again()
+    there(gateway, path, sample.text)
+    return path, sample.text
 
 
-def text_there(machine, url, text):
-    same(f"the text of {url}", machine.does("curl", "-sSf", url), text)
+def there(gateway, path, text):
+    """An upload's text is what it has to be."""
+    same(f"the text of {path}", curl("-f", f"http://127.0.0.1:{gateway.port}{path}"), text)
 
 
-def ended_hard(machine, url, text):
-    """A gateway that is ended hard is started again by systemd."""
-    before = property_of(machine, UNIT, "MainPID")
-    machine.does("kill", "-9", before)
-    machine.until("it is back", lambda: property_of(machine, UNIT, "MainPID") not in ("0", before))
-    machine.until("it serves", lambda: machine.run("curl", "-sf", url)[0] == 0)
-    text_there(machine, url, text)
+def upgraded(debian, deb, sent):
+    """Gateways serve while it is upgraded; with the new program and their old settings they have everything."""
+    settings = {it: it.settings.read_text() for it in sent}
+    program = debian.at(PROGRAM).stat().st_ino
+    debian.install(deb)
+    same("the version", debian.does("dpkg-query", "-W", "-f", "${Version}", "wovelatsa"), NEW)
+    holds("the program is a new file", debian.at(PROGRAM).stat().st_ino != program)
+    for gateway, upload in sent.items():
+        same("the settings", gateway.settings.read_text(), settings[gateway])
+        there(gateway, *upload)
+        gateway.start_again()
+        there(gateway, *upload)
 
 
-def upgraded(machine, deb, sent):
-    """Each gateway that ran goes on with the new program, at the address that its settings have."""
-    listens_at(machine, "spool", MOVED)
-    before = {unit: property_of(machine, unit, "MainPID") for unit in sent}
-    machine.put(deb, "/root/wovelatsa.deb")
-    machine.does("dpkg", "--install", "/root/wovelatsa.deb")
-    same("the version", machine.says("dpkg-query", "-W", "-f", "${Version}", "wovelatsa"), NEW)
-    url, text = sent[UNIT]
-    sent[UNIT] = f"http://{MOVED}/files/{url.rpartition('/')[2]}", text
-    for unit, (url, text) in sent.items():
-        machine.until(f"{unit} serves", lambda: machine.run("curl", "-sf", url)[0] == 0)
-        text_there(machine, url, text)
-        holds(f"{unit} is another process", property_of(machine, unit, "MainPID") != before[unit])
+def spools_of(debian):
+    """The spools, each with its sum, its mode and its owner."""
+    files = [debian.at(f"{HOME}/{it}") for it in NAMED]
+    sums = [hashlib.sha256(it.read_bytes()).hexdigest() for it in files]
+    return sums, debian.does("stat", "-c", "%n %U:%G %a", HOME, *(f"{HOME}/{it}" for it in NAMED))
 
 
-def gone(machine, how, spool, sums):
-    """Removed or purged: no process, no program, and the spools as they were."""
-    machine.does("dpkg", how, "wovelatsa")
-    same("processes of its user", machine.says("pgrep", "-u", "wovelatsa"), "")
-    same("the program", machine.run("test", "-e", "/usr/bin/gateway")[0], 1)
-    if how == "--purge":
-        same("units that are enabled", machine.says("find", "/etc/systemd/system", "-name", "wovelatsa*"), "")
-    if sums:
-        same(f"the spools after {how}", sums_of(machine, spool), sums)
-    return sums_of(machine, spool)
+def gone(debian, how, spools):
+    """Removed or purged: no program and no unit; the spools are as they were, and the settings there until a purge."""
+    debian.does("dpkg", how, "wovelatsa")
+    for it in (PROGRAM, DOCUMENTS, *(f"{UNITS}/{unit}" for unit in NAMED.values())):
+        same(f"whether {it} is there", debian.at(it).exists(), False)
+    purged = how == "--purge"
+    same("whether the settings are there", debian.at(f"{SETTINGS}/spool.env").exists(), not purged)
+    same("the settings of an instance, which are no file of the package", debian.at(f"{SETTINGS}/a.env").exists(), True)
+    same("how many units are enabled", len(list(debian.at(ENABLED).glob("wovelatsa*"))), 0 if purged else 2)
+    same(f"the spools after {how}", spools_of(debian), spools)
 
 
-def sums_of(machine, spools):
-    return [hashlib.sha256(machine.does("cat", it)).hexdigest() for it in spools]
+def removed_and_purged(debian, sent):
+    """Removes and purges it. Each unit has the link that enabling it makes, of which a purge leaves none."""
+    for gateway in sent:
+        gateway.kill()
+        link = debian.at(f"{ENABLED}/{gateway.unit.replace('@', '@' + gateway.name)}")
+        link.parent.mkdir(parents=True, exist_ok=True)
+        link.symlink_to(f"{UNITS}/{gateway.unit}")
+    spools = spools_of(debian)
+    gone(debian, "--remove", spools)
+    gone(debian, "--purge", spools)
 
 
-def installed_again(machine, url, text):
-    """After a purge the package finds the spool that it left, and serves it by new settings."""
-    machine.does("dpkg", "--install", "/root/wovelatsa.deb")
-    machine.does("systemctl", "start", UNIT)
-    url = f"http://127.0.0.1:8080/files/{url.rpartition('/')[2]}"
-    machine.until("it serves again", lambda: machine.run("curl", "-sf", url)[0] == 0)
-    text_there(machine, url, text)
+def installed_again(debian, deb, sent):
+    """After a purge the package brings the settings that it is made with, finds the spools, and serves them."""
+    installed(debian, deb, NEW)
+    first = next(iter(sent))
+    same("the settings", first.settings.read_text(), (ROOT / "packaging/systemd/spool.env").read_text())
+    first.listens_at(f"127.0.0.1:{first.port}")
+    for gateway, upload in sent.items():
+        gateway.start()
+        there(gateway, *upload)
 
 
-def beyond(machine):
-    """At an address of a network a gateway is reached only once its unit lets the network in."""
-    machine.does("ip", "address", "add", f"{FAR}/32", "dev", "lo")
-    listens_at(machine, "spool", FAR_PORT)
-    machine.does("systemctl", "restart", UNIT)
-    machine.until("it listens", lambda: FAR_PORT in machine.says("ss", "--no-header", "--listening", "--tcp", "-n"))
-    same("whether it is reached", answers(machine, FAR_PORT), False)
-    lines = f"[Service]\nIPAddressAllow={FAR_NET}\n"
-    machine.does("install", "-D", "/dev/stdin", f"/etc/systemd/system/{UNIT}.d/override.conf", body=lines.encode())
-    machine.does("systemctl", "daemon-reload")
-    machine.does("systemctl", "restart", UNIT)
-    machine.until("it is reached", lambda: answers(machine, FAR_PORT))
+def left_nothing(debian, deb):
+    """Installed and purged, with no spool made in between, it leaves its user and no file."""
+    debian.install(deb)
+    debian.does("dpkg", "--purge", "wovelatsa")
+    same("what is left", [*debian.folder.rglob("*wovelatsa*"), *debian.folder.glob("usr/bin/gateway")], [])
 
 
-def try_package(machine, old, new, rng):
-    """The package's life. Returns how exposed systemd-analyze says that the service is."""
-    installed(machine, old)
-    without_spool(machine)
-    sent = {served(machine, "spool", "127.0.0.1:8080", "/root/indexes"): upload(machine, "127.0.0.1:8080", rng)}
-    exposed = hardened(machine)
-    ended_hard(machine, *sent[UNIT])
-    for name, address in INSTANCES.items():
-        listens_at(machine, name, address)
-        unit = served(machine, name, address, "/root/indexes")
-        sent[unit] = upload(machine, address, rng)
-    upgraded(machine, new, sent)
-    spools = [f"{HOME}/{it}" for it in ("spool", *INSTANCES)]
-    sums = gone(machine, "--remove", spools, None)
-    gone(machine, "--purge", spools, sums)
-    installed_again(machine, *sent[UNIT])
-    beyond(machine)
-    return exposed
+def try_package(debian, old, new, rng):
+    """The package's life. Returns how many lines of a unit say what it may do."""
+    left_nothing(debian, old)
+    installed(debian, old, OLD)
+    sound(debian)
+    lines = forbidden(debian)
+    gateways = [Gateway(debian, name, unit) for name, unit in NAMED.items()]
+    try:
+        for it in gateways:
+            without_spool(debian, it)
+        sent = {it: served(debian, it, rng) for it in gateways}
+        upgraded(debian, new, sent)
+        removed_and_purged(debian, sent)
+        installed_again(debian, new, sent)
+    finally:
+        for it in gateways:
+            it.stop()
+    return lines
 
 
 def main():
     words = parser_of(__doc__)
-    words.add_argument("--root", help="an archive of a Debian with systemd, systemd-sysv, curl, iproute2 and procps")
+    words.add_argument("--root", help="an archive of a fresh Debian that has the package systemd")
     words = words.parse_args()
+    os.umask(0o022)
     with tempfile.TemporaryDirectory() as folder:
         old, new = packages(words.program, folder)
-        root = Path(folder, "root")
-        make_root(root, words.root)
+        files = contents(new, words.program, f"{folder}/files")
+        control(new, f"{folder}/control")
+        debian = Debian(f"{folder}/root", words.root)
+        debian.at("/srv/idx").mkdir()
         for file in indexes_in(folder, words.indexes).glob("index-*.txt"):
-            (root / "root/indexes").mkdir(exist_ok=True)
-            (root / "root/indexes" / file.name).write_bytes(file.read_bytes())
-            (root / "root").chmod(0o755)
-        machine = Machine(root)
-        try:
-            exposed = try_package(machine, old, new, rng_of(words.seed, "package"))
-        except Wrong:
-            print(machine.says("journalctl", "--no-pager", "--lines", "40", "--unit", "wovelatsa*"))
-            raise
-        finally:
-            machine.stop()
-    print(f"installed, served by three units, upgraded from {OLD} to {NEW}, removed, purged, installed again,")
-    print(f"reached over a network: every text right, every spool there; systemd-analyze security says {exposed}")
+            (debian.at("/srv/idx") / file.name).write_bytes(file.read_bytes())
+        lines = try_package(debian, old, new, rng_of(words.seed, "package"))
+    print(f"{files} files, all of root; {lines} lines of what a unit may do, as documented; two spools served by the")
+    print(f"command lines of their units, ended hard, upgraded from {OLD} to {NEW}, removed, purged, installed again:")
+    print("every text right")
 
 
 if __name__ == "__main__":
