@@ -36,10 +36,6 @@ module _ {Z : Type 0} where
   pub all_held : (out : Vec ℕ Z) (held bytes kept : List ℕ) → kept ≡ held ++ bytes → Passed out held bytes out kept
   all_held out held bytes kept e = record { prefix = []; parts = sym e; appended = nothing_appended out }
 
-  pub none_held : {old : Vec ℕ Z} {held : List ℕ} {new : Vec ℕ Z} (kept : List ℕ) → kept ≡ [] → Appended old held new
-      → Passed old held [] new kept
-  none_held {held = held} kept e a = record { prefix = held; parts = ap (λ z. held ++ z) (sym e); appended = a }
-
   -- more that is held led_by the rest
   pub held_more : {old : Vec ℕ Z} {held : List ℕ} {new : Vec ℕ Z} {mid : List ℕ} (bytes kept : List ℕ)
       → kept ≡ mid ++ bytes → Passed old held [] new mid → Passed old held bytes new kept

@@ -1,4 +1,4 @@
--- The loops over a text's characters: three are made for one encoding each, and any other serves all.
+-- The loops over a text's characters: three are made for one encoding each. No other loop needs a certain one.
 use Rattle.std.specs.Prelude.{ℕ, ◌≡◌}
 use Rattle.enc_model.specs.declared.Encoding.{Encoding}
 use Rattle.enc_model.specs.declared.Encoding.TheVariants.{ShiftJis, EucJp, Iso2022Jp}

@@ -7,7 +7,6 @@ ghost use Rattle.enc_encode.specs.Growth.{Grew};
 use std::alloc::AllocError;
 
 /// Appends bytes that there is room for.
-#[cold]
 pub fn fill(bytes: &[u8], out: &mut Vec<u8>)
     requires { vec_len out.old + length bytes.now ≤ vec_capacity out.old }
     ensures items { out.new.items ≡ out.old.items ++ bytes.now }

@@ -240,9 +240,9 @@ impl Buffer {
         after
     }
 
-    /// Puts the codes of characters that follow a reference after the others, in html mode: references of unmappable
-    /// ones, and bytes between them in a single-byte encoding. Gives the rest of the text. Texts that have no reference
-    /// never come here, so it stands apart from their loop.
+    /// Puts the codes of characters that follow a reference, or bytes that switch in ISO-2022-JP, after the others, in
+    /// html mode: references of unmappable ones, and bytes between them in a single-byte encoding. Gives the rest of
+    /// the text. Texts that need neither never come here, so it stands apart from their loop.
     #[inline(never)]
     pub fn push_coded<'a>(
         &mut self,

@@ -7,7 +7,6 @@ ghost use Rattle.std.specs.List.{prefix_len};
 ghost use Rattle.std.specs.Str.{chars};
 ghost use Rattle.enc_encode.specs.State.{EncoderState, shift_of, code_of_shift, code_of_shift_of, shifted, coder};
 ghost use Rattle.enc_encode.specs.State.{code_from};
-ghost use Rattle.enc_encode.specs.Code.{written_of};
 ghost use Rattle.enc_encode.specs.Growth.{NoRoom};
 ghost use Rattle.enc_encode.specs.Held.{Kept, HeldPrefix, IsOwnPrefix, own_byte};
 ghost use Rattle.enc_encode.specs.Letters.{AreLetters};
@@ -52,7 +51,7 @@ impl Model for Encoder {
     ghost inverse_ok = { λ e h. code_of_shift_of e.shift (λ s. record { to = e.to; mode = e.mode; shift = s }) };
 }
 
-/// The loop over characters for the single-byte encodings.
+/// The loop over characters for all encodings that have none of their own: the single-byte ones.
 const OTHERS: usize = 0;
 
 /// The loop for Shift_JIS.
@@ -108,7 +107,8 @@ fn own_prefix(to: Encoding, shift: ShiftState, text: &str) -> Option<(&[u8; LANE
     Some((lanes, count))
 }
 
-/// The encoding given, which the compiler knows in a loop that is made for one encoding. So nothing is chosen in it.
+/// The encoding given. In a loop that is made for one encoding the compiler knows which, so that no step of the loop
+/// chooses by it.
 #[inline(always)]
 fn encoding_of<const LOOP: usize>(given: Encoding) -> Encoding
     requires { IsLoopOf LOOP given }
@@ -267,9 +267,9 @@ impl Encoder {
         Ok(())
     }
 
-    /// Puts a character's code after bytes that are held, or appends both, and gives the state that it leads to. This is
-    /// for bytes that switch, for references and for errors. It stands apart, so that what holds all other characters
-    /// is small enough to go into the loop over them.
+    /// Puts a character's code after bytes that are held, or appends both, and gives the state that it leads to. This
+    /// is for bytes that switch, for references and for errors. It stands apart, so that what holds all other
+    /// characters is small enough to go into the loop over them.
     #[inline(never)]
     fn hold_otherwise<const LOOP: usize>(
         &self,
@@ -303,8 +303,8 @@ impl Encoder {
     }
 
     /// Puts the code of a text's start after bytes that are held, or appends both: of ASCII in lanes, or else of one
-    /// character, and where that is a reference, of those after it. Gives the state that it leads to, and the rest of
-    /// the text.
+    /// character, and in html mode, where that is a reference or switches, of those after it by `push_coded`. Gives the
+    /// state that it leads to, and the rest of the text.
     #[inline(always)]
     fn hold_prefix<'a, const LOOP: usize>(
         &self,

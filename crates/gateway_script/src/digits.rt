@@ -8,11 +8,11 @@ ghost use Rattle.tus_request.specs.Value.{answered};
 use hex::FromHex;
 use std::alloc::{AllocError, Global};
 
-/// How many bytes there are.
+/// How many values a byte has.
 const BYTES: usize = 256;
 
 /// The value of each byte as a hex digit, as the crate `hex` has it. A script's digits are looked up here, since
-/// `hex::decode` asks of each whether it is a letter, and no processor guesses the answer.
+/// `hex::decode` asks of each whether it is a letter, which a processor can't foresee in random bytes.
 #[derive(Drop)]
 pub(crate) struct HexDigits {
     values: [Option<u8>; BYTES],
@@ -39,7 +39,7 @@ impl HexDigits {
         HexDigits { values }
     }
 
-    /// The byte of two digits, if both are.
+    /// The byte of two digits, if both are digits.
     #[inline(always)]
     fn pair(&self, high: u8, low: u8) -> Option<u8>
         ensures { (at : ℕ) → result ≡ answered (pair_value high low at) }

@@ -16,7 +16,8 @@ returns-in_err-append-in-Restore c t =
     let code = coded_twice t e.to e.mode (shift_of c.args.shift) c.args.b (bytes_of c.in-Restore.bytes)
     (shift_of c.in-Restore.next) w (rw c.requires.to (c.in-Restore.ensures t.jis0208 t.katakana)) refl in
     let p = err_from_is_err_and c.from_residual.result c.from_residual.ensures.1 in
-    rw (code, p.1, p.2) (prefix (final e.mode w).bytes (rw c.as_slice.ensures at c.in_err-append-in-Restore.ensures.grew))
+    rw (code, p.1, p.2)
+    (prefix (final e.mode w).bytes (rw c.as_slice.ensures at c.in_err-append-in-Restore.ensures.grew))
 
 pub returns-in_ok-append-in-Restore : goal.returns-in_ok-append-in-Restore
 returns-in_ok-append-in-Restore c t =

@@ -14,5 +14,8 @@ returns-in_err-append c t =
 pub returns : goal.returns
 returns c t =
     let e = c.args.self.now in
-    rw (text_code t e.to e.mode e.shift c.args.run.now (utf8_texts t e.to c.requires) c.utf8.run)
-    (refl, ap (λ (z : EncoderState). z.shift) c.self.view_is, rw c.as_bytes.ensures.value at c.in_ok-append.ensures.grew)
+    rw (text_code t e.to e.mode e.shift c.args.run.now (utf8_texts t e.to c.requires) c.utf8.run) (
+      refl,
+      ap (λ (z : EncoderState). z.shift) c.self.view_is,
+      rw c.as_bytes.ensures.value at c.in_ok-append.ensures.grew,
+    )

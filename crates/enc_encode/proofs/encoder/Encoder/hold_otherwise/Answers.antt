@@ -26,8 +26,8 @@ returns-in-Unmappable-Html g c =
     let html : e.mode ≡ Html = sym (ap (λ (z : EncoderState). z.mode) c.self.view_is) ∙ lacks.is-1 in
     let code = reference_code (tables c.args.set.now) e c.encoding_of-to.result c.args.shift c.args.c lacks.bytes
     lacks.next lacks.d same html (rw lacks.is-0 at c.written.ensures) in
-    subst (λ z. Kept z c.args.out.now c.args.held.now c.hold_reference.new.out c.hold_reference.new.self (Ok lacks.next))
-    (sym code) (refl, refl, c.in_ok-hold_reference-in-Unmappable-Html.ensures.ok)
+    subst (λ z. Kept z c.args.out.now c.args.held.now c.hold_reference.new.out c.hold_reference.new.self
+    (Ok lacks.next)) (sym code) (refl, refl, c.in_ok-hold_reference-in-Unmappable-Html.ensures.ok)
 
 pub returns-in_err-hold-in-Restore-default : goal.returns-in_err-hold-in-Restore-default
 returns-in_err-hold-in-Restore-default g c =
@@ -47,8 +47,9 @@ returns-in_err-hold-in-Restore-default-2 g c =
     let new = c.hold-in-Wrote.new in
     let same = c.encoding_of-to.ensures ∙ ap (λ (z : EncoderState). z.to) c.self.view_is in
     rw (p.1, p.2) (twice_kept (tables c.args.set.now) c.args.self.now c.encoding_of-to.result c.args.shift c.args.c
-    again.bytes again.between wrote.more wrote.next same (rw again.is-0 at c.written.ensures) wrote.ensures c.args.out.now
-    c.args.held.now mid.out mid.self new.out new.self (Err NoMemory) c.in_ok-hold-in-Restore-default.ensures.ok
+    again.bytes again.between wrote.more wrote.next same (rw again.is-0 at c.written.ensures) wrote.ensures
+    c.args.out.now c.args.held.now mid.out mid.self new.out new.self (Err NoMemory)
+    c.in_ok-hold-in-Restore-default.ensures.ok
     (prefix (bytes_of wrote.more) c.in_err-hold-in-Restore-default-2.ensures.err))
 
 pub returns-in-Wrote : goal.returns-in-Wrote

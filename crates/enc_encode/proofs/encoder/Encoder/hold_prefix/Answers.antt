@@ -128,5 +128,5 @@ returns-in-Html-clause-ok g c =
     subst (λ m. RunPrefix (IsCoded t e.to m (shift_of next)) after left mid kept) (sym html)
     (subst (λ to. RunPrefix (IsCoded t to Html (shift_of next)) after left mid kept) c.requires.same
     c.push_coded-left.ensures) in
-    prefix_then t (shifted e (shift_of c.args.shift)) text after left old c.args.held.now out mid out kept next (Ok next)
-    one (coded_held t (shifted e (shift_of c.args.shift)) after left next out mid kept gives)
+    prefix_then t (shifted e (shift_of c.args.shift)) text after left old c.args.held.now out mid out kept next
+    (Ok next) one (coded_held t (shifted e (shift_of c.args.shift)) after left next out mid kept gives)
