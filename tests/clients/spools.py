@@ -173,6 +173,10 @@ def are_rows(spool):
             return False
         ordinals.setdefault(owner, []).append(ordinal)
     ordinals.pop(0, None)
-    wanted = {it.slot + 1: list(range(-(-it.length // PAGE))) for it in spool.records() if it.length}
+    counts = {it.slot + 1: -(-it.length // PAGE) for it in spool.records() if it.length}
     rest = spool.data[spool.rows + 8 * spool.blocks : spool.texts]
-    return {owner: sorted(them) for owner, them in ordinals.items()} == wanted and not any(rest)
+    return (
+        {owner: len(them) for owner, them in ordinals.items()} == counts
+        and all(sorted(them) == list(range(len(them))) for them in ordinals.values())
+        and not any(rest)
+    )
