@@ -3,13 +3,14 @@ use Rattle.std.proofs.Common.{◌≡◌, ◌∙◌, ◌⊎◌, ap, arith, inl, i
 use Rattle.std.proofs.Common.{Bool, true, false, ◌||◌, List, [], ◌∷◌, ◌++◌, get_or, length, map, take, if◌then◌else◌}
 use Rattle.std.proofs.Common.{Option, Some, None, Result, Ok, Err, OnOk}
 use Rattle.std.specs.Prelude.{bytes_eq}
-use Rattle.std.proofs.lemmas.List.{map-append, take_more}
+use Rattle.std.proofs.lemmas.List.{map-append, take-map, take_more}
 use Rattle.std.proofs.lemmas.Slice.Eq.{bytes_eq-Decides}
 use Rattle.tus_request.proofs.LineLemmas.{true_or_false}
 use Rattle.upload_rules.specs.Reading.{text_at}
 use Rattle.upload_rules.specs.Store.{Store, Upload, is_complete, upload_of}
-use Rattle.gateway_files.specs.Exporting.{Exports, HoldsTexts, IsJob, exported, exported_as, exported_one, new_file}
-use Rattle.gateway_files.specs.Folders.{Files, HoldsAll, Keeps}
+use Rattle.gateway_files.specs.Exporting.{Exports, ExportsSome, HoldsTexts, IsJob, differs_one, exported, exported_as}
+use Rattle.gateway_files.specs.Exporting.{exported_one, some_differ}
+use Rattle.gateway_files.specs.Folders.{Files, HoldsAll, HoldsEither, Keeps, new_file}
 use Rattle.gateway_files.specs.Naming.{given_name}
 use Rattle.gateway_files.specs.Planning.{Job, file_name, is_name, is_used, job_shown, jobs_from, jobs_of}
 use Rattle.gateway_files.proofs.Named.{AllFit, FitsName, Rises, all_last, all_more, new_name}
@@ -30,6 +31,53 @@ exported_more m files jobs i job lt is =
     ∙ (ap (λ x. exported m files (map job_shown (take i jobs ++ x ∷ []))) (sym is)
     ∙ (ap (λ js. exported m files js) (map-append job_shown (take i jobs) (job ∷ []))
     ∙ exported_last m files (map job_shown (take i jobs)) (job_shown job))))
+
+-- whether a file differs, for one job more
+or_false : (b : Bool) → (b || false) ≡ b
+or_false false = refl
+or_false true = refl
+
+or_last : (a b c : Bool) → (a || (b || c)) ≡ ((a || b) || c)
+or_last false b c = refl
+or_last true b c = refl
+
+differ_last : (m : Store) (files : Files) (jobs : List Job) (job : Job)
+    → some_differ m files (jobs ++ job ∷ []) ≡ (some_differ m files jobs || differs_one m (exported m files jobs) job)
+differ_last m files [] job = or_false (differs_one m files job)
+differ_last m files (first ∷ jobs) job =
+    ap (λ (b : Bool). differs_one m files first || b) (differ_last m (exported_one m files first) jobs job)
+    ∙ or_last (differs_one m files first) (some_differ m (exported_one m files first) jobs)
+    (differs_one m (exported m files (first ∷ jobs)) job)
+
+pub differ_more : (m : Store) (files : Files) (jobs : List code.Job) (i : ℕ) (job : code.Job) → i < length jobs
+    → job ≡ get_or jobs i job
+    → (some_differ m files (map job_shown (take i jobs))
+    || differs_one m (exported m files (map job_shown (take i jobs))) (job_shown job))
+    ≡ some_differ m files (map job_shown (take (i + 1) jobs))
+differ_more m files jobs i job lt is =
+    sym (ap (λ js. some_differ m files (map job_shown js)) (take_more jobs i job lt)
+    ∙ (ap (λ x. some_differ m files (map job_shown (take i jobs ++ x ∷ []))) (sym is)
+    ∙ (ap (λ js. some_differ m files js) (map-append job_shown (take i jobs) (job ∷ []))
+    ∙ differ_last m files (map job_shown (take i jobs)) (job_shown job))))
+
+-- an export that came so far
+pub exports_some : (holds : Files → Type 0) (m : Store) (files : Files) (jobs : List code.Job) (i : ℕ)
+    → holds (exported m files (map job_shown (take i jobs))) → ExportsSome holds m (map job_shown jobs) files
+exports_some holds m files jobs i held = record {
+  count = i;
+  held = subst (λ js. holds (exported m files js)) (sym (take-map job_shown i jobs)) held;
+}
+
+-- and that was broken off in one
+pub exports_either : (holds : Files → Type 0) (m : Store) (files : Files) (jobs : List code.Job) (i : ℕ)
+    (job : code.Job) → i < length jobs → job ≡ get_or jobs i job
+    → HoldsEither holds (exported m files (map job_shown (take i jobs)))
+    (exported_one m (exported m files (map job_shown (take i jobs))) (job_shown job))
+    → ExportsSome holds m (map job_shown jobs) files
+exports_either holds m files jobs i job lt is (inl held) = exports_some holds m files jobs i held
+exports_either holds m files jobs i job lt is (inr held) =
+    exports_some holds m files jobs (i + 1)
+    (subst (λ (now : Files). holds now) (exported_more m files jobs i job lt is) held)
 
 -- WHAT AN EXPORT LEAVES
 

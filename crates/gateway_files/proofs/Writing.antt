@@ -1,6 +1,6 @@
 -- What a writer holds while a list is written, item by item.
 use Rattle.std.proofs.Common.{◌≡◌, ◌∙◌, ap, sym, ℕ, ◌+◌, ◌<◌, List, ◌++◌, length, take, get_or, append_assoc}
-use Rattle.std.proofs.Common.{flat_map, Option, Some, None}
+use Rattle.std.proofs.Common.{flat_map, Option, Some, None, []}
 use Rattle.std.proofs.lemmas.List.{flat_map_more, take_more}
 use Rattle.std.specs.Io.KnownBytes.{Appends}
 
@@ -24,3 +24,10 @@ wrote_item f head xs i d a b c less before now =
     (flat_map_more f head (take i xs) (get_or xs i d)
     ∙ ap (λ ys. head ++ flat_map f ys) (sym (take_more xs i d less)))
     (appends_both a b c (head ++ flat_map f (take i xs)) (f (get_or xs i d)) before now)
+
+-- what was written to an empty file is all that it holds
+pub whole_text : (a b : Option (List ℕ)) (text : List ℕ) → a ≡ Some [] → Appends a b text → b ≡ Some text
+whole_text None b text empty p = absurd (cc)
+whole_text (Some a) None text empty p = absurd p
+whole_text (Some a) (Some b) text empty p =
+    let none : a ≡ [] = cc in ap (λ z. Some z) (p ∙ ap (λ z. z ++ text) none)

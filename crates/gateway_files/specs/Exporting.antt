@@ -1,16 +1,12 @@
 -- What `export` makes of a folder's files, and what it says of the uploads.
-use Rattle.std.specs.Prelude.{◌≡◌, ◌⊎◌, ℕ, List, [], ◌∷◌, ◌++◌, codes, decimal, Option, Some, None}
+use Rattle.std.specs.Prelude.{◌≡◌, ◌⊎◌, ◌||◌, ◌==◌, ℕ, Bool, true, false, not, List, [], ◌∷◌, ◌++◌, codes, decimal}
+use Rattle.std.specs.Prelude.{Option, Some, None, length, take}
 use Rattle.upload_rules.specs.Reading.{text_at}
 use Rattle.upload_rules.specs.Store.{Store, upload_of}
-use Rattle.gateway_files.specs.Folders.{Files, Keeps, with_file}
+use Rattle.gateway_files.specs.Folders.{Files, Keeps, new_file}
 use Rattle.gateway_files.specs.Planning.{Job}
 use Rattle.gateway_files.specs.declared.exporting.Outcome.{Outcome}
-use Rattle.gateway_files.specs.declared.exporting.Outcome.TheVariants.{Exported, There, Incomplete}
-
--- with a file more, where there is none of its name
-abbrev pub new_file : Option (List ℕ) → Files → List ℕ → List ℕ → Files
-new_file (Some there) files name bytes = files
-new_file None files name bytes = with_file files name bytes
+use Rattle.gateway_files.specs.declared.exporting.Outcome.TheVariants.{Exported, There, Differs, Failed, Incomplete}
 
 -- one text in the file that it is to have, where it is to have one
 abbrev pub exported_as : Files → Option (List ℕ) → List ℕ → Files
@@ -24,6 +20,29 @@ exported_one m files job = exported_as files job.1 (text_at m (upload_of m job.0
 abbrev pub exported : Store → Files → List Job → Files
 exported m files [] = files
 exported m files (job ∷ jobs) = exported m (exported_one m files job) jobs
+
+-- an export that ended somewhere: the files after the first so many jobs. So each file of an upload's name has the
+-- whole text, or is the one that was there
+pub record ExportsSome (holds : Files → Type 0) (m : Store) (jobs : List Job) (before : Files) : Type 0 where
+  pub count : ℕ
+  pub held : holds (exported m before (take count jobs))
+
+-- a file that is there has another length than the text
+abbrev pub differs_from : Option (List ℕ) → List ℕ → Bool
+differs_from None text = false
+differs_from (Some bytes) text = not (length bytes == length text)
+
+abbrev pub differs_as : Files → Option (List ℕ) → List ℕ → Bool
+differs_as files None text = false
+differs_as files (Some name) text = differs_from (files name) text
+
+abbrev pub differs_one : Store → Files → Job → Bool
+differs_one m files job = differs_as files job.1 (text_at m (upload_of m job.0))
+
+-- ONE OF THE FILES THAT WERE THERE has another length than its upload's text
+abbrev pub some_differ : Store → Files → List Job → Bool
+some_differ m files [] = false
+some_differ m files (job ∷ jobs) = differs_one m files job || some_differ m (exported_one m files job) jobs
 
 -- one of the jobs
 abbrev pub IsJob : Job → List Job → Type 0
@@ -43,13 +62,27 @@ pub record Exports (holds : Files → Type 0) (m : Store) (jobs : List Job) (bef
   pub keeps : Keeps before now
   pub texts : HoldsTexts m jobs before now
 
--- of each: its text was written into this file, or there is such a file already, or it isn't complete
+-- there is such a file already, of another length
+abbrev pub is_other : Outcome → Bool
+is_other (Differs name len text) = true
+is_other outcome = false
+
+-- of each: its text was written into this file, or there is such a file already, of this length or of another, or
+-- writing it failed, or it isn't complete
 abbrev pub outcome_line : ℕ → Outcome → List ℕ
 outcome_line number (Exported name) = codes "exported " ++ (decimal number ++ (32 ∷ (name.now ++ (10 ∷ []))))
 outcome_line number (There name) = codes "there " ++ (decimal number ++ (32 ∷ (name.now ++ (10 ∷ []))))
+outcome_line number (Differs name len text) =
+    codes "there " ++ (decimal number ++ (32 ∷ (name.now ++ (codes ", " ++ (decimal len ++ (codes " of "
+    ++ (decimal text ++ codes " bytes\n")))))))
+outcome_line number (Failed name) = codes "failed " ++ (decimal number ++ (32 ∷ (name.now ++ (10 ∷ []))))
 outcome_line number Incomplete = codes "incomplete " ++ (decimal number ++ (10 ∷ []))
 
 -- of all
-abbrev pub summary_line : ℕ → ℕ → List ℕ
-summary_line exported uploads =
-    codes "exported " ++ (decimal exported ++ (codes " of " ++ (decimal uploads ++ codes " uploads\n")))
+abbrev pub summary_end : Bool → List ℕ
+summary_end false = codes " uploads\n"
+summary_end true = codes " uploads; a file that was there hasn't the length of its text\n"
+
+abbrev pub summary_line : ℕ → ℕ → Bool → List ℕ
+summary_line exported uploads differs =
+    codes "exported " ++ (decimal exported ++ (codes " of " ++ (decimal uploads ++ summary_end differs)))

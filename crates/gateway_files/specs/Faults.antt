@@ -31,6 +31,7 @@ refusal_of (faults.Script line) = Some (32, codes "Script")
 refusal_of faults.Io = Some (33, codes "Io")
 refusal_of faults.AlreadyNew = Some (35, codes "AlreadyNew")
 refusal_of faults.FileThere = Some (36, codes "FileThere")
+refusal_of faults.FileDiffers = Some (37, codes "FileDiffers")
 
 -- a number and a name, as the code gives them
 abbrev pub row : ℕ × Bor (List ℕ) → ℕ × List ℕ
@@ -52,9 +53,10 @@ said (Some refusal) place = codes "refused: " ++ (decimal refusal.0 ++ (32 ∷ (
 abbrev pub line_of : Fault → List ℕ
 line_of fault = said (refusal_of fault) (place_of fault)
 
--- and its status: 3 for the disk, 2 for each refusal
+-- and its status: 3 for the disk, 4 for a file that differs, 2 for each other refusal
 abbrev pub status_of : Fault → ℕ
 status_of faults.DiskFault = 3
+status_of faults.FileDiffers = 4
 status_of fault = 2
 
 -- WHAT THE CALLS BELOW REFUSE, as the program says it

@@ -1,5 +1,5 @@
 -- The files of a folder.
-use Rattle.std.specs.Prelude.{◌≡◌, List, Option, Some, ℕ, bytes_eq, if◌then◌else◌}
+use Rattle.std.specs.Prelude.{◌≡◌, ◌⊎◌, List, Option, None, Some, ℕ, bytes_eq, if◌then◌else◌}
 
 -- the content of the file of each name, where there is one
 abbrev pub Files : Type 0
@@ -8,6 +8,15 @@ Files = List ℕ → Option (List ℕ)
 -- with these bytes under this name, and all else as it was
 abbrev pub with_file : Files → List ℕ → List ℕ → Files
 with_file files name bytes = λ other. if bytes_eq other name then Some bytes else files other
+
+-- with a file more, where there is none of its name
+abbrev pub new_file : Option (List ℕ) → Files → List ℕ → List ℕ → Files
+new_file (Some there) files name bytes = files
+new_file None files name bytes = with_file files name bytes
+
+-- these files are held, or those
+abbrev pub HoldsEither : (Files → Type 0) → Files → Files → Type 0
+HoldsEither holds these those = holds these ⊎ holds those
 
 -- each file that was there is there still, with the same content
 abbrev pub Keeps : Files → Files → Type 0

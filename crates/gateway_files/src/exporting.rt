@@ -1,5 +1,6 @@
 //! The texts of a spool's uploads, written into files.
-ghost use Rattle.std.specs.Prelude.{◌≡◌, [], ◌∷◌, ℕ, List, Err, IfErr, IsErrOf, IsOk, OnOk, Some, map, true};
+ghost use Rattle.std.specs.Prelude.{◌≡◌, [], ◌∷◌, ℕ, List, Err, IfErr, IfOk, IsErrOf, IsOk, None, OnErr, OnOk, Some};
+ghost use Rattle.std.specs.Prelude.{◌||◌, ◌==◌, length, map, not, true};
 ghost use Rattle.std.specs.Io.KnownBytes.{Appends};
 ghost use Rattle.spool_disk.specs.Disk.{Counts};
 ghost use Rattle.spool_load.specs.Refusals.{HasOtherVersion, IsDamaged, IsNoSpool};
@@ -10,15 +11,16 @@ ghost use Rattle.upload_rules.specs.World.{World};
 ghost use Rattle.spool_image.specs.LeftOnly.{AllShow, IsSpool};
 ghost use Rattle.gateway_files.specs.declared.faults.Fault.{Fault};
 ghost use Rattle.gateway_files.specs.Changing.{Changes, IsChangeFault};
-ghost use Rattle.gateway_files.specs.Exporting.{Exports, exported, exported_one, outcome_line, summary_line};
-ghost use Rattle.gateway_files.specs.Folders.{Files, HoldsAll, with_file};
+ghost use Rattle.gateway_files.specs.Exporting.{Exports, ExportsSome, differs_as, differs_one, exported, exported_as};
+ghost use Rattle.gateway_files.specs.Exporting.{exported_one, is_other, outcome_line, some_differ, summary_line};
+ghost use Rattle.gateway_files.specs.Folders.{Files, HoldsAll, HoldsEither, new_file, with_file};
 ghost use Rattle.gateway_files.specs.Leaving.{LeavesOne};
 ghost use Rattle.gateway_files.specs.Lines.{IsInOrder};
 ghost use Rattle.gateway_files.specs.Listing.{ListRefusedFor, RefusesListAs};
 ghost use Rattle.gateway_files.specs.Planning.{job_shown, jobs_of};
 
 use crate::copies::copy_text;
-use crate::failures::{Failure, Task};
+use crate::failures::{Advice, Failure, Task};
 use crate::faults::Fault;
 use crate::folders::{FileFolder, Folder};
 use crate::planning::{Job, plan};
@@ -31,8 +33,8 @@ use std::io::{self, Write};
 use upload_rules::Uploads;
 
 /// Writes the text of each complete upload of the spool in a file, or of all, into a file of a folder of its own, and
-/// prints a line for each upload. A file that is there stays as it is: the others are written all the same, and it is
-/// refused at the end.
+/// prints a line for each upload. A file has its name once it is whole. One that is there stays as it is: the others are
+/// written all the same, and it is refused at the end, in other words where it hasn't the length of the text.
 pub fn export_file<'a>(
     rt: &'a HostRuntime,
     alloc: Global,
@@ -44,8 +46,11 @@ pub fn export_file<'a>(
     let mut files = FileFolder::find(rt, alloc, folder)?;
     let (disk, exported) = export_on(alloc, &mut output, &mut files, open_spool(rt, spool)?, all);
     match (exported, files.error()) {
-        (Ok(true), _) => Ok(()),
-        (Ok(false), _) => Err(Failure::from(Fault::FileThere)),
+        (Ok(done), _) if done.differs => {
+            Err(Failure::advised(Fault::FileDiffers, Advice::Differs(folder)))
+        }
+        (Ok(done), _) if done.there => Err(Failure::from(Fault::FileThere)),
+        (Ok(_), _) => Ok(()),
         (Err(Fault::Io), Some(error)) => {
             Err(Failure::new(Fault::Io, Task::WriteInto(folder), error))
         }
@@ -55,14 +60,14 @@ pub fn export_file<'a>(
 }
 
 /// Writes the text of each complete upload of the spool on a disk, or of all, into a file of a folder, and a line for
-/// each upload: whether no file was there. The disk is handed back.
+/// each upload. The disk is handed back.
 pub fn export_on<D: Disk + Drop, F: Folder, W: Write>(
     alloc: Global,
     writer: &mut W,
     folder: &mut F,
     disk: D,
     all: bool,
-) -> (D, Result<bool, Fault>)
+) -> (D, Result<Done, Fault>)
     // The folder holds each text that is to be written, exactly, in a file of its name, where there was none. What it
     // held before stays, also where it is refused.
     ensures files { (n : ℕ) (m : Store) → IsSpool D.Disk disk n m → (files : Files) → F.holds folder.old files
@@ -70,6 +75,15 @@ pub fn export_on<D: Disk + Drop, F: Folder, W: Write>(
     ensures texts { (n : ℕ) (m : Store) → IsSpool D.Disk disk n m → (files : Files) → F.holds folder.old files
         → OnOk result.1 (Exports (F.holds folder.new) m (jobs_of all m) files) }
     ensures keeps { (files : Files) → F.holds folder.old files → HoldsAll (F.holds folder.new) files }
+
+    // However it ends, no file of an upload's name has a part of a text: the folder holds what it does after some of
+    // the uploads.
+    ensures whole { (n : ℕ) (m : Store) → IsSpool D.Disk disk n m → (files : Files) → F.holds folder.old files
+        → ExportsSome (F.holds folder.new) m (jobs_of all m) files }
+
+    // It is told whether a file that was there has another length than its upload's text.
+    ensures differs { (n : ℕ) (m : Store) → IsSpool D.Disk disk n m → (files : Files) → F.holds folder.old files
+        → IfOk result.1 (λ done. done.differs ≡ some_differ m files (jobs_of all m)) }
 
     // The disk shows the same uploads still, and a crash at any moment of it leaves them.
     ensures shows { (n : ℕ) (m : Store) → IsSpool D.Disk disk n m → IsOk result.1 → AllShow D.Disk result.0 n m }
@@ -96,17 +110,21 @@ pub fn export_on<D: Disk + Drop, F: Folder, W: Write>(
     }
 }
 
-// Writes the texts of the uploads into files, and a line for each upload: whether no file was there. The names are made
-// before the first file.
+// Writes the texts of the uploads into files, and a line for each upload. The names are made before the first file.
 fn export_uploads<W: Write, F: Folder, U: Uploads>(
     alloc: Global,
     writer: &mut W,
     folder: &mut F,
     uploads: &mut U,
     all: bool,
-) -> Result<bool, Fault>
+) -> Result<Done, Fault>
     ensures files { (w : World) → U.stands uploads.old true w → IsInOrder w.store → (files : Files)
         → F.holds folder.old files → OnOk result (F.holds folder.new (exported w.store files (jobs_of all w.store))) }
+    ensures whole { (w : World) → U.stands uploads.old true w → IsInOrder w.store → (files : Files)
+        → F.holds folder.old files → ExportsSome (F.holds folder.new) w.store (jobs_of all w.store) files }
+    ensures differs { (w : World) → U.stands uploads.old true w → IsInOrder w.store → (files : Files)
+        → F.holds folder.old files
+        → IfOk result (λ done. done.differs ≡ some_differ w.store files (jobs_of all w.store)) }
     ensures keeps { (files : Files) → F.holds folder.old files → HoldsAll (F.holds folder.new) files }
     ensures stands { (w : World) → U.stands uploads.old true w → OnOk result (U.stands uploads.new true w) }
     ensures crash { Quiet (U.moment uploads.old) (U.moment uploads.new) (U.left_only uploads.old)
@@ -116,15 +134,19 @@ fn export_uploads<W: Write, F: Folder, U: Uploads>(
 {
     let jobs = plan(alloc, uploads, all)?;
     let done = do_jobs(writer, folder, uploads, &jobs)?;
-    say_done(writer, done.exported, jobs.len())?;
-    Ok(!done.there)
+    say_done(writer, done, jobs.len())?;
+    Ok(done)
 }
 
-// How many texts were written, and whether a file was there.
-#[derive(Clone, Copy, Drop)]
-struct Done {
-    exported: u64,
-    there: bool,
+/// What an export came to.
+#[derive(Clone, Copy, Debug, PartialEq, Eq, Drop)]
+pub struct Done {
+    /// How many texts were written.
+    pub exported: u64,
+    /// A file was there.
+    pub there: bool,
+    /// A file that was there has another length than its upload's text.
+    pub differs: bool,
 }
 
 // Writes texts into files, and a line for each upload.
@@ -136,6 +158,10 @@ fn do_jobs<W: Write, F: Folder, U: Uploads>(
 ) -> Result<Done, Fault>
     ensures files { (w : World) → U.stands uploads.old true w → (files : Files) → F.holds folder.old files
         → OnOk result (F.holds folder.new (exported w.store files (map job_shown jobs.now))) }
+    ensures whole { (w : World) → U.stands uploads.old true w → (files : Files) → F.holds folder.old files
+        → ExportsSome (F.holds folder.new) w.store (map job_shown jobs.now) files }
+    ensures differs { (w : World) → U.stands uploads.old true w → (files : Files) → F.holds folder.old files
+        → IfOk result (λ done. done.differs ≡ some_differ w.store files (map job_shown jobs.now)) }
     ensures keeps { (files : Files) → F.holds folder.old files → HoldsAll (F.holds folder.new) files }
     ensures stands { (w : World) → U.stands uploads.old true w → OnOk result (U.stands uploads.new true w) }
     ensures crash { Quiet (U.moment uploads.old) (U.moment uploads.new) (U.left_only uploads.old)
@@ -146,15 +172,30 @@ fn do_jobs<W: Write, F: Folder, U: Uploads>(
     let mut done = Done {
         exported: 0,
         there: false,
+        differs: false,
     };
     for job in jobs {
-        match do_job(writer, folder, uploads, job)? {
-            Outcome::Exported(_) => done.exported = done.exported.saturating_add(1),
-            Outcome::There(_) => done.there = true,
-            Outcome::Incomplete => {}
-        }
+        let outcome = do_job(writer, folder, uploads, job)?;
+        done = done.and(outcome);
     }
     Ok(done)
+}
+
+impl Done {
+    // With one upload more.
+    fn and(self, outcome: Outcome) -> Self
+        ensures { result.differs ≡ (self.differs || is_other outcome.entry) }
+    {
+        let exported = match outcome {
+            Outcome::Exported(_) => self.exported.saturating_add(1),
+            _ => self.exported,
+        };
+        Done {
+            exported,
+            there: self.there || matches!(outcome, Outcome::There(_) | Outcome::Differs(..)),
+            differs: self.differs || matches!(outcome, Outcome::Differs(..)),
+        }
+    }
 }
 
 // What became of an upload.
@@ -162,8 +203,12 @@ fn do_jobs<W: Write, F: Folder, U: Uploads>(
 enum Outcome<'j> {
     // its text was written into this file
     Exported(&'j str),
-    // there is such a file
+    // there is such a file, as long as the text
     There(&'j str),
+    // there is such a file, of so many bytes where the text has so many others
+    Differs(&'j str, u64, u64),
+    // its text couldn't be written into this file
+    Failed(&'j str),
     // only a complete one was to be written
     Incomplete,
 }
@@ -177,6 +222,10 @@ fn do_job<'j, W: Write, F: Folder, U: Uploads>(
 ) -> Result<Outcome<'j>, Fault>
     ensures files { (w : World) → U.stands uploads.old true w → (files : Files) → F.holds folder.old files
         → OnOk result (F.holds folder.new (exported_one w.store files (job_shown job.now))) }
+    ensures failed { (w : World) → U.stands uploads.old true w → (files : Files) → F.holds folder.old files
+        → OnErr result (HoldsEither (F.holds folder.new) files (exported_one w.store files (job_shown job.now))) }
+    ensures differs { (w : World) → U.stands uploads.old true w → (files : Files) → F.holds folder.old files
+        → IfOk result (λ outcome. is_other outcome ≡ differs_one w.store files (job_shown job.now)) }
     ensures keeps { (files : Files) → F.holds folder.old files → HoldsAll (F.holds folder.new) files }
     ensures stands { (w : World) → U.stands uploads.old true w → OnOk result (U.stands uploads.new true w) }
     ensures crash { Quiet (U.moment uploads.old) (U.moment uploads.new) (U.left_only uploads.old)
@@ -184,9 +233,19 @@ fn do_job<'j, W: Write, F: Folder, U: Uploads>(
     ensures refused { IfErr result IsChangeFault }
     ensures counts { Fails (IsErrOf result Fault.DiskFault) (U.failures uploads.old) (U.failures uploads.new) }
 {
-    let outcome = export_job(folder, uploads, job)?;
-    say_outcome(writer, job.number, outcome)?;
-    Ok(outcome)
+    match (export_job(folder, uploads, job), &job.name) {
+        (Ok(outcome), _) => {
+            say_outcome(writer, job.number, outcome)?;
+            Ok(outcome)
+        }
+        (Err(fault), Some(name)) => {
+            // where this can't be written either, the end tells of the fault alone
+            let told = say_outcome(writer, job.number, Outcome::Failed(name.as_str()));
+            drop(told);
+            Err(fault)
+        }
+        (Err(fault), None) => Err(fault),
+    }
 }
 
 // Writes a text into a file, where that is to be done.
@@ -197,6 +256,10 @@ fn export_job<'j, F: Folder, U: Uploads>(
 ) -> Result<Outcome<'j>, Fault>
     ensures files { (w : World) → U.stands uploads.old true w → (files : Files) → F.holds folder.old files
         → OnOk result (F.holds folder.new (exported_one w.store files (job_shown job.now))) }
+    ensures failed { (w : World) → U.stands uploads.old true w → (files : Files) → F.holds folder.old files
+        → OnErr result (HoldsEither (F.holds folder.new) files (exported_one w.store files (job_shown job.now))) }
+    ensures differs { (w : World) → U.stands uploads.old true w → (files : Files) → F.holds folder.old files
+        → IfOk result (λ outcome. is_other outcome ≡ differs_one w.store files (job_shown job.now)) }
     ensures keeps { (files : Files) → F.holds folder.old files → HoldsAll (F.holds folder.new) files }
     ensures stands { (w : World) → U.stands uploads.old true w → OnOk result (U.stands uploads.new true w) }
     ensures crash { Quiet (U.moment uploads.old) (U.moment uploads.new) (U.left_only uploads.old)
@@ -207,37 +270,60 @@ fn export_job<'j, F: Folder, U: Uploads>(
     let Some(name) = &job.name else {
         return Ok(Outcome::Incomplete);
     };
-    let Some(file) = folder.make(name.as_str())? else {
-        return Ok(Outcome::There(name.as_str()));
-    };
-    write_text(folder, file, uploads, job.number)?;
+    if let Some(len) = folder.len_of(name.as_str())? {
+        return Ok(found(uploads, job.number, name.as_str(), len));
+    }
+    write_text(folder, uploads, job.number, name.as_str())?;
     Ok(Outcome::Exported(name.as_str()))
 }
 
-// Writes a text into a new file, and ends that.
+// What there is of an upload's text: a file of this name and of so many bytes.
+fn found<'j, U: Uploads>(uploads: &U, number: u64, name: &'j str, len: u64) -> Outcome<'j>
+    ensures { (w : World) → U.stands uploads.now true w
+        → is_other result ≡ not (len == length (text_at w.store (upload_of w.store number))) }
+{
+    let text = match uploads.record(number) {
+        Some(record) => record.text_len,
+        None => 0,
+    };
+    if len == text {
+        Outcome::There(name)
+    } else {
+        Outcome::Differs(name, len, text)
+    }
+}
+
+// Writes a text into a new file, which then has the name.
 fn write_text<F: Folder, U: Uploads>(
     folder: &mut F,
-    file: F::File,
     uploads: &mut U,
     number: u64,
+    name: &str,
 ) -> Result<(), Fault>
-    ensures files { (w : World) → U.stands uploads.old true w → (files : Files) (name : List ℕ)
-        → F.makes folder.old files name → F.File.contents file ≡ Some []
-        → OnOk result (F.holds folder.new (with_file files name (text_at w.store (upload_of w.store number)))) }
-    ensures keeps { (files : Files) (name : List ℕ) → F.makes folder.old files name
-        → HoldsAll (F.holds folder.new) files }
+    ensures files { (w : World) → U.stands uploads.old true w → (files : Files) → F.holds folder.old files
+        → OnOk result ((files name.now ≡ None)
+        × F.holds folder.new (with_file files name.now (text_at w.store (upload_of w.store number)))) }
+    ensures failed { (w : World) → U.stands uploads.old true w → (files : Files) → F.holds folder.old files
+        → OnErr result (HoldsEither (F.holds folder.new) files
+        (new_file (files name.now) files name.now (text_at w.store (upload_of w.store number)))) }
+    ensures keeps { (files : Files) → F.holds folder.old files → HoldsAll (F.holds folder.new) files }
     ensures stands { (w : World) → U.stands uploads.old true w → OnOk result (U.stands uploads.new true w) }
     ensures crash { Quiet (U.moment uploads.old) (U.moment uploads.new) (U.left_only uploads.old)
         (U.left_only uploads.new) }
     ensures refused { IfErr result IsChangeFault }
     ensures counts { Fails (IsErrOf result Fault.DiskFault) (U.failures uploads.old) (U.failures uploads.new) }
 {
-    let mut file = file;
-    let copied = copy_text(&mut file, uploads, number);
-    let ended = folder.end(file);
-    copied?;
-    ended?;
-    Ok(())
+    let mut file = folder.begin()?;
+    match copy_text(&mut file, uploads, number) {
+        Ok(()) => {
+            folder.end(file, name)?;
+            Ok(())
+        }
+        Err(fault) => {
+            folder.give_up(file);
+            Err(fault)
+        }
+    }
 }
 
 // Says what became of an upload.
@@ -248,13 +334,25 @@ fn say_outcome<W: Write>(writer: &mut W, number: u64, outcome: Outcome) -> io::R
     match outcome {
         Outcome::Exported(name) => writeln!(writer, "exported {number} {name}"),
         Outcome::There(name) => writeln!(writer, "there {number} {name}"),
+        Outcome::Differs(name, len, text) => {
+            writeln!(writer, "there {number} {name}, {len} of {text} bytes")
+        }
+        Outcome::Failed(name) => writeln!(writer, "failed {number} {name}"),
         Outcome::Incomplete => writeln!(writer, "incomplete {number}"),
     }
 }
 
-// Says how many texts were written, of how many uploads.
-fn say_done<W: Write>(writer: &mut W, exported: u64, uploads: usize) -> io::Result<()>
-    ensures { OnOk result (Appends (W.contents writer.old) (W.contents writer.new) (summary_line exported uploads)) }
+// Says how many texts were written, of how many uploads, and whether a file has another length than its text.
+fn say_done<W: Write>(writer: &mut W, done: Done, uploads: usize) -> io::Result<()>
+    ensures { OnOk result (Appends (W.contents writer.old) (W.contents writer.new)
+        (summary_line done.exported uploads done.differs)) }
 {
+    let exported = done.exported;
+    if done.differs {
+        return writeln!(
+            writer,
+            "exported {exported} of {uploads} uploads; a file that was there hasn't the length of its text"
+        );
+    }
     writeln!(writer, "exported {exported} of {uploads} uploads")
 }

@@ -61,6 +61,8 @@ pub enum Advice<'a> {
     Damaged(&'a str),
     /// The spool at this path is of a version that isn't known.
     Version(&'a str),
+    /// A file in this folder isn't as long as its upload's text.
+    Differs(&'a str),
 }
 
 impl fmt::Display for Advice<'_> {
@@ -71,6 +73,10 @@ impl fmt::Display for Advice<'_> {
             Advice::Version(path) => write!(
                 f,
                 "{path} is of another version: take a newer program"
+            ),
+            Advice::Differs(folder) => write!(
+                f,
+                "{folder} has a file that isn't as long as its upload's text: keep the upload until you have looked at it"
             ),
         }
     }
@@ -146,7 +152,7 @@ impl<'a> Failure<'a> {
         }
     }
 
-    /// The status that the program ends with: 3 for a disk fault, 2 for a refusal.
+    /// The status that the program ends with, as `Fault::status`.
     pub fn status(&self) -> u8
         ensures { result ≡ status_of (fault_in self.now) }
     {

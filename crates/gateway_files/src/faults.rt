@@ -36,6 +36,8 @@ pub enum Fault {
     Io,
     /// A file that is to be made is there already.
     FileThere,
+    /// Such a file has another length than the text that it is to have.
+    FileDiffers,
     /// A number that no upload has.
     NoSuch,
     /// A label or a mode that isn't known, or an encoding whose index files aren't there.
@@ -86,15 +88,17 @@ impl Fault {
             Fault::Io => (33, "Io"),
             Fault::AlreadyNew => (35, "AlreadyNew"),
             Fault::FileThere => (36, "FileThere"),
+            Fault::FileDiffers => (37, "FileDiffers"),
         })
     }
 
-    /// The status that the program ends with: 3 for a disk fault, 2 for a refusal.
+    /// The status that the program ends with: 3 for a disk fault, 4 for `FileDiffers`, 2 for any other refusal.
     pub fn status(self) -> u8
         ensures { result ≡ status_of self }
     {
         match self {
             Fault::DiskFault => 3,
+            Fault::FileDiffers => 4,
             _ => 2,
         }
     }

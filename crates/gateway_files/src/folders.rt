@@ -1,43 +1,53 @@
 //! Folders that texts are written into.
 
-ghost use Rattle.std.specs.Prelude.{◌≡◌, ℕ, List, [], None, Some, IsSome, IfNone, IfSome, IfOk, IsErr, OnOk};
-ghost use Rattle.gateway_files.specs.Folders.{Files, HoldsAll, with_file};
+ghost use Rattle.std.specs.Prelude.{◌≡◌, ℕ, List, [], None, Some, IfOk, OnErr, OnOk, length, option_map};
+ghost use Rattle.gateway_files.specs.Folders.{Files, HoldsAll, HoldsEither, new_file, with_file};
 
 use crate::failures::{Failure, Task};
 use crate::faults::Fault;
 use crate::streams::Noted;
 use std::alloc::Global;
-use std::fs::{self, File};
+use std::fs::{self, File, TryLockError};
 use std::io::{self, ErrorKind, Write};
 
-/// A folder that texts are written into, each into a new file.
+/// A folder that texts are written into, each into a new file, which gets its name once it is whole.
 pub trait Folder {
-    /// A new file.
+    /// A file that is being written, and has no name yet.
     type File: Write;
 
     /// The folder holds these files.
     ghost holds: { Self → Files → Type 0 };
 
-    /// It holds these, and one of this name is being made.
-    ghost makes: { Self → Files → List ℕ → Type 0 };
+    /// How many bytes the file of this name has. `None` where there is none.
+    fn len_of(&mut self, name: &str) -> io::Result<Option<u64>>
+        ensures len { (files : Files) → holds self.old files
+            → IfOk result (λ len. len ≡ option_map length (files name.now)) }
+        ensures keeps { (files : Files) → holds self.old files → holds self.new files };
 
-    /// Makes a file of this name. `None` where there is one, which stays as it is.
-    fn make(&mut self, name: &str) -> io::Result<Option<Self::File>>
-        ensures there { (files : Files) → holds self.old files
-            → IfOk result (λ made. IfNone made (IsSome (files name.now) × holds self.new files)) }
-        ensures made { (files : Files) → holds self.old files → IfOk result (λ made. IfSome made (λ file.
-            (files name.now ≡ None) × makes self.new files name.now × (Self.File.contents file ≡ Some []))) }
-        ensures keeps { (files : Files) → holds self.old files → IsErr result → HoldsAll (holds self.new) files };
+    /// Begins a file. The folder holds what it held.
+    fn begin(&mut self) -> io::Result<Self::File>
+        ensures empty { IfOk result (λ file. Self.File.contents file ≡ Some []) }
+        ensures keeps { (files : Files) → holds self.old files → holds self.new files };
 
-    /// Ends a file: what was written to it lasts from then on.
-    fn end(&mut self, file: Self::File) -> io::Result<()>
-        ensures ended { (files : Files) (name bytes : List ℕ) → makes self.old files name
-            → Self.File.contents file ≡ Some bytes → OnOk result (holds self.new (with_file files name bytes)) }
-        ensures keeps { (files : Files) (name : List ℕ) → makes self.old files name
-            → HoldsAll (holds self.new) files };
+    /// Ends a file: it has this name, and what was written to it lasts from then on. It fails where a file has the name
+    /// already, which stays as it is. Where it fails for another reason, the folder may have the whole file or none.
+    fn end(&mut self, file: Self::File, name: &str) -> io::Result<()>
+        ensures ended { (files : Files) (bytes : List ℕ) → holds self.old files → Self.File.contents file ≡ Some bytes
+            → OnOk result ((files name.now ≡ None) × holds self.new (with_file files name.now bytes)) }
+        ensures failed { (files : Files) (bytes : List ℕ) → holds self.old files → Self.File.contents file ≡ Some bytes
+            → OnErr result (HoldsEither (holds self.new) files (new_file (files name.now) files name.now bytes)) }
+        ensures keeps { (files : Files) → holds self.old files → HoldsAll (holds self.new) files };
+
+    /// Gives a file up, of which nothing stays. The folder holds what it held.
+    fn give_up(&mut self, file: Self::File)
+        ensures keeps { (files : Files) → holds self.old files → holds self.new files };
 }
 
-/// A folder of the file system. It keeps why its latest call failed.
+// The name of the file that is being written. It begins with a dot, as the name of no upload's file does.
+const PART: &str = ".gateway-export";
+
+/// A folder of the file system, locked against other exports where the file system has locks. It keeps why its latest
+/// call failed. It has a file `.gateway-export` while one is written: what an ended run left of it goes with the next.
 ///
 /// No contract says what a file system keeps, so of no files it is proved that it holds them: that it behaves as a
 /// folder is a premise of whoever relies on it.
@@ -46,19 +56,35 @@ pub struct FileFolder<'a> {
     rt: &'a HostRuntime,
     alloc: Global,
     path: &'a str,
+    folder: File,
     error: Option<io::Error>,
 }
 
 impl<'a> FileFolder<'a> {
-    /// The folder at this path, which has to be there.
+    /// The folder at this path, which has to be there, and into which nobody else exports.
     pub fn find(rt: &'a HostRuntime, alloc: Global, path: &'a str) -> Result<Self, Failure<'a>> {
         find_folder(rt, path)?;
-        Ok(FileFolder {
+        match FileFolder::lock(rt, alloc, path) {
+            Ok(folder) => Ok(folder),
+            Err(error) => Err(Failure::new(Fault::from(error), Task::WriteInto(path), error)),
+        }
+    }
+
+    // Locks the folder, and takes away what an ended run left.
+    fn lock(rt: &'a HostRuntime, alloc: Global, path: &'a str) -> io::Result<Self> {
+        let folder = File::open(rt, path)?;
+        if let Err(TryLockError::WouldBlock) = folder.try_lock() {
+            return Err(io::Error::new(ErrorKind::ResourceBusy, "it is in use"));
+        }
+        let found = FileFolder {
             rt,
             alloc,
             path,
+            folder,
             error: None,
-        })
+        };
+        found.clear()?;
+        Ok(found)
     }
 
     /// Why a file couldn't be written. `None` where each could.
@@ -66,10 +92,45 @@ impl<'a> FileFolder<'a> {
         self.error
     }
 
-    // A new file of this name. `AlreadyExists` where there is one.
-    fn make_new(&self, name: &str) -> io::Result<File> {
-        let path = format!(in self.alloc; "{}/{name}", self.path)?;
-        File::create_new(self.rt, path.as_str())
+    // The path of a file.
+    fn path_of(&self, name: &str) -> io::Result<String> {
+        Ok(format!(in self.alloc; "{}/{name}", self.path)?)
+    }
+
+    // Takes away a file that has no name yet, where there is one.
+    fn clear(&self) -> io::Result<()> {
+        let part = self.path_of(PART)?;
+        match fs::remove_file(self.rt, part.as_str()) {
+            Err(error) if error.kind() == ErrorKind::NotFound => Ok(()),
+            outcome => outcome,
+        }
+    }
+
+    // A new file that has no name yet.
+    fn make_part(&self) -> io::Result<File> {
+        self.clear()?;
+        let part = self.path_of(PART)?;
+        File::create_new(self.rt, part.as_str())
+    }
+
+    // Gives a file its name. A link never replaces a file.
+    fn name_part(&self, file: File, name: &str) -> io::Result<()> {
+        file.sync_all()?;
+        let part = self.path_of(PART)?;
+        let path = self.path_of(name)?;
+        fs::hard_link(self.rt, part.as_str(), path.as_str())?;
+        fs::remove_file(self.rt, part.as_str())?;
+        self.folder.sync_all()
+    }
+
+    // The length of the file of this name.
+    fn find_len(&self, name: &str) -> io::Result<Option<u64>> {
+        let path = self.path_of(name)?;
+        match fs::metadata(self.rt, path.as_str()) {
+            Ok(found) => Ok(Some(found.len())),
+            Err(error) if error.kind() == ErrorKind::NotFound => Ok(None),
+            Err(error) => Err(error),
+        }
     }
 }
 
@@ -79,12 +140,16 @@ impl Folder for FileFolder<'_> {
     // of no files it is known
     ghost holds = { λ folder files. ⊥ };
 
-    ghost makes = { λ folder files name. ⊥ };
+    fn len_of(&mut self, name: &str) -> io::Result<Option<u64>> {
+        let len = self.find_len(name);
+        self.error = len.err();
+        len
+    }
 
-    fn make(&mut self, name: &str) -> io::Result<Option<Noted<File>>> {
-        match self.make_new(name) {
-            Ok(file) => Ok(Some(Noted::new(file))),
-            Err(error) if error.kind() == ErrorKind::AlreadyExists => Ok(None),
+    fn begin(&mut self) -> io::Result<Noted<File>> {
+        let made = self.make_part();
+        match made {
+            Ok(file) => Ok(Noted::new(file)),
             Err(error) => {
                 self.error = Some(error);
                 Err(error)
@@ -92,13 +157,17 @@ impl Folder for FileFolder<'_> {
         }
     }
 
-    fn end(&mut self, file: Noted<File>) -> io::Result<()> {
-        let ended = match file.error() {
-            Some(error) => Err(error),
-            None => file.into_stream().sync_all(),
-        };
+    fn end(&mut self, file: Noted<File>, name: &str) -> io::Result<()> {
+        let ended = self.name_part(file.into_stream(), name);
         self.error = ended.err();
         ended
+    }
+
+    fn give_up(&mut self, file: Noted<File>) {
+        self.error = file.error();
+        drop(file);
+        let cleared = self.clear();
+        drop(cleared);
     }
 }
 

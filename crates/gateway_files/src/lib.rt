@@ -21,7 +21,7 @@ mod upgrading;
 
 pub use copies::copy_text;
 pub use deleting::{delete_file, delete_on};
-pub use exporting::{export_file, export_on};
+pub use exporting::{Done, export_file, export_on};
 pub use failures::{Advice, Failure, Task, ended};
 pub use faults::Fault;
 pub use folders::{FileFolder, Folder};

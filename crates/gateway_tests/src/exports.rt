@@ -24,28 +24,29 @@ const STEPS: &[Step] = &[
     Deferred(5, "from dXRmLTg=, filename bGF0ZXI="),
 ];
 
-/// Each row: a folder, whether it already has a file `4.txt`, whether all uploads are exported or only the complete
-/// ones, the lines that are printed, and files that the folder has afterwards.
-static EXPORTS: [(&str, bool, bool, &[u8], &[(&str, &str)]); 3] = [
+/// Each row: a folder, what its file `4.txt` has where there is one, whether all uploads are exported or only the
+/// complete ones, the lines that are printed, and files that the folder has afterwards. In each an export was ended that
+/// left a file.
+static EXPORTS: [(&str, Option<&str>, bool, &[u8], &[(&str, &str)]); 3] = [
     (
         "gateway_export_test",
-        true,
+        Some("mine"),
         false,
-        b"incomplete 1\nexported 2 letter.txt\nexported 3 3.txt\nthere 4 4.txt\nincomplete 5\n\
-        exported 2 of 5 uploads\n",
+        b"incomplete 1\nexported 2 letter.txt\nexported 3 3.txt\nthere 4 4.txt, 4 of 2 bytes\nincomplete 5\n\
+        exported 2 of 5 uploads; a file that was there hasn't the length of its text\n",
         &[("letter.txt", "ab"), ("3.txt", "cd"), ("4.txt", "mine")],
     ),
     (
         "gateway_export_all_test",
-        true,
+        Some("my"),
         true,
         b"exported 1 1.txt\nexported 2 letter.txt\nexported 3 3.txt\nthere 4 4.txt\nexported 5 later\n\
         exported 4 of 5 uploads\n",
-        &[("1.txt", "hello"), ("4.txt", "mine"), ("later", "")],
+        &[("1.txt", "hello"), ("4.txt", "my"), ("later", "")],
     ),
     (
         "gateway_export_empty_test",
-        false,
+        None,
         false,
         b"incomplete 1\nexported 2 letter.txt\nexported 3 3.txt\nexported 4 4.txt\nincomplete 5\n\
         exported 3 of 5 uploads\n",
@@ -67,14 +68,18 @@ fn texts_are_written_into_files(rt: HostRuntime) {
     for (folder, there, all, said, files) in EXPORTS.iter() {
         let _ = fs::remove_dir_all(&rt, *folder);
         fs::create_dir(&rt, *folder).expect(&rt, "a folder");
-        if *there {
+        if let Some(text) = there {
             let path = format!(in alloc; "{folder}/4.txt").expect(&rt, "memory for a path");
-            fs::write(&rt, path.as_str(), "mine").expect(&rt, "a file");
+            fs::write(&rt, path.as_str(), *text).expect(&rt, "a file");
         }
+        let left = format!(in alloc; "{folder}/.gateway-export").expect(&rt, "memory for a path");
+        fs::write(&rt, left.as_str(), "a part").expect(&rt, "a file");
         let mut into = FileFolder::find(&rt, alloc, *folder).expect(&rt, "a folder");
         let mut lines = Vec::new(alloc);
         let (after, exported) = export_on(alloc, &mut lines, &mut into, disk, *all);
-        assert!(rt; exported == Ok(!*there));
+        let done = exported.expect(&rt, "an export");
+        assert_eq!(rt; (done.there, done.differs), (there.is_some(), *there == Some("mine")));
+        assert!(rt; !fs::exists(&rt, left.as_str()).expect(&rt, "a look at the folder"));
         assert_eq!(rt; lines.as_slice(), *said);
         for (name, text) in files.iter() {
             let path = format!(in alloc; "{folder}/{name}").expect(&rt, "memory for a path");

@@ -23,6 +23,19 @@ returns-in-Ok-clause-texts g c n m is files held =
     exports c.export_uploads-exported.result (g.F.Folder.holds c.export_uploads-exported.new.folder) c.args.all m files
     (spool_rises g.D.Disk c.args.disk n m is) (returns-in-Ok-clause-files g c n m is files held)
 
+pub returns-in-Ok-clause-whole : goal.returns-in-Ok-clause-whole
+returns-in-Ok-clause-whole g c n m is =
+    c.export_uploads-exported.ensures.whole (at_rest m (Some n)) (c.in-Ok.ensures.stands n m is)
+    (in_order g.D.Disk c.args.disk n m is)
+
+pub returns-in-Ok-clause-differs : goal.returns-in-Ok-clause-differs
+returns-in-Ok-clause-differs g c n m is =
+    c.export_uploads-exported.ensures.differs (at_rest m (Some n)) (c.in-Ok.ensures.stands n m is)
+    (in_order g.D.Disk c.args.disk n m is)
+
+pub returns-in-Ok-clause-version : goal.returns-in-Ok-clause-version
+returns-in-Ok-clause-version g c honest other = absurd (c.in-Ok.ensures.version honest other)
+
 pub returns-in-Ok-clause-shows : goal.returns-in-Ok-clause-shows
 returns-in-Ok-clause-shows g c n m is ok =
     let s = c.export_uploads-exported.new.uploads in

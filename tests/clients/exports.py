@@ -1,0 +1,200 @@
+#!/usr/bin/env python3
+"""Exports that end at any call: no file of an upload's name has a part of a text, and the next run goes on.
+
+    python3 tests/clients/exports.py [--program PATH] [--indexes DIR] [--seed N]
+
+A spool has uploads of some pieces each, one of them with a name that a file in the folder has already, and one whose
+file has a part of its text, as an older program left it. A small C library, made in a temporary folder and loaded
+before the C library, counts the calls that write, sync, link and remove files. At each of them in turn the export is
+killed (before the call, in the midst of a write, or after the call), or the call fails as on a full disk. Afterwards
+each file of an upload's name is absent, or whole, or as it was before; what was told as exported is there; and the next
+run, without the library, writes what isn't there yet, leaves nothing of the ended one, tells of the file that has a part
+alone that it isn't as long as its text, and ends with status 4. The status is 0 where all was so, and there were a
+hundred ends.
+"""
+
+import os
+import shutil
+import subprocess
+import tempfile
+from pathlib import Path
+
+from growths import patch, post
+from harness import Wrong, build_library, format_spool, holds, indexes_in, parser_of, random_sample, rng_of, same
+
+LEAST = 100
+PART = ".gateway-export"
+LIBRARY = r"""
+#define _GNU_SOURCE
+#include <dlfcn.h>
+#include <errno.h>
+#include <signal.h>
+#include <stdlib.h>
+#include <string.h>
+#include <unistd.h>
+
+static long count;
+static int full;
+
+/* What is to be done at this call: 0 nothing, or the first letter of HOW. */
+static int due(void) {
+    const char *at = getenv("AT");
+    if (!at || ++count != atol(at)) return 0;
+    write(9, "!", 1);
+    return getenv("HOW")[0];
+}
+
+static void end(void) {
+    kill(getpid(), SIGKILL);
+}
+
+static int fails(void) {
+    errno = ENOSPC;
+    return -1;
+}
+
+#define REAL(name, result, ...) \
+    static result (*real)(__VA_ARGS__); \
+    if (!real) real = (result (*)(__VA_ARGS__)) dlsym(RTLD_NEXT, name)
+
+ssize_t write(int fd, const void *bytes, size_t size) {
+    REAL("write", ssize_t, int, const void *, size_t);
+    if (fd < 3 || fd == 9) return real(fd, bytes, size);
+    if (full) return fails();
+    switch (due()) {
+    case 'b': end(); break;
+    case 'm': real(fd, bytes, size / 2); end(); break;
+    case 'a': real(fd, bytes, size); end(); break;
+    case 'f': full = 1; return size < 2 ? fails() : real(fd, bytes, size / 2);
+    }
+    return real(fd, bytes, size);
+}
+
+#define CALL(call) \
+    switch (due()) { \
+    case 'b': end(); break; \
+    case 'm': case 'a': call; end(); break; \
+    case 'f': return fails(); \
+    } \
+    return call
+
+int fsync(int fd) {
+    REAL("fsync", int, int);
+    CALL(real(fd));
+}
+
+int link(const char *from, const char *to) {
+    REAL("link", int, const char *, const char *);
+    CALL(real(from, to));
+}
+
+int linkat(int in, const char *from, int out, const char *to, int flags) {
+    REAL("linkat", int, int, const char *, int, const char *, int);
+    CALL(real(in, from, out, to, flags));
+}
+
+int unlink(const char *path) {
+    REAL("unlink", int, const char *);
+    CALL(real(path));
+}
+
+int unlinkat(int in, const char *path, int flags) {
+    REAL("unlinkat", int, int, const char *, int);
+    CALL(real(in, path, flags));
+}
+"""
+
+
+class Case:
+    """The spool, what its uploads' files are to hold, and what the folder holds before."""
+
+    def __init__(self, program, folder, indexes, rng):
+        self.program, self.spool, self.into = program, folder / "spool", folder / "texts"
+        format_spool(program, self.spool, 128, indexes)
+        texts = [random_sample(rng, "utf-8")[:size] for size in (0, 5, 4096, 9000, 20_000, 30_000)]
+        texts = [text.decode("utf-8", "ignore").encode() for text in texts]
+        names = [f"letter {k}.txt" for k in range(len(texts))]
+        lines = ["open 1"]
+        for number, (text, name) in enumerate(zip(texts, names), 1):
+            lines += [*post(1, len(text), "utf-8", name), *(patch(1, number, 0, text) if text else [])]
+        script = "\n".join(lines).encode() + b"\n"
+        same("the script's status", subprocess.run([program, "script", self.spool], input=script).returncode, 0)
+        self.texts = dict(zip(names, texts))
+        self.before = {names[1]: texts[1], names[4]: texts[4][:7000], "other": b"mine"}
+
+    def start(self):
+        shutil.rmtree(self.into, ignore_errors=True)
+        self.into.mkdir()
+        for name, text in self.before.items():
+            (self.into / name).write_bytes(text)
+
+    def export(self, **given):
+        """An export: its status, lines, and whether the call came at which it was to end."""
+        reached, told = os.pipe()
+        os.dup2(told, 9)
+        words = [self.program, "export", self.spool, self.into]
+        done = subprocess.run(words, capture_output=True, env={**os.environ, **given}, pass_fds=[9], timeout=60)
+        os.close(9), os.close(told)
+        came = os.read(reached, 1) != b""
+        os.close(reached)
+        return done.returncode, done.stdout.decode().splitlines(), done.stderr.decode(), came
+
+    def files(self):
+        return {path.name: path.read_bytes() for path in self.into.iterdir()}
+
+    def check(self, lines):
+        """No file has a part of a text, but for the one that was there; what was told is there."""
+        files = self.files()
+        files.pop(PART, None)
+        wanted = {**self.texts, **self.before}
+        for name, bytes_ in files.items():
+            same(f"the file {name}", bytes_, wanted.get(name))
+        holds("a file that was there is gone", all(name in files for name in self.before))
+        for line in lines:
+            if line.startswith("exported ") and " of " not in line:
+                holds(f"{line}, and it isn't there", line.split(" ", 2)[2] in files)
+
+    def check_all(self):
+        """The next run does the rest, and says which file isn't whole."""
+        status, lines, said, _ = self.export()
+        same("the status of the next run", status, 4)
+        same("its files", self.files(), {**self.texts, **self.before})
+        partly = next(name for name, text in self.before.items() if self.texts.get(name, text) != text)
+        differs = f"{partly}, {len(self.before[partly])} of {len(self.texts[partly])} bytes"
+        same("its lines of a part", [line.split(" ", 2)[2] for line in lines if line.endswith(" bytes")], [differs])
+        holds(f"what it says: {said}", said.startswith("refused: 37 FileDiffers\n"))
+
+
+def try_all(case, library, how):
+    """Ends the export at each call in turn: how many ends there were."""
+    at = 0
+    while True:
+        at += 1
+        case.start()
+        status, lines, said, came = case.export(LD_PRELOAD=str(library), AT=str(at), HOW=how)
+        if not came:
+            return at - 1
+        try:
+            if how == "full":
+                same("the status", status, 2)
+                holds(f"what it says: {said}", said.startswith("refused: 33 Io\n") and lines[-1].startswith("failed "))
+            case.check(lines)
+            case.check_all()
+        except Wrong as error:
+            raise Wrong(f"{how}, call {at}: {error}") from None
+
+
+def main():
+    given = parser_of(__doc__).parse_args()
+    with tempfile.TemporaryDirectory() as folder:
+        folder = Path(folder)
+        indexes = indexes_in(folder, given.indexes)
+        library = build_library(folder, "ends", LIBRARY)
+        case = Case(given.program, folder, indexes, rng_of(given.seed, "exports"))
+        ends = {how: try_all(case, library, how) for how in ("before", "midst", "after", "full")}
+    for how, count in ends.items():
+        print(f"{how}: {count} ends, 0 wrong")
+    holds(f"fewer than {LEAST} ends", sum(ends.values()) >= LEAST)
+
+
+main()
