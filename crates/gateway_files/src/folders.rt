@@ -26,7 +26,8 @@ pub trait Folder {
 
     /// Begins a file. The folder holds what it held.
     fn begin(&mut self) -> io::Result<Self::File>
-        ensures empty { IfOk result (λ file. Self.File.contents file ≡ Some []) }
+        ensures empty { (files : Files) → holds self.old files
+            → IfOk result (λ file. Self.File.contents file ≡ Some []) }
         ensures keeps { (files : Files) → holds self.old files → holds self.new files };
 
     /// Ends a file: it has this name, and what was written to it lasts from then on. It fails where a file has the name

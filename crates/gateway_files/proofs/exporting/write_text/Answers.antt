@@ -8,7 +8,7 @@ pub returns-in_ok-end-in-Ok-clause-files : goal.returns-in_ok-end-in-Ok-clause-f
 returns-in_ok-end-in-Ok-clause-files g c w stands files held =
     let text = text_at w.store (upload_of w.store c.args.number) in
     c.in_ok-end-in-Ok.ensures.ended files text (c.in_ok-file.ensures.keeps files held)
-    (whole_text _ _ text c.in_ok-file.ensures.empty (c.in-Ok.ensures.copied w stands))
+    (whole_text _ _ text (c.in_ok-file.ensures.empty files held) (c.in-Ok.ensures.copied w stands))
 
 pub returns-in_err-end-in-Ok-clause-failed : goal.returns-in_err-end-in-Ok-clause-failed
 returns-in_err-end-in-Ok-clause-failed g c w stands files held =
@@ -16,4 +16,4 @@ returns-in_err-end-in-Ok-clause-failed g c w stands files held =
     let p = err_from_is_err_and c.from_residual-in_err-end-in-Ok.result
     c.from_residual-in_err-end-in-Ok.ensures.1 in
     rw p.1 (c.in_err-end-in-Ok.ensures.failed files text (c.in_ok-file.ensures.keeps files held)
-    (whole_text _ _ text c.in_ok-file.ensures.empty (c.in-Ok.ensures.copied w stands)))
+    (whole_text _ _ text (c.in_ok-file.ensures.empty files held) (c.in-Ok.ensures.copied w stands)))
