@@ -20,7 +20,7 @@ import tempfile
 from pathlib import Path
 
 from growths import patch, post
-from harness import Wrong, build_library, format_spool, holds, indexes_in, parser_of, random_sample, rng_of, same
+from harness import Wrong, build_library, format_spool, holds, indexes_in, parser_of, rng_of, same
 
 LEAST = 100
 PART = ".gateway-export"
@@ -111,14 +111,14 @@ class Case:
     def __init__(self, program, folder, indexes, rng):
         self.program, self.spool, self.into = program, folder / "spool", folder / "texts"
         format_spool(program, self.spool, 128, indexes)
-        texts = [random_sample(rng, "utf-8")[:size] for size in (0, 5, 4096, 9000, 20_000, 30_000)]
-        texts = [text.decode("utf-8", "ignore").encode() for text in texts]
+        texts = ["".join(rng.choices("aé語😀\n", k=size)).encode() for size in (0, 5, 1500, 4000, 9000, 12_000)]
         names = [f"letter {k}.txt" for k in range(len(texts))]
         lines = ["open 1"]
         for number, (text, name) in enumerate(zip(texts, names), 1):
             lines += [*post(1, len(text), "utf-8", name), *(patch(1, number, 0, text) if text else [])]
         script = "\n".join(lines).encode() + b"\n"
-        same("the script's status", subprocess.run([program, "script", self.spool], input=script).returncode, 0)
+        done = subprocess.run([program, "script", self.spool], input=script, capture_output=True)
+        same("the status of the script", done.returncode, 0)
         self.texts = dict(zip(names, texts))
         self.before = {names[1]: texts[1], names[4]: texts[4][:7000], "other": b"mine"}
 
@@ -177,7 +177,8 @@ def try_all(case, library, how):
         try:
             if how == "full":
                 same("the status", status, 2)
-                holds(f"what it says: {said}", said.startswith("refused: 33 Io\n") and lines[-1].startswith("failed "))
+                holds(f"what it says: {said}", said.startswith("refused: 33 Io\ncannot write into the folder "))
+                holds(f"its lines: {lines}", not lines or lines[-1].startswith("failed "))
             case.check(lines)
             case.check_all()
         except Wrong as error:
