@@ -78,7 +78,10 @@ fn texts_are_written_into_files(rt: HostRuntime) {
         let mut lines = Vec::new(alloc);
         let (after, exported) = export_on(alloc, &mut lines, &mut into, disk, *all);
         let done = exported.expect(&rt, "an export");
-        assert_eq!(rt; (done.there, done.differs), (there.is_some(), *there == Some("mine")));
+        assert_eq!(rt;
+            (done.there, done.differs),
+            (there.is_some(), *there == Some("mine"))
+        );
         assert!(rt; !fs::exists(&rt, left.as_str()).expect(&rt, "a look at the folder"));
         assert_eq!(rt; lines.as_slice(), *said);
         for (name, text) in files.iter() {
