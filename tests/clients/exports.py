@@ -7,13 +7,16 @@ A spool has uploads of some pieces each, one of them with a name that a file in 
 file has a part of its text, as an older program left it. A small C library, made in a temporary folder and loaded
 before the C library, counts the calls that write, sync, link and remove files. At each of them in turn the export is
 killed (before the call, in the midst of a write, or after the call), or the call fails as on a full disk. Afterwards
-each file of an upload's name is absent, or whole, or as it was before; what was told as exported is there; and the next
-run, without the library, writes what isn't there yet, leaves nothing of the ended one, tells of the file that has a part
-alone that it isn't as long as its text, and ends with status 4. The status is 0 where all was so, and there were a
-hundred ends.
+each file of an upload's name is absent, or whole, or as it was before; what was told as exported is there; where the
+call failed nothing else is left; and the next run, without the library, writes what isn't there yet, leaves nothing of
+the ended one, tells of the file that has a part alone that it isn't as long as its text, and ends with status 4. In a
+run that isn't ended each file is written, synced, linked and its first name removed, and then the folder is synced, as
+it is once before. Where the folder can't be locked, a file that is being written stays, and the export is refused.
+The status is 0 where all was so, and there were a hundred ends.
 """
 
 import os
+import re
 import shutil
 import subprocess
 import tempfile
@@ -31,10 +34,25 @@ LIBRARY = r"""
 #include <signal.h>
 #include <stdlib.h>
 #include <string.h>
+#include <sys/stat.h>
 #include <unistd.h>
 
 static long count;
 static int full;
+
+/* Notes a call by its letter, where calls are noted. */
+static void note(const char *letter) {
+    if (getenv("NOTED")) write(9, letter, 1);
+}
+
+int flock(int fd, int operation) {
+    static int (*real)(int, int);
+    if (!real) real = dlsym(RTLD_NEXT, "flock");
+    struct stat found;
+    if (!getenv("LOCKLESS") || fstat(fd, &found) || !S_ISDIR(found.st_mode)) return real(fd, operation);
+    errno = EBADF;
+    return -1;
+}
 
 /* What is to be done at this call: 0 nothing, or the first letter of HOW. */
 static int due(void) {
@@ -60,6 +78,7 @@ static int fails(void) {
 ssize_t write(int fd, const void *bytes, size_t size) {
     REAL("write", ssize_t, int, const void *, size_t);
     if (fd < 3 || fd == 9) return real(fd, bytes, size);
+    note("w");
     if (full) return fails();
     switch (due()) {
     case 'b': end(); break;
@@ -80,26 +99,32 @@ ssize_t write(int fd, const void *bytes, size_t size) {
 
 int fsync(int fd) {
     REAL("fsync", int, int);
+    struct stat found;
+    note(fstat(fd, &found) == 0 && S_ISDIR(found.st_mode) ? "f" : "s");
     CALL(real(fd));
 }
 
 int link(const char *from, const char *to) {
     REAL("link", int, const char *, const char *);
+    note("l");
     CALL(real(from, to));
 }
 
 int linkat(int in, const char *from, int out, const char *to, int flags) {
     REAL("linkat", int, int, const char *, int, const char *, int);
+    note("l");
     CALL(real(in, from, out, to, flags));
 }
 
 int unlink(const char *path) {
     REAL("unlink", int, const char *);
+    note("u");
     CALL(real(path));
 }
 
 int unlinkat(int in, const char *path, int flags) {
     REAL("unlinkat", int, int, const char *, int);
+    note("u");
     CALL(real(in, path, flags));
 }
 """
@@ -129,15 +154,18 @@ class Case:
             (self.into / name).write_bytes(text)
 
     def export(self, **given):
-        """An export: its status, lines, and whether the call came at which it was to end."""
+        """An export: its status, lines, what it says, and what the library wrote: `!` at the call at which it ended, or
+        the letters of its calls."""
         reached, told = os.pipe()
         os.dup2(told, 9)
         words = [self.program, "export", self.spool, self.into]
         done = subprocess.run(words, capture_output=True, env={**os.environ, **given}, pass_fds=[9], timeout=60)
         os.close(9), os.close(told)
-        came = os.read(reached, 1) != b""
+        came = b""
+        while more := os.read(reached, 4096):
+            came += more
         os.close(reached)
-        return done.returncode, done.stdout.decode().splitlines(), done.stderr.decode(), came
+        return done.returncode, done.stdout.decode().splitlines(), done.stderr.decode(), came.decode()
 
     def files(self):
         return {path.name: path.read_bytes() for path in self.into.iterdir()}
@@ -179,10 +207,32 @@ def try_all(case, library, how):
                 same("the status", status, 2)
                 holds(f"what it says: {said}", said.startswith("refused: 33 Io\ncannot write into the folder "))
                 holds(f"its lines: {lines}", not lines or lines[-1].startswith("failed "))
+                holds("a part is left", PART not in case.files())
             case.check(lines)
             case.check_all()
         except Wrong as error:
             raise Wrong(f"{how}, call {at}: {error}") from None
+
+
+def try_order(case, library):
+    """A run that isn't ended makes its calls in order."""
+    case.start()
+    _, _, _, calls = case.export(LD_PRELOAD=str(library), NOTED="1")
+    new = len(case.texts.keys() - case.before.keys())
+    holds(f"its calls: {calls}", re.fullmatch("uf(w*sluf){%d}" % new, calls))
+
+
+def try_lockless(case, library):
+    """Where there are no locks, what another export is writing stays."""
+    case.start()
+    (case.into / PART).write_bytes(b"another's")
+    status, _, said, _ = case.export(LD_PRELOAD=str(library), LOCKLESS="1")
+    same("the status without locks", status, 2)
+    holds(f"what it says: {said}", said.startswith("refused: 33 Io\ncannot write into the folder "))
+    same("the files without locks", case.files(), {**case.before, PART: b"another's"})
+    (case.into / PART).unlink()
+    case.export(LD_PRELOAD=str(library), LOCKLESS="1")
+    same("the files without locks", case.files(), {**case.texts, **case.before})
 
 
 def main():
@@ -192,6 +242,8 @@ def main():
         indexes = indexes_in(folder, given.indexes)
         library = build_library(folder, "ends", LIBRARY)
         case = Case(given.program, folder, indexes, rng_of(given.seed, "exports"))
+        try_order(case, library)
+        try_lockless(case, library)
         ends = {how: try_all(case, library, how) for how in ("before", "midst", "after", "full")}
     for how, count in ends.items():
         print(f"{how}: {count} ends, 0 wrong")

@@ -22,15 +22,19 @@ exported_last m files [] job = refl
 exported_last m files (first ∷ jobs) job = exported_last m (exported_one m files first) jobs job
 
 -- one job more
+jobs_more : (jobs : List code.Job) (i : ℕ) (job : code.Job) → i < length jobs → job ≡ get_or jobs i job
+    → map job_shown (take i jobs) ++ job_shown job ∷ [] ≡ map job_shown (take (i + 1) jobs)
+jobs_more jobs i job lt is =
+    sym (ap (λ js. map job_shown js) (take_more jobs i job lt)
+    ∙ (ap (λ x. map job_shown (take i jobs ++ x ∷ [])) (sym is) ∙ map-append job_shown (take i jobs) (job ∷ [])))
+
 pub exported_more : (m : Store) (files : Files) (jobs : List code.Job) (i : ℕ) (job : code.Job) → i < length jobs
     → job ≡ get_or jobs i job
     → exported_one m (exported m files (map job_shown (take i jobs))) (job_shown job)
     ≡ exported m files (map job_shown (take (i + 1) jobs))
 exported_more m files jobs i job lt is =
-    sym (ap (λ js. exported m files (map job_shown js)) (take_more jobs i job lt)
-    ∙ (ap (λ x. exported m files (map job_shown (take i jobs ++ x ∷ []))) (sym is)
-    ∙ (ap (λ js. exported m files js) (map-append job_shown (take i jobs) (job ∷ []))
-    ∙ exported_last m files (map job_shown (take i jobs)) (job_shown job))))
+    sym (exported_last m files (map job_shown (take i jobs)) (job_shown job))
+    ∙ ap (λ js. exported m files js) (jobs_more jobs i job lt is)
 
 -- whether a file differs, for one job more
 or_false : (b : Bool) → (b || false) ≡ b
@@ -55,10 +59,8 @@ pub differ_more : (m : Store) (files : Files) (jobs : List code.Job) (i : ℕ) (
     || differs_one m (exported m files (map job_shown (take i jobs))) (job_shown job))
     ≡ some_differ m files (map job_shown (take (i + 1) jobs))
 differ_more m files jobs i job lt is =
-    sym (ap (λ js. some_differ m files (map job_shown js)) (take_more jobs i job lt)
-    ∙ (ap (λ x. some_differ m files (map job_shown (take i jobs ++ x ∷ []))) (sym is)
-    ∙ (ap (λ js. some_differ m files js) (map-append job_shown (take i jobs) (job ∷ []))
-    ∙ differ_last m files (map job_shown (take i jobs)) (job_shown job))))
+    sym (differ_last m files (map job_shown (take i jobs)) (job_shown job))
+    ∙ ap (λ js. some_differ m files js) (jobs_more jobs i job lt is)
 
 -- an export that came so far
 pub exports_some : (holds : Files → Type 0) (m : Store) (files : Files) (jobs : List code.Job) (i : ℕ)

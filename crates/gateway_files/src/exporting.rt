@@ -33,8 +33,8 @@ use std::io::{self, Write};
 use upload_rules::Uploads;
 
 /// Writes the text of each complete upload of the spool in a file, or of all, into a file of a folder of its own, and
-/// prints a line for each upload. A file has its name once it is whole. One that is there stays as it is: the others are
-/// written all the same, and it is refused at the end, in other words where it hasn't the length of the text.
+/// prints a line for each upload. A file has its name once it is whole. One that is there stays as it is: the others
+/// are written all the same, and it is refused at the end, in other words where it hasn't the length of the text.
 pub fn export_file<'a>(
     rt: &'a HostRuntime,
     alloc: Global,

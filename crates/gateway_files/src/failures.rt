@@ -76,7 +76,7 @@ impl fmt::Display for Advice<'_> {
             ),
             Advice::Differs(folder) => write!(
                 f,
-                "{folder} has a file that isn't as long as its upload's text: keep the upload until you have looked at it"
+                "{folder} has a file that isn't as long as its upload's text: look at it before you delete the upload"
             ),
         }
     }

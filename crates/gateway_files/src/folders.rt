@@ -47,8 +47,9 @@ pub trait Folder {
 // The name of the file that is being written. It begins with a dot, as the name of no upload's file does.
 const PART: &str = ".gateway-export";
 
-/// A folder of the file system, locked against other exports where the file system has locks. It keeps why its latest
-/// call failed. It has a file `.gateway-export` while one is written: what an ended run left of it goes with the next.
+/// A folder of the file system. It keeps why its latest call failed. It has a file `.gateway-export` while one is
+/// written, and is locked against other exports. What an ended run left of that file goes with the next; where the file
+/// system has no locks it stays, since another export may be writing it, and no file can be begun.
 ///
 /// No contract says what a file system keeps, so of no files it is proved that it holds them: that it behaves as a
 /// folder is a premise of whoever relies on it.
@@ -71,12 +72,10 @@ impl<'a> FileFolder<'a> {
         }
     }
 
-    // Locks the folder, and takes away what an ended run left.
+    // Locks the folder, takes away what an ended run left, and makes the names last that it gave.
     fn lock(rt: &'a HostRuntime, alloc: Global, path: &'a str) -> io::Result<Self> {
         let folder = File::open(rt, path)?;
-        if let Err(TryLockError::WouldBlock) = folder.try_lock() {
-            return Err(io::Error::new(ErrorKind::ResourceBusy, "it is in use"));
-        }
+        let locked = folder.try_lock();
         let found = FileFolder {
             rt,
             alloc,
@@ -84,7 +83,14 @@ impl<'a> FileFolder<'a> {
             folder,
             error: None,
         };
-        found.clear()?;
+        match locked {
+            Ok(()) => found.clear()?,
+            Err(TryLockError::WouldBlock) => {
+                return Err(io::Error::new(ErrorKind::ResourceBusy, "it is in use"));
+            }
+            Err(TryLockError::Error(_)) => {}
+        }
+        found.folder.sync_all()?;
         Ok(found)
     }
 
@@ -109,7 +115,6 @@ impl<'a> FileFolder<'a> {
 
     // A new file that has no name yet.
     fn make_part(&self) -> io::Result<File> {
-        self.clear()?;
         let part = self.path_of(PART)?;
         File::create_new(self.rt, part.as_str())
     }
@@ -124,11 +129,16 @@ impl<'a> FileFolder<'a> {
         self.folder.sync_all()
     }
 
-    // The length of the file of this name.
+    // The length of the file of this name. A folder, or a link to nowhere, has no byte of a text.
     fn find_len(&self, name: &str) -> io::Result<Option<u64>> {
         let path = self.path_of(name)?;
         match fs::metadata(self.rt, path.as_str()) {
-            Ok(found) => Ok(Some(found.len())),
+            Ok(found) if found.is_file() => return Ok(Some(found.len())),
+            Ok(_) => return Ok(Some(0)),
+            Err(_) => {}
+        }
+        match fs::symlink_metadata(self.rt, path.as_str()) {
+            Ok(_) => Ok(Some(0)),
             Err(error) if error.kind() == ErrorKind::NotFound => Ok(None),
             Err(error) => Err(error),
         }
@@ -161,6 +171,10 @@ impl Folder for FileFolder<'_> {
     fn end(&mut self, file: Noted<File>, name: &str) -> io::Result<()> {
         let ended = self.name_part(file.into_stream(), name);
         self.error = ended.err();
+        if ended.is_err() {
+            let cleared = self.clear();
+            drop(cleared);
+        }
         ended
     }
 

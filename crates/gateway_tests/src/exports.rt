@@ -25,8 +25,8 @@ const STEPS: &[Step] = &[
 ];
 
 /// Each row: a folder, what its file `4.txt` has where there is one, whether all uploads are exported or only the
-/// complete ones, the lines that are printed, and files that the folder has afterwards. In each an export was ended that
-/// left a file.
+/// complete ones, the lines that are printed, and files that the folder has afterwards. In each an export was ended
+/// that left a file.
 static EXPORTS: [(&str, Option<&str>, bool, &[u8], &[(&str, &str)]); 3] = [
     (
         "gateway_export_test",
