@@ -1,10 +1,10 @@
 //! Running standard input as a script over a spool.
 
 use enc_index::IndexSet;
-use gateway_engine::{Counted, CountedRead, CountedWrite, RunFault, run};
+use gateway_engine::{Counted, CountedRead, CountedWrite, ScriptFault, run};
 use gateway_files::{Failure, Fault, Noted, open_spool};
 use spool_disk::{Disk, MemoryDisk};
-use spool_image::{format, pages_of};
+use spool_image::{Spool, format, pages_of};
 use std::alloc::Global;
 
 // How many text blocks a spool in memory has.
@@ -34,27 +34,30 @@ pub(crate) fn run_script<'a>(
     }
 }
 
-// Runs a script from `reader` over the spool on a disk, and writes its output to `writer`. The disk is returned.
+// Opens the spool on a disk, runs a script from `reader` over it, and writes its output to `writer`. The disk is returned.
 fn run_over_disk<D: Disk + Drop, R: CountedRead, W: CountedWrite>(
     alloc: Global,
     reader: &mut R,
     writer: &mut W,
     disk: D,
 ) -> (D, Result<(), Fault>) {
-    match run(alloc, reader, writer, disk) {
+    let spool = match Spool::open(alloc, disk) {
+        Ok(spool) => spool,
+        Err((disk, fault)) => return (disk, Err(Fault::from(fault))),
+    };
+    match run(alloc, reader, writer, spool) {
         Ok(disk) => (disk, Ok(())),
         Err((disk, fault)) => (disk, Err(fault_of(fault))),
     }
 }
 
 // The program's error for a run that ended early.
-fn fault_of(fault: RunFault) -> Fault {
+fn fault_of(fault: ScriptFault) -> Fault {
     match fault {
-        RunFault::Open(fault) => Fault::from(fault),
-        RunFault::NoMemory => Fault::NoMemory,
-        RunFault::DiskFault => Fault::DiskFault,
-        RunFault::Script(line) => Fault::Script(line),
-        RunFault::Io => Fault::Io,
+        ScriptFault::NoMemory => Fault::NoMemory,
+        ScriptFault::DiskFault => Fault::DiskFault,
+        ScriptFault::Script(line) => Fault::Script(line),
+        ScriptFault::Io => Fault::Io,
     }
 }
 

@@ -88,9 +88,9 @@ HasFailed (Err (store, DiskFault)) = Unit {0}
 HasFailed result = ⊥
 
 -- the uploads that are handed back
-abbrev pub store_of : {U : Type 0} → Result U (U × ScriptFault) → U
-store_of (Ok store) = store
-store_of (Err (store, fault)) = store
+abbrev pub handed_back : {U : Type 0} → Result U (U × ScriptFault) → U
+handed_back (Ok store) = store
+handed_back (Err (store, fault)) = store
 
 -- THE READER AND THE WRITER: one of them refused
 abbrev pub HasRefused : {U : Type 0} → Result U (U × ScriptFault) → Type 0

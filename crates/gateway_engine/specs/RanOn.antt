@@ -1,13 +1,10 @@
 -- What a run of a script over a spool on a disk comes to.
-use Rattle.std.specs.Prelude.{◌≡◌, ◌≤◌, ◌*◌, ℕ, false, List, Option, None, Some, Result, Ok, Err}
+use Rattle.std.specs.Prelude.{◌≡◌, ◌≤◌, ◌*◌, ℕ, false, List, Option, Result, Ok, Err}
 use Rattle.std.specs.Io.KnownBytes.{Appends}
 use Rattle.spool_disk.specs.Disk.{IsImage}
-use Rattle.spool_disk.specs.Views.{Lasts}
 use Rattle.spool_disk.specs.declared.disk.Disk.{Ghosts}
 use Rattle.spool_journal.specs.Image.{all_pages}
-use Rattle.spool_image.specs.LeftOnly.{AllShow, LeftOnly, LeftOrShows, ShowsOne}
-use Rattle.spool_kept.specs.declared.error.OpenFault.{OpenFault}
-use Rattle.spool_kept.specs.declared.error.OpenFault.TheVariants as opens
+use Rattle.spool_image.specs.LeftOnly.{AllShow, LeftOnly, ShowsOne}
 use Rattle.upload_rules.specs.Store.{Store}
 use Rattle.tus_session.specs.History.{State, Mark, Marked, history}
 use Rattle.tus_session.specs.Images.{AllAmong, stores_of, last_stores}
@@ -17,8 +14,8 @@ use Rattle.gateway_script.specs.Outputs.{IsFirst, output_of, WroteMost}
 use Rattle.gateway_script.specs.declared.faults.CallFault.{CallFault}
 use Rattle.gateway_script.specs.declared.faults.CallFault.TheVariants as calls
 use Rattle.gateway_engine.specs.Ran.{WritesAll, WritesSome}
-use Rattle.gateway_engine.specs.declared.faults.RunFault.{RunFault}
-use Rattle.gateway_engine.specs.declared.faults.RunFault.TheVariants.{Open, NoMemory, DiskFault, Script, Io}
+use Rattle.gateway_script.specs.declared.faults.ScriptFault.{ScriptFault}
+use Rattle.gateway_script.specs.declared.faults.ScriptFault.TheVariants.{NoMemory, DiskFault, Script, Io}
 
 -- IMAGES
 
@@ -28,16 +25,11 @@ pub record AllShowOne {D : Type 0} (disk : Ghosts D) (d : D) (n : ℕ) (stores :
   pub room : 4096 * all_pages n ≤ disk.size d
   pub each : (image : ℕ → ℕ) → IsImage (disk.current d) (disk.unsynced d) image → ShowsOne n stores image
 
--- From the disk before to the disk now, by way of the disk once it was opened. From then on a crash at any moment
--- leaves one of these stores and so many blocks; and from any earlier moment it leaves what it was limited to before,
--- once these stores are among that
-pub record LastsOver {D : Type 0} (disk : Ghosts D) (before now : D) (n : ℕ) (m : Store) (stores : List Store) :
-    Type 0 where
-  pub opened : D
-  pub opening : Lasts disk before opened (LeftOrShows disk before n m)
-  pub shown : AllShow disk opened n m
-  pub later : disk.moment opened ≤ disk.moment now
-  pub since : LeftOnly disk now n (disk.moment opened) stores
+-- From the disk before to the disk now. From then on a crash at any moment leaves one of these stores and so many
+-- blocks; and from any earlier moment it leaves what it was limited to before, once these stores are among that
+pub record LastsOver {D : Type 0} (disk : Ghosts D) (before now : D) (n : ℕ) (stores : List Store) : Type 0 where
+  pub later : disk.moment before ≤ disk.moment now
+  pub since : LeftOnly disk now n (disk.moment before) stores
   pub always : (t : ℕ) (ms : List Store) → t ≤ disk.moment before → LeftOnly disk before n t ms → AllAmong stores ms
       → LeftOnly disk now n t ms
 
@@ -51,7 +43,7 @@ pub record EndedOn {D : Type 0} (disk : Ghosts D) (before now : D) (n : ℕ) (st
   pub wrote : Appends prefix held r.run.out
   pub output : r.run.out ≡ output_of st r.run.past
   pub state : r.run.state ≡ history st r.run.past
-  pub lasts : LastsOver disk before now n st.world.store (stores_of st r.run.past)
+  pub lasts : LastsOver disk before now n (stores_of st r.run.past)
 
 -- the script ended so, and the disk has the uploads of its history
 pub record RestsOn {D : Type 0} (disk : Ghosts D) (before now : D) (n : ℕ) (st : State) (r : script.Result)
@@ -75,16 +67,10 @@ pub record StoppedOn {D : Type 0} (disk : Ghosts D) (before now : D) (n : ℕ) (
   pub wrote : Appends prefix held out
   pub most : WroteMost fault st past out
   pub shows : AllShow disk now n (history st past).world.store
-  pub lasts : LastsOver disk before now n st.world.store (stores_of st past)
+  pub lasts : LastsOver disk before now n (stores_of st past)
 
--- the disk wasn't opened: a crash leaves what it might have left before, or what shows the same
-pub record UnopenedOn {D : Type 0} (disk : Ghosts D) (before now : D) (n : ℕ) (m : Store) : Type 0 where
-  pub honest : disk.honest now
-  pub room : 4096 * all_pages n ≤ disk.size now
-  pub lasts : Lasts disk before now (LeftOrShows disk before n m)
-
--- A disk of which a read shows uploads is opened, but for memory and the disk
-abbrev pub HasRunOn : {D : Type 0} → Ghosts D → D → Result D (D × RunFault) → Option (List ℕ) → Option (List ℕ) → ℕ
+-- how a run over uploads on a disk ends
+abbrev pub HasRunOn : {D : Type 0} → Ghosts D → D → Result D (D × ScriptFault) → Option (List ℕ) → Option (List ℕ) → ℕ
     → State
     → List ℕ → Type 0
 HasRunOn disk before (Ok d) held prefix n st bytes =
@@ -97,14 +83,12 @@ HasRunOn disk before (Err (d, NoMemory)) held prefix n st bytes =
     (marks : List Mark) × StoppedOn disk before d n st (the_script st marks bytes) held prefix calls.NoMemory
 HasRunOn disk before (Err (d, Io)) held prefix n st bytes =
     (marks : List Mark) × StoppedOn disk before d n st (the_script st marks bytes) held prefix calls.Io
-HasRunOn disk before (Err (d, Open opens.NoMemory)) held prefix n st bytes = UnopenedOn disk before d n st.world.store
-HasRunOn disk before (Err (d, Open opens.DiskFault)) held prefix n st bytes = UnopenedOn disk before d n st.world.store
-HasRunOn disk before (Err (d, Open _)) held prefix n st bytes = ⊥
 
 -- WHATEVER THE DISK
 
 -- What a run writes: the output of the script's events over the uploads with which it began, but for the bytes of texts
-abbrev pub Writes : {D : Type 0} → Result D (D × RunFault) → Option (List ℕ) → Option (List ℕ) → State → List ℕ → Type 0
+abbrev pub Writes : {D : Type 0} → Result D (D × ScriptFault) → Option (List ℕ) → Option (List ℕ) → State → List ℕ
+    → Type 0
 Writes (Ok d) held prefix st bytes =
     (marks : List Mark) × WritesAll false st (the_script st marks bytes) held prefix Ran
 Writes (Err (d, Script line)) held prefix st bytes =
@@ -115,35 +99,3 @@ Writes (Err (d, NoMemory)) held prefix st bytes =
     (marks : List Mark) × WritesSome false st (the_script st marks bytes) held prefix calls.NoMemory
 Writes (Err (d, Io)) held prefix st bytes =
     (marks : List Mark) × WritesSome false st (the_script st marks bytes) held prefix calls.Io
-Writes (Err (d, Open fault)) held prefix st bytes = held ≡ prefix
-
--- the disk that is handed back
-abbrev pub disk_back : {D : Type 0} → Result D (D × RunFault) → D
-disk_back (Ok d) = d
-disk_back (Err (d, fault)) = d
-
--- why it wasn't opened, None where it was
-abbrev pub refusal_in : {D : Type 0} → Result D (D × RunFault) → Option OpenFault
-refusal_in (Err (d, Open fault)) = Some fault
-refusal_in result = None
-
--- the disk failed
-abbrev pub HasFailedOn : {D : Type 0} → Result D (D × RunFault) → Type 0
-HasFailedOn (Err (d, DiskFault)) = Unit {0}
-HasFailedOn (Err (d, Open opens.DiskFault)) = Unit {0}
-HasFailedOn result = ⊥
-
--- the reader or the writer refused
-abbrev pub HasRefusedOn : {D : Type 0} → Result D (D × RunFault) → Type 0
-HasRefusedOn (Err (d, Io)) = Unit {0}
-HasRefusedOn result = ⊥
-
--- where the disk wasn't opened, this holds
-abbrev pub Unopened : {D : Type 0} → Result D (D × RunFault) → Type 0 → Type 0
-Unopened (Err (d, Open fault)) same = same
-Unopened result same = Unit {0}
-
--- where it was, this holds
-abbrev pub Opened : {D : Type 0} → Result D (D × RunFault) → Type 0 → Type 0
-Opened (Err (d, Open fault)) same = Unit {0}
-Opened result same = same

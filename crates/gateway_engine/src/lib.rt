@@ -1,12 +1,10 @@
 //! A gateway over a spool, and scripts over it.
 #![tactic(auto)]
 
-mod faults;
 mod gateway;
 mod scripts;
 mod spools;
 
-pub use faults::RunFault;
 pub use gateway::Gateway;
 pub use gateway_script::{CallFault, Counted, CountedRead, CountedWrite, Refused, ScriptFault};
 pub use scripts::run_over;

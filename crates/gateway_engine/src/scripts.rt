@@ -5,7 +5,7 @@ ghost use Rattle.upload_rules.specs.World.{at_rest};
 ghost use Rattle.upload_rules.specs.Answers.{Counts};
 ghost use Rattle.tus_session.specs.History.{beginning};
 ghost use Rattle.gateway_script.specs.Script.{IsScript};
-ghost use Rattle.gateway_engine.specs.Ran.{HasRun, HasFailed, HasRefused, CountsEither, store_of};
+ghost use Rattle.gateway_engine.specs.Ran.{HasRun, HasFailed, HasRefused, CountsEither, handed_back};
 
 use crate::gateway::Gateway;
 use gateway_script::{CountedRead, CountedWrite, ScriptFault, read_script, run_script};
@@ -32,7 +32,7 @@ pub fn run_over<U: Uploads, R: CountedRead, W: CountedWrite>(
         → (script : List ℕ) × IsScript (R.remaining reader.old) script
         × HasRun U.Uploads sure store result (W.contents writer.new) (W.contents writer.old) (beginning m blocks)
         script }
-    ensures counts { Counts (HasFailed result) (U.failures store) (U.failures (store_of result)) }
+    ensures counts { Counts (HasFailed result) (U.failures store) (U.failures (handed_back result)) }
 
     // `Io` exactly where the reader or the writer refused a call.
     ensures io { CountsEither (HasRefused result) (R.refusals reader.old) (R.refusals reader.new)

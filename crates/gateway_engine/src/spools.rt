@@ -1,25 +1,24 @@
 //! A gateway over a spool on a disk.
-ghost use Rattle.std.specs.Prelude.{◌≡◌, ◌↔◌, ℕ, true, false, List, Some, IfOk};
+ghost use Rattle.std.specs.Prelude.{◌≡◌, ◌↔◌, ℕ, Option, true, false, List, Some, IfOk};
 ghost use Rattle.spool_disk.specs.Disk.{Counts};
 ghost use Rattle.spool_disk.specs.Views.{Lasts};
 ghost use Rattle.spool_image.specs.LeftOnly.{AllShow, IsSpool, LeftOrShows, SpoolLeft};
 ghost use Rattle.spool_image.specs.Opening.{OpensExactly, ReadsSame, Unwritten, refusal_of};
-ghost use Rattle.spool_image.specs.Spool.{IsFault, Keeps, OpensAs};
+ghost use Rattle.spool_image.specs.Spool.{IsFault, Keeps, OpensAs, SpoolStands, disk_of};
 ghost use Rattle.spool_kept.specs.Shows.{Shows};
 ghost use Rattle.spool_pages.specs.View.{View};
 ghost use Rattle.upload_rules.specs.Store.{Store};
+ghost use Rattle.upload_rules.specs.World.{at_rest};
 ghost use Rattle.upload_rules.specs.Answers.{Quiet};
 ghost use Rattle.tus_session.specs.History.{State, beginning};
 ghost use Rattle.gateway_engine.specs.Gateways.{GatewayStands, disk_in, size_in, disk_after, is_down, store_of};
 ghost use Rattle.gateway_script.specs.Script.{IsScript};
-ghost use Rattle.gateway_engine.specs.Ran.{CountsEither};
-ghost use Rattle.gateway_engine.specs.RanOn.{HasRunOn, HasFailedOn, HasRefusedOn, Opened, Unopened, Writes};
-ghost use Rattle.gateway_engine.specs.RanOn.{disk_back, refusal_in};
+ghost use Rattle.gateway_engine.specs.Ran.{CountsEither, HasFailed, HasRefused, handed_back};
+ghost use Rattle.gateway_engine.specs.RanOn.{HasRunOn, Writes};
 
-use crate::faults::RunFault;
 use crate::gateway::Gateway;
 use crate::scripts::run_over;
-use gateway_script::{CountedRead, CountedWrite};
+use gateway_script::{CountedRead, CountedWrite, ScriptFault};
 use spool_disk::Disk;
 use spool_image::{OpenFault, Spool};
 use std::alloc::Global;
@@ -80,56 +79,39 @@ impl<D: Disk> Gateway<Spool<D>> {
     }
 }
 
-/// Runs a script from `reader` over the spool on a disk, and writes to `writer` what its calls give. The disk is handed
+/// Runs a script from `reader` over an opened spool, and writes to `writer` what its calls give. The disk is handed
 /// back.
 ///
-/// The script is read whole before its first line is run, and after the opening of the spool.
+/// The script is read whole before its first line is run.
 ///
-/// Refused with `Open` where the disk isn't opened, then with `NoMemory` where a growth outside the calls was refused,
-/// `DiskFault`, `Script` of the first line that is none or too long, and `Io`. What was committed and written before
-/// stands.
+/// Refused with `NoMemory` where a growth outside the calls was refused, `DiskFault`, `Script` of the first line that is
+/// none or too long, and `Io`. What was committed and written before stands.
 pub fn run<D: Disk, R: CountedRead, W: CountedWrite>(
     alloc: Global,
     reader: &mut R,
     writer: &mut W,
-    disk: D,
-) -> Result<D, (D, RunFault)>
-    // Over a disk of which a read shows uploads: the exit and the output are the script's, by a mark for each call, and
-    // images show the uploads of its history.
-    ensures runs { (n : ℕ) (m : Store) → IsSpool D.Disk disk n m
+    spool: Spool<D>,
+) -> Result<D, (D, ScriptFault)>
+    // Whatever the disk: for the uploads that the spool stands for, those that its opening read, the exit and the output
+    // are the script's, by a mark for each call, but for the bytes of texts, which are as many.
+    ensures writes { (m : Store) (blocks : Option ℕ) → SpoolStands spool false (at_rest m blocks)
         → (script : List ℕ) × IsScript (R.remaining reader.old) script
-        × HasRunOn D.Disk disk result (W.contents writer.new) (W.contents writer.old) n (beginning m (Some n)) script }
+        × Writes result (W.contents writer.new) (W.contents writer.old) (beginning m blocks) script }
 
-    // Over any disk that is opened: what was read is what a view says, and for the uploads that this shows the exit and
-    // the output are the script's, but for the bytes of texts, which are as many.
-    ensures writes { Opened result ((v : View) × ((m : Store) → Shows v m
+    // Where the disk is known to be honest and to hold them, the bytes of texts are the texts', and images show the
+    // uploads of the script's history, at every moment since.
+    ensures runs { (m : Store) (n : ℕ) → SpoolStands spool true (at_rest m (Some n))
         → (script : List ℕ) × IsScript (R.remaining reader.old) script
-        × Writes result (W.contents writer.new) (W.contents writer.old) (beginning m (Some v.blocks)) script)) }
-
-    // What is opened is a valid spool. Each refusal to open has its reason, and each reason is answered so.
-    ensures exact { D.honest disk → OpensExactly (D.size disk) (D.current disk) (refusal_in result) }
-
-    // A disk that isn't opened: nothing is read of the script and no output is written.
-    ensures unopened { Unopened result ((R.remaining reader.new ≡ R.remaining reader.old)
-        × (W.contents writer.new ≡ W.contents writer.old)) }
-
-    // And it comes back as its opening left it: where no journal is to be replayed nothing is written to it.
-    ensures size { Unopened result (D.size (disk_back result) ≡ D.size disk) }
-    ensures honest { Unopened result (D.honest disk ↔ D.honest (disk_back result)) }
-    ensures unwritten { D.honest disk → Unopened result (Unwritten D.Disk disk (disk_back result)) }
-    ensures same { D.honest disk → Unopened result (ReadsSame D.Disk disk (disk_back result) (HasFailedOn result)) }
-    ensures counts { Counts (HasFailedOn result) (D.failures disk) (D.failures (disk_back result)) }
+        × HasRunOn D.Disk (disk_of spool) result (W.contents writer.new) (W.contents writer.old) n
+        (beginning m (Some n)) script }
+    ensures counts { Counts (HasFailed result) (D.failures (disk_of spool)) (D.failures (handed_back result)) }
 
     // `Io` exactly where the reader or the writer refused a call.
-    ensures io { CountsEither (HasRefusedOn result) (R.refusals reader.old) (R.refusals reader.new)
+    ensures io { CountsEither (HasRefused result) (R.refusals reader.old) (R.refusals reader.new)
         (W.refusals writer.old) (W.refusals writer.new) }
 {
-    let spool = match Spool::open(alloc, disk) {
-        Ok(spool) => spool,
-        Err((disk, fault)) => return Err((disk, RunFault::Open(fault))),
-    };
     match run_over(alloc, reader, writer, spool) {
         Ok(spool) => Ok(spool.into_disk()),
-        Err((spool, fault)) => Err((spool.into_disk(), RunFault::from(fault))),
+        Err((spool, fault)) => Err((spool.into_disk(), fault)),
     }
 }

@@ -2,6 +2,7 @@
 use Rattle.std.proofs.Common.{◌≡◌, ◌⊎◌, ◌<◌, ◌≤◌, ◌+◌, ◌*◌, ◌^◌, inl, inr, ℕ, List, [], ◌∷◌, ◌++◌, drop, Option}
 use Rattle.std.proofs.Common.{Some, None, Result, Ok, Err, refl}
 use Rattle.std.proofs.Common.{sym, subst, ap, ◌∙◌, append-nil, append_assoc, arith, ⊎_elim}
+use Rattle.std.proofs.lemmas.Bool.{cases_lt}
 use Rattle.spool_disk.specs.Disk.{Counts, IsImage}
 use Rattle.spool_disk.specs.declared.disk.Disk.{Ghosts}
 use Rattle.spool_journal.specs.Image.{all_pages}
@@ -16,6 +17,8 @@ use Rattle.spool_image.specs.declared.error.UpgradeError.{UpgradeError}
 use Rattle.spool_image.proofs.Crashed.{synced_shows}
 use Rattle.spool_kept.proofs.Upgraded.{upgraded_valid}
 use Rattle.spool_kept.specs.Shows.{IsValid}
+use Rattle.spool_kept.specs.Loads.{LoadsAs}
+use Rattle.spool_kept.specs.declared.error.OpenFault.{OpenFault}
 use Rattle.spool_kept.specs.declared.error.OpenFault.TheVariants as opens
 use Rattle.spool_pages.proofs.Resting.{rests_image}
 use Rattle.spool_pages.specs.Changes.{upgraded}
@@ -29,10 +32,13 @@ use Rattle.gateway_script.specs.Script as script
 use Rattle.gateway_script.specs.Script.{script as the_script, Exit}
 use Rattle.gateway_script.specs.Outputs.{IsFirst, output_of, last_output, WroteMost}
 use Rattle.gateway_script.specs.declared.faults.CallFault.TheVariants as calls
-use Rattle.gateway_engine.specs.Ran.{CountsEither}
-use Rattle.gateway_engine.specs.RanOn.{AllShowOne, HasFailedOn, HasRefusedOn, EndedOn, Unopened, UnopenedOn, HasRunOn}
-use Rattle.gateway_engine.specs.declared.faults.RunFault.{RunFault}
-use Rattle.gateway_engine.specs.declared.faults.RunFault.TheVariants.{Open, NoMemory, DiskFault, Script, Io}
+use Rattle.gateway_script.specs.declared.faults.ScriptFault.{ScriptFault}
+use Rattle.gateway_script.specs.declared.faults.ScriptFault.TheVariants as scripts
+use Rattle.gateway_engine.specs.Ran.{CountsEither, HasFailed, HasRefused}
+use Rattle.gateway_engine.specs.RanOn.{AllShowOne, EndedOn, HasRunOn}
+use Rattle.gateway_rounds.specs.Faults.{run_fault}
+use Rattle.gateway_rounds.specs.declared.faults.RunFault.{RunFault}
+use Rattle.gateway_rounds.specs.declared.faults.RunFault.TheVariants.{Open, NoMemory, DiskFault, Script, Io}
 use Rattle.gateway_rounds.specs.Rounds.{OpensWith, Crashes, IsFault, left_by_run, left_by_upgrade, IsWhole, EndsAs}
 use Rattle.gateway_rounds.specs.Rounds.{Passes, UpgradeEnds, UpgradeLeaves}
 
@@ -124,22 +130,23 @@ module _ {D : Type 0} (disk : Ghosts D) (given back : D) (n : ℕ) (before : Lis
         (lasts.nothing_else (disk.moment given) image (omega arith) (now (disk.moment given) image lasts.later is));
   }
 
-  -- the bytes that were there, and those that a run of this script with this fault wrote after them
-  module _ (prefix held bytes : List ℕ) where
+  -- the bytes that were there, and those that a run of this script with this fault wrote after them, from the disk as it
+  -- was opened
+  module _ (begun : D) (prefix held bytes : List ℕ) where
     abbrev Lived : Option RunFault → Type 0
     Lived fault =
         (left : List Store) × AllShowOne disk back n left × (out : List ℕ) × (held ≡ prefix ++ out)
         × Passes n m bytes fault out before left
 
-    whole : {exit : Exit} (r : script.Result) → EndedOn disk given back n st r (Some held) (Some prefix) exit
+    whole : {exit : Exit} (r : script.Result) → EndedOn disk begun back n st r (Some held) (Some prefix) exit
         → IsWhole st r r.run.past r.run.out
     whole r is = record { events = refl; output = is.output }
 
-    written_whole : {exit : Exit} (r : script.Result) → EndedOn disk given back n st r (Some held) (Some prefix) exit
+    written_whole : {exit : Exit} (r : script.Result) → EndedOn disk begun back n st r (Some held) (Some prefix) exit
         → (rest : List ℕ) × (output_of st r.run.past ≡ r.run.out ++ rest)
     written_whole r is = ([], sym is.output ∙ sym (append-nil r.run.out))
 
-    pub ran : HasRunOn disk given (Ok back) (Some held) (Some prefix) n st bytes → Lived None
+    pub ran : HasRunOn disk begun (Ok back) (Some held) (Some prefix) n st bytes → Lived None
     ran (marks, is) =
         let r = the_script st marks bytes in (
           r.run.state.world.store ∷ [],
@@ -151,7 +158,7 @@ module _ {D : Type 0} (disk : Ghosts D) (given back : D) (n : ℕ) (before : Lis
               (is.ended.exits, whole r is.ended),
         )
 
-    at_line : (line : ℕ) → HasRunOn disk given (Err (back, Script line)) (Some held) (Some prefix) n st bytes
+    at_line : (line : ℕ) → HasRunOn disk begun (Err (back, scripts.Script line)) (Some held) (Some prefix) n st bytes
         → Lived (Some (Script line))
     at_line line (marks, is) =
         let r = the_script st marks bytes in (
@@ -164,7 +171,7 @@ module _ {D : Type 0} (disk : Ghosts D) (given back : D) (n : ℕ) (before : Lis
               (ap (λ (s : State). s.world.store ∷ []) is.ended.state) (is.ended.exits, whole r is.ended),
         )
 
-    failed : HasRunOn disk given (Err (back, DiskFault)) (Some held) (Some prefix) n st bytes → Lived (Some DiskFault)
+    failed : HasRunOn disk begun (Err (back, scripts.DiskFault)) (Some held) (Some prefix) n st bytes → Lived (Some DiskFault)
     failed (marks, is) =
         let r = the_script st marks bytes in (
           last_stores st r.run.past,
@@ -175,7 +182,7 @@ module _ {D : Type 0} (disk : Ghosts D) (given back : D) (n : ℕ) (before : Lis
               (written_whole r is.ended) refl (is.ended.exits, whole r is.ended),
         )
 
-    out_of_memory : HasRunOn disk given (Err (back, NoMemory)) (Some held) (Some prefix) n st bytes
+    out_of_memory : HasRunOn disk begun (Err (back, scripts.NoMemory)) (Some held) (Some prefix) n st bytes
         → Lived (Some NoMemory)
     out_of_memory (marks, is) = (
       (history st is.past).world.store ∷ [],
@@ -186,7 +193,7 @@ module _ {D : Type 0} (disk : Ghosts D) (given back : D) (n : ℕ) (before : Lis
           (most_prefix st is.past is.out is.most) refl is.most,
     )
 
-    broken_off : HasRunOn disk given (Err (back, Io)) (Some held) (Some prefix) n st bytes → Lived (Some Io)
+    broken_off : HasRunOn disk begun (Err (back, scripts.Io)) (Some held) (Some prefix) n st bytes → Lived (Some Io)
     broken_off (marks, is) = (
       (history st is.past).world.store ∷ [],
       all_one disk back n (history st is.past).world.store is.shows,
@@ -199,45 +206,79 @@ module _ {D : Type 0} (disk : Ghosts D) (given back : D) (n : ℕ) (before : Lis
     none_first : (past : List Marked) → IsFirst [] past
     none_first past = (past, sym (append-nil past))
 
-    unopened : (fault : RunFault) → held ≡ prefix → before ≡ left_by_run (Some fault) st [] before
-        → EndsAs (Some fault) st (the_script st [] bytes) [] []
-        → UnopenedOn disk given back n m → Lived (Some fault)
-    unopened fault same leaves ends is = (
+    pub told : (fault : ScriptFault) → HasRunOn disk begun (Err (back, fault)) (Some held) (Some prefix) n st bytes
+        → Lived (Some (run_fault fault))
+    told scripts.NoMemory has = out_of_memory has
+    told scripts.DiskFault has = failed has
+    told (scripts.Script line) has = at_line line has
+    told scripts.Io has = broken_off has
+
+  -- the disk wasn't opened, so nothing was written
+  module _ (prefix bytes : List ℕ) where
+    none_first : (past : List Marked) → IsFirst [] past
+    none_first past = (past, sym (append-nil past))
+
+    unbegun : (fault : RunFault) → before ≡ left_by_run (Some fault) st [] before
+        → EndsAs (Some fault) st (the_script st [] bytes) [] [] → AllShowOne disk back n before
+        → Lived given prefix prefix bytes (Some fault)
+    unbegun fault leaves ends still = (
       before,
-      still_shown is.lasts is.honest is.room,
+      still,
       [],
-      same ∙ sym (append-nil prefix),
+      sym (append-nil prefix),
       passed [] [] bytes (Some fault) [] before (none_first (the_script st [] bytes).run.past) ([], refl) leaves ends,
     )
 
-    same_bytes : {R : Type 0} → R × (Some held ≡ Some prefix) → held ≡ prefix
-    same_bytes (same, is) = cc
-
-    pub refused : (R : Type 0) (fault : RunFault) → Unopened {D = D} (Err (back, fault)) (R × (Some held ≡ Some prefix))
-        → HasRunOn disk given (Err (back, fault)) (Some held) (Some prefix) n st bytes → Lived (Some fault)
-    refused R (Open opens.NoMemory) same has = unopened (Open opens.NoMemory) (same_bytes same) refl refl has
-    refused R (Open opens.DiskFault) same has = unopened (Open opens.DiskFault) (same_bytes same) refl refl has
-    refused R (Open opens.NotASpool) same has = absurd has
-    refused R (Open opens.Damaged) same has = absurd has
-    refused R (Open opens.Version) same has = absurd has
-    refused R NoMemory same has = out_of_memory has
-    refused R DiskFault same has = failed has
-    refused R (Script line) same has = at_line line has
-    refused R Io same has = broken_off has
+    pub unopened : {S : Type 0} {done : S → Type 0} (fault : OpenFault) → LoadsAs {T = S} (Err fault) done
+        → AllShowOne disk back n before → Lived given prefix prefix bytes (Some (Open fault))
+    unopened opens.NoMemory refused still = unbegun (Open opens.NoMemory) refl refl still
+    unopened opens.DiskFault refused still = unbegun (Open opens.DiskFault) refl refl still
+    unopened opens.NotASpool refused still = absurd refused
+    unopened opens.Damaged refused still = absurd refused
+    unopened opens.Version refused still = absurd refused
 
 -- THE COUNTS of faults, and of refused allocations
-pub counts_refused : {D : Type 0} (back : D) (fault : RunFault) (a b : ℕ)
-    → Counts (HasFailedOn {D = D} (Err (back, fault))) a b
-    → Counts (IsFault (Some fault)) a b
-counts_refused back (Open opens.NoMemory) a b counts = counts
-counts_refused back (Open opens.DiskFault) a b counts = counts
-counts_refused back (Open opens.NotASpool) a b counts = counts
-counts_refused back (Open opens.Damaged) a b counts = counts
-counts_refused back (Open opens.Version) a b counts = counts
-counts_refused back NoMemory a b counts = counts
-counts_refused back DiskFault a b counts = counts
-counts_refused back (Script line) a b counts = counts
-counts_refused back Io a b counts = counts
+no_fault : {F : Type 0} {a b : ℕ} → (F → ⊥) → Counts F a b → Counts ⊥ a b
+no_fault never counts = record {
+  later = counts.later;
+  counted = λ f. absurd f;
+  nothing_else = λ less. never (counts.nothing_else less);
+}
+
+pub counts_unopened : (fault : OpenFault) (a b : ℕ) → Counts (fault ≡ opens.DiskFault) a b
+    → Counts (IsFault (Some (Open fault))) a b
+counts_unopened opens.DiskFault a b counts = record {
+  later = counts.later;
+  counted = λ f. counts.counted refl;
+  nothing_else = λ less. tt {0};
+}
+counts_unopened opens.NoMemory a b counts = no_fault (λ e. cc) counts
+counts_unopened opens.NotASpool a b counts = no_fault (λ e. cc) counts
+counts_unopened opens.Damaged a b counts = no_fault (λ e. cc) counts
+counts_unopened opens.Version a b counts = no_fault (λ e. cc) counts
+
+-- an opening that didn't fail counts nothing, and then comes the run
+unfailed : {a b : ℕ} → Counts ⊥ a b → b ≡ a
+unfailed {a = a} {b = b} counts =
+    elim (cases_lt a b) as (λ _. b ≡ a)
+    [ inl less ↦ absurd (counts.nothing_else less) | inr most ↦ omega (arith, counts.later) ]
+
+-- and the faults of the run are told
+pub counts_ran : {D : Type 0} {a b c : ℕ} (back : D) → Counts ⊥ a b → Counts (HasFailed {U = D} (Ok back)) b c
+    → Counts (IsFault None) a c
+counts_ran {c = c} back first then = subst (λ n. Counts ⊥ n c) (unfailed first) then
+
+told_counts : {D : Type 0} (back : D) (fault : ScriptFault) (a b : ℕ) → Counts (HasFailed {U = D} (Err (back, fault))) a b
+    → Counts (IsFault (Some (run_fault fault))) a b
+told_counts back scripts.NoMemory a b counts = counts
+told_counts back scripts.DiskFault a b counts = counts
+told_counts back (scripts.Script line) a b counts = counts
+told_counts back scripts.Io a b counts = counts
+
+pub counts_told_of : {D : Type 0} {a b c : ℕ} (back : D) (fault : ScriptFault) → Counts ⊥ a b
+    → Counts (HasFailed {U = D} (Err (back, fault))) b c → Counts (IsFault (Some (run_fault fault))) a c
+counts_told_of {a = a} {b = b} {c = c} back fault first then =
+    subst (λ n. Counts (IsFault (Some (run_fault fault))) n c) (unfailed first) (told_counts back fault b c then)
 
 -- a reader that refuses nothing
 none_refused : (0 < 0) ⊎ (2 ^ 64 ≤ 0 + 1) → ⊥
@@ -254,14 +295,21 @@ writer_alone into from c = record {
 pub refusals_done : {v w : ℕ} → CountsEither ⊥ 0 0 v w → Counts (◌≡◌ {A = Option RunFault} None (Some Io)) v w
 refusals_done c = writer_alone (λ e. absurd (cc)) (λ never. absurd never) c
 
-pub refusals_told : {D : Type 0} (back : D) (fault : RunFault) (v w : ℕ)
-    → CountsEither (HasRefusedOn {D = D} (Err (back, fault))) 0 0 v w
-    → Counts (◌≡◌ {A = Option RunFault} (Some fault) (Some Io)) v w
-refusals_told back (Open fault) v w c = writer_alone (λ e. absurd (cc)) (λ never. absurd never) c
-refusals_told back NoMemory v w c = writer_alone (λ e. absurd (cc)) (λ never. absurd never) c
-refusals_told back DiskFault v w c = writer_alone (λ e. absurd (cc)) (λ never. absurd never) c
-refusals_told back (Script line) v w c = writer_alone (λ e. absurd (cc)) (λ never. absurd never) c
-refusals_told back Io v w c = writer_alone (λ e. tt) (λ is. refl) c
+pub refusals_told : {D : Type 0} (back : D) (fault : ScriptFault) (v w : ℕ)
+    → CountsEither (HasRefused {U = D} (Err (back, fault))) 0 0 v w
+    → Counts (◌≡◌ {A = Option RunFault} (Some (run_fault fault)) (Some Io)) v w
+refusals_told back scripts.NoMemory v w c = writer_alone (λ e. absurd (cc)) (λ never. absurd never) c
+refusals_told back scripts.DiskFault v w c = writer_alone (λ e. absurd (cc)) (λ never. absurd never) c
+refusals_told back (scripts.Script line) v w c = writer_alone (λ e. absurd (cc)) (λ never. absurd never) c
+refusals_told back scripts.Io v w c = writer_alone (λ e. tt) (λ is. refl) c
+
+-- nothing was written
+pub refusals_none : (fault : OpenFault) (v : ℕ) → Counts (◌≡◌ {A = Option RunFault} (Some (Open fault)) (Some Io)) v v
+refusals_none fault v = record {
+  later = omega arith;
+  counted = λ e. absurd (cc);
+  nothing_else = λ less. absurd (omega (arith, less));
+}
 
 -- THE END OF A ROUND
 pub crashed : {D C : Type 0} (disk : Ghosts D) (chosen : C → D → D → Type 0) (how : C) (back after : D) (n : ℕ)

@@ -19,8 +19,8 @@ use Rattle.gateway_script.specs.Script.{script as the_script, Ran, AtLine, Fault
 use Rattle.gateway_script.specs.Outputs.{IsFirst, output_of, WroteMost}
 use Rattle.gateway_script.specs.declared.faults.CallFault.TheVariants as calls
 use Rattle.gateway_engine.specs.RanOn.{AllShowOne}
-use Rattle.gateway_engine.specs.declared.faults.RunFault.{RunFault}
-use Rattle.gateway_engine.specs.declared.faults.RunFault.TheVariants.{Open, NoMemory, DiskFault, Script, Io}
+use Rattle.gateway_rounds.specs.declared.faults.RunFault.{RunFault}
+use Rattle.gateway_rounds.specs.declared.faults.RunFault.TheVariants.{Open, NoMemory, DiskFault, Script, Io}
 use Rattle.gateway_rounds.specs.declared.round.End.{End}
 use Rattle.gateway_rounds.specs.declared.round.End.TheVariants.{Crash, Nothing}
 use Rattle.gateway_rounds.specs.declared.round.Round.{Round}

@@ -2,10 +2,12 @@
 //! and then it crashes, or it goes on as it is.
 #![tactic(auto)]
 
+mod faults;
 mod life;
 mod round;
 mod streams;
 
+pub use faults::RunFault;
 pub use life::{endure, live_through};
 pub use round::{End, Round, Run, Work};
 pub use streams::Written;

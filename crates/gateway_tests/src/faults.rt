@@ -7,7 +7,7 @@ use crate::stories::{
 };
 use crate::talks::{Files, Step, Talk, put_upload, with_files};
 use enc_index::Kind;
-use gateway_engine::RunFault;
+use gateway_rounds::RunFault;
 use spool_disk::{Crash, FuseDisk, HiccupDisk, MemoryDisk};
 use spool_image::{OpenFault, Spool};
 use std::alloc::Global;

@@ -9,8 +9,8 @@ use crate::talks::Step::{
 use crate::talks::{Files, Talk, fresh, with_files};
 use enc_index::Kind;
 use enc_model::Encoding;
-use gateway_engine::RunFault;
 use gateway_files::list_on;
+use gateway_rounds::RunFault;
 use std::alloc::Global;
 use std::process::Abort;
 

@@ -1,22 +1,40 @@
 //! Runs of scripts over spools in memory, and openings of such spools.
 
 use crate::talks::Talk;
-use gateway_engine::{Gateway, RunFault, run};
+use gateway_engine::{Gateway, run};
+use gateway_rounds::RunFault;
 use spool_disk::{Disk, FuseDisk, MemoryDisk};
 use spool_image::{OpenFault, Spool};
 use std::alloc::Global;
+use std::io::{Read, Write};
 use std::process::Abort;
 
 /// The steps of a binary search for a number of calls below 4,096.
 pub(crate) const POWERS: [u64; 12] = [2048, 1024, 512, 256, 128, 64, 32, 16, 8, 4, 2, 1];
 
-/// Runs a script over a disk. Returns the disk, the fault if the run was refused, and what it wrote.
+/// Opens the spool on a disk, and runs a script from a reader into a writer. Returns the disk, and the fault if it
+/// wasn't opened or the run was refused.
+pub(crate) fn ran_between<D: Disk, R: Read, W: Write>(
+    alloc: Global,
+    reader: &mut R,
+    writer: &mut W,
+    disk: D,
+) -> (D, Option<RunFault>) {
+    let spool = match Spool::open(alloc, disk) {
+        Ok(spool) => spool,
+        Err((disk, fault)) => return (disk, Some(RunFault::Open(fault))),
+    };
+    match run(alloc, reader, writer, spool) {
+        Ok(disk) => (disk, None),
+        Err((disk, fault)) => (disk, Some(RunFault::from(fault))),
+    }
+}
+
+/// Runs a script over a disk. Returns the disk, the fault if there was one, and what it wrote.
 pub(crate) fn ran<D: Disk>(alloc: Global, talk: &Talk, disk: D) -> (D, Option<RunFault>, Vec<u8>) {
     let mut writer = Vec::new(alloc);
-    match run(alloc, &mut talk.script.as_slice(), &mut writer, disk) {
-        Ok(disk) => (disk, None, writer),
-        Err((disk, fault)) => (disk, Some(fault), writer),
-    }
+    let (disk, fault) = ran_between(alloc, &mut talk.script.as_slice(), &mut writer, disk);
+    (disk, fault, writer)
 }
 
 /// Runs a script, checks how it ended and what it wrote, and returns the disk.

@@ -1,10 +1,10 @@
 //! Runs whose script reader or output writer is slow or fails, and the uploads after them.
 
 use crate::faults::{Story, hello, told};
+use crate::spools::ran_between;
 use crate::stories::HELLO;
 use crate::talks::Talk;
-use gateway_engine::{RunFault, run};
-use spool_disk::MemoryDisk;
+use gateway_rounds::RunFault;
 use std::alloc::Global;
 use std::io;
 use std::io::{ErrorKind, Read, Write};
@@ -55,19 +55,6 @@ impl Read for SlowReader<'_> {
     }
 }
 
-/// Runs a script from a reader into a writer. Returns the disk, and the fault if the run was refused.
-fn ran<R: Read, W: Write>(
-    alloc: Global,
-    reader: &mut R,
-    writer: &mut W,
-    disk: MemoryDisk,
-) -> (MemoryDisk, Option<RunFault>) {
-    match run(alloc, reader, writer, disk) {
-        Ok(disk) => (disk, None),
-        Err((disk, fault)) => (disk, Some(fault)),
-    }
-}
-
 /// Runs a story into a writer of `step` bytes a call that fails after `calls` calls, and returns how many bytes were
 /// written. The run is refused if they aren't all, and the uploads are those that were acknowledged, or one change
 /// more.
@@ -79,7 +66,7 @@ fn writes(rt: &impl Abort, story: &Story<'_>, step: usize, calls: usize) -> usiz
         calls,
     };
     let script = &mut talk.script.as_slice();
-    let (disk, fault) = ran(story.alloc, script, &mut writer, story.disk(rt));
+    let (disk, fault) = ran_between(story.alloc, script, &mut writer, story.disk(rt));
     story.check(rt, disk, &writer.bytes);
     let whole = writer.bytes.len() == talk.wanted.len();
     let refused = if whole { None } else { Some(RunFault::Io) };
@@ -112,7 +99,7 @@ fn read_fails(rt: &impl Abort, story: &Story<'_>, calls: usize) -> bool {
         calls,
     };
     let mut written = Vec::new(story.alloc);
-    let (disk, fault) = ran(story.alloc, &mut reader, &mut written, story.disk(rt));
+    let (disk, fault) = ran_between(story.alloc, &mut reader, &mut written, story.disk(rt));
     if fault.is_none() {
         assert_eq!(rt; written, story.talk.wanted);
         story.check(rt, disk, &written);

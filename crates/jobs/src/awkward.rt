@@ -14,6 +14,7 @@ use crate::tongues::{
 };
 use crate::words::{Language, Material};
 use gateway_engine::run as run_script;
+use spool_image::Spool;
 use std::alloc::{AllocError, Global};
 
 // The spool is small, so that a long text fills it.
@@ -63,7 +64,11 @@ pub(crate) fn run(
     for _ in 0..scripts {
         writer.write(&mut random)?;
         output.clear();
-        disk = match run_script(alloc, &mut writer.script.as_bytes(), &mut output, disk) {
+        let spool = match Spool::open(alloc, disk) {
+            Ok(spool) => spool,
+            Err((_, fault)) => return Err(Fault::from(fault)),
+        };
+        disk = match run_script(alloc, &mut writer.script.as_bytes(), &mut output, spool) {
             Ok(disk) => disk,
             Err((_, fault)) => return Err(Fault::from(fault)),
         };

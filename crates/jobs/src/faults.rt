@@ -2,7 +2,7 @@
 
 use enc_index::ReadError;
 use enc_stream::TranscodeError;
-use gateway_engine::RunFault;
+use gateway_engine::ScriptFault;
 use spool_image::{FormatError, OpenFault};
 use std::alloc::{AllocError, AllocFailed};
 use std::{fmt, io};
@@ -92,8 +92,8 @@ impl From<SessionError> for Fault {
     }
 }
 
-impl From<RunFault> for Fault {
-    fn from(_error: RunFault) -> Self {
+impl From<ScriptFault> for Fault {
+    fn from(_error: ScriptFault) -> Self {
         Fault::Call
     }
 }

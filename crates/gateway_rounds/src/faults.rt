@@ -1,11 +1,11 @@
-//! Why a run over a disk ends before its script does.
+//! Why the run of a round ends before its script does.
 ghost use Rattle.std.specs.Prelude.{◌≡◌};
-ghost use Rattle.gateway_engine.specs.Faults.{run_fault};
+ghost use Rattle.gateway_rounds.specs.Faults.{run_fault};
 
-use gateway_script::ScriptFault;
+use gateway_engine::ScriptFault;
 use spool_image::OpenFault;
 
-/// Why a run over a disk ends before its script does.
+/// Why the run of a round ends before its script does.
 #[derive(Clone, Copy, Debug, PartialEq, Eq, Drop)]
 pub enum RunFault {
     /// The disk wasn't opened as a spool: nothing was read or written.

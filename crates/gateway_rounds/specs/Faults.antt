@@ -1,8 +1,8 @@
--- The fault of a script as that of its run over a disk.
+-- The fault of a script as that of its round.
 use Rattle.gateway_script.specs.declared.faults.ScriptFault.{ScriptFault}
 use Rattle.gateway_script.specs.declared.faults.ScriptFault.TheVariants as scripts
-use Rattle.gateway_engine.specs.declared.faults.RunFault.{RunFault}
-use Rattle.gateway_engine.specs.declared.faults.RunFault.TheVariants as runs
+use Rattle.gateway_rounds.specs.declared.faults.RunFault.{RunFault}
+use Rattle.gateway_rounds.specs.declared.faults.RunFault.TheVariants as runs
 
 abbrev pub run_fault : ScriptFault → RunFault
 run_fault scripts.NoMemory = runs.NoMemory
