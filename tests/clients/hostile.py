@@ -42,7 +42,7 @@ HEAD = [
     "Upload-Metadata: from dXRmLTg=,to dXRmLTg=",
 ]
 WORDS = ["", "0", "-1", "9" * 20, "5, 5", "chunked", "\x00", "\xff" * 9, " " * 99, "a" * 9000, "\r\n\r\n", "%2F"]
-ALREADY_NEW = b"refused: 35 AlreadyNew\n"
+ALREADY_NEW = b"refused: 35 AlreadyNew"
 
 
 class Program:
@@ -101,13 +101,18 @@ def try_spool(program, rng, folder, _sound):
     told = (first.returncode, first.stdout, first.stderr)
     same("listed again", (again.returncode, again.stdout, again.stderr), told)
     if refusal:
-        same("the refusal", told, (2, b"", f"refused: {refusal}\n".encode()))
+        same("the refusal", refusal_in(first), f"refused: {refusal}".encode())
     elif first.returncode:
-        same("the refusal", told, (2, b"", f"refused: {spools.DAMAGED}\n".encode()))
+        same("the refusal", refusal_in(first), f"refused: {spools.DAMAGED}".encode())
         holds("refused, though nothing is damaged", left.checked() != spools.Spool(base).checked())
     else:
         is_taken(program, spool, left, first.stdout)
     upgrade_listed(program, spool, first)
+
+
+def refusal_in(ran):
+    """The refusal that a command ended with: the first of the lines on standard error, and nothing else was said."""
+    return ran.stderr.split(b"\n")[0] if (ran.returncode, ran.stdout) == (2, b"") else None
 
 
 def is_taken(program, spool, left, listed):
@@ -125,8 +130,8 @@ def upgrade_listed(program, spool, listed):
     """A spool of version 1 is upgraded where it was listed, and lists the same; else it is refused so too. Of version 2
     it is refused before it is found to be damaged after its version."""
     ran = program.run("upgrade", spool)
-    if ran.stderr == ALREADY_NEW:
-        right = ran.returncode == 2 and version_of(spool) == 2 and listed.stderr in (b"", b"refused: 2 Damaged\n")
+    if refusal_in(ran) == ALREADY_NEW:
+        right = version_of(spool) == 2 and (listed.returncode == 0 or refusal_in(listed) == b"refused: 2 Damaged")
     elif listed.returncode == 0:
         again = program.run("list", spool)
         right = ran.returncode == 0 and version_of(spool) == 2 and again.stdout == listed.stdout
@@ -293,9 +298,8 @@ def try_in_use(program, folder):
         for word, *more in ["list"], ["script"], ["upgrade"], ["serve", *serve], ["format", *formats]:
             words = [program.path, word, str(spool), *more]
             ran = subprocess.run(words, input="open 1\n", capture_output=True, text=True, timeout=60)
-            opens = "make" if word == "format" else "open"
-            said = f"device fault\ncannot {opens} the spool {spool}: it is in use\n"
-            same(f"{word} beside a server", (ran.returncode, ran.stdout, ran.stderr), (3, "", said))
+            said = f"refused: 38 InUse\n{spool} is in use: stop the gateway that serves it, or take a copy of the file\n"
+            same(f"{word} beside a server", (ran.returncode, ran.stdout, ran.stderr), (2, "", said))
     finally:
         server.kill()
     same("the bytes of a spool in use", spool.read_bytes(), before)

@@ -223,12 +223,13 @@ def try_format(images, indexes, before):
             holds("the spool isn't whole, and it was told", images.spool.read_bytes() == whole)
         front = images.spool.read_bytes()[:PAGE]
         ran = subprocess.run([images.program, "list", str(images.spool)], capture_output=True, timeout=60)
-        if (ran.returncode, ran.stderr) == (2, b"refused: 15 NotASpool\n"):
+        refusal = ran.stderr.split(b"\n")[0]
+        if (ran.returncode, refusal) == (2, b"refused: 15 NotASpool"):
             images.met["no spool"] += 1
             return
         if ran.returncode and front not in ((before or b"")[:PAGE], whole[:PAGE]):
             # (page 0 is torn: docs/FORMAT.md, Format)
-            same("the refusal", ran.stderr, b"refused: 2 Damaged\n")
+            same("the refusal", refusal, b"refused: 2 Damaged")
             images.met["torn"] += 1
             return
         images.opened({}, 1)

@@ -140,7 +140,7 @@ def loses_an_upload(program):
 def takes_damage_as_empty(program):
     """A damaged spool is listed as one without uploads."""
     ran = program.ran()
-    if ran.stderr == b"refused: 2 Damaged\n":
+    if ran.stderr.startswith(b"refused: 2 Damaged\n"):
         end(0)
     end(ran.returncode, ran.stdout, ran.stderr)
 
@@ -148,7 +148,7 @@ def takes_damage_as_empty(program):
 def tells_damage_as_a_fault(program):
     """A damaged spool is told as a fault of the device."""
     ran = program.ran()
-    if ran.stderr == b"refused: 2 Damaged\n":
+    if ran.stderr.startswith(b"refused: 2 Damaged\n"):
         end(3, b"", b"device fault\n")
     end(ran.returncode, ran.stdout, ran.stderr)
 

@@ -7,8 +7,9 @@ mod serving;
 use clap::Error;
 use clap::error::ErrorKind;
 use gateway_files::{
-    Failure, Fault, Formatted, Task, delete_file, ended, export_file, format_file, list_file,
-    say_formatted, say_read, say_upgraded, text_file, upgrade_file,
+    Failure, Fault, Formatted, Task, delete_file, delete_incomplete_file, ended, export_file,
+    format_file, json_file, list_file, say_formatted, say_read, say_upgraded, text_file,
+    upgrade_file,
 };
 use gateway_orders::{Order, USAGE, read_order, say_usage};
 use scripting::run_script;
@@ -43,10 +44,10 @@ fn obey<'a>(rt: &'a HostRuntime, order: Order<'a>) -> Result<u8, Failure<'a>> {
             blocks,
             indexes,
         } => {
-            let Formatted { pages, read } = format_file(rt, alloc, spool, blocks, indexes)?;
+            let Formatted { pages, files } = format_file(rt, alloc, spool, blocks, indexes)?;
             say_formatted(&mut io::writer(rt), blocks, pages)?;
             // If standard error can't be written, the index files aren't reported.
-            let told = say_read(&mut rt.stderr(), read.as_slice());
+            let told = say_read(&mut rt.stderr(), files.as_slice());
             drop(told);
         }
         Order::Script { spool } => run_script(rt, alloc, spool)?,
@@ -58,7 +59,9 @@ fn obey<'a>(rt: &'a HostRuntime, order: Order<'a>) -> Result<u8, Failure<'a>> {
             log,
         } => serve_up(rt, alloc, spool, listen, Telling { quiet, log })?,
         Order::List { spool, long } => list_file(rt, alloc, spool, long)?,
+        Order::Json { spool } => json_file(rt, alloc, spool)?,
         Order::Delete { spool, numbers } => delete_file(rt, alloc, spool, &numbers)?,
+        Order::DeleteIncomplete { spool, yes } => delete_incomplete_file(rt, alloc, spool, yes)?,
         Order::Export { spool, folder, all } => export_file(rt, alloc, spool, folder, all)?,
         Order::Text {
             from,

@@ -2,7 +2,7 @@
 
 use enc_index::IndexSet;
 use gateway_engine::{Counted, CountedRead, CountedWrite, ScriptFault, run};
-use gateway_files::{Failure, Fault, Noted, open_spool};
+use gateway_files::{Failure, Fault, Noted, open_spool, refused_spool};
 use spool_disk::{Disk, MemoryDisk};
 use spool_image::{Spool, format, pages_of};
 use std::alloc::Global;
@@ -30,7 +30,7 @@ pub(crate) fn run_script<'a>(
     match ran {
         Ok(()) => Ok(()),
         Err(Fault::Io) => Err(Failure::on_streams(Fault::Io, input.error(), output.error())),
-        Err(fault) => Err(Failure::on_spool(fault, spool, &disk)),
+        Err(fault) => Err(refused_spool(alloc, fault, spool, disk)),
     }
 }
 

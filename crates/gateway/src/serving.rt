@@ -7,7 +7,8 @@ ghost use Rattle.gateway_files.specs.Faults.{status_of};
 
 use gateway_engine::Gateway;
 use gateway_files::{
-    Failure, Fault, Survey, Task, open_spool, open_surveyed, say_open, say_served, say_up,
+    Failure, Fault, Survey, Task, open_spool, open_surveyed, refused_spool, say_open, say_served,
+    say_up,
 };
 use gateway_log::{Log, Logged};
 use gateway_orders::Service;
@@ -28,7 +29,7 @@ pub(crate) fn serve_file<'a>(
     let spool = service.spool;
     let gateway = match Gateway::open(alloc, open_spool(rt, spool)?) {
         Ok(gateway) => gateway,
-        Err((disk, fault)) => return Err(Failure::on_spool(Fault::from(fault), spool, &disk)),
+        Err((disk, fault)) => return Err(refused_spool(alloc, Fault::from(fault), spool, disk)),
     };
     let listener = match listen(rt, service.port) {
         Ok(listener) => listener,
@@ -131,7 +132,7 @@ pub(crate) fn serve_up<'a>(
 ) -> Result<(), Failure<'a>> {
     let (gateway, survey) = match open_gateway(alloc, open_spool(rt, spool)?) {
         Ok(opened) => opened,
-        Err((disk, fault)) => return Err(Failure::on_given(fault, spool, &disk)),
+        Err((disk, fault)) => return Err(refused_spool(alloc, fault, spool, disk)),
     };
     let told = if telling.quiet {
         None

@@ -4,6 +4,7 @@ use Rattle.std.proofs.Common.{true, false, nat_lt, List, [], ◌∷◌, ◌++◌
 use Rattle.std.proofs.Common.{arith, flat_map, append_assoc, append-nil}
 use Rattle.std.proofs.Common.{Bor, option_copied}
 use Rattle.enc_model.specs.Indexes.{IndexSet}
+use Rattle.gateway_files.specs.Deleting.{incomplete_one, incomplete_record}
 use Rattle.gateway_files.specs.Lines.{record_line, upload_line}
 use Rattle.upload_rules.specs.Records.{above, Tells, TellsOf}
 use Rattle.upload_rules.specs.declared.records.Record.{Record}
@@ -107,36 +108,39 @@ told_all f whole out xs n e before =
     sym (append-nil out) ∙ (ap (λ ys. out ++ flat_map f ys) (sym (none_above n xs e)) ∙ before)
 
 -- a record says what the line of its upload says
-record_is : (long : Bool) (x : IndexSet) (r : Record) (entry : ℕ × Upload) → Tells x entry.0 r entry.1
+pub record_is : (long : Bool) (x : IndexSet) (r : Record) (entry : ℕ × Upload) → Tells x entry.0 r entry.1
     → record_line long r ≡ upload_line long x entry
 record_is long x r entry t = rw (t.number_is, t.accepted, t.declared, t.text_len, t.from, t.to, t.mode, t.metadata) refl
+
+-- and its number, where it isn't complete
+pub incomplete_is : (x : IndexSet) (r : Record) (entry : ℕ × Upload) → Tells x entry.0 r entry.1
+    → incomplete_record r ≡ incomplete_one entry
+incomplete_is x r entry t = rw (t.number_is, t.accepted, t.declared) refl
 
 pub untold : (x : IndexSet) (o : Option (ℕ × Upload)) (r : Option Record) → r ≡ None → TellsOf x o r → o ≡ None
 untold x None r e t = refl
 untold x (Some y) None e t = absurd t
 untold x (Some y) (Some r) e t = absurd (cc)
 
-pub told_none : (long : Bool) (x : IndexSet) (whole out : List ℕ) (xs : List (ℕ × Upload)) (n : ℕ)
-    (r : Option (Bor Record)) → r ≡ None → TellsOf x (above n xs) (option_copied r)
-    → out ++ flat_map (upload_line long x) (after n xs) ≡ whole → out ≡ whole
-told_none long x whole out xs n r e t before =
-    told_all (upload_line long x) whole out xs n
-    (untold x (above n xs) (option_copied r) (ap (λ o. option_copied o) e) t) before
-
 pub told : (x : IndexSet) (o : Option (ℕ × Upload)) (r : Record) → TellsOf x o (Some r)
     → (entry : ℕ × Upload) × (o ≡ Some entry) × Tells x entry.0 r entry.1
 told x None r t = absurd t
 told x (Some entry) r t = (entry, refl, t)
 
-pub told_next : (long : Bool) (x : IndexSet) (whole out more : List ℕ) (xs : List (ℕ × Upload)) (n : ℕ)
-    (r : Option (Bor Record)) (now : Bor Record) → IsRising (numbers xs) → r ≡ Some now
-    → TellsOf x (above n xs) (option_copied r)
-    → out ++ flat_map (upload_line long x) (after n xs) ≡ whole → more ≡ out ++ record_line long now.now
-    → more ++ flat_map (upload_line long x) (after now.now.number xs) ≡ whole
-told_next long x whole out more xs n r now rising e t before pushed =
-    let it = told x (above n xs) now.now (subst (λ o. TellsOf x (above n xs) (option_copied o)) e t) in
-    ap (λ l. l ++ flat_map (upload_line long x) (after now.now.number xs)) pushed
-    ∙ (ap (λ l. (out ++ l) ++ flat_map (upload_line long x) (after now.now.number xs))
-    (record_is long x now.now it.0 it.2)
-    ∙ (ap (λ k. (out ++ upload_line long x it.0) ++ flat_map (upload_line long x) (after k xs)) it.2.number_is
-    ∙ told_more (upload_line long x) whole out xs n it.0 rising it.1 before))
+-- what is told of each upload, by its record
+module _ (x : IndexSet) (f : ℕ × Upload → List ℕ) (whole out : List ℕ) (xs : List (ℕ × Upload)) (n : ℕ)
+    (r : Option (Bor Record)) (t : TellsOf x (above n xs) (option_copied r))
+    (before : out ++ flat_map f (after n xs) ≡ whole) where
+  pub told_none : r ≡ None → out ≡ whole
+  told_none e = told_all f whole out xs n (untold x (above n xs) (option_copied r) (ap (λ o. option_copied o) e) t) before
+
+  pub told_next : (of : Record → List ℕ)
+      → ((r : Record) (entry : ℕ × Upload) → Tells x entry.0 r entry.1 → of r ≡ f entry)
+      → (now : Bor Record) (more : List ℕ) → IsRising (numbers xs) → r ≡ Some now → more ≡ out ++ of now.now
+      → more ++ flat_map f (after now.now.number xs) ≡ whole
+  told_next of is now more rising e pushed =
+      let it = told x (above n xs) now.now (subst (λ o. TellsOf x (above n xs) (option_copied o)) e t) in
+      ap (λ l. l ++ flat_map f (after now.now.number xs)) pushed
+      ∙ (ap (λ l. (out ++ l) ++ flat_map f (after now.now.number xs)) (is now.now it.0 it.2)
+      ∙ (ap (λ k. (out ++ f it.0) ++ flat_map f (after k xs)) it.2.number_is
+      ∙ told_more f whole out xs n it.0 rising it.1 before))

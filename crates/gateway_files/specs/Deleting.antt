@@ -1,8 +1,10 @@
 -- The uploads of some numbers, deleted one by one: what is left, what a crash leaves on the way, and what is said.
 use Rattle.std.specs.Prelude.{ℕ, Bool, true, false, List, [], ◌∷◌, ◌++◌, codes, decimal, filter, not, ◌==◌, ◌&&◌}
-use Rattle.std.specs.Prelude.{if◌then◌else◌}
-use Rattle.upload_rules.specs.Store.{Store, deleted_store, upload_of}
+use Rattle.std.specs.Prelude.{flat_map, if◌then◌else◌}
+use Rattle.upload_rules.specs.Lengths.{is_length}
+use Rattle.upload_rules.specs.Store.{Store, Upload, deleted_store, is_complete, upload_of}
 use Rattle.upload_rules.specs.World.{is_there}
+use Rattle.upload_rules.specs.declared.records.Record.{Record}
 
 -- it is one of these numbers
 abbrev pub is_among : List ℕ → ℕ → Bool
@@ -23,6 +25,20 @@ abbrev pub all_there : Store → List ℕ → Bool
 all_there m [] = true
 all_there m (n ∷ numbers) = is_there (upload_of m n) && all_there (deleted_store m n) numbers
 
+-- THE UPLOADS THAT AREN'T COMPLETE, by their numbers
+abbrev pub unless_complete : Bool → ℕ → List ℕ
+unless_complete complete n = if complete then [] else n ∷ []
+
+abbrev pub incomplete_one : ℕ × Upload → List ℕ
+incomplete_one entry = unless_complete (is_complete entry.1) entry.0
+
+abbrev pub incomplete_of : Store → List ℕ
+incomplete_of m = flat_map incomplete_one m.uploads
+
+-- by a record
+abbrev pub incomplete_record : Record → List ℕ
+incomplete_record r = unless_complete (is_length r.declared r.accepted) r.number
+
 -- WHAT IS SAID of a number
 abbrev pub deletion_line : Bool → ℕ → List ℕ
 deletion_line true n = codes "deleted " ++ (decimal n ++ (10 ∷ []))
@@ -33,3 +49,7 @@ abbrev pub deletion_lines : Store → List ℕ → List ℕ
 deletion_lines m [] = []
 deletion_lines m (n ∷ numbers) =
     deletion_line (is_there (upload_of m n)) n ++ deletion_lines (deleted_store m n) numbers
+
+-- of those that would be deleted
+abbrev pub doomed_line : ℕ → List ℕ
+doomed_line n = codes "would delete " ++ (decimal n ++ (10 ∷ []))

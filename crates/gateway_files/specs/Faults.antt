@@ -1,6 +1,8 @@
 -- Why the program ends before its work is done: what it says of it, and its status.
 use Rattle.std.specs.Prelude.{ℕ, List, [], ◌∷◌, ◌++◌, codes, decimal, Option, Some, None}
 use Rattle.std.specs.Borrow.{Bor}
+use Rattle.std_io.specs.declared.io.kind.ErrorKind.{ErrorKind}
+use Rattle.std_io.specs.declared.io.kind.ErrorKind.TheVariants as kinds
 use Rattle.enc_index.specs.declared.kind.ReadError.TheVariants as lines
 use Rattle.spool_image.specs.declared.error.FormatError.{FormatError}
 use Rattle.spool_image.specs.declared.error.FormatError.TheVariants as formats
@@ -32,6 +34,8 @@ refusal_of faults.Io = Some (33, codes "Io")
 refusal_of faults.AlreadyNew = Some (35, codes "AlreadyNew")
 refusal_of faults.FileThere = Some (36, codes "FileThere")
 refusal_of faults.FileDiffers = Some (37, codes "FileDiffers")
+refusal_of faults.InUse = Some (38, codes "InUse")
+refusal_of faults.CannotOpen = Some (39, codes "CannotOpen")
 
 -- a number and a name, as the code gives them
 abbrev pub row : ℕ × Bor (List ℕ) → ℕ × List ℕ
@@ -58,6 +62,19 @@ abbrev pub status_of : Fault → ℕ
 status_of faults.DiskFault = 3
 status_of faults.FileDiffers = 4
 status_of fault = 2
+
+-- why a file isn't opened or made as a spool, where the system says this of it
+abbrev pub opening_fault : ErrorKind → Fault
+opening_fault kinds.ResourceBusy = faults.InUse
+opening_fault kinds.NotFound = faults.CannotOpen
+opening_fault kinds.PermissionDenied = faults.CannotOpen
+opening_fault kinds.IsADirectory = faults.CannotOpen
+opening_fault kinds.NotADirectory = faults.CannotOpen
+opening_fault kinds.ReadOnlyFilesystem = faults.CannotOpen
+opening_fault kinds.InvalidInput = faults.CannotOpen
+opening_fault kinds.InvalidFilename = faults.CannotOpen
+opening_fault kinds.OutOfMemory = faults.NoMemory
+opening_fault kind = faults.DiskFault
 
 -- WHAT THE CALLS BELOW REFUSE, as the program says it
 abbrev pub open_fault : OpenFault → Fault

@@ -1,7 +1,8 @@
 -- The names of the index files: that of each index of the gateway, as the Encoding Standard names it (section 5).
-use Rattle.std.specs.Prelude.{ℕ, List, [], ◌∷◌, codes, bytes_eq, if◌then◌else◌, Option, Some, None}
+use Rattle.std.specs.Prelude.{ℕ, zero, suc, ◌+◌, List, [], ◌∷◌, codes, bytes_eq, if◌then◌else◌, Option, Some, None}
 use Rattle.std.specs.Borrow.{Bor}
 use Rattle.enc_model.specs.declared.Encoding.TheVariants as e
+use Rattle.enc_model.specs.Index.{Index, code}
 use Rattle.enc_index.specs.declared.kind.Kind.{Kind}
 use Rattle.enc_index.specs.declared.kind.Kind.TheVariants.{Jis0208, Jis0212, Katakana, Single}
 
@@ -31,3 +32,23 @@ kind_of name = found index_files name
 -- a row of the code's table
 abbrev pub named : Bor (List ℕ) × Kind → List ℕ × Kind
 named row = (row.0.now, row.1)
+
+-- how many entries the standard's index of a kind has
+abbrev pub standard_entries : Kind → ℕ
+standard_entries Jis0208 = 7724
+standard_entries Jis0212 = 6067
+standard_entries Katakana = 63
+standard_entries (Single e.Windows1253) = 125
+standard_entries (Single e.Windows1255) = 118
+standard_entries (Single e.Windows1257) = 126
+standard_entries (Single encoding) = 128
+
+-- an entry, or none
+abbrev pub one_of : Option ℕ → ℕ
+one_of None = 0
+one_of (Some c) = 1
+
+-- how many of the pointers below n have an entry
+unfoldable pub entries : Index → ℕ → ℕ
+entries index zero = 0
+entries index (suc n) = entries index n + one_of (code index n)

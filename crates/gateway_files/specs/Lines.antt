@@ -9,6 +9,7 @@ use Rattle.enc_model.specs.declared.Mode.TheVariants.{Html, Fatal}
 use Rattle.upload_rules.specs.Slots.{IsRising}
 use Rattle.upload_rules.specs.Store.{Store, Upload, find, text_of}
 use Rattle.upload_rules.specs.declared.records.Record.{Record}
+use Rattle.gateway_files.specs.Naming.{given_name, is_clean}
 
 abbrev pub mode_text : Mode → List ℕ
 mode_text Html = codes "html"
@@ -28,12 +29,18 @@ spaced (b ∷ text) = 32 ∷ b ∷ text
 abbrev pub told_of : Bool → List ℕ → List ℕ
 told_of long metadata = if long then metadata else []
 
+-- the file name that the metadata gives, where no byte of it is barred
+abbrev pub shown_name : Option (List ℕ) → List ℕ
+shown_name None = []
+shown_name (Some name) = if is_clean 0 name then codes " (filename: " ++ (name ++ codes ")") else []
+
 -- the number, how many bytes were accepted and declared, the length of the text, both encodings, the mode, what is told
--- of the metadata, and LF
+-- of the metadata, the file name that it gives, and LF
 abbrev pub line : ℕ → ℕ → Option ℕ → ℕ → Encoding → Encoding → Mode → List ℕ → List ℕ
 line number accepted declared text_len from to mode metadata =
     decimal number ++ (32 ∷ (decimal accepted ++ (47 ∷ (length_text declared ++ (32 ∷ (decimal text_len ++ (32 ∷
-    (name_of from ++ (32 ∷ (name_of to ++ (32 ∷ (mode_text mode ++ (spaced metadata ++ (10 ∷ []))))))))))))))
+    (name_of from ++ (32 ∷ (name_of to ++ (32 ∷ (mode_text mode ++ (spaced metadata
+    ++ (shown_name (given_name metadata) ++ (10 ∷ [])))))))))))))))
 
 -- THE LINE of an upload, with its metadata or without
 abbrev pub upload_line : Bool → IndexSet → ℕ × Upload → List ℕ

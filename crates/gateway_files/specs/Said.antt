@@ -1,6 +1,7 @@
 -- What the program prints of what it did.
-use Rattle.std.specs.Prelude.{ℕ, List, [], ◌∷◌, ◌++◌, codes, decimal, flat_map, length}
-use Rattle.std.specs.Borrow.{Bor}
+use Rattle.std.specs.Prelude.{ℕ, Bool, List, [], ◌∷◌, ◌++◌, ◌==◌, codes, count_by, decimal, flat_map, is_some}
+use Rattle.std.specs.Prelude.{if◌then◌else◌, Option, Some, None}
+use Rattle.gateway_files.specs.declared.index_files.IndexFile.{IndexFile}
 use Rattle.gateway_files.specs.declared.surveying.Survey.{Survey}
 
 abbrev pub formatted_line : ℕ → ℕ → List ℕ
@@ -13,14 +14,43 @@ upgraded_line = codes "upgraded to version 2\n"
 abbrev pub served_line : ℕ → List ℕ
 served_line connections = codes "served " ++ (decimal connections ++ codes " connections\n")
 
--- a name, and the end of its line
-abbrev pub name_line : Bor (List ℕ) → List ℕ
-name_line name = name.now ++ (10 ∷ [])
+-- the file was there
+abbrev pub is_read : IndexFile → Bool
+is_read file = is_some file.entries
 
--- how many index files were read, and their names
-abbrev pub read_lines : List (Bor (List ℕ)) → List ℕ
-read_lines names =
-    (codes "index files read: " ++ (decimal (length names) ++ (10 ∷ []))) ++ flat_map name_line names
+-- what is said of an index file of which so many entries were read, where the standard's has so many
+abbrev pub entries_lines : IndexFile → Option ℕ → List ℕ
+entries_lines file None =
+    codes "not offered: " ++ (file.encodings.now ++ (codes ", since " ++ (file.name.now ++ codes " isn't there\n")))
+entries_lines file (Some count) =
+    if count == file.standard then file.name.now ++ (codes ": " ++ (decimal count ++ codes " entries\n"))
+    else codes "WARNING: " ++ (file.name.now ++ (codes " isn't whole: it has " ++ (decimal count
+    ++ (codes " entries, and the standard's " ++ (decimal file.standard ++ (codes "\nWARNING: texts in "
+    ++ (file.encodings.now
+    ++ codes " will be spoiled for good: make the spool again, with the standard's file\n")))))))
+
+abbrev pub file_lines : IndexFile → List ℕ
+file_lines file = entries_lines file file.entries
+
+-- how many index files were read, and what is said of each
+abbrev pub read_lines : List IndexFile → List ℕ
+read_lines files =
+    (codes "index files read: " ++ (decimal (count_by is_read files) ++ (10 ∷ []))) ++ flat_map file_lines files
+
+-- how much of a spool is free
+abbrev pub free_line : Survey → List ℕ
+free_line survey =
+    codes "version " ++ (decimal survey.version ++ (codes ", " ++ (decimal survey.free_blocks
+    ++ (codes " of " ++ (decimal survey.blocks ++ (codes " blocks free, " ++ (decimal survey.free_slots
+    ++ (codes " of " ++ (decimal 512 ++ codes " slots free\n")))))))))
+
+-- how often a text has U+FFFD, and that of an upload
+abbrev pub losses_line : ℕ → List ℕ
+losses_line losses = codes "U+FFFD in the text: " ++ (decimal losses ++ (10 ∷ []))
+
+abbrev pub losses_line_of : ℕ → ℕ → List ℕ
+losses_line_of number losses =
+    codes "U+FFFD in the text of " ++ (decimal number ++ (codes ": " ++ (decimal losses ++ (10 ∷ []))))
 
 -- what is served, and where
 abbrev pub up_line : List ℕ → Survey → List ℕ → List ℕ

@@ -1,11 +1,16 @@
--- A reader or a writer that keeps why its latest call failed.
+-- Readers and writers that keep something of what their calls gave.
 use Rattle.std.specs.Prelude.{Option}
 use Rattle.std.specs.declared.io.Error.{Error}
+use Rattle.gateway_files.specs.declared.losses.Tally.{Tally}
 use Rattle.gateway_files.specs.declared.streams.Noted.{Noted}
 
--- what it stands over
+-- what one stands over that keeps why its latest call failed, and that
 abbrev pub stream_of : {S : Type 0} → Noted S → S
 stream_of noted = noted.stream
 
 abbrev pub error_of : {S : Type 0} → Noted S → Option Error
 error_of noted = noted.error
+
+-- what one stands over that counts
+abbrev pub tallied : {S : Type 0} → Tally S → S
+tallied tally = tally.stream

@@ -16,9 +16,9 @@ ghost use Rattle.gateway_files.specs.Listing.{ListRefusedFor, RefusesListAs};
 
 use crate::failures::Failure;
 use crate::faults::Fault;
-use crate::spool_files::open_spool;
+use crate::spool_files::{open_spool, refused_spool};
 use crate::streams::Noted;
-use spool_disk::Disk;
+use spool_disk::{Disk, FileDisk};
 use spool_image::Spool;
 use std::alloc::Global;
 use std::io::{self, Write};
@@ -32,13 +32,24 @@ pub fn delete_file<'a>(
     spool: &'a str,
     numbers: &[u64],
 ) -> Result<(), Failure<'a>> {
+    delete_numbers(rt, alloc, spool, open_spool(rt, spool)?, numbers)
+}
+
+/// Deletes the uploads of these numbers from the spool at this path, which is open, as `delete_file` does.
+pub(crate) fn delete_numbers<'a>(
+    rt: &HostRuntime,
+    alloc: Global,
+    spool: &'a str,
+    disk: FileDisk,
+    numbers: &[u64],
+) -> Result<(), Failure<'a>> {
     let mut output = Noted::new(io::writer(rt));
-    let (disk, deleted) = delete_on(alloc, &mut output, open_spool(rt, spool)?, numbers);
+    let (disk, deleted) = delete_on(alloc, &mut output, disk, numbers);
     match deleted {
         Ok(true) => Ok(()),
         Ok(false) => Err(Failure::from(Fault::NoSuch)),
         Err(Fault::Io) => Err(Failure::on_streams(Fault::Io, None, output.error())),
-        Err(fault) => Err(Failure::on_given(fault, spool, &disk)),
+        Err(fault) => Err(refused_spool(alloc, fault, spool, disk)),
     }
 }
 

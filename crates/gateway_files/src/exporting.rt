@@ -24,7 +24,7 @@ use crate::failures::{Advice, Failure, Task};
 use crate::faults::Fault;
 use crate::folders::{FileFolder, Folder};
 use crate::planning::{Job, plan};
-use crate::spool_files::open_spool;
+use crate::spool_files::{open_spool, refused_spool};
 use crate::streams::Noted;
 use spool_disk::Disk;
 use spool_image::Spool;
@@ -55,7 +55,7 @@ pub fn export_file<'a>(
             Err(Failure::new(Fault::Io, Task::WriteInto(folder), error))
         }
         (Err(Fault::Io), None) => Err(Failure::on_streams(Fault::Io, None, output.error())),
-        (Err(fault), _) => Err(Failure::on_given(fault, spool, &disk)),
+        (Err(fault), _) => Err(refused_spool(alloc, fault, spool, disk)),
     }
 }
 

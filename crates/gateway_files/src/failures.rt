@@ -1,6 +1,7 @@
 //! What the program says of its end: the fault, and what the system said where it was the system that failed.
 ghost use Rattle.std.specs.Prelude.{◌≡◌};
-ghost use Rattle.gateway_files.specs.Faults.{status_of};
+ghost use Rattle.std_io.specs.IoError.{error_kind};
+ghost use Rattle.gateway_files.specs.Faults.{opening_fault, status_of};
 ghost use Rattle.gateway_files.specs.Failures.{ended_with, fault_in};
 
 use crate::faults::Fault;
@@ -57,26 +58,71 @@ impl fmt::Display for Task<'_> {
 pub enum Advice<'a> {
     /// The file at this path is no spool.
     NoSpool(&'a str),
+    /// The file at this path begins as a spool, but isn't as long as it says, or says nothing valid.
+    CutShort(&'a str),
     /// The file at this path holds what no gateway writes.
     Damaged(&'a str),
     /// The spool at this path is of a version that isn't known.
     Version(&'a str),
+    /// The spool at this path is of version 2 already.
+    AlreadyNew(&'a str),
+    /// The file at this path is a spool already.
+    AlreadySpool(&'a str),
+    /// Another process has the spool at this path open.
+    InUse(&'a str),
+    /// The number of blocks is out of range.
+    Blocks,
     /// A file in this folder isn't as long as its upload's text.
     Differs(&'a str),
+    /// This option has this label, which the standard doesn't know.
+    Label(&'static str, &'a str),
+    /// This is neither of the two modes.
+    Mode(&'a str),
+    /// The folder lacks an index file of the encoding that this label names.
+    NoIndex(&'a str, &'a str),
+    /// The encoding that this label names lacks the character after so many bytes of the text.
+    Lacks(&'a str, u64),
 }
 
 impl fmt::Display for Advice<'_> {
     fn fmt<W: fmt::Write>(&self, f: &mut fmt::Formatter<W>) -> fmt::Result {
         match self {
             Advice::NoSpool(path) => write!(f, "{path} is no spool: see whether the path is right"),
+            Advice::CutShort(path) => write!(
+                f,
+                "{path} begins as a spool, but is cut short or damaged: go back to a copy of it"
+            ),
             Advice::Damaged(path) => write!(f, "{path} is damaged: go back to a copy of it"),
             Advice::Version(path) => write!(
                 f,
                 "{path} is of another version: take a newer program"
             ),
+            Advice::AlreadyNew(path) => write!(f, "{path} is of version 2: there is nothing to do"),
+            Advice::AlreadySpool(path) => write!(
+                f,
+                "{path} is a spool, and stays as it is: take another path, or remove it yourself"
+            ),
+            Advice::InUse(path) => write!(
+                f,
+                "{path} is in use: stop the gateway that serves it, or take a copy of the file"
+            ),
+            Advice::Blocks => f.write_str("the number of blocks is 16 to 65536"),
             Advice::Differs(folder) => write!(
                 f,
                 "{folder} has a file that isn't as long as its upload's text: look at it before you delete the upload"
+            ),
+            Advice::Label(option, label) => write!(
+                f,
+                "{option} {label}: the Encoding Standard has no such label"
+            ),
+            Advice::Mode(mode) => write!(f, "--mode {mode}: the modes are html and fatal"),
+            Advice::NoIndex(folder, label) => write!(
+                f,
+                "{folder} lacks an index file that {label} needs"
+            ),
+            Advice::Lacks(label, bytes) => write!(
+                f,
+                "{label} lacks the character after byte {bytes} of the text: --mode html writes its number"
             ),
         }
     }
@@ -119,14 +165,25 @@ impl<'a> Failure<'a> {
         }
     }
 
+    /// The system didn't open or make the spool at this path.
+    pub fn on_opening(task: Task<'a>, path: &'a str, error: io::Error) -> Self
+        ensures { fault_in result ≡ opening_fault (error_kind error) }
+    {
+        match Fault::of_opening(error.kind()) {
+            Fault::InUse => Failure::advised(Fault::InUse, Advice::InUse(path)),
+            fault => Failure::new(fault, task, error),
+        }
+    }
+
     /// As `on_spool`, with an advice where the file can't be read as a spool.
-    pub fn on_given(fault: Fault, path: &'a str, disk: &FileDisk) -> Self
+    pub(crate) fn on_given(fault: Fault, path: &'a str, disk: &FileDisk) -> Self
         ensures { fault_in result ≡ fault }
     {
         match fault {
             Fault::NotASpool => Failure::advised(fault, Advice::NoSpool(path)),
             Fault::Damaged => Failure::advised(fault, Advice::Damaged(path)),
             Fault::Version => Failure::advised(fault, Advice::Version(path)),
+            Fault::AlreadyNew => Failure::advised(fault, Advice::AlreadyNew(path)),
             _ => Failure::on_spool(fault, path, disk),
         }
     }

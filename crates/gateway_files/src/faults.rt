@@ -1,12 +1,13 @@
 //! Why the program ends before its work is done.
 ghost use Rattle.std.specs.Prelude.{◌≡◌, Some, option_map};
-ghost use Rattle.gateway_files.specs.Faults.{line_of, refusal_of, row, status_of};
+ghost use Rattle.gateway_files.specs.Faults.{line_of, opening_fault, refusal_of, row, status_of};
 
 use enc_index::ReadError;
 use enc_stream::TranscodeError;
 use spool_disk::DiskFault;
 use spool_image::{FormatError, OpenFault, UpgradeError};
 use std::alloc::AllocError;
+use std::io::ErrorKind;
 use std::{fmt, io};
 
 /// Why the program ends before its work is done.
@@ -38,6 +39,10 @@ pub enum Fault {
     FileThere,
     /// Such a file has another length than the text that it is to have.
     FileDiffers,
+    /// Another process has the spool's file open.
+    InUse,
+    /// The spool's file can't be opened or made: it or its folder isn't there, or is a folder, or rights are missing.
+    CannotOpen,
     /// A number that no upload has.
     NoSuch,
     /// A label or a mode that isn't known, or an encoding whose index files aren't there.
@@ -66,6 +71,24 @@ impl fmt::Display for Fault {
 }
 
 impl Fault {
+    /// Why a file isn't opened or made as a spool, where the system says this of it.
+    pub fn of_opening(kind: ErrorKind) -> Self
+        ensures { result ≡ opening_fault kind }
+    {
+        match kind {
+            ErrorKind::ResourceBusy => Fault::InUse,
+            ErrorKind::NotFound
+            | ErrorKind::PermissionDenied
+            | ErrorKind::IsADirectory
+            | ErrorKind::NotADirectory
+            | ErrorKind::ReadOnlyFilesystem
+            | ErrorKind::InvalidInput
+            | ErrorKind::InvalidFilename => Fault::CannotOpen,
+            ErrorKind::OutOfMemory => Fault::NoMemory,
+            _ => Fault::DiskFault,
+        }
+    }
+
     /// The number and the name of the refusal. `None` for a disk fault, which is none.
     pub fn refusal(self) -> Option<(u8, &'static str)>
         ensures { option_map row result ≡ refusal_of self }
@@ -89,6 +112,8 @@ impl Fault {
             Fault::AlreadyNew => (35, "AlreadyNew"),
             Fault::FileThere => (36, "FileThere"),
             Fault::FileDiffers => (37, "FileDiffers"),
+            Fault::InUse => (38, "InUse"),
+            Fault::CannotOpen => (39, "CannotOpen"),
         })
     }
 
@@ -122,7 +147,7 @@ impl From<io::Error> for Fault {
 
     fn from(error: io::Error) -> Self {
         match error.kind() {
-            io::ErrorKind::OutOfMemory => Fault::NoMemory,
+            ErrorKind::OutOfMemory => Fault::NoMemory,
             _ => Fault::Io,
         }
     }

@@ -7,9 +7,9 @@ ghost use Rattle.upload_rules.specs.Store.{no_uploads};
 ghost use Rattle.spool_image.specs.Format.{FitsSpool, HasMagic, IsRefusal, LeftByFormat};
 ghost use Rattle.spool_image.specs.LeftOnly.{AllShow};
 
-use crate::failures::Failure;
+use crate::failures::{Advice, Failure};
 use crate::faults::Fault;
-use crate::index_files::{IndexFiles, read_indexes};
+use crate::index_files::{IndexFile, IndexFiles, read_indexes};
 use crate::spool_files::{find_spool, make_spool};
 use enc_index::IndexSet;
 use spool_disk::Disk;
@@ -21,8 +21,8 @@ use std::alloc::Global;
 pub struct Formatted {
     /// How many pages it has.
     pub pages: u32,
-    /// The names of the index files that were read.
-    pub read: Vec<&'static str>,
+    /// The index files, and how much of each was read.
+    pub files: Vec<IndexFile>,
 }
 
 /// Makes a spool without uploads on a disk, of so many text blocks, as `spool_image::format` does: how many pages it
@@ -84,14 +84,14 @@ pub fn format_file<'a>(
     blocks: u32,
     folder: &'a str,
 ) -> Result<Formatted, Failure<'a>> {
-    let IndexFiles { set, read } = read_indexes(rt, alloc, folder)?;
+    let IndexFiles { set, files } = read_indexes(rt, alloc, folder)?;
     let Some(pages) = pages_of(blocks) else {
-        return Err(Failure::from(Fault::Size));
+        return Err(Failure::advised(Fault::Size, Advice::Blocks));
     };
     refuse_spool(rt, spool, &set)?;
     let mut disk = make_spool(rt, spool, 4096 * pages as u64)?;
     match format_on(&mut disk, blocks, &set) {
-        Ok(pages) => Ok(Formatted { pages, read }),
+        Ok(pages) => Ok(Formatted { pages, files }),
         Err(error) => Err(Failure::on_spool(Fault::from(error), spool, &disk)),
     }
 }
@@ -107,7 +107,7 @@ fn refuse_spool<'a>(
     };
     match is_spool_on(&mut disk, indexes) {
         Ok(false) => Ok(()),
-        Ok(true) => Err(Failure::from(Fault::AlreadySpool)),
+        Ok(true) => Err(Failure::advised(Fault::AlreadySpool, Advice::AlreadySpool(spool))),
         Err(fault) => Err(Failure::on_spool(fault, spool, &disk)),
     }
 }

@@ -1,18 +1,23 @@
 //! The operator's index files.
 ghost use Rattle.std.specs.Prelude.{◌≡◌, map};
-ghost use Rattle.gateway_files.specs.IndexFiles.{found, kind_of, named};
+ghost use Rattle.gateway_files.specs.IndexFiles.{entries, found, kind_of, named, standard_entries};
 
 use crate::failures::{Failure, Task};
 use crate::faults::Fault;
 use crate::folders::find_folder;
 use enc_index::{Index, IndexSet, Kind};
+use enc_labels::name_of;
 use enc_model::Encoding;
 use std::alloc::Global;
+use std::fmt;
 use std::fs::File;
 use std::io::{self, ErrorKind, Read};
 
 // The most bytes of an index file.
 const MOST: u64 = 1_048_576;
+
+// The pointers of the longest index, jis0208.
+const MOST_POINTERS: u32 = 11_280;
 
 // The names of the files in their folder, in the order of a spool's index area.
 static FILES: [(&str, Kind); 18] = [
@@ -83,12 +88,52 @@ fn find(table: &[(&str, Kind)], name: &str) -> Option<Kind>
     None
 }
 
+/// An index file, and how much of it was found.
+#[derive(Clone, Copy, Debug, PartialEq, Eq, Drop)]
+pub struct IndexFile {
+    /// Its name.
+    pub name: &'static str,
+    /// The encodings that need it.
+    pub encodings: &'static str,
+    /// How many entries the standard's file has.
+    pub standard: u32,
+    /// How many entries were read. `None` where the file isn't there.
+    pub entries: Option<u32>,
+}
+
+/// What is found of a file: its entries, and whether it is whole. A file that isn't whole is accepted, so this is a
+/// warning.
+impl fmt::Display for IndexFile {
+    ghost use Rattle.std.specs.Prelude.{Some};
+    ghost use Rattle.gateway_files.specs.Said.{file_lines};
+
+    ghost output = { λ file. Some (file_lines file) };
+
+    fn fmt<W: fmt::Write>(&self, f: &mut fmt::Formatter<W>) -> fmt::Result {
+        let IndexFile {
+            name,
+            encodings,
+            standard,
+            entries,
+        } = self;
+        match entries {
+            None => writeln!(f, "not offered: {encodings}, since {name} isn't there"),
+            Some(count) if count == standard => writeln!(f, "{name}: {count} entries"),
+            Some(count) => writeln!(
+                f,
+                "WARNING: {name} isn't whole: it has {count} entries, and the standard's {standard}\n\
+                WARNING: texts in {encodings} will be spoiled for good: make the spool again, with the standard's file"
+            ),
+        }
+    }
+}
+
 /// The index files of a folder.
 pub(crate) struct IndexFiles {
     /// What they say.
     pub(crate) set: IndexSet,
-    /// The names of those that were there.
-    pub(crate) read: Vec<&'static str>,
+    /// Each file, in the order of a spool's index area.
+    pub(crate) files: Vec<IndexFile>,
 }
 
 /// Reads the index files that stand in a folder, which has to be there. A file that isn't there isn't set.
@@ -99,26 +144,83 @@ pub(crate) fn read_indexes<'a>(
 ) -> Result<IndexFiles, Failure<'a>> {
     find_folder(rt, folder)?;
     let mut set = IndexSet::new(alloc)?;
-    let mut read = Vec::new(alloc);
+    let mut files = Vec::new(alloc);
     for (name, kind) in FILES.iter() {
-        let found = match read_file(rt, alloc, folder, name) {
-            Ok(found) => found,
-            Err(error) => {
-                let task = Task::ReadIndex(folder, name);
-                return Err(Failure::new(Fault::from(error), task, error));
-            }
+        let index = read_index(rt, alloc, folder, name, *kind)?;
+        let file = IndexFile {
+            name,
+            encodings: encodings_of(*kind),
+            standard: standard_entries(*kind),
+            entries: index.as_ref().map(|index| entries_of(index)),
         };
-        if let Some(bytes) = found {
-            match Index::read(alloc, &bytes, *kind) {
-                Ok(index) => set.set(index),
-                Err(error) => return Err(Failure::from(Fault::Index(name, error))),
-            }
-            if read.push(*name).is_err() {
-                return Err(Failure::from(Fault::NoMemory));
-            }
+        if files.push(file).is_err() {
+            return Err(Failure::from(Fault::NoMemory));
+        }
+        if let Some(index) = index {
+            set.set(index);
         }
     }
-    Ok(IndexFiles { set, read })
+    Ok(IndexFiles { set, files })
+}
+
+// Reads the index file of this name, where it is there.
+fn read_index<'a>(
+    rt: &HostRuntime,
+    alloc: Global,
+    folder: &'a str,
+    name: &'static str,
+    kind: Kind,
+) -> Result<Option<Index>, Failure<'a>> {
+    let bytes = match read_file(rt, alloc, folder, name) {
+        Ok(Some(bytes)) => bytes,
+        Ok(None) => return Ok(None),
+        Err(error) => {
+            let task = Task::ReadIndex(folder, name);
+            return Err(Failure::new(Fault::from(error), task, error));
+        }
+    };
+    match Index::read(alloc, &bytes, kind) {
+        Ok(index) => Ok(Some(index)),
+        Err(error) => Err(Failure::from(Fault::Index(name, error))),
+    }
+}
+
+/// How many entries an index of this kind has in the Encoding Standard, section 5.
+pub fn standard_entries(kind: Kind) -> u32
+    ensures { result ≡ standard_entries kind }
+{
+    match kind {
+        Kind::Jis0208 => 7724,
+        Kind::Jis0212 => 6067,
+        Kind::Katakana => 63,
+        Kind::Single(Encoding::Windows1253) => 125,
+        Kind::Single(Encoding::Windows1255) => 118,
+        Kind::Single(Encoding::Windows1257) => 126,
+        Kind::Single(_) => 128,
+    }
+}
+
+// The names of the encodings that need an index of this kind.
+fn encodings_of(kind: Kind) -> &'static str {
+    match kind {
+        Kind::Jis0208 => "Shift_JIS, EUC-JP and ISO-2022-JP",
+        Kind::Jis0212 => "EUC-JP",
+        Kind::Katakana => "ISO-2022-JP",
+        Kind::Single(encoding) => name_of(encoding),
+    }
+}
+
+/// How many entries an index has.
+pub fn entries_of(index: &Index) -> u32
+    ensures { result ≡ entries index.now.pairs 11280 }
+{
+    let mut count = 0u32;
+    for pointer in 0..MOST_POINTERS {
+        if index.code(pointer).is_some() {
+            count = count.saturating_add(1);
+        }
+    }
+    count
 }
 
 // The bytes of a file, where it is there. One that is too long is a fault, as one that can't be read.

@@ -8,8 +8,11 @@ mod failures;
 mod faults;
 mod folders;
 mod formatting;
+mod incomplete;
 mod index_files;
+mod json_lines;
 mod listing;
+mod losses;
 mod naming;
 mod planning;
 mod said;
@@ -26,12 +29,18 @@ pub use failures::{Advice, Failure, Task, ended};
 pub use faults::Fault;
 pub use folders::{FileFolder, Folder};
 pub use formatting::{Formatted, format_file, format_on, is_spool_on};
-pub use index_files::kind_of;
+pub use incomplete::{delete_incomplete_file, incomplete_on};
+pub use index_files::{IndexFile, entries_of, kind_of, standard_entries};
+pub use json_lines::json_file;
 pub use listing::{list_file, list_on};
+pub use losses::Tally;
 pub use naming::{given_name, is_safe_name};
 pub use planning::{Job, plan};
-pub use said::{say_formatted, say_open, say_read, say_served, say_up, say_upgraded};
-pub use spool_files::open_spool;
+pub use said::{
+    say_formatted, say_free, say_losses, say_losses_of, say_open, say_read, say_served, say_up,
+    say_upgraded,
+};
+pub use spool_files::{open_spool, refused_spool};
 pub use streams::Noted;
 pub use surveying::{Survey, open_surveyed};
 pub use transcoding::{Conversion, conversion_of, text_file, text_on};

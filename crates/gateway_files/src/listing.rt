@@ -1,5 +1,6 @@
 //! The uploads of a spool, line by line.
-ghost use Rattle.std.specs.Prelude.{◌≡◌, ◌++◌, ℕ, Err, IfErr, IfOk, IsOk, OnOk, Some, string_bytes, true};
+ghost use Rattle.std.specs.Prelude.{◌≡◌, ◌++◌, ℕ, Err, IfErr, IfOk, IsOk, OnOk, Some, option_map, string_bytes};
+ghost use Rattle.std.specs.Prelude.{true};
 ghost use Rattle.std.specs.Io.KnownBytes.{Appends};
 ghost use Rattle.spool_disk.specs.Disk.{Counts, IsImage};
 ghost use Rattle.spool_disk.specs.Views.{Lasts};
@@ -11,22 +12,28 @@ ghost use Rattle.spool_image.specs.LeftOnly.{AllShow, IsSpool, LeftOrShows};
 ghost use Rattle.gateway_files.specs.declared.faults.Fault.{Fault};
 ghost use Rattle.gateway_files.specs.Listing.{IsWriteFault, ListRefusedFor, Lists, RefusesListAs};
 ghost use Rattle.gateway_files.specs.Lines.{IsInOrder, length_text, lines_of, mode_text, record_line, spaced};
-ghost use Rattle.gateway_files.specs.Lines.{told_of};
+ghost use Rattle.gateway_files.specs.Lines.{shown_name, told_of};
 
 use crate::failures::Failure;
 use crate::faults::Fault;
-use crate::spool_files::open_spool;
+use crate::losses::losses_of;
+use crate::naming::{given_name, is_clean};
+use crate::said::{say_free, say_losses_of};
+use crate::spool_files::{open_spool, refused_spool};
 use crate::streams::Noted;
+use crate::surveying::{Survey, open_surveyed};
 use enc_labels::name_of;
 use enc_model::Mode;
-use spool_disk::Disk;
+use spool_blocks::SLOTS;
+use spool_disk::{Disk, FileDisk};
 use spool_image::Spool;
 use std::alloc::{AllocError, Global};
 use std::fmt;
 use std::io::{self, Write};
 use upload_rules::{Record, Uploads};
 
-/// Prints the uploads of the spool in a file, by number, with their metadata or without.
+/// Prints the uploads of the spool in a file, by number, with their metadata or without. On standard error it says how
+/// much of the spool is free, and, with the metadata, which texts have U+FFFD.
 pub fn list_file<'a>(
     rt: &HostRuntime,
     alloc: Global,
@@ -36,24 +43,67 @@ pub fn list_file<'a>(
     let mut output = Noted::new(io::writer(rt));
     let (disk, listed) = list_on(alloc, &mut output, open_spool(rt, spool)?, long);
     match listed {
-        Ok(()) => Ok(()),
-        Err(Fault::Io) => Err(Failure::on_streams(Fault::Io, None, output.error())),
-        Err(fault) => Err(Failure::on_spool(fault, spool, &disk)),
+        // If standard error can't be written, this isn't reported.
+        Ok(survey) => drop(say_free(&mut rt.stderr(), &survey)),
+        Err(Fault::Io) => return Err(Failure::on_streams(Fault::Io, None, output.error())),
+        Err(fault) => return Err(refused_spool(alloc, fault, spool, disk)),
+    }
+    if long {
+        tell_losses(rt, alloc, spool, disk)?;
+    }
+    Ok(())
+}
+
+// Says on standard error which texts have U+FFFD, and how often.
+fn tell_losses<'a>(
+    rt: &HostRuntime,
+    alloc: Global,
+    spool: &'a str,
+    disk: FileDisk,
+) -> Result<(), Failure<'a>> {
+    let mut uploads = match Spool::open(alloc, disk) {
+        Ok(uploads) => uploads,
+        Err((disk, fault)) => return Err(refused_spool(alloc, Fault::from(fault), spool, disk)),
+    };
+    let told = say_all_losses(&mut rt.stderr(), &mut uploads);
+    let disk = uploads.into_disk();
+    match told {
+        // If standard error can't be written, this isn't reported.
+        Ok(()) | Err(Fault::Io) => Ok(()),
+        Err(fault) => Err(refused_spool(alloc, fault, spool, disk)),
     }
 }
 
-/// Writes a line for each upload of the spool on a disk, by number, with its metadata or without. The disk is handed
-/// back.
+// Says of each text that has U+FFFD how often.
+fn say_all_losses<W: Write, U: Uploads>(writer: &mut W, uploads: &mut U) -> Result<(), Fault> {
+    let mut number = 0;
+    for _ in 0..SLOTS {
+        let Some(record) = uploads.record_after(number) else {
+            return Ok(());
+        };
+        number = record.number;
+        let to = record.to;
+        let losses = losses_of(uploads, number, to)?;
+        if losses > 0 {
+            say_losses_of(writer, number, losses)?;
+        }
+    }
+    Ok(())
+}
+
+/// Writes a line for each upload of the spool on a disk, by number, with its metadata or without, and surveys the spool.
+/// The disk is handed back.
 pub fn list_on<D: Disk + Drop, W: Write>(
     alloc: Global,
     writer: &mut W,
     disk: D,
     long: bool,
-) -> (D, Result<(), Fault>)
+) -> (D, Result<Survey, Fault>)
     // What was written is the lines of the uploads that the disk shows, and it shows them still.
     ensures lines { (n : ℕ) (m : Store) → IsSpool D.Disk disk n m
         → OnOk result.1 (Appends (W.contents writer.old) (W.contents writer.new) (lines_of long m)) }
     ensures shows { (n : ℕ) (m : Store) → IsSpool D.Disk disk n m → IsOk result.1 → AllShow D.Disk result.0 n m }
+    ensures blocks { (n : ℕ) (m : Store) → IsSpool D.Disk disk n m → IfOk result.1 (λ survey. survey.blocks ≡ n) }
 
     // A crash during it leaves what it might have left before, or what shows the same uploads.
     ensures lasts { (n : ℕ) (m : Store) → IsSpool D.Disk disk n m
@@ -76,10 +126,10 @@ pub fn list_on<D: Disk + Drop, W: Write>(
     ensures damaged { D.honest disk → IsDamaged (D.size disk) (D.current disk) → RefusesListAs result.1 Fault.Damaged }
     ensures counts { Counts (result.1 ≡ Err Fault.DiskFault) (D.failures disk) (D.failures result.0) }
 {
-    match Spool::open(alloc, disk) {
-        Ok(spool) => {
+    match open_surveyed(alloc, disk) {
+        Ok((spool, survey)) => {
             let written = write_uploads(alloc, writer, &spool, long);
-            (spool.into_disk(), written)
+            (spool.into_disk(), written.map(|()| survey))
         }
         Err((disk, fault)) => (disk, Err(Fault::from(fault))),
     }
@@ -112,7 +162,7 @@ fn lines_of<U: Uploads>(alloc: Global, uploads: &U, long: bool) -> Result<String
         let Some(record) = uploads.record_after(number) else {
             return Ok(lines);
         };
-        push_line(&mut lines, record, long)?;
+        push_line(alloc, &mut lines, record, long)?;
         number = record.number;
     }
     // No memory holds so many lines.
@@ -120,17 +170,25 @@ fn lines_of<U: Uploads>(alloc: Global, uploads: &U, long: bool) -> Result<String
 }
 
 // Adds the line of an upload.
-fn push_line(lines: &mut String, record: &Record, long: bool) -> Result<(), AllocError>
+fn push_line(
+    alloc: Global,
+    lines: &mut String,
+    record: &Record,
+    long: bool,
+) -> Result<(), AllocError>
     ensures { OnOk result (string_bytes lines.new ≡ string_bytes lines.old ++ record_line long record.now) }
 {
     let from = name_of(record.from);
     let to = name_of(record.to);
     let mode = mode_name(record.mode);
     let declared = Declared(record.declared);
-    let metadata = Spaced(told_of(record, long));
+    let told = told_of(record, long);
+    let name = given_name(alloc, told.as_bytes())?;
+    let metadata = Spaced(told);
+    let named = Named(name);
     writeln!(
         lines,
-        "{} {}/{declared} {} {from} {to} {mode}{metadata}",
+        "{} {}/{declared} {} {from} {to} {mode}{metadata}{named}",
         record.number, record.accepted, record.text_len
     )
 }
@@ -173,8 +231,23 @@ impl fmt::Display for Spaced<'_> {
     }
 }
 
-// A mode, as the metadata of an upload says it.
-fn mode_name(mode: Mode) -> &'static str
+/// A file name, where it has no control character and no path separator.
+#[derive(Drop)]
+struct Named(Option<String>);
+
+impl fmt::Display for Named {
+    ghost output = { λ named. Some (shown_name (option_map string_bytes named.0)) };
+
+    fn fmt<W: fmt::Write>(&self, f: &mut fmt::Formatter<W>) -> fmt::Result {
+        match &self.0 {
+            Some(name) if is_clean(name.as_bytes()) => write!(f, " (filename: {name})"),
+            _ => Ok(()),
+        }
+    }
+}
+
+/// A mode, as the metadata of an upload says it.
+pub(crate) fn mode_name(mode: Mode) -> &'static str
     ensures { result.now ≡ mode_text mode }
 {
     match mode {

@@ -95,8 +95,8 @@ fn is_digit(byte: u8) -> bool
     byte >= b'0' && byte <= b'9'
 }
 
-// Whether no byte is barred.
-fn is_clean(name: &[u8]) -> bool
+/// Whether no byte is barred.
+pub(crate) fn is_clean(name: &[u8]) -> bool
     ensures { result ≡ is_clean 0 name.now }
 {
     let mut last = 0;

@@ -8,9 +8,11 @@ ghost use Rattle.enc_stream.specs.Standing.{IsOutput};
 ghost use Rattle.tus_request.specs.Metadata.{choice_with, mode_of};
 ghost use Rattle.gateway_files.specs.Transcoding.{CopiesOn, EndsOn, IsStored, IsTextFault, choice_in};
 
-use crate::failures::Failure;
+use crate::failures::{Advice, Failure};
 use crate::faults::Fault;
 use crate::index_files::{IndexFiles, read_indexes};
+use crate::losses::Tally;
+use crate::said::say_losses;
 use crate::streams::Noted;
 use enc_index::IndexSet;
 use enc_labels::{encoding_of, output_of};
@@ -54,27 +56,52 @@ pub fn conversion_of(from: &str, to: &str, mode: &str) -> Option<Conversion>
 }
 
 /// Writes standard input as what an upload of it with these labels and this mode would be stored as, by the index files
-/// of a folder. `BadLabel` where an upload with them is refused so.
+/// of a folder, and on standard error how often the text has U+FFFD. `BadLabel` where an upload with them is refused so.
 pub fn text_file<'a>(
     rt: &HostRuntime,
     alloc: Global,
-    from: &str,
-    to: &str,
-    mode: &str,
+    from: &'a str,
+    to: &'a str,
+    mode: &'a str,
     folder: &'a str,
 ) -> Result<(), Failure<'a>> {
     let Some(conversion) = conversion_of(from, to, mode) else {
-        return Err(Failure::from(Fault::BadLabel));
+        return Err(Failure::advised(Fault::BadLabel, what_is_unknown(from, to, mode)));
     };
-    let IndexFiles { set, read: _ } = read_indexes(rt, alloc, folder)?;
-    if !set.offers(conversion.from) || !set.offers(conversion.to) {
-        return Err(Failure::from(Fault::BadLabel));
+    let IndexFiles { set, files: _ } = read_indexes(rt, alloc, folder)?;
+    for (encoding, label) in [(conversion.from, from), (conversion.to, to)] {
+        if !set.offers(encoding) {
+            return Err(Failure::advised(Fault::BadLabel, Advice::NoIndex(folder, label)));
+        }
     }
     let mut input = Noted::new(rt.reader());
-    let mut output = Noted::new(rt.stdout());
-    match text_on(alloc, &set, conversion, &mut input, &mut output) {
-        Ok(()) => Ok(()),
-        Err(fault) => Err(Failure::on_streams(fault, input.error(), output.error())),
+    let mut output = Noted::new(Tally::new(rt.stdout(), conversion.to));
+    let written = text_on(alloc, &set, conversion, &mut input, &mut output);
+    let error = output.error();
+    let tally = output.into_stream();
+    match written {
+        Ok(()) => {
+            // If standard error can't be written, the count isn't reported.
+            let told = say_losses(&mut rt.stderr(), tally.losses());
+            drop(told);
+            Ok(())
+        }
+        Err(Fault::Unencodable) => {
+            let advice = Advice::Lacks(to, tally.bytes());
+            Err(Failure::advised(Fault::Unencodable, advice))
+        }
+        Err(fault) => Err(Failure::on_streams(fault, input.error(), error)),
+    }
+}
+
+// Which of the labels and the mode is unknown.
+fn what_is_unknown<'a>(from: &'a str, to: &'a str, mode: &'a str) -> Advice<'a> {
+    if encoding_of(from.as_bytes()).is_none() {
+        Advice::Label("--from", from)
+    } else if encoding_of(to.as_bytes()).is_none() {
+        Advice::Label("--to", to)
+    } else {
+        Advice::Mode(mode)
     }
 }
 
@@ -127,8 +154,10 @@ fn copy_piece<R: Read, W: Write>(
         return Ok(false);
     }
     code.clear();
-    transcoder.feed(set, &piece[..count], code)?;
+    let fed = transcoder.feed(set, &piece[..count], code);
+    // also what comes before a character without a code
     writer.write_all(code)?;
+    fed?;
     Ok(true)
 }
 

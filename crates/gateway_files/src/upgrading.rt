@@ -2,7 +2,7 @@
 
 use crate::failures::Failure;
 use crate::faults::Fault;
-use crate::spool_files::open_spool;
+use crate::spool_files::{open_spool, refused_spool};
 use spool_image::upgrade;
 use std::alloc::Global;
 
@@ -15,6 +15,6 @@ pub fn upgrade_file<'a>(
     let mut disk = open_spool(rt, spool)?;
     match upgrade(alloc, &mut disk) {
         Ok(()) => Ok(()),
-        Err(error) => Err(Failure::on_spool(Fault::from(error), spool, &disk)),
+        Err(error) => Err(refused_spool(alloc, Fault::from(error), spool, disk)),
     }
 }

@@ -2,9 +2,10 @@
 
 use clap::{Arg, ArgAction, Command, value_parser};
 use std::alloc::{AllocError, Global};
+use std::io::{self, Write};
 
 /// The version, which `--version` prints after the program's name.
-const VERSION: &str = "1.0.0, for spools of version 1 and 2";
+const VERSION: &str = "1.1.0, for spools of version 1 and 2";
 
 /// The address that `up` listens at by default.
 const DOOR: &str = "127.0.0.1:8080";
@@ -30,10 +31,15 @@ struct Given {
 enum With {
     /// A word by itself, which is required.
     Word,
-    /// One or more numbers by themselves.
-    Numbers,
+    /// One or more numbers by themselves, which are required where none of these arguments is given, and refused beside
+    /// them.
+    NumbersOr(&'static [&'static str]),
     /// Nothing: the argument is given or not.
     Nothing,
+    /// Nothing, and this other argument is refused beside it.
+    NothingOr(&'static str),
+    /// Nothing, and this other argument is required beside it.
+    NothingWith(&'static str),
     /// A text.
     Text(&'static str),
     /// A text, or this default.
@@ -60,6 +66,31 @@ const INDEXES: Given = Given {
     help: "The folder with the index files: index-jis0208.txt and so on",
 };
 
+/// The command that serves a spool.
+const UP: Described = Described {
+    name: "up",
+    about: "Serves a spool until the program is ended",
+    example: "At another port, and over IPv6:\n\n  gateway up spool --listen [::1]:8081",
+    takes: &[
+        SPOOL,
+        Given {
+            name: "listen",
+            with: With::TextOr("ADDRESS:PORT", DOOR),
+            help: "What to listen at; port 0: any, which is printed",
+        },
+        Given {
+            name: "quiet",
+            with: With::Nothing,
+            help: "Prints nothing but what is wrong",
+        },
+        Given {
+            name: "log",
+            with: With::Nothing,
+            help: "Logs each reply, also where no terminal shows it",
+        },
+    ],
+};
+
 /// All commands, in the order of the help.
 static COMMANDS: [Described; 9] = [
     Described {
@@ -80,29 +111,7 @@ static COMMANDS: [Described; 9] = [
             INDEXES,
         ],
     },
-    Described {
-        name: "up",
-        about: "Serves a spool until the program is ended",
-        example: "At another port, and over IPv6:\n\n  gateway up spool --listen [::1]:8081",
-        takes: &[
-            SPOOL,
-            Given {
-                name: "listen",
-                with: With::TextOr("ADDRESS:PORT", DOOR),
-                help: "What to listen at; port 0: any, which is printed",
-            },
-            Given {
-                name: "quiet",
-                with: With::Nothing,
-                help: "Prints nothing but what is wrong",
-            },
-            Given {
-                name: "log",
-                with: With::Nothing,
-                help: "Logs each reply, also where no terminal shows it",
-            },
-        ],
-    },
+    UP,
     Described {
         name: "list",
         about: "Prints the uploads of a spool, by number",
@@ -114,18 +123,35 @@ static COMMANDS: [Described; 9] = [
                 with: With::Nothing,
                 help: "Prints what each upload has as `Upload-Metadata` too",
             },
+            Given {
+                name: "json",
+                with: With::NothingOr("long"),
+                help: "Prints a line of JSON for each upload",
+            },
         ],
     },
     Described {
         name: "delete",
         about: "Deletes uploads of a spool. There is no way back",
-        example: "Uploads 3 and 7, while no gateway serves the spool:\n\n  gateway delete spool 3 7",
+        example: "Uploads 3 and 7, while no gateway serves the spool:\n\n  gateway delete spool 3 7\n\n\
+            Those whose last byte hasn't come, after a look at them:\n\n  \
+            gateway delete spool --incomplete\n  gateway delete spool --incomplete --yes",
         takes: &[
             SPOOL,
             Given {
                 name: "NUMBER",
-                with: With::Numbers,
+                with: With::NumbersOr(&["incomplete", "yes"]),
                 help: "The numbers of the uploads, as `list` prints them",
+            },
+            Given {
+                name: "incomplete",
+                with: With::Nothing,
+                help: "Prints the uploads whose last byte hasn't come; with --yes deletes them",
+            },
+            Given {
+                name: "yes",
+                with: With::NothingWith("incomplete"),
+                help: "Deletes them",
             },
         ],
     },
@@ -213,13 +239,14 @@ static COMMANDS: [Described; 9] = [
     },
 ];
 
-/// All commands.
+/// All commands. Usage names the program `gateway`, whatever its file is called.
 pub(crate) fn gateway<'a>(alloc: Global) -> Result<Command<'a>, AllocError> {
     let mut commands = Vec::new(alloc);
     for described in COMMANDS.iter() {
         commands.push(command(alloc, described)?)?;
     }
     Command::new(alloc, "gateway")
+        .bin_name("gateway")?
         .version(VERSION)
         .about("A gateway for resumable uploads (tus 1.0.0) of text in old and new encodings")
         .after_help(
@@ -230,10 +257,26 @@ pub(crate) fn gateway<'a>(alloc: Global) -> Result<Command<'a>, AllocError> {
         .subcommands(commands)
 }
 
+/// The command `up` by itself, for an error that is found after the parse. `Command::error` changes the command that
+/// it is called on, and clap lends those that `gateway` holds only for reading.
+pub(crate) fn up<'a>(alloc: Global) -> Result<Command<'a>, AllocError> {
+    command(alloc, &UP)?.bin_name("gateway up")
+}
+
+/// Writes a line with the names of all commands.
+pub(crate) fn write_names<W: Write>(out: &mut W) -> io::Result<()> {
+    let mut before = "Commands: ";
+    for described in COMMANDS.iter() {
+        write!(out, "{before}{}", described.name)?;
+        before = ", ";
+    }
+    writeln!(out)
+}
+
 fn command<'a>(alloc: Global, described: &Described) -> Result<Command<'a>, AllocError> {
     let mut args = Vec::new(alloc);
     for given in described.takes {
-        args.push(argument(alloc, given))?;
+        args.push(argument(alloc, given)?)?;
     }
     Command::new(alloc, described.name)
         .about(described.about)
@@ -241,15 +284,18 @@ fn command<'a>(alloc: Global, described: &Described) -> Result<Command<'a>, Allo
         .args(args)
 }
 
-fn argument<'a>(alloc: Global, given: &Given) -> Arg<'a> {
+fn argument<'a>(alloc: Global, given: &Given) -> Result<Arg<'a>, AllocError> {
     let arg = Arg::new(alloc, given.name).help(given.help);
-    match given.with {
+    Ok(match given.with {
         With::Word => arg.required(true),
-        With::Numbers => arg
-            .required(true)
+        With::NumbersOr(others) => arg
             .num_args(1..)
-            .value_parser(value_parser!(u64)),
-        With::Nothing => arg.long(given.name).action(ArgAction::SetTrue),
+            .value_parser(value_parser!(u64))
+            .required_unless_present_any(others)?
+            .conflicts_with_all(others)?,
+        With::Nothing => flag(arg, given.name),
+        With::NothingOr(other) => flag(arg, given.name).conflicts_with(other)?,
+        With::NothingWith(other) => flag(arg, given.name).requires_arg(other)?,
         With::Text(value) => option(arg, given.name, value).required(true),
         With::TextOr(value, text) => option(arg, given.name, value).default_value(text),
         With::U16(value) => option(arg, given.name, value)
@@ -261,7 +307,12 @@ fn argument<'a>(alloc: Global, given: &Given) -> Arg<'a> {
         With::U64(value) => option(arg, given.name, value)
             .required(true)
             .value_parser(value_parser!(u64)),
-    }
+    })
+}
+
+// An argument after `--` that is this name, with nothing after it.
+fn flag<'a>(arg: Arg<'a>, name: &'a str) -> Arg<'a> {
+    arg.long(name).action(ArgAction::SetTrue)
 }
 
 // An argument after `--` and this name, with a value of this name in the help.

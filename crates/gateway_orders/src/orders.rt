@@ -1,8 +1,8 @@
 //! Orders.
 
-use crate::commands::gateway;
+use crate::commands::{gateway, up};
 use clap::error::ErrorKind;
-use clap::{ArgMatches, Command, Error};
+use clap::{ArgMatches, Error};
 use std::alloc::{AllocError, Global};
 use std::net::SocketAddr;
 
@@ -34,10 +34,19 @@ pub enum Order<'a> {
         spool: &'a str,
         long: bool,
     },
+    /// Lists the uploads of the spool at this path, by a line of JSON for each.
+    Json {
+        spool: &'a str,
+    },
     /// Deletes the uploads with these numbers.
     Delete {
         spool: &'a str,
         numbers: Vec<u64>,
+    },
+    /// Lists the uploads whose last byte hasn't come, or deletes them with `yes`.
+    DeleteIncomplete {
+        spool: &'a str,
+        yes: bool,
     },
     /// Writes the texts of the complete uploads, or of all, into files in this folder.
     Export {
@@ -74,12 +83,11 @@ pub struct Service<'a> {
 
 /// Reads a command line, which begins with the program's name. Unknown, superfluous and missing words are usage faults,
 /// and so are requests for help and for the version. It is only tested which words give which order, and that `None`
-/// doesn't occur: each command and each of its arguments is required or has a default.
+/// doesn't occur: clap requires a command, and each argument that its order needs is required or has a default.
 pub fn read_order<'a>(alloc: Global, words: &'a [String]) -> Result<Option<Order<'a>>, Error> {
-    let mut gateway = gateway(alloc)?;
-    let matches = gateway.try_get_matches_from_mut(words)?;
+    let matches = gateway(alloc)?.try_get_matches_from(words)?;
     match matches.subcommand() {
-        Some(("up", given)) => up_order(&mut gateway, alloc, given),
+        Some(("up", given)) => up_order(alloc, given),
         Some(("delete", given)) => Ok(delete_order(alloc, given)?),
         Some((name, given)) => Ok(order_of(name, given)),
         None => Ok(None),
@@ -124,11 +132,7 @@ fn serve_order<'a>(given: &ArgMatches<'a>) -> Option<Order<'a>> {
 }
 
 // An address that can't be parsed is a usage fault.
-fn up_order<'a>(
-    gateway: &mut Command<'a>,
-    alloc: Global,
-    given: &ArgMatches<'a>,
-) -> Result<Option<Order<'a>>, Error> {
+fn up_order<'a>(alloc: Global, given: &ArgMatches<'a>) -> Result<Option<Order<'a>>, Error> {
     let (Some(spool), Some(address)) = (given.get_str("SPOOL"), given.get_str("listen")) else {
         return Ok(None);
     };
@@ -139,21 +143,25 @@ fn up_order<'a>(
             quiet: given.get_flag("quiet"),
             log: given.get_flag("log"),
         })),
-        Err(_) => Err(no_address(gateway, alloc, address)?),
+        Err(_) => Err(no_address(alloc, address)?),
     }
 }
 
 // The error for an address that can't be parsed.
-fn no_address<'a>(gateway: &mut Command<'a>, alloc: Global, address: &str) -> Result<Error, Error> {
+fn no_address(alloc: Global, address: &str) -> Result<Error, Error> {
     let message = format!(in alloc;
         "invalid value '{address}' for '--listen <ADDRESS:PORT>': write it as 127.0.0.1:8080 or [::1]:8080"
     )?;
-    Ok(gateway.error(ErrorKind::ValueValidation, message.as_str())?)
+    Ok(up(alloc)?.error(ErrorKind::ValueValidation, message.as_str())?)
 }
 
 fn list_order<'a>(given: &ArgMatches<'a>) -> Option<Order<'a>> {
+    let spool = given.get_str("SPOOL")?;
+    if given.get_flag("json") {
+        return Some(Order::Json { spool });
+    }
     Some(Order::List {
-        spool: given.get_str("SPOOL")?,
+        spool,
         long: given.get_flag("long"),
     })
 }
@@ -163,7 +171,14 @@ fn delete_order<'a>(
     alloc: Global,
     given: &ArgMatches<'a>,
 ) -> Result<Option<Order<'a>>, AllocError> {
-    let (Some(spool), Some(read)) = (given.get_str("SPOOL"), given.get_many::<u64>("NUMBER")) else {
+    let Some(spool) = given.get_str("SPOOL") else {
+        return Ok(None);
+    };
+    if given.get_flag("incomplete") {
+        let yes = given.get_flag("yes");
+        return Ok(Some(Order::DeleteIncomplete { spool, yes }));
+    }
+    let Some(read) = given.get_many::<u64>("NUMBER") else {
         return Ok(None);
     };
     let mut numbers = Vec::new(alloc);

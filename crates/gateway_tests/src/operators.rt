@@ -5,9 +5,12 @@ use crate::talks::Step::{Added, Deferred, Made, Open};
 use crate::talks::{Step, Talk, fresh};
 use enc_index::IndexSet;
 use enc_model::{Encoding, Mode};
-use gateway_files::{Conversion, Fault, conversion_of, delete_on, list_on, text_on};
+use gateway_files::{
+    Conversion, Fault, Tally, conversion_of, delete_on, incomplete_on, list_on, text_on,
+};
 use spool_disk::MemoryDisk;
 use std::alloc::Global;
+use std::io::{self, Write};
 use std::process::Abort;
 
 /// Three uploads: a partial one, a complete one, and one of unknown length.
@@ -61,6 +64,36 @@ fn uploads_are_deleted_by_their_numbers(rt: HostRuntime) {
         assert!(rt; listed.is_ok());
         assert_eq!(rt; lines.as_slice(), *left);
         disk = after;
+    }
+}
+
+#[test]
+fn uploads_that_are_not_complete(rt: HostRuntime) {
+    let alloc = rt.alloc();
+    let (_, numbers) = incomplete_on(alloc, spool_with_three(&rt, alloc));
+    assert_eq!(rt; numbers.expect(&rt, "numbers").as_slice(), [1, 3]);
+}
+
+/// Each row: the encoding of a text, its pieces, and how often it has the sign of lost bytes.
+static SIGNS: [(Encoding, &[&[u8]], u64); 6] = [
+    (Encoding::Utf8, &[b"", b"a"], 0),
+    (Encoding::Utf8, &[b"\xEF\xBF\xBD\xEF\xBF", b"\xBDa"], 2),
+    (Encoding::Utf8, &[b"\xEF\xEF\xBF\xBD\xEF\xBF\xBE"], 1),
+    (Encoding::Utf8, &[b"&#65533;"], 0),
+    (Encoding::Windows1252, &[b"&", b"#65533", b";&#6", b"&#65533;"], 2),
+    (Encoding::Windows1252, &[b"\xEF\xBF\xBD"], 0),
+];
+
+#[test]
+fn signs_of_lost_bytes_are_counted(rt: HostRuntime) {
+    for (to, pieces, losses) in SIGNS.iter() {
+        let mut tally = Tally::new(io::sink(), *to);
+        let mut bytes = 0u64;
+        for piece in pieces.iter() {
+            tally.write_all(piece).expect(&rt, "a piece");
+            bytes = bytes.saturating_add(piece.len() as u64);
+        }
+        assert_eq!(rt; (tally.bytes(), tally.losses()), (bytes, *losses));
     }
 }
 
@@ -189,7 +222,10 @@ fn input_is_written_as_it_would_be_stored(rt: HostRuntime) {
             (Ok(()), Ok(text)) => {
                 assert!(rt; written == repeated(&rt, alloc, text, input.times));
             }
-            (ended, text) => assert!(rt; ended.err() == text.err()),
+            (ended, text) => {
+                assert!(rt; ended.err() == text.err());
+                assert_eq!(rt; written.as_slice(), b"a", "what comes before the character");
+            }
         }
     }
 }

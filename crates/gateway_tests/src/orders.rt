@@ -6,7 +6,7 @@ use std::process::Abort;
 
 /// Command lines, and what each one parses to: an order, a call for help, or a usage error. The errors have a word too
 /// few, a word too many, or one that isn't valid.
-static LINES: [(&str, &str); 35] = [
+static LINES: [(&str, &str); 52] = [
     (
         "gateway format new --blocks 16 --indexes idx",
         r#"Format { spool: "new", blocks: 16, indexes: "idx" }"#,
@@ -25,6 +25,8 @@ static LINES: [(&str, &str); 35] = [
         "gateway list old --long",
         r#"List { spool: "old", long: true }"#,
     ),
+    ("gateway list old --json", r#"Json { spool: "old" }"#),
+    ("gateway list --json old", r#"Json { spool: "old" }"#),
     ("gateway upgrade old", r#"Upgrade { spool: "old" }"#),
     (
         "gateway text --from koi8-r --indexes idx",
@@ -66,8 +68,17 @@ static LINES: [(&str, &str); 35] = [
         "gateway delete old 7 3 7",
         r#"Delete { spool: "old", numbers: [7, 3, 7] }"#,
     ),
+    (
+        "gateway delete old --incomplete",
+        r#"DeleteIncomplete { spool: "old", yes: false }"#,
+    ),
+    (
+        "gateway delete --yes old --incomplete",
+        r#"DeleteIncomplete { spool: "old", yes: true }"#,
+    ),
     ("gateway help", "help"),
     ("gateway list --help", "help"),
+    ("gateway help delete", "help"),
     ("gateway --version", "help"),
     ("gateway", "usage"),
     ("gateway list", "usage"),
@@ -77,7 +88,17 @@ static LINES: [(&str, &str); 35] = [
     ("gateway text --from koi8-r", "usage"),
     ("gateway format new --blocks 16", "usage"),
     ("gateway list old older", "usage"),
+    ("gateway list --json", "usage"),
+    ("gateway list old --json --long", "usage"),
+    ("gateway list old --long --json", "usage"),
+    ("gateway list old --json=yes", "usage"),
     ("gateway delete old", "usage"),
+    ("gateway delete --incomplete", "usage"),
+    ("gateway delete old --incomplete 3", "usage"),
+    ("gateway delete old 3 --incomplete", "usage"),
+    ("gateway delete old 3 --incomplete --yes", "usage"),
+    ("gateway delete old --yes", "usage"),
+    ("gateway delete old 3 --yes", "usage"),
     ("gateway delete old three", "usage"),
     ("gateway delete old -3", "usage"),
     ("gateway up old --listen localhost:80", "usage"),
@@ -87,6 +108,64 @@ static LINES: [(&str, &str); 35] = [
         "usage",
     ),
     ("gateway up old --quiet=yes", "usage"),
+    ("gateway nosuch", "usage"),
+    ("gateway help nosuch", "usage"),
+];
+
+/// The line that names all commands.
+const COMMANDS: &str = "Commands: format, up, list, delete, export, text, upgrade, serve, script";
+
+/// Wrong command lines, and a line of what each one's message says: the usage of the command that was given, the names
+/// of all commands where none was, or what is wrong.
+static MESSAGES: [(&str, &str); 18] = [
+    (
+        "gateway format",
+        "Usage: gateway format --blocks <N> --indexes <DIR> <SPOOL>",
+    ),
+    ("gateway list", "Usage: gateway list <SPOOL>"),
+    ("gateway list a b", "Usage: gateway list [OPTIONS] <SPOOL>"),
+    (
+        "gateway list old --json --long",
+        "error: the argument '--json' cannot be used with '--long'",
+    ),
+    (
+        "gateway list old --json --long",
+        "Usage: gateway list --json <SPOOL>",
+    ),
+    (
+        "gateway up old --listen nonsense",
+        "error: invalid value 'nonsense' for '--listen <ADDRESS:PORT>': write it as 127.0.0.1:8080 or [::1]:8080",
+    ),
+    (
+        "gateway up old --listen nonsense",
+        "Usage: gateway up [OPTIONS] <SPOOL>",
+    ),
+    (
+        "/usr/bin/gateway-1 up old --listen nonsense",
+        "Usage: gateway up [OPTIONS] <SPOOL>",
+    ),
+    (
+        "/usr/bin/gateway-1 up old older",
+        "Usage: gateway up [OPTIONS] <SPOOL>",
+    ),
+    ("gateway delete old", "  <NUMBER>..."),
+    (
+        "gateway delete old",
+        "Usage: gateway delete <SPOOL> <NUMBER>...",
+    ),
+    (
+        "gateway delete old --incomplete 3",
+        "error: the argument '--incomplete' cannot be used with '[NUMBER]...'",
+    ),
+    ("gateway delete old --yes", "  --incomplete"),
+    (
+        "gateway delete old 3 --yes",
+        "error: the argument '[NUMBER]...' cannot be used with '--yes'",
+    ),
+    ("gateway nosuch", "error: unrecognized subcommand 'nosuch'"),
+    ("gateway nosuch", COMMANDS),
+    ("gateway help nosuch", COMMANDS),
+    ("gateway lst", COMMANDS),
 ];
 
 /// The words of a line.
@@ -121,10 +200,33 @@ fn read(rt: &impl Abort, alloc: Global, words: &[String]) -> String {
     String::from_str(alloc, kind).expect(rt, "memory for a word")
 }
 
+/// The message for wrong words.
+fn message(rt: &impl Abort, alloc: Global, words: &[String]) -> String {
+    let Err(error) = read_order(alloc, words) else {
+        return String::new(alloc);
+    };
+    let mut out = Vec::new(alloc);
+    let mut err = Vec::new(alloc);
+    say_usage(&error, &mut out, &mut err).expect(rt, "lines");
+    String::from_utf8(err).expect(rt, "text")
+}
+
 #[test]
 fn command_lines(rt: HostRuntime) {
     for (line, told) in LINES.iter() {
         let words = words_of(&rt, rt.alloc(), line);
         assert_eq!(rt; read(&rt, rt.alloc(), &words).as_str(), *told, "{line}");
+    }
+}
+
+#[test]
+fn messages(rt: HostRuntime) {
+    for (line, told) in MESSAGES.iter() {
+        let words = words_of(&rt, rt.alloc(), line);
+        let message = message(&rt, rt.alloc(), &words);
+        assert!(rt;
+            message.split('\n').any(|found| found == *told),
+            "{line}: {message}"
+        );
     }
 }

@@ -44,6 +44,8 @@ fn failures_are_told(rt: HostRuntime) {
             "refused: 5 Twice index-ibm866.txt 7\n",
         ),
         (Fault::AlreadySpool, 2, "refused: 13 AlreadySpool\n"),
+        (Fault::InUse, 2, "refused: 38 InUse\n"),
+        (Fault::CannotOpen, 2, "refused: 39 CannotOpen\n"),
         (Fault::DiskFault, 3, "device fault\n"),
     ] {
         tells(&rt, alloc, Failure::from(fault), status, said);

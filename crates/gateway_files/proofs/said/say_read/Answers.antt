@@ -1,28 +1,32 @@
-use Rattle.std.proofs.Common.{ℕ, List, [], ◌∷◌, ◌++◌, ap, Bor, codes, flat_map, length, take}
+use Rattle.std.proofs.Common.{ℕ, List, [], ◌∷◌, ◌++◌, None, ap, Bor, codes, count_by, flat_map, take}
 use Rattle.std.proofs.lemmas.List.{take_all}
 use Rattle.std.specs.Prelude.{decimal}
-use Rattle.gateway_files.specs.Said.{name_line}
+use Rattle.gateway_files.specs.Said.{file_lines, is_read}
+use Rattle.gateway_files.specs.declared.index_files.IndexFile.{IndexFile}
 use Rattle.gateway_files.proofs.Writing.{appends_is, wrote_item}
 use Rattle.gateway_files.proofs.said.say_read.Goals as goal
 
 -- the first line
-abbrev head : List (Bor (List ℕ)) → List ℕ
-head names = codes "index files read: " ++ (decimal (length names) ++ (10 ∷ []))
+abbrev head : List IndexFile → List ℕ
+head files = codes "index files read: " ++ (decimal (count_by is_read files) ++ (10 ∷ []))
 
-abbrev other : Bor (List ℕ)
-other = record { ref_ptr = (0, 0); now = [] }
+abbrev no_text : Bor (List ℕ)
+no_text = record { ref_ptr = (0, 0); now = [] }
 
-pub loop-name-preserved : goal.loop-name-preserved
-loop-name-preserved g c =
-    wrote_item name_line (head c.args.names.now) c.args.names.now c.loop-name.name-index other
-    (g.W.Write.contents c.args.writer.now) (g.W.Write.contents c.loop-name.writer)
-    (g.W.Write.contents c.writeln-in-loop-name.new.self) c.loop-name-test.true c.loop-name.invariant
-    c.in_ok-writeln-2.ensures.bytes
+abbrev other : IndexFile
+other = record { name = no_text; encodings = no_text; standard = 0; entries = None }
+
+pub loop-file-preserved : goal.loop-file-preserved
+loop-file-preserved g c =
+    wrote_item file_lines (head c.args.files.now) c.args.files.now c.loop-file.file-index other
+    (g.W.Write.contents c.args.writer.now) (g.W.Write.contents c.loop-file.writer)
+    (g.W.Write.contents c.write-in-loop-file.new.self) c.loop-file-test.true c.loop-file.invariant
+    c.in_ok-write-2.ensures.bytes
 
 pub returns : goal.returns
 returns g c =
-    let names = c.args.names.now in
-    appends_is (g.W.Write.contents c.args.writer.now) (g.W.Write.contents c.loop-name.writer)
-    (head names ++ flat_map name_line (take c.loop-name.name-index names)) (head names ++ flat_map name_line names)
-    (ap (λ ys. head names ++ flat_map name_line ys) (take_all c.loop-name.name-index names c.loop-name-test.false))
-    c.loop-name.invariant
+    let files = c.args.files.now in
+    appends_is (g.W.Write.contents c.args.writer.now) (g.W.Write.contents c.loop-file.writer)
+    (head files ++ flat_map file_lines (take c.loop-file.file-index files)) (head files ++ flat_map file_lines files)
+    (ap (λ ys. head files ++ flat_map file_lines ys) (take_all c.loop-file.file-index files c.loop-file-test.false))
+    c.loop-file.invariant

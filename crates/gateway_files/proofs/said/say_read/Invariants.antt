@@ -1,11 +1,11 @@
-use Rattle.std.proofs.Common.{◌++◌, codes, flat_map, take, length, [], ◌∷◌}
+use Rattle.std.proofs.Common.{◌++◌, codes, count_by, flat_map, take, [], ◌∷◌}
 use Rattle.std.specs.Prelude.{decimal}
 use Rattle.std.specs.Io.KnownBytes.{Appends}
-use Rattle.gateway_files.specs.Said.{name_line}
+use Rattle.gateway_files.specs.Said.{file_lines, is_read}
 use Rattle.gateway_files.proofs.said.say_read.Given as goal
 
-abbrev pub invariant-loop-name : goal.invariant-loop-name
-invariant-loop-name g l =
+abbrev pub invariant-loop-file : goal.invariant-loop-file
+invariant-loop-file g l =
     Appends (g.W.Write.contents l.fn.writer) (g.W.Write.contents l.writer)
-    ((codes "index files read: " ++ (decimal (length l.names) ++ (10 ∷ []))) ++ flat_map name_line
-    (take l.name-index l.names))
+    ((codes "index files read: " ++ (decimal (count_by is_read l.files) ++ (10 ∷ []))) ++ flat_map file_lines
+    (take l.file-index l.files))

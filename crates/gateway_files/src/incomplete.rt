@@ -1,0 +1,112 @@
+//! The uploads of a spool that aren't complete.
+ghost use Rattle.std.specs.Prelude.{◌≡◌, ◌++◌, ℕ, Err, IfErr, IfOk, IsOk, OnOk, flat_map, true};
+ghost use Rattle.std.specs.Io.KnownBytes.{Appends};
+ghost use Rattle.spool_disk.specs.Disk.{Counts};
+ghost use Rattle.spool_disk.specs.Views.{Lasts};
+ghost use Rattle.spool_load.specs.Refusals.{HasOtherVersion, IsDamaged, IsNoSpool};
+ghost use Rattle.upload_rules.specs.Store.{Store};
+ghost use Rattle.upload_rules.specs.World.{World};
+ghost use Rattle.spool_image.specs.LeftOnly.{AllShow, IsSpool, LeftOrShows};
+ghost use Rattle.gateway_files.specs.declared.faults.Fault.{Fault};
+ghost use Rattle.gateway_files.specs.Deleting.{doomed_line, incomplete_of, incomplete_record};
+ghost use Rattle.gateway_files.specs.Lines.{IsInOrder};
+ghost use Rattle.gateway_files.specs.Listing.{ListRefusedFor, RefusesListAs};
+
+use crate::deleting::delete_numbers;
+use crate::failures::Failure;
+use crate::faults::Fault;
+use crate::spool_files::{open_spool, refused_spool};
+use spool_disk::Disk;
+use spool_image::Spool;
+use std::alloc::{AllocError, Global};
+use std::io::{self, Write};
+use upload_rules::{Record, Uploads, is_length};
+
+/// Deletes the uploads that aren't complete from the spool in a file, and prints a line for each. Without `yes` it
+/// deletes none, and prints which it would delete.
+pub fn delete_incomplete_file<'a>(
+    rt: &HostRuntime,
+    alloc: Global,
+    spool: &'a str,
+    yes: bool,
+) -> Result<(), Failure<'a>> {
+    match incomplete_on(alloc, open_spool(rt, spool)?) {
+        (disk, Ok(numbers)) if yes => delete_numbers(rt, alloc, spool, disk, &numbers),
+        (_, Ok(numbers)) => {
+            say_doomed(&mut io::writer(rt), &numbers)?;
+            eprintln!(rt; "nothing was deleted: --yes deletes them")?;
+            Ok(())
+        }
+        (disk, Err(fault)) => Err(refused_spool(alloc, fault, spool, disk)),
+    }
+}
+
+/// The numbers of the uploads on a disk that aren't complete: their length isn't known yet, or fewer bytes came. The
+/// disk is handed back.
+pub fn incomplete_on<D: Disk + Drop>(alloc: Global, disk: D) -> (D, Result<Vec<u64>, Fault>)
+    ensures numbers { (n : ℕ) (m : Store) → IsSpool D.Disk disk n m
+        → IfOk result.1 (λ numbers. numbers.items ≡ incomplete_of m) }
+
+    // The disk shows its uploads still, and a crash leaves what it might have left before, or what shows the same.
+    ensures shows { (n : ℕ) (m : Store) → IsSpool D.Disk disk n m → IsOk result.1 → AllShow D.Disk result.0 n m }
+    ensures lasts { (n : ℕ) (m : Store) → IsSpool D.Disk disk n m
+        → Lasts D.Disk disk result.0 (LeftOrShows D.Disk disk n m) }
+
+    // Each refusal has its reason, and each reason is answered so, unless memory or the disk refuses it.
+    ensures refused { D.honest disk → IfErr result.1 (ListRefusedFor (D.size disk) (D.current disk)) }
+    ensures not_a_spool { D.honest disk → IsNoSpool (D.size disk) (D.current disk)
+        → RefusesListAs result.1 Fault.NotASpool }
+    ensures version { D.honest disk → HasOtherVersion (D.size disk) (D.current disk)
+        → RefusesListAs result.1 Fault.Version }
+    ensures damaged { D.honest disk → IsDamaged (D.size disk) (D.current disk) → RefusesListAs result.1 Fault.Damaged }
+    ensures counts { Counts (result.1 ≡ Err Fault.DiskFault) (D.failures disk) (D.failures result.0) }
+{
+    match Spool::open(alloc, disk) {
+        Ok(spool) => {
+            let numbers = incomplete_of(alloc, &spool);
+            (
+                spool.into_disk(),
+                numbers.map_err(|error| Fault::from(error)),
+            )
+        }
+        Err((disk, fault)) => (disk, Err(Fault::from(fault))),
+    }
+}
+
+// The numbers of the uploads that aren't complete.
+fn incomplete_of<U: Uploads>(alloc: Global, uploads: &U) -> Result<Vec<u64>, AllocError>
+    ensures { (w : World) → U.stands uploads.now true w → IsInOrder w.store
+        → IfOk result (λ numbers. numbers.items ≡ incomplete_of w.store) }
+{
+    let mut numbers = Vec::new(alloc);
+    let mut number = 0;
+    for _ in 0..u64::MAX {
+        let Some(record) = uploads.record_after(number) else {
+            return Ok(numbers);
+        };
+        push_incomplete(&mut numbers, record)?;
+        number = record.number;
+    }
+    // No memory holds so many numbers.
+    Err(AllocError)
+}
+
+// Adds the number of an upload, unless it is complete.
+fn push_incomplete(numbers: &mut Vec<u64>, record: &Record) -> Result<(), AllocError>
+    ensures { OnOk result (numbers.new.items ≡ numbers.old.items ++ incomplete_record record.now) }
+{
+    if !is_length(record.declared, record.accepted) {
+        numbers.push(record.number)?;
+    }
+    Ok(())
+}
+
+// Says of each of these uploads that it would be deleted.
+fn say_doomed<W: Write>(writer: &mut W, numbers: &[u64]) -> io::Result<()>
+    ensures { OnOk result (Appends (W.contents writer.old) (W.contents writer.new) (flat_map doomed_line numbers.now)) }
+{
+    for number in numbers {
+        writeln!(writer, "would delete {number}")?;
+    }
+    Ok(())
+}

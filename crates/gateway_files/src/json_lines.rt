@@ -1,0 +1,104 @@
+//! The uploads of a spool as lines of JSON.
+
+use crate::failures::Failure;
+use crate::faults::Fault;
+use crate::listing::mode_name;
+use crate::losses::losses_of;
+use crate::naming::given_name;
+use crate::spool_files::{open_spool, refused_spool};
+use crate::streams::Noted;
+use enc_labels::name_of;
+use serde::Serialize;
+use spool_blocks::SLOTS;
+use spool_image::Spool;
+use std::alloc::Global;
+use std::io::{self, Write};
+use upload_rules::{Record, Uploads, is_length};
+
+/// An upload, as its line says it.
+#[derive(Drop, Serialize)]
+struct UploadLine<'a> {
+    number: u64,
+    /// how many bytes were accepted
+    accepted: u64,
+    /// how many will be; null if it isn't known yet
+    declared: Option<u64>,
+    complete: bool,
+    /// how many bytes the text has
+    text: u64,
+    from: &'static str,
+    to: &'static str,
+    mode: &'static str,
+    /// null if the metadata gives none in UTF-8
+    filename: Option<&'a str>,
+    /// as the client sent it
+    metadata: &'a str,
+    /// how often the text has U+FFFD, or the reference that stands for it
+    losses: u64,
+}
+
+/// Prints a line of JSON for each upload of the spool in a file, by number. Each text is read for that.
+pub fn json_file<'a>(rt: &HostRuntime, alloc: Global, spool: &'a str) -> Result<(), Failure<'a>> {
+    let mut uploads = match Spool::open(alloc, open_spool(rt, spool)?) {
+        Ok(uploads) => uploads,
+        Err((disk, fault)) => return Err(refused_spool(alloc, Fault::from(fault), spool, disk)),
+    };
+    let mut output = Noted::new(io::writer(rt));
+    let written = write_all(alloc, &mut output, &mut uploads);
+    let disk = uploads.into_disk();
+    match written {
+        Ok(()) => Ok(()),
+        Err(Fault::Io) => Err(Failure::on_streams(Fault::Io, None, output.error())),
+        Err(fault) => Err(refused_spool(alloc, fault, spool, disk)),
+    }
+}
+
+// Writes a line for each upload.
+fn write_all<W: Write, U: Uploads>(
+    alloc: Global,
+    writer: &mut W,
+    uploads: &mut U,
+) -> Result<(), Fault> {
+    let mut number = 0;
+    for _ in 0..SLOTS {
+        let Some(record) = uploads.record_after(number) else {
+            return Ok(());
+        };
+        number = record.number;
+        let to = record.to;
+        let losses = losses_of(uploads, number, to)?;
+        if let Some(record) = uploads.record(number) {
+            write_line(alloc, writer, record, losses)?;
+        }
+    }
+    Ok(())
+}
+
+// Writes the line of an upload.
+fn write_line<W: Write>(
+    alloc: Global,
+    writer: &mut W,
+    record: &Record,
+    losses: u64,
+) -> Result<(), Fault> {
+    let filename = given_name(alloc, record.metadata.as_str().as_bytes())?;
+    let line = UploadLine {
+        number: record.number,
+        accepted: record.accepted,
+        declared: record.declared,
+        complete: is_length(record.declared, record.accepted),
+        text: record.text_len,
+        from: name_of(record.from),
+        to: name_of(record.to),
+        mode: mode_name(record.mode),
+        filename: filename.as_deref(),
+        metadata: record.metadata.as_str(),
+        losses,
+    };
+    // It fails for memory alone.
+    let Ok(line) = serde_json::to_string(alloc, &line) else {
+        return Err(Fault::NoMemory);
+    };
+    writeln!(writer, "{line}")?;
+    Ok(())
+}

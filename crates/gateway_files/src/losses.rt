@@ -1,0 +1,102 @@
+//! Signs of lost bytes in texts: U+FFFD, which stands for bytes that aren't of the encoding they were said to be of.
+ghost use Rattle.std.specs.Prelude.{IfErr, IsErrOf, OnOk, true};
+ghost use Rattle.upload_rules.specs.Answers.{Counts as Fails, Quiet};
+ghost use Rattle.upload_rules.specs.World.{World};
+ghost use Rattle.gateway_files.specs.declared.faults.Fault.{Fault};
+ghost use Rattle.gateway_files.specs.Changing.{IsChangeFault};
+
+use crate::copies::copy_text;
+use crate::faults::Fault;
+use enc_model::Encoding;
+use std::io::{self, Write};
+use upload_rules::Uploads;
+
+/// A writer that counts the bytes that it takes, and the signs of lost bytes among them. It is only tested what it
+/// counts. A sign is U+FFFD in UTF-8, and in the other encodings, which lack it, the reference that stands for it; a
+/// text may have it for other reasons too.
+#[derive(Drop)]
+pub struct Tally<W> {
+    stream: W,
+    sign: &'static [u8],
+    /// how many bytes of a sign came last
+    begun: usize,
+    bytes: u64,
+    losses: u64,
+}
+
+impl<W> Tally<W> {
+    /// Nothing was written so far. What is written will be in this encoding.
+    pub fn new(stream: W, to: Encoding) -> Self {
+        Tally {
+            stream,
+            sign: match to {
+                Encoding::Utf8 => "\u{FFFD}".as_bytes(),
+                _ => b"&#65533;",
+            },
+            begun: 0,
+            bytes: 0,
+            losses: 0,
+        }
+    }
+
+    /// How many bytes were written.
+    pub fn bytes(&self) -> u64 {
+        self.bytes
+    }
+
+    /// How many signs of lost bytes there were among them.
+    pub fn losses(&self) -> u64 {
+        self.losses
+    }
+
+    // No byte of a sign but its first is that one, so a sign that breaks off begins again with it alone.
+    fn count(&mut self, byte: u8) {
+        self.bytes = self.bytes.saturating_add(1);
+        if self.sign.get(self.begun) == Some(&byte) {
+            self.begun = self.begun.saturating_add(1);
+        } else {
+            self.begun = usize::from(self.sign.first() == Some(&byte));
+        }
+        if self.begun == self.sign.len() {
+            self.begun = 0;
+            self.losses = self.losses.saturating_add(1);
+        }
+    }
+}
+
+impl<W: Write> Write for Tally<W> {
+    ghost use Rattle.gateway_files.specs.Streams.{tallied};
+
+    ghost contents = { λ tally. W.contents (tallied tally) };
+
+    fn write(&mut self, buf: &[u8]) -> io::Result<usize> {
+        let outcome = self.stream.write(buf);
+        if let Ok(count) = outcome {
+            for byte in buf.iter().take(count) {
+                self.count(*byte);
+            }
+        }
+        outcome
+    }
+
+    fn flush(&mut self) -> io::Result<()> {
+        self.stream.flush()
+    }
+}
+
+/// How many signs of lost bytes the text of an upload has, which is in this encoding. It is read for that.
+pub(crate) fn losses_of<U: Uploads>(
+    uploads: &mut U,
+    number: u64,
+    to: Encoding,
+) -> Result<u64, Fault>
+    ensures stands { (w : World) → U.stands uploads.old true w → OnOk result (U.stands uploads.new true w) }
+    ensures crash { Quiet (U.moment uploads.old) (U.moment uploads.new) (U.left_only uploads.old)
+        (U.left_only uploads.new) }
+    ensures refused { IfErr result IsChangeFault }
+    ensures counts { Fails (IsErrOf result Fault.DiskFault) (U.failures uploads.old) (U.failures uploads.new) }
+{
+    let mut tally = Tally::new(io::sink(), to);
+    copy_text(&mut tally, uploads, number)?;
+    Ok(tally.losses())
+}

@@ -1,0 +1,307 @@
+#!/usr/bin/env python3
+"""What an operator is told before a text is lost, and after a refusal.
+
+    python3 tests/clients/operators.py --indexes DIR [--program PATH] [--seed N]
+
+DIR has the standard's index files. `format` is given them whole, and one of them empty, of some lines, cut within a line
+or missing: it says how many entries it read, warns of each file that isn't whole, and a spool made after a warning does
+spoil a text, while one made of whole files doesn't. `text` says how often the text has U+FFFD, for random bytes in many
+encodings; it names the label, the mode or the index file that it was refused for, and the place of a character without a
+code. `list` says what is free, names the texts with U+FFFD and the file names, and `--json` gives the same as the
+records in the spool's bytes. `delete --incomplete` prints what it would delete, and deletes exactly that with `--yes`.
+Each refusal of a command has its status, its line, and a second line that says what to do. While a gateway serves a
+spool each command by hand is told that it is in use, and after it is ended the spool can be had at once.
+"""
+
+import json
+import re
+import shutil
+import subprocess
+import tempfile
+from pathlib import Path
+
+from growths import patch, post
+from harness import ENCODINGS, Server, Wrong, holds, parser_of, random_bytes, rng_of, same
+from spools import Spool
+
+BLOCKS = 64
+STANDARD = {"jis0208": 7724, "jis0212": 6067, "iso-2022-jp-katakana": 63, "windows-1253": 125, "windows-1255": 118}
+STANDARD["windows-1257"] = 126
+NEEDED_BY = {"jis0208": "Shift_JIS, EUC-JP and ISO-2022-JP", "jis0212": "EUC-JP", "iso-2022-jp-katakana": "ISO-2022-JP"}
+LOST = "\ufffd"
+
+
+class Program:
+    """The program, in a folder of its own."""
+
+    def __init__(self, path, folder):
+        self.path, self.folder = path, folder
+
+    def run(self, *words, given=b""):
+        words = [self.path, *map(str, words)]
+        return subprocess.run(words, input=given, capture_output=True, timeout=60, cwd=self.folder)
+
+    def does(self, *words, given=b""):
+        """Runs a command that has to succeed: what it printed, and what it said on standard error."""
+        ran = self.run(*words, given=given)
+        same(f"the status of {words}, {ran.stderr!r}", ran.returncode, 0)
+        return ran.stdout, ran.stderr.decode()
+
+    def refuses(self, status, refusal, advice, *words, given=b""):
+        """Runs a command that has to be refused with this line, and then with one that has these words."""
+        ran = self.run(*words, given=given)
+        lines = ran.stderr.decode().splitlines()
+        same(f"the refusal of {words}", (ran.returncode, lines[:1]), (status, [refusal]))
+        holds(f"{words} is told {lines[1:]}, not {advice!r}", len(lines) == 2 and advice in lines[1])
+        return ran.stdout
+
+    def made(self, name, *lines, indexes="idx"):
+        """Makes a spool, and runs a script over it."""
+        self.does("format", name, "--blocks", BLOCKS, "--indexes", indexes)
+        self.does("script", name, given="".join(f"{line}\n" for line in lines).encode())
+        return self.folder / name
+
+
+def is_whole(name, count):
+    return count == STANDARD.get(name, 128)
+
+
+def index_cases(folder, rng):
+    """Folders with index files of which one isn't whole, or isn't there: the folder, the file, and its entries."""
+    for name in ["jis0208", "jis0212", "iso-2022-jp-katakana", "koi8-r", "windows-1255"]:
+        file = f"index-{name}.txt"
+        whole = (folder / "idx" / file).read_bytes()
+        lines = whole.splitlines(keepends=True)
+        entries = [it for it in lines if it.strip() and not it.startswith(b"#")]
+        some = rng.randrange(1, len(entries))
+        cases = {"empty": (b"", 0), "begun": (b"".join(entries[:some]), some), "missing": (None, None)}
+        # cut after the first digit of the code point of an entry
+        cases["cut"] = (b"".join(entries[:some]) + entries[some].partition(b"\t0x")[0] + b"\t0x3", some + 1)
+        for case, (data, count) in cases.items():
+            place = folder / f"{name}-{case}"
+            shutil.copytree(folder / "idx", place)
+            (place / file).unlink()
+            if data is not None:
+                (place / file).write_bytes(data)
+            yield place, name, count
+
+
+def try_indexes(program, rng):
+    """`format` says of each index file how many entries it read."""
+    out, said = program.does("format", "whole", "--blocks", BLOCKS, "--indexes", "idx")
+    lines = said.splitlines()
+    same("the files read", lines[0], "index files read: 18")
+    counts = dict(re.findall(r"^index-(.*)\.txt: (\d+) entries$", said, re.M))
+    same("what is said of whole files", (len(lines), len(counts)), (19, 18))
+    holds("a whole file isn't", all(is_whole(name, int(count)) for name, count in counts.items()))
+    met = 0
+    for place, name, count in index_cases(program.folder, rng):
+        spool = program.folder / f"{place.name}.spool"
+        told, said = program.does("format", spool, "--blocks", BLOCKS, "--indexes", place)
+        same("the line", told, out)
+        lines = [it for it in said.splitlines() if not it.startswith("index")]
+        if count is None:
+            same("what isn't there", lines, [f"not offered: {label_of(name)}, since index-{name}.txt isn't there"])
+        else:
+            first = f"WARNING: index-{name}.txt isn't whole: it has {count} entries, and the standard's "
+            same("the warning", lines[0], f"{first}{STANDARD.get(name, 128)}")
+            holds("no second warning", lines[1].startswith(f"WARNING: texts in {label_of(name)} will be spoiled"))
+            same("how many warnings", len(lines), 2)
+        met += 1
+    made = program.folder / "none"
+    made.mkdir()
+    _, said = program.does("format", "bare", "--blocks", BLOCKS, "--indexes", made)
+    same("of an empty folder", said.count("not offered: "), 18)
+    spoils(program, "whole", False)
+    spoils(program, "jis0208-begun.spool", True)
+    return met + 2
+
+
+def label_of(name):
+    """The encodings that need an index, as the program names them."""
+    return NEEDED_BY.get(name) or {"koi8-r": "KOI8-R"}.get(name, name)
+
+
+def spoils(program, spool, does):
+    """Whether a Japanese text in the spool has U+FFFD."""
+    data = "".join(chr(c) for c in range(0x4E00, 0x9FA0)).encode("cp932", "ignore")
+    lines = ["open 1", *post(1, len(data), "shift_jis"), *patch(1, 1, 0, data)]
+    program.does("script", spool, given="".join(f"{line}\n" for line in lines).encode())
+    same(f"{spool} spoils a text", LOST in text_in(program, spool, 1), does)
+
+
+def text_in(program, spool, number):
+    """An upload's text, which is in UTF-8."""
+    return text_of(Spool((program.folder / spool).read_bytes()), number).decode()
+
+
+def text_of(spool, number):
+    return next(spool.text(it) for it in spool.records() if it.number == number)
+
+
+def try_texts(program, rng):
+    """`text` says how often the text has U+FFFD, and why it is refused."""
+    tried = 0
+    for label in ENCODINGS:
+        data = random_bytes(rng, rng.randrange(20_000))
+        text, said = program.does("text", "--from", label, "--indexes", "idx", given=data)
+        same(f"what is said of {label}", said, f"U+FFFD in the text: {text.decode().count(LOST)}\n")
+        tried += 1
+    data = b"a\xff" * 5000 + "\u20ac".encode()
+    text, said = program.does("text", "--from", "utf-8", "--to", "koi8-r", "--indexes", "idx", given=data)
+    same("references for U+FFFD", said, f"U+FFFD in the text: {text.count(b'&#65533;')}\n")
+    for before in 0, 1, 4095, 4096, 10_000:
+        words = ["text", "--from", "utf-8", "--to", "windows-1251", "--mode", "fatal", "--indexes", "idx"]
+        advice = f"windows-1251 lacks the character after byte {before} of the text"
+        out = program.refuses(2, "refused: 6 Unencodable", advice, *words, given=b"a" * before + "\u3042b".encode())
+        same("what comes before it", out, b"a" * before)
+    words = ["text", "--indexes", "idx"]
+    bad = "refused: 28 BadLabel"
+    program.refuses(2, bad, "--from klingon: the Encoding Standard has no such label", *words, "--from", "klingon")
+    program.refuses(2, bad, "--to big5", *words, "--from", "utf-8", "--to", "big5")
+    program.refuses(2, bad, "--mode strict: the modes are html and fatal", *words, "--from", "utf-8", "--mode", "strict")
+    lacks = ["text", "--indexes", "jis0208-missing", "--from", "sjis"]
+    program.refuses(2, bad, "jis0208-missing lacks an index file that sjis needs", *lacks)
+    return tried
+
+
+# Each upload: its bytes, its length (None: not known), its label, and its file name.
+UPLOADS = [
+    (b"hello", 5, "utf-8", "hello.txt"),
+    (b"a\xff\xffb\xfe", 9, "utf-8", "Приказ 7.txt"),
+    ("世界".encode("cp932"), None, "shift_jis", ""),
+    (b"x" * 10_000, 10_000, "koi8-r", "tab\there"),
+    (b"", 0, "utf-8", "../up"),
+    (b"\xff" * 3000, 3000, "utf-8", ""),
+]
+
+
+def script_of_uploads():
+    lines = ["open 1"]
+    for number, (data, length, label, name) in enumerate(UPLOADS, 1):
+        lines += post(1, length, label, name)
+        lines += patch(1, number, 0, data) if data else []
+    return lines
+
+
+def try_lists(program):
+    """`list` says what is free and where texts have U+FFFD; `--json` says what the spool's bytes do."""
+    spool = Spool(program.made("listed", *script_of_uploads()).read_bytes())
+    records = spool.records()
+    used = sum(-(-it.length // 4096) for it in records)
+    free = f"version 2, {BLOCKS - used} of {BLOCKS} blocks free, {512 - len(records)} of 512 slots free\n"
+    plain, said = program.does("list", "listed")
+    same("what is free", said, free)
+    losses = {it.number: text_of(spool, it.number).decode().count(LOST) for it in records}
+    long, said = program.does("list", "listed", "--long")
+    told = [f"U+FFFD in the text of {number}: {count}\n" for number, count in losses.items() if count]
+    same("the texts with U+FFFD", said, free + "".join(told))
+    names = {1: "hello.txt", 2: "Приказ 7.txt"}
+    for line, shown in zip(plain.decode().splitlines(), long.decode().splitlines(), strict=True):
+        number = int(line.split()[0])
+        holds(f"{shown!r} after {line!r}", shown.startswith(line))
+        same("a name", re.findall(r" \(filename: (.*)\)$", shown), [names[number]] if number in names else [])
+    out, _ = program.does("list", "listed", "--json")
+    for line, record, given in zip(out.decode().splitlines(), records, UPLOADS, strict=True):
+        got = json.loads(line)
+        declared = given[1]
+        wanted = {"number": record.number, "accepted": len(given[0]), "declared": declared, "text": record.length,
+                  "complete": len(given[0]) == declared, "mode": "html", "to": "UTF-8", "losses": losses[record.number],
+                  "filename": given[3] or None}
+        same("a line of JSON", {key: got[key] for key in wanted}, wanted)
+        same("its encoding", got["from"].lower(), given[2])
+        holds("its metadata", got["metadata"].startswith("from "))
+    return len(records)
+
+
+def try_deletions(program):
+    """`delete --incomplete` deletes what it printed, and nothing before `--yes`."""
+    program.made("deleted", *script_of_uploads())
+    listed, _ = program.does("list", "deleted")
+    out, said = program.does("delete", "deleted", "--incomplete")
+    same("what would be deleted", out.decode(), "would delete 2\nwould delete 3\n")
+    same("what is said then", said, "nothing was deleted: --yes deletes them\n")
+    same("the uploads then", program.does("list", "deleted")[0], listed)
+    out, _ = program.does("delete", "deleted", "--incomplete", "--yes")
+    same("what was deleted", out.decode(), "deleted 2\ndeleted 3\n")
+    left = [line for line in listed.decode().splitlines(keepends=True) if line[0] not in "23"]
+    same("what is left", program.does("list", "deleted")[0].decode(), "".join(left))
+    same("nothing more", program.does("delete", "deleted", "--incomplete")[0], b"")
+    full = ["open 1", *(line for _ in range(512) for line in post(1, 9, "utf-8"))]
+    program.made("full", *full)
+    program.does("delete", "full", "--incomplete", "--yes")
+    same("a spool full of begun uploads", program.does("list", "full")[0], b"")
+    return 514
+
+
+def try_refusals(program):
+    """Each refusal says what to do."""
+    folder = program.folder
+    (folder / "text").write_bytes(b"no spool at all" * 1000)
+    whole = (folder / "whole").read_bytes()
+    (folder / "short").write_bytes(whole[: len(whole) // 2])
+    (folder / "torn").write_bytes(with_byte(whole, 2000, 1))
+    (folder / "later").write_bytes(with_byte(whole, 3, 9))
+    formats = ["--blocks", BLOCKS, "--indexes", "idx"]
+    cases = [("refused: 13 AlreadySpool", "whole is a spool, and stays as it is", "format", "whole", *formats)]
+    cases += [("refused: 14 Size", "16 to 65536", "format", "new", "--blocks", 8, "--indexes", "idx")]
+    cases += [("refused: 35 AlreadyNew", "whole is of version 2", "upgrade", "whole")]
+    cases += [("refused: 39 CannotOpen", "No such file or directory", "format", "no/where", *formats)]
+    for word, *more in ["list"], ["upgrade"], ["script"], ["delete", 1], ["export", "idx"], ["up"], ["list", "--json"]:
+        cases += [("refused: 39 CannotOpen", "cannot open the spool mistyped: No such file", word, "mistyped", *more)]
+        cases += [("refused: 39 CannotOpen", "cannot open the spool idx: Is a directory", word, "idx", *more)]
+        cases += [("refused: 15 NotASpool", "text is no spool: see whether the path is right", word, "text", *more)]
+        cases += [("refused: 15 NotASpool", "short begins as a spool, but is cut short", word, "short", *more)]
+        cases += [("refused: 16 Version", "later is of another version", word, "later", *more)]
+        cases += [("refused: 2 Damaged", "torn is damaged: go back to a copy", word, "torn", *more)]
+    for refusal, advice, *words in cases:
+        program.refuses(2, refusal, advice, *words)
+    same("a spool that was refused", (folder / "whole").read_bytes(), whole)
+    return len(cases)
+
+
+def with_byte(whole, at, byte):
+    """The spool with another byte at this place of its state page: at 3 its version is, and 2,000 has to be 0."""
+    place = Spool(whole).state + at
+    return whole[:place] + bytes([byte]) + whole[place + 1 :]
+
+
+def try_in_use(program):
+    """While a gateway serves a spool, each command is told that it is in use."""
+    server = Server(program.path, program.folder / "listed")
+    advice = "listed is in use: stop the gateway that serves it, or take a copy of the file"
+    words = [["list"], ["list", "--long"], ["list", "--json"], ["delete", "--incomplete"], ["upgrade"], ["script"], ["up"]]
+    try:
+        for word, *more in words:
+            program.refuses(2, "refused: 38 InUse", advice, word, "listed", *more)
+    finally:
+        server.kill()
+    program.does("list", "listed")
+    return len(words)
+
+
+def main():
+    given = parser_of(__doc__).parse_args()
+    if not given.indexes:
+        raise SystemExit("--indexes DIR: the standard's index files")
+    rng = rng_of(given.seed)
+    with tempfile.TemporaryDirectory() as folder:
+        folder = Path(folder)
+        shutil.copytree(given.indexes, folder / "idx")
+        program = Program(given.program, folder)
+        told = {
+            "folders of index files": try_indexes(program, rng),
+            "texts": try_texts(program, rng),
+            "uploads listed": try_lists(program),
+            "uploads deleted": try_deletions(program),
+            "refusals": try_refusals(program),
+            "commands beside a gateway": try_in_use(program),
+        }
+    print(", ".join(f"{count} {what}" for what, count in told.items()), "all as they have to be", sep=": ")
+
+
+if __name__ == "__main__":
+    try:
+        main()
+    except Wrong as wrong:
+        raise SystemExit(f"wrong: {wrong}") from None
