@@ -3,14 +3,15 @@
 
     python3 tests/clients/operators.py --indexes DIR [--program PATH] [--seed N]
 
-DIR has the standard's index files. `format` is given them whole, and one of them empty, of some lines, cut within a line
-or missing: it says how many entries it read, warns of each file that isn't whole, and a spool made after a warning does
-spoil a text, while one made of whole files doesn't. `text` says how often the text has U+FFFD, for random bytes in many
-encodings; it names the label, the mode or the index file that it was refused for, and the place of a character without a
-code. `list` says what is free, names the texts with U+FFFD and the file names, and `--json` gives the same as the
-records in the spool's bytes. `delete --incomplete` prints what it would delete, and deletes exactly that with `--yes`.
-Each refusal of a command has its status, its line, and a second line that says what to do. While a gateway serves a
-spool each command by hand is told that it is in use, and after it is ended the spool can be had at once.
+DIR has the standard's index files. `format` is given them whole, and then with one of them empty, of some lines, cut
+within a line, or missing: it says how many entries it read, warns of each file that isn't whole, and a spool made after
+a warning does spoil a text, while one made of whole files doesn't. `text` says how often the text has U+FFFD, for
+random bytes in every encoding; it names the label, the mode or the index file that it was refused for, and the place of
+a character without a code. `list` says what is free, names the texts with U+FFFD and the file names, and `--json` says
+the same as the records in the spool's bytes. `delete --incomplete` prints what it would delete, and deletes exactly
+that with `--yes`. Each refusal of a command has its status, its line, and a second line that says what to do. While a
+gateway serves a spool each command by hand is told that it is in use, and after it is ended the spool can be had at
+once.
 """
 
 import json
@@ -159,7 +160,8 @@ def try_texts(program, rng):
     bad = "refused: 28 BadLabel"
     program.refuses(2, bad, "--from klingon: the Encoding Standard has no such label", *words, "--from", "klingon")
     program.refuses(2, bad, "--to big5", *words, "--from", "utf-8", "--to", "big5")
-    program.refuses(2, bad, "--mode strict: the modes are html and fatal", *words, "--from", "utf-8", "--mode", "strict")
+    strict = ["--from", "utf-8", "--mode", "strict"]
+    program.refuses(2, bad, "--mode strict: the modes are html and fatal", *words, *strict)
     lacks = ["text", "--indexes", "jis0208-missing", "--from", "sjis"]
     program.refuses(2, bad, "jis0208-missing lacks an index file that sjis needs", *lacks)
     return tried
@@ -270,7 +272,8 @@ def try_in_use(program):
     """While a gateway serves a spool, each command is told that it is in use."""
     server = Server(program.path, program.folder / "listed")
     advice = "listed is in use: stop the gateway that serves it, or take a copy of the file"
-    words = [["list"], ["list", "--long"], ["list", "--json"], ["delete", "--incomplete"], ["upgrade"], ["script"], ["up"]]
+    words = [["list"], ["list", "--long"], ["list", "--json"], ["delete", "--incomplete"]]
+    words += [["upgrade"], ["script"], ["up"]]
     try:
         for word, *more in words:
             program.refuses(2, "refused: 38 InUse", advice, word, "listed", *more)

@@ -18,6 +18,8 @@ pub(crate) struct Head {
     pub(crate) body: Option<u64>,
     /// `X-Refusal`.
     pub(crate) refusal: Option<u64>,
+    /// `Upload-Metadata`, or the first bytes of its line.
+    metadata: Vec<u8>,
 }
 
 impl Head {
@@ -30,6 +32,7 @@ impl Head {
             length: None,
             body: None,
             refusal: None,
+            metadata: Vec::new(alloc),
         }
     }
 
@@ -60,27 +63,38 @@ impl Head {
         drop(kept);
     }
 
-    // Takes a line with a field. A field without a number is ignored.
+    /// The value of `Upload-Metadata`, and nothing without it.
+    pub(crate) fn metadata(&self) -> &[u8] {
+        &self.metadata
+    }
+
+    // Takes a line with a field. One that should have a number and has none is as if it weren't there.
     fn add_field(&mut self, line: &[u8]) {
-        let Some((name, value)) = number_in(line) else {
+        let Some((name, value)) = field_in(line) else {
             return;
         };
-        let value = Some(value);
         if name.eq_ignore_ascii_case("Content-Length") {
-            self.body = value;
+            self.body = number_in(value).or(self.body);
         } else if name.eq_ignore_ascii_case("Upload-Offset") {
-            self.offset = value;
+            self.offset = number_in(value).or(self.offset);
         } else if name.eq_ignore_ascii_case("Upload-Length") {
-            self.length = value;
+            self.length = number_in(value).or(self.length);
         } else if name.eq_ignore_ascii_case("X-Refusal") {
-            self.refusal = value;
+            self.refusal = number_in(value).or(self.refusal);
+        } else if name.eq_ignore_ascii_case("Upload-Metadata") {
+            // Out of memory, it is lost.
+            let kept = self.metadata.extend_from_slice(value.as_bytes());
+            drop(kept);
         }
     }
 }
 
-// The name and the number of a field, if it has a number.
-fn number_in(line: &[u8]) -> Option<(&str, u64)> {
+// The name of a field, and its value without spaces around it.
+fn field_in(line: &[u8]) -> Option<(&str, &str)> {
     let (name, value) = str::from_utf8(line).ok()?.split_once(':')?;
-    let value = value.trim().parse::<u64>().ok()?;
-    Some((name, value))
+    Some((name, value.trim()))
+}
+
+fn number_in(value: &str) -> Option<u64> {
+    value.parse::<u64>().ok()
 }

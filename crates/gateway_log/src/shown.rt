@@ -20,8 +20,11 @@ pub(crate) struct Client {
     pub(crate) address: SocketAddr,
 }
 
+/// The refusal of an unknown label or mode, `BadLabel`.
+const BAD_LABEL: u64 = 28;
+
 /// Writes the line of an exchange that ended at this time: `TIME NUMBER CLIENT METHOD PATH offset=.. length=.. body=..
-/// status=.. refusal=.. in=.. out=.. ms=..`.
+/// status=.. refusal=.. metadata=.. in=.. out=.. ms=..`. The metadata is shown if its labels are refused.
 pub(crate) fn write_exchange(
     out: &mut Vec<u8>,
     time: Duration,
@@ -34,6 +37,10 @@ pub(crate) fn write_exchange(
     write!(out, " {} {}", client.number, client.address)?;
     write_request(out, &asked.head)?;
     write_reply(out, told)?;
+    if told.refusal == Some(BAD_LABEL) {
+        write!(out, " metadata=")?;
+        write_shown(out, asked.head.metadata())?;
+    }
     writeln!(out, " in={} out={} ms={millis}", asked.bytes, told.bytes)
 }
 
@@ -95,14 +102,18 @@ fn write_number(out: &mut Vec<u8>, name: &str, number: Option<u64>) -> io::Resul
     }
 }
 
-// Writes a blank and a client's word of at most 200 bytes, or a dash without one. Bytes other than printable ASCII are
-// written as `\xNN`, and so is a backslash.
+// Writes a blank and a client's word, or a dash without one.
 fn write_word(out: &mut Vec<u8>, word: Option<&[u8]>) -> io::Result<()> {
     out.push(b' ')?;
-    let word = match word {
-        Some(word) if !word.is_empty() => word,
-        _ => b"-",
-    };
+    match word {
+        Some(word) if !word.is_empty() => write_shown(out, word),
+        _ => write_shown(out, b"-"),
+    }
+}
+
+// Writes what a client sent, at most 200 bytes of it. Bytes other than printable ASCII are written as `\xNN`, and so is
+// a backslash.
+fn write_shown(out: &mut Vec<u8>, word: &[u8]) -> io::Result<()> {
     let mut room = MOST_SHOWN;
     for byte in word {
         let plain = byte.is_ascii_graphic() && *byte != b'\\';

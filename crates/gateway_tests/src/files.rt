@@ -103,7 +103,8 @@ fn spool_is_made_used_listed_and_upgraded(rt: HostRuntime) {
     let disk = open_spool(&rt, SPOOL).expect(&rt, "an upgraded spool");
     drop(lists(&rt, alloc, disk));
     let again = upgrade_file(&rt, alloc, SPOOL);
-    let said = "refused: 35 AlreadyNew\ngateway_file_test/spool is of version 2: there is nothing to do";
+    let said =
+        "refused: 35 AlreadyNew\ngateway_file_test/spool is of version 2: there is nothing to do";
     fails(&rt, alloc, again, 2, said);
     fs::remove_dir_all(&rt, FOLDER).expect(&rt, "a folder");
 }

@@ -96,7 +96,7 @@ enum Passes {
 
 /// Each row: the bytes until the connection ends, and the log's lines without the time at their start. A line's `ms`
 /// counts the readings of the clock since the first byte of its request.
-const TALKS: [(&[Passes], &str); 7] = [
+const TALKS: [(&[Passes], &str); 8] = [
     // no bytes
     (
         &[],
@@ -149,6 +149,18 @@ const TALKS: [(&[Passes], &str); 7] = [
         ],
         "1 127.0.0.1:7 G\\x1bT /a\\x5cb\\x07\\xff status=400 refusal=18:Malformed in=23 out=62 ms=1\n\
         minute connections=1 requests=1 2xx=0 4xx=1 5xx=0 in=23 out=62\n",
+    ),
+    // a label that isn't known
+    (
+        &[
+            Passes::In(
+                b"POST /files HTTP/1.1\r\nUpload-Length: 5\r\nUpload-Metadata: from a2xpbmdvbg==\r\n\r\n",
+            ),
+            Passes::Out(b"HTTP/1.1 400 Bad Request\r\nX-Refusal: 28\r\nContent-Length: 0\r\n\r\n"),
+        ],
+        "1 127.0.0.1:7 POST /files length=5 status=400 refusal=28:BadLabel metadata=from\\x20a2xpbmdvbg== \
+        in=78 out=62 ms=1\n\
+        minute connections=1 requests=1 2xx=0 4xx=1 5xx=0 in=78 out=62\n",
     ),
     // a text that is cut, and a head that is cut
     (

@@ -80,7 +80,11 @@ static SIGNS: [(Encoding, &[&[u8]], u64); 6] = [
     (Encoding::Utf8, &[b"\xEF\xBF\xBD\xEF\xBF", b"\xBDa"], 2),
     (Encoding::Utf8, &[b"\xEF\xEF\xBF\xBD\xEF\xBF\xBE"], 1),
     (Encoding::Utf8, &[b"&#65533;"], 0),
-    (Encoding::Windows1252, &[b"&", b"#65533", b";&#6", b"&#65533;"], 2),
+    (
+        Encoding::Windows1252,
+        &[b"&", b"#65533", b";&#6", b"&#65533;"],
+        2,
+    ),
     (Encoding::Windows1252, &[b"\xEF\xBF\xBD"], 0),
 ];
 
