@@ -3,6 +3,7 @@
 
 mod scripting;
 mod serving;
+mod watched;
 
 use clap::Error;
 use clap::error::ErrorKind;

@@ -5,7 +5,8 @@ ghost use Rattle.std.specs.Net.Socket.{v4_ip, v4_port};
 ghost use Rattle.gateway_files.specs.Failures.{fault_in};
 ghost use Rattle.gateway_files.specs.Faults.{status_of};
 
-use gateway_engine::Gateway;
+use crate::watched::Watched;
+use gateway_engine::{Connections, Gateway};
 use gateway_files::{
     Failure, Fault, Survey, Task, open_spool, open_surveyed, refused_spool, say_open, say_served,
     say_up,
@@ -141,12 +142,12 @@ pub(crate) fn serve_up<'a>(
     };
     match listen_openly(rt, alloc, listen, told) {
         Ok(listener) => {
-            let (disk, served) = if telling.has_log(rt) {
-                serve_logged(rt, alloc, &listener, gateway)
+            let (gateway, served) = if telling.has_log(rt) {
+                serve_logged(rt, alloc, &listener, gateway, survey.blocks)
             } else {
                 serve_on_and_on(rt, alloc, &listener, gateway)
             };
-            outcome(served, spool, &disk)
+            outcome(served, spool, &gateway.into_disk())
         }
         Err(failure) => {
             drop(gateway.into_disk());
@@ -194,26 +195,28 @@ fn listen_openly<'a>(
     Ok(listener)
 }
 
-// Serves as `serve_on_and_on` does, with a log on standard error.
+// Serves as `serve_on_and_on` does, with a log on standard error. The spool has so many text blocks.
 fn serve_logged(
     rt: &HostRuntime,
     alloc: Global,
     listener: &TcpListener,
     gateway: Gateway<Spool<FileDisk>>,
-) -> (FileDisk, Result<(), DiskFault>) {
+    blocks: u64,
+) -> (Gateway<Spool<FileDisk>>, Result<(), DiskFault>) {
     let log = Log::new(alloc, rt, rt.stderr());
-    let served = serve_on_and_on(rt, alloc, &Logged::new(listener, &log), gateway);
+    let watched = Watched::new(gateway, blocks, &log);
+    let (watched, served) = serve_on_and_on(rt, alloc, &Logged::new(listener, &log), watched);
     log.end();
-    served
+    (watched.into_gateway(), served)
 }
 
-// Serves until there is a disk fault; when serving ends by itself, it begins again. The disk is returned.
-fn serve_on_and_on<L: OpenListener>(
+// Serves until there is a disk fault; when serving ends by itself, it begins again. The gateway is returned.
+fn serve_on_and_on<L: OpenListener, C: Connections>(
     rt: &HostRuntime,
     alloc: Global,
     listener: &L,
-    gateway: Gateway<Spool<FileDisk>>,
-) -> (FileDisk, Result<(), DiskFault>)
+    gateway: C,
+) -> (C, Result<(), DiskFault>)
 where
     L::Stream: Read + Write + OpenStream,
 {
@@ -227,8 +230,8 @@ where
         } = serve_on(alloc, rt, listener, gateway, u64::MAX, u64::MAX);
         gateway = next;
         if served.is_err() {
-            return (gateway.into_disk(), served);
+            return (gateway, served);
         }
     }
-    (gateway.into_disk(), Ok(()))
+    (gateway, Ok(()))
 }

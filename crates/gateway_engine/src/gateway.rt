@@ -40,6 +40,13 @@ impl<U: Uploads> Gateway<U> {
         }
     }
 
+    /// The store, to look at.
+    pub fn uploads(&self) -> &U
+        ensures { result.now ≡ store_of self.now }
+    {
+        &self.store
+    }
+
     /// Ends the session: the drafts that are open are dropped. The store has the uploads.
     pub fn close(self) -> U
         ensures kept { (sure : Bool) (st : State) → GatewayStands U.Uploads self sure st

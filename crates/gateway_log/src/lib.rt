@@ -8,10 +8,12 @@ mod listeners;
 mod messages;
 mod refusals;
 mod shown;
+mod stock;
 mod streams;
 mod talks;
 mod writing;
 
 pub use listeners::Logged;
+pub use stock::Stock;
 pub use streams::LoggedStream;
 pub use writing::Log;

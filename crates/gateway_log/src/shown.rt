@@ -3,6 +3,7 @@
 use crate::counts::Counts;
 use crate::heads::Head;
 use crate::refusals::name_of;
+use crate::stock::{Stock, write_stock};
 use crate::talks::{Asked, Exchange, Told};
 use jiff::Timestamp;
 use std::io::{self, Write};
@@ -44,12 +45,18 @@ pub(crate) fn write_exchange(
     writeln!(out, " in={} out={} ms={millis}", asked.bytes, told.bytes)
 }
 
-/// Writes the line of a minute's counts.
-pub(crate) fn write_counts(out: &mut Vec<u8>, time: Duration, counts: &Counts) -> io::Result<()> {
+/// Writes the line of a minute's counts, and how many bodies are under way and what is left in the spool at its end.
+pub(crate) fn write_counts(
+    out: &mut Vec<u8>,
+    time: Duration,
+    counts: &Counts,
+    bodies: u64,
+    stock: Option<Stock>,
+) -> io::Result<()> {
     write_time(out, time)?;
-    writeln!(
+    write!(
         out,
-        " minute connections={} requests={} 2xx={} 4xx={} 5xx={} in={} out={}",
+        " minute connections={} requests={} 2xx={} 4xx={} 5xx={} in={} out={} bodies={bodies}",
         counts.connections,
         counts.requests,
         counts.served,
@@ -57,7 +64,9 @@ pub(crate) fn write_counts(out: &mut Vec<u8>, time: Duration, counts: &Counts) -
         counts.failed,
         counts.bytes_in,
         counts.bytes_out
-    )
+    )?;
+    write_stock(out, stock)?;
+    writeln!(out)
 }
 
 // Writes a time since 1970 in UTC, or a dash if the calendar doesn't have it.

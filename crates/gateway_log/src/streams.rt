@@ -16,10 +16,16 @@ struct Watch<'a, T: Clock, W: Write + Drop> {
 }
 
 impl<T: Clock, W: Write + Drop> Watch<'_, T, W> {
-    // Counts received bytes.
+    // Counts received bytes, and whether a body is under way after them.
     fn came(&mut self, bytes: &[u8]) {
+        let before = self.talk.is_in_body();
         let requests = self.talk.came(self.log.clock(), bytes);
         self.log.count_in(bytes.len(), requests);
+        match (before, self.talk.is_in_body()) {
+            (false, true) => self.log.body_begins(),
+            (true, false) => self.log.body_ends(),
+            _ => {}
+        }
     }
 
     // Counts sent bytes, and logs the exchanges that they complete.
@@ -47,6 +53,9 @@ impl<T: Clock, W: Write + Drop> Drop for Watch<'_, T, W> {
             opened,
             mut talk,
         } = self;
+        if talk.is_in_body() {
+            log.body_ends();
+        }
         if let Some(exchange) = talk.end() {
             log.tell(client, opened, &exchange);
         }

@@ -78,6 +78,11 @@ impl Talk {
         }
     }
 
+    /// Whether a body of a request is under way.
+    pub(crate) fn is_in_body(&self) -> bool {
+        self.asks.is_in_body()
+    }
+
     /// Takes received bytes, and returns how many heads they complete.
     pub(crate) fn came<T: Clock>(&mut self, clock: &T, bytes: &[u8]) -> u64 {
         let mut heads = 0u64;

@@ -2,6 +2,7 @@
 
 use crate::counts::Counts;
 use crate::shown::{Client, write_counts, write_exchange};
+use crate::stock::Stock;
 use crate::talks::Exchange;
 use std::alloc::Global;
 use std::cell::{Cell, RefCell};
@@ -14,6 +15,9 @@ const FULL: usize = 16_384;
 
 /// Lines are written with the next one after this many seconds, even if no connection can be accepted.
 const LATEST: u64 = 1;
+
+/// After so many seconds another look at the spool is wanted.
+const LOOK: u64 = 1;
 
 /// How many seconds pass between two lines of counts.
 const MINUTE: u64 = 60;
@@ -33,6 +37,11 @@ pub struct Log<'a, T: Clock, W: Write + Drop> {
     written: Cell<Duration>,
     /// When counts were last gathered.
     counted: Cell<Duration>,
+    /// How many bodies are under way.
+    bodies: Cell<u64>,
+    /// What was left at the latest look at the spool, and when that was.
+    stock: Cell<Option<Stock>>,
+    looked: Cell<Duration>,
 }
 
 impl<'a, T: Clock, W: Write + Drop> Log<'a, T, W> {
@@ -48,6 +57,9 @@ impl<'a, T: Clock, W: Write + Drop> Log<'a, T, W> {
             accepted: Cell::new(0),
             written: Cell::new(now),
             counted: Cell::new(now),
+            bodies: Cell::new(0),
+            stock: Cell::new(None),
+            looked: Cell::new(now),
         }
     }
 
@@ -55,6 +67,18 @@ impl<'a, T: Clock, W: Write + Drop> Log<'a, T, W> {
     pub fn end(&self) {
         self.tell_counts();
         self.write();
+    }
+
+    /// Whether another look at the spool is wanted: there was none yet, or the latest was a second ago.
+    pub fn wants_stock(&self) -> bool {
+        let since = now_of(self.clock).saturating_sub(self.looked.get());
+        self.stock.get().is_none() || since.as_secs() >= LOOK
+    }
+
+    /// Takes what is left in the spool.
+    pub fn take_stock(&self, stock: Stock) {
+        self.stock.set(Some(stock));
+        self.looked.set(now_of(self.clock));
     }
 
     /// The allocator.
@@ -82,6 +106,16 @@ impl<'a, T: Clock, W: Write + Drop> Log<'a, T, W> {
         let mut counts = self.counts.get();
         counts.add_in(bytes, requests);
         self.counts.set(counts);
+    }
+
+    /// Counts a body that began, if none was under way on its connection before.
+    pub(crate) fn body_begins(&self) {
+        self.bodies.set(self.bodies.get().saturating_add(1));
+    }
+
+    /// A body that was counted is over.
+    pub(crate) fn body_ends(&self) {
+        self.bodies.set(self.bodies.get().saturating_sub(1));
     }
 
     /// Counts sent bytes.
@@ -142,7 +176,8 @@ impl<'a, T: Clock, W: Write + Drop> Log<'a, T, W> {
         let time = self.time();
         let mut lines = self.lines.replace(Vec::new(self.alloc));
         let length = lines.len();
-        if write_counts(&mut lines, time, &counts).is_err() {
+        let (bodies, stock) = (self.bodies.get(), self.stock.get());
+        if write_counts(&mut lines, time, &counts, bodies, stock).is_err() {
             lines.truncate(length);
         }
         self.lines.set(lines);

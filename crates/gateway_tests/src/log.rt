@@ -101,7 +101,7 @@ const TALKS: [(&[Passes], &str); 8] = [
     (
         &[],
         "1 127.0.0.1:7 - - status=none in=0 out=0 ms=1\n\
-        minute connections=1 requests=0 2xx=0 4xx=0 5xx=0 in=0 out=0\n",
+        minute connections=1 requests=0 2xx=0 4xx=0 5xx=0 in=0 out=0 bodies=0\n",
     ),
     // a body, and field names in any case
     (
@@ -112,7 +112,7 @@ const TALKS: [(&[Passes], &str); 8] = [
             Passes::Out(b"HTTP/1.1 204 No Content\r\nUpload-Offset: 8\r\n\r\n"),
         ],
         "1 127.0.0.1:7 PATCH /files/1 offset=5 body=3 status=204 in=69 out=45 ms=1\n\
-        minute connections=1 requests=1 2xx=1 4xx=0 5xx=0 in=69 out=45\n",
+        minute connections=1 requests=1 2xx=1 4xx=0 5xx=0 in=69 out=45 bodies=0\n",
     ),
     // a reply before the request's body, which isn't part of the next request; lines that end in LF alone
     (
@@ -124,7 +124,7 @@ const TALKS: [(&[Passes], &str); 8] = [
         ],
         "1 127.0.0.1:7 PATCH /files/9 offset=0 body=3 status=404 refusal=8:NoSuch in=64 out=59 ms=1\n\
         1 127.0.0.1:7 GET /files/1 status=200 in=23 out=43 ms=1\n\
-        minute connections=1 requests=2 2xx=1 4xx=1 5xx=0 in=90 out=102\n",
+        minute connections=1 requests=2 2xx=1 4xx=1 5xx=0 in=90 out=102 bodies=0\n",
     ),
     // two requests at once; an interim reply doesn't count as a reply
     (
@@ -139,7 +139,7 @@ const TALKS: [(&[Passes], &str); 8] = [
         ],
         "1 127.0.0.1:7 POST /files length=10 status=201 in=43 out=43 ms=2\n\
         1 127.0.0.1:7 PATCH /files/1 offset=0 body=3 status=none in=64 out=25 ms=2\n\
-        minute connections=1 requests=2 2xx=1 4xx=0 5xx=0 in=107 out=68\n",
+        minute connections=1 requests=2 2xx=1 4xx=0 5xx=0 in=107 out=68 bodies=0\n",
     ),
     // bytes that a terminal would interpret
     (
@@ -148,7 +148,7 @@ const TALKS: [(&[Passes], &str); 8] = [
             Passes::Out(b"HTTP/1.1 400 Bad Request\r\nX-Refusal: 18\r\nContent-Length: 0\r\n\r\n"),
         ],
         "1 127.0.0.1:7 G\\x1bT /a\\x5cb\\x07\\xff status=400 refusal=18:Malformed in=23 out=62 ms=1\n\
-        minute connections=1 requests=1 2xx=0 4xx=1 5xx=0 in=23 out=62\n",
+        minute connections=1 requests=1 2xx=0 4xx=1 5xx=0 in=23 out=62 bodies=0\n",
     ),
     // a label that isn't known
     (
@@ -160,7 +160,7 @@ const TALKS: [(&[Passes], &str); 8] = [
         ],
         "1 127.0.0.1:7 POST /files length=5 status=400 refusal=28:BadLabel metadata=from\\x20a2xpbmdvbg== \
         in=78 out=62 ms=1\n\
-        minute connections=1 requests=1 2xx=0 4xx=1 5xx=0 in=78 out=62\n",
+        minute connections=1 requests=1 2xx=0 4xx=1 5xx=0 in=78 out=62 bodies=0\n",
     ),
     // a text that is cut, and a head that is cut
     (
@@ -169,7 +169,7 @@ const TALKS: [(&[Passes], &str); 8] = [
             Passes::Out(b"HTTP/1.1 200 OK\r\nContent-Length: 5\r\n\r\nhe"),
         ],
         "1 127.0.0.1:7 GET /files/1 status=200 cut in=25 out=40 ms=2\n\
-        minute connections=1 requests=1 2xx=0 4xx=0 5xx=0 in=30 out=40\n",
+        minute connections=1 requests=1 2xx=0 4xx=0 5xx=0 in=30 out=40 bodies=0\n",
     ),
     // a head without an end
     (
@@ -180,7 +180,7 @@ const TALKS: [(&[Passes], &str); 8] = [
             ),
         ],
         "1 127.0.0.1:7 GET /files/1 status=431 refusal=19:HeadTooLong in=26 out=82 ms=1\n\
-        minute connections=1 requests=0 2xx=0 4xx=1 5xx=0 in=26 out=82\n",
+        minute connections=1 requests=0 2xx=0 4xx=1 5xx=0 in=26 out=82 bodies=0\n",
     ),
 ];
 

@@ -1,0 +1,114 @@
+//! A gateway whose log is told what is left in its spool.
+ghost use Rattle.gateway_engine.specs.Gateways.{GatewayStands, is_down, store_of};
+
+use gateway_engine::{Connections, Gateway};
+use gateway_log::{Log, Stock};
+use spool_blocks::SLOTS;
+use std::io::Write;
+use std::time::Clock;
+use tus_session::{Answer, SessionError};
+use upload_rules::{Uploads, is_length};
+
+/// How many bytes of a text a block has.
+const BLOCK: u64 = 4096;
+
+/// A gateway whose calls are its own. After a call the spool is looked at, if the log wants that.
+pub(crate) struct Watched<'a, U: Uploads, T: Clock, W: Write + Drop> {
+    gateway: Gateway<U>,
+    /// How many text blocks the spool has.
+    blocks: u64,
+    log: &'a Log<'a, T, W>,
+}
+
+impl<'a, U: Uploads, T: Clock, W: Write + Drop> Watched<'a, U, T, W> {
+    /// A gateway over a spool of so many text blocks, and its log.
+    pub(crate) fn new(gateway: Gateway<U>, blocks: u64, log: &'a Log<'a, T, W>) -> Self {
+        Watched {
+            gateway,
+            blocks,
+            log,
+        }
+    }
+
+    /// The gateway.
+    pub(crate) fn into_gateway(self) -> Gateway<U> {
+        let Watched {
+            gateway,
+            blocks: _,
+            log: _,
+        } = self;
+        gateway
+    }
+
+    // Looks at the spool, if the log wants that.
+    fn look(&self) {
+        if self.log.wants_stock() {
+            self.log
+                .take_stock(stock_of(self.gateway.uploads(), self.blocks));
+        }
+    }
+}
+
+// What is left in a spool of so many text blocks.
+fn stock_of<U: Uploads>(uploads: &U, blocks: u64) -> Stock {
+    let mut stock = Stock {
+        free_blocks: blocks,
+        free_slots: u64::from(SLOTS),
+        incomplete: 0,
+    };
+    let mut number = 0;
+    for _ in 0..SLOTS {
+        let Some(record) = uploads.record_after(number) else {
+            return stock;
+        };
+        let complete = is_length(record.declared, record.accepted);
+        let used = record.text_len.div_ceil(BLOCK);
+        stock.free_blocks = stock.free_blocks.saturating_sub(used);
+        stock.free_slots = stock.free_slots.saturating_sub(1);
+        stock.incomplete = stock.incomplete.saturating_add(u64::from(!complete));
+        number = record.number;
+    }
+    stock
+}
+
+impl<U: Uploads, T: Clock, W: Write + Drop> Connections for Watched<'_, U, T, W> {
+    ghost stands = { λ w sure st. GatewayStands U.Uploads w.gateway sure st };
+
+    ghost moment = { λ w. U.moment (store_of w.gateway) };
+
+    ghost left_only = { λ w blocks t ms. U.left_only (store_of w.gateway) blocks t ms };
+
+    ghost failures = { λ w. U.failures (store_of w.gateway) };
+
+    ghost down = { λ w. is_down w.gateway };
+
+    ghost durable = { λ w st ms stands among.
+        U.durable (store_of w.gateway) st.world ms stands.session.shown among };
+
+    ghost up = { λ w sure st stands. stands.up };
+
+    fn opened(&mut self, conn: usize) -> Result<(), SessionError> {
+        self.gateway.opened(conn)
+    }
+
+    fn came(
+        &mut self,
+        conn: usize,
+        bytes: &[u8],
+        out: &mut Vec<u8>,
+    ) -> Result<Answer, SessionError> {
+        let answer = self.gateway.came(conn, bytes, out);
+        self.look();
+        answer
+    }
+
+    fn more(&mut self, conn: usize, out: &mut Vec<u8>) -> Result<Answer, SessionError> {
+        self.gateway.more(conn, out)
+    }
+
+    fn ended(&mut self, conn: usize) -> Result<(), SessionError> {
+        let answer = self.gateway.ended(conn);
+        self.look();
+        answer
+    }
+}
