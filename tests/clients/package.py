@@ -2,13 +2,14 @@
 
 usage: package.py [--program PATH] [--indexes DIR] [--seed N] [--root TAR]
 
-It needs root, dpkg-deb, curl, procps, and mmdebstrap, which makes the Debian of its packages (or TAR, an archive of a
+It needs root, dpkg-deb, git, curl, and mmdebstrap, which makes the Debian of its packages (or TAR, an archive of a
 fresh one that has the package systemd). What is run there is run by chroot: nothing is booted, and of systemd's
 programs only those that start nothing are run, which make the user and the folder and read the units. Each gateway is
 the command line of its unit, run directly as the unit's user with its settings, at a port of 127.0.0.1 that is free.
 Uploads are sent by curl in pieces, and their texts compared with Python's codecs: they stay over gateways that are
-ended hard, an upgrade, a removal, a purge, and an installation after it. What the units forbid is compared with
-docs/OPERATING.md; that systemd forbids it, and starts a gateway again, only a running systemd would show.
+ended hard, an upgrade, a removal, a purge, and an installation after it. The logs are as the settings have them, and
+the package's version is that of its commit. What the units forbid is compared with docs/OPERATING.md; that systemd
+forbids it, and starts a gateway again, only a running systemd would show.
 """
 
 import gzip
@@ -16,16 +17,17 @@ import hashlib
 import os
 import re
 import runpy
+import select
 import subprocess
 import tempfile
 from pathlib import Path
 
 from clients import made_by_curl, patch_by_curl
 from harness import ROOT, TUS, curl, fields, header, holds, indexes_in, parser_of, random_sample, rng_of, same
-from roots import SETTINGS, UNITS, Debian, Gateway
+from roots import CLEAN, PATIENCE, SETTINGS, UNITS, Debian, Gateway
 
-# Versions of the same program, which dpkg takes as an older and a newer one.
-OLD, NEW = "0.9", "1.0"
+# The version that the older package is given; the newer one has its own.
+OLD = "1.0.0"
 PROGRAM = "/usr/bin/gateway"
 HOME = "/var/lib/wovelatsa"
 DOCUMENTS = "/usr/share/doc/wovelatsa"
@@ -39,19 +41,108 @@ MADE = (PAGE, CHANGES, COPYRIGHT, f"{UNITS}/wovelatsa.service")
 READ, SCRIPTS = ("conffiles", "control", "md5sums"), ("postinst", "postrm", "prerm")
 # A unit's lines that say how its gateway is run; the others say what it may do.
 RUNNING = "Type EnvironmentFile ExecStart SyslogIdentifier Restart RestartSec RestartPreventExitStatus".split()
+# What tools/package reads of the repository.
+READ_BY_IT = "README.md crates.txt docs packaging tools".split()
+AUTHOR = ["-c", "user.name=Nobody", "-c", "user.email=nobody@example.org"]
+# Installs, and says then whose processes there are: where no other is, of which nothing is asked.
+INSTALLING = "dpkg --install /root/package.deb >&2 && stat --format %U /proc/[0-9]*"
+ALONE = "unshare --fork --pid --propagation unchanged --mount-proc sh -c".split()
+# A line of the log, from the method to the refusal.
+LINE = r"\d{4}-\d\d-\d\dT\d\d:\d\d:\d\d\.\d{3}Z \d+ 127\.0\.0\.1:\d+ (.*) in=\d+ out=\d+ ms=\d+"
 PAGES = 64
 
 
+class Service(Gateway):
+    """A gateway whose unit has `$NAME` as a word, too: the words of this setting, none if it isn't there."""
+
+    def run(self):
+        lines = dict(it.split("=", 1) for it in self.debian.lines_of(self.unit))
+        file = self.debian.at(lines["EnvironmentFile"].replace("%i", self.name)).read_text()
+        settings = dict(it.split("=", 1) for it in file.splitlines() if it[0] != "#")
+        self.words = ["chroot", f"--userspec={lines['User']}:{lines['User']}", str(self.debian.folder)]
+        for word in lines["ExecStart"].replace("%i", self.name).split():
+            if re.fullmatch(r"\$\w+", word):
+                self.words += settings.get(word[1:], "").split()
+            else:
+                self.words.append(re.sub(r"\$\{(\w+)\}", lambda it: settings[it[1]], word))
+        piped = {"stdin": subprocess.DEVNULL, "stdout": subprocess.PIPE, "stderr": subprocess.PIPE, "text": True}
+        mask = int(lines["UMask"], 8)
+        self.process = subprocess.Popen(self.words, env={**CLEAN, **settings}, umask=mask, **piped)
+
+    def has(self, *options):
+        """Sets its address, and these lines."""
+        self.settings.write_text("".join(f"{it}\n" for it in (f"LISTEN=127.0.0.1:{self.port}", *options)))
+
+    def logs(self, count):
+        """The next lines that it writes to standard error, as many as these, without those of a minute."""
+        said, lines = "", []
+        while len(lines) < count:
+            holds(f"{' '.join(self.words)}: {count} lines, not {said!r}", self.writes(PATIENCE))
+            said += os.read(self.process.stderr.fileno(), 1 << 16).decode()
+            lines = [it for it in said.splitlines(keepends=True) if it[-1] == "\n" and " minute " not in it]
+        return lines
+
+    def writes(self, patience):
+        """Whether something comes on standard error, and no end."""
+        return bool(select.select([self.process.stderr], [], [], patience)[0]) and self.process.poll() is None
+
+
+def git(tree, *words):
+    """What git prints."""
+    return subprocess.run(["git", "-C", tree, *words], check=True, capture_output=True, text=True).stdout.strip()
+
+
+def package(tree, program, folder, *words):
+    """Makes a package of a tree, in a new folder."""
+    Path(folder).mkdir()
+    words = [tree / "tools/package", "--program", program, "--out", folder, *words]
+    subprocess.run(words, check=True, stdout=subprocess.DEVNULL)
+    return next(Path(folder).glob("*.deb"))
+
+
 def packages(program, folder):
-    """Makes both versions, the newer one twice: the same bytes."""
-    made = {}
-    for place, version in (("old", OLD), ("new", NEW), ("again", NEW)):
-        Path(folder, place).mkdir()
-        words = [ROOT / "tools/package", "--program", program, "--version", version, "--out", f"{folder}/{place}"]
-        subprocess.run(words, check=True, stdout=subprocess.DEVNULL)
-        made[place] = next(Path(folder, place).glob("*.deb"))
-    same("the package made again", made["again"].read_bytes() == made["new"].read_bytes(), True)
-    return made["old"], made["new"]
+    """Makes an older version, and the one that the package has by itself twice: the same bytes."""
+    old = package(ROOT, program, f"{folder}/old", "--version", OLD)
+    new, again = (package(ROOT, program, f"{folder}/{it}") for it in ("new", "again"))
+    same("the package made again", again.read_bytes() == new.read_bytes(), True)
+    same("the version that is given", version_in(old), OLD)
+    changed = ".dirty" if git(ROOT, "status", "--porcelain") else ""
+    same("the version by itself", version_in(new), version_of(ROOT, program) + changed)
+    return old, new
+
+
+def version_in(deb):
+    return told_of(deb, "--field", "Version").strip()
+
+
+def version_of(tree, program):
+    """The version of a tree without changes: what the program says, how many commits there are, and the last one."""
+    said = subprocess.run([program, "--version"], check=True, capture_output=True, text=True).stdout
+    plain = re.match(r"gateway (\d+\.\d+\.\d+), ", said)[1]
+    return f"{plain}+{git(tree, 'rev-list', '--count', 'HEAD')}.g{git(tree, 'rev-parse', 'HEAD')[:8]}"
+
+
+def versions(program, folder):
+    """Of nine commits, with a change that isn't committed, and of ten, each package is newer than the one before."""
+    tree = Path(folder, "tree")
+    tree.mkdir()
+    subprocess.run(["cp", "-a", *(ROOT / it for it in READ_BY_IT), tree], check=True)
+    git(tree, "init", "--quiet")
+    git(tree, "add", "--all")
+    for _ in range(9):
+        git(tree, *AUTHOR, "commit", "--quiet", "--allow-empty", "--message", "a commit")
+    nine = version_in(package(tree, program, f"{folder}/nine"))
+    same("the version of nine commits", nine, version_of(tree, program))
+    (tree / "docs/NEW.md").write_text("A file that isn't committed.\n")
+    changed = version_in(package(tree, program, f"{folder}/changed"))
+    same("the version with a change", changed, f"{nine}.dirty")
+    git(tree, "add", "--all")
+    git(tree, *AUTHOR, "commit", "--quiet", "--message", "a commit")
+    ten = version_in(package(tree, program, f"{folder}/ten"))
+    same("the version of ten commits", ten, version_of(tree, program))
+    for older, newer in ((OLD, nine), (nine, changed), (changed, ten)):
+        done = subprocess.run(["dpkg", "--compare-versions", older, "lt", newer])
+        same(f"the status of dpkg, whether {older} is older than {newer}", done.returncode, 0)
 
 
 def told_of(deb, what, *words):
@@ -84,8 +175,8 @@ def contents(deb, program, folder):
         holds(f"{place} is {file}", Path(f"{folder}{place}").read_bytes() == file.read_bytes())
     page, change = (gzip.decompress(Path(f"{folder}{it}").read_bytes()).decode() for it in (PAGE, CHANGES))
     holds("the manual page", page.startswith("'\\\" t\n") and ".SH NAME\ngateway \\- " in page)
-    commit = subprocess.run(["git", "rev-parse", "HEAD"], cwd=ROOT, check=True, capture_output=True, text=True).stdout
-    holds(f"the changelog: {change}", change.startswith(f"wovelatsa ({NEW}) ") and commit.strip() in change)
+    holds(f"the changelog: {change}", change.startswith(f"wovelatsa ({version_in(deb)}) "))
+    holds(f"the commit is in the changelog: {change}", git(ROOT, "rev-parse", "HEAD") in change)
     licensed(Path(f"{folder}{COPYRIGHT}").read_text())
     return len(files) + len(MADE)
 
@@ -108,22 +199,20 @@ def control(deb, folder):
     same("settings", Path(folder, "conffiles").read_text(), f"{SETTINGS}/spool.env\n")
 
 
-def processes():
-    """Every process of this machine, with the number of its user."""
-    lines = subprocess.run(["ps", "-eo", "pid=,uid="], check=True, capture_output=True, text=True).stdout.splitlines()
-    return {tuple(line.split()) for line in lines}
+def has_version(debian, deb):
+    """The version that is installed is that of a package."""
+    same("the version", debian.does("dpkg-query", "-W", "-f", "${Version}", "wovelatsa"), version_in(deb))
 
 
-def installed(debian, deb, version):
+def installed(debian, deb):
     """Installs it: the user and the folder are there, each file is as it was packed, and nothing runs by itself."""
-    before = processes()
-    debian.install(deb)
-    same("the version", debian.does("dpkg-query", "-W", "-f", "${Version}", "wovelatsa"), version)
+    debian.at("/root/package.deb").write_bytes(deb.read_bytes())
+    same("users of processes after it, the shell's only", debian.does(*ALONE, INSTALLING), "root")
+    has_version(debian, deb)
     same("what isn't as it was packed", debian.does("dpkg", "--verify", "wovelatsa"), "")
     user = debian.does("getent", "passwd", "wovelatsa").split(":")
     same("the user's folder and shell", user[5:], [HOME, "/usr/sbin/nologin"])
     same("the folder", debian.does("stat", "-c", "%U:%G %a", HOME), "wovelatsa:wovelatsa 750")
-    same("processes of the user", [it for it in processes() - before if it[1] == user[2]], [])
     same("units that are enabled", list(debian.at(ENABLED).glob("wovelatsa*")), [])
 
 
@@ -150,16 +239,39 @@ def forbidden(debian):
     return len(told)
 
 
+def settings_as_packed(program):
+    """The settings that the package brings: the log, and every other option of `up`, which its comment has."""
+    text = (ROOT / "packaging/systemd/spool.env").read_text()
+    lines = [it for it in text.splitlines() if it[0] != "#"]
+    same("the settings", lines, ["LISTEN=127.0.0.1:8080", "OPTIONS=--log"])
+    told = subprocess.run([program, "up", "--help"], check=True, capture_output=True, text=True).stdout
+    known = set(re.findall(r"--[a-z]+", told)) - {"--listen", "--help"}
+    same("the options that its comment has", set(re.findall(r"--[a-z]+", text.replace(lines[1], ""))), known)
+
+
 def without_spool(debian, gateway):
-    """Without a spool, or with an address that is none, it ends with a status after which it isn't started again."""
+    """With an address or an option that is none it ends with a status after which it isn't started again, and without
+    a spool that it can read with one after which it is."""
     lines = debian.lines_of(gateway.unit)
     holds("when it is started again", {"Restart=on-failure", "RestartPreventExitStatus=1 3"} <= set(lines))
     gateway.listens_at("nowhere")
     same("the status with a wrong address", gateway.ended()[0], 1)
-    gateway.listens_at(f"127.0.0.1:{gateway.port}")
+    gateway.has("OPTIONS=--logs")
+    same("the status with a wrong option", gateway.ended()[0], 1)
+    gateway.has()
+    refused(gateway, "39 CannotOpen")
+    spool = debian.at(f"{HOME}/{gateway.name}")
+    spool.touch(mode=0o600)
+    refused(gateway, "39 CannotOpen")
+    spool.unlink()
+
+
+def refused(gateway, refusal):
+    """Its command line ends with status 2, and says why and of which spool."""
     status, said = gateway.ended()
-    same("the status without a spool", status, 3)
-    holds(f"what it says without a spool: {said}", f"cannot open the spool {HOME}/{gateway.name}" in said)
+    same(f"the status at {refusal}, with {said!r}", status, 2)
+    told = f"refused: {refusal}\ncannot open the spool {HOME}/{gateway.name}"
+    holds(f"what it says: {said!r}, not {told!r}", said.startswith(told))
 
 
 def served(debian, gateway, rng):
@@ -181,6 +293,38 @@ def served(debian, gateway, rng):
     return path, sample.text
 
 
+def logged(gateway, path, text):
+    """By the package's settings each reply is a line on standard error. None is by those of an older package, which
+    have no options, nor if these are none. By both options the line at the start isn't there."""
+    packed = (ROOT / "packaging/systemd/spool.env").read_text()
+    gateway.kill()
+    gateway.settings.write_text(packed.replace("127.0.0.1:8080", f"127.0.0.1:{gateway.port}"))
+    gateway.start()
+    there(gateway, path, text)
+    curl(f"http://127.0.0.1:{gateway.port}/files/99")
+    lines = [re.fullmatch(LINE, it.strip()) or it for it in gateway.logs(2)]
+    same("the log", [it[1] for it in lines], [f"GET {path} status=200", "GET /files/99 status=404 refusal=8:NoSuch"])
+    gateway.kill()
+    gateway.has("OPTIONS=--log --quiet")
+    gateway.run()
+    curl("-f", "--retry", "9", "--retry-connrefused", f"http://127.0.0.1:{gateway.port}{path}")
+    holds("the log without the line at the start", f"GET {path} status=200" in gateway.logs(1)[0])
+    same("what comes on standard output", select.select([gateway.process.stdout], [], [], 0)[0], [])
+    for options in (["OPTIONS="], []):
+        gateway.kill()
+        gateway.has(*options)
+        gateway.start()
+        there(gateway, path, text)
+        same("whether something comes on standard error", gateway.writes(0.5), False)
+
+
+def in_use(gateway):
+    """While another process has its spool, its command line is refused, and that process goes on."""
+    other = Service(gateway.debian, gateway.name, gateway.unit)
+    refused(other, "38 InUse")
+    same("the status of the one that has it", gateway.process.poll(), None)
+
+
 def there(gateway, path, text):
     """An upload's text is what it has to be."""
     same(f"the text of {path}", curl("-f", f"http://127.0.0.1:{gateway.port}{path}"), text)
@@ -191,7 +335,7 @@ def upgraded(debian, deb, sent):
     settings = {it: it.settings.read_text() for it in sent}
     program = debian.at(PROGRAM).stat().st_ino
     debian.install(deb)
-    same("the version", debian.does("dpkg-query", "-W", "-f", "${Version}", "wovelatsa"), NEW)
+    has_version(debian, deb)
     holds("the program is a new file", debian.at(PROGRAM).stat().st_ino != program)
     for gateway, upload in sent.items():
         same("the settings", gateway.settings.read_text(), settings[gateway])
@@ -233,7 +377,7 @@ def removed_and_purged(debian, sent):
 
 def installed_again(debian, deb, sent):
     """After a purge the package brings the settings that it is made with, finds the spools, and serves them."""
-    installed(debian, deb, NEW)
+    installed(debian, deb)
     first = next(iter(sent))
     same("the settings", first.settings.read_text(), (ROOT / "packaging/systemd/spool.env").read_text())
     first.listens_at(f"127.0.0.1:{first.port}")
@@ -252,14 +396,17 @@ def left_nothing(debian, deb):
 def try_package(debian, old, new, rng):
     """The package's life. Returns how many lines of a unit say what it may do."""
     left_nothing(debian, old)
-    installed(debian, old, OLD)
+    installed(debian, old)
     sound(debian)
     lines = forbidden(debian)
-    gateways = [Gateway(debian, name, unit) for name, unit in NAMED.items()]
+    gateways = [Service(debian, name, unit) for name, unit in NAMED.items()]
     try:
         for it in gateways:
             without_spool(debian, it)
         sent = {it: served(debian, it, rng) for it in gateways}
+        for gateway, upload in sent.items():
+            logged(gateway, *upload)
+            in_use(gateway)
         upgraded(debian, new, sent)
         removed_and_purged(debian, sent)
         installed_again(debian, new, sent)
@@ -276,6 +423,8 @@ def main():
     os.umask(0o022)
     with tempfile.TemporaryDirectory() as folder:
         old, new = packages(words.program, folder)
+        versions(words.program, folder)
+        settings_as_packed(words.program)
         files = contents(new, words.program, f"{folder}/files")
         control(new, f"{folder}/control")
         debian = Debian(f"{folder}/root", words.root)
@@ -283,9 +432,10 @@ def main():
         for file in indexes_in(folder, words.indexes).glob("index-*.txt"):
             (debian.at("/srv/idx") / file.name).write_bytes(file.read_bytes())
         lines = try_package(debian, old, new, rng_of(words.seed, "package"))
+        version = version_in(new)
     print(f"{files} files, all of root; {lines} lines of what a unit may do, as documented; two spools served by the")
-    print(f"command lines of their units, ended hard, upgraded from {OLD} to {NEW}, removed, purged, installed again:")
-    print("every text right")
+    print(f"command lines of their units, logged, ended hard, upgraded from {OLD} to {version}, removed, purged,")
+    print("installed again: every text right")
 
 
 if __name__ == "__main__":
