@@ -24,7 +24,7 @@ from pathlib import Path
 
 from clients import made_by_curl, patch_by_curl
 from harness import ROOT, TUS, curl, fields, header, holds, indexes_in, parser_of, random_sample, rng_of, same
-from roots import CLEAN, PATIENCE, SETTINGS, UNITS, Debian, Gateway
+from roots import PATIENCE, SETTINGS, UNITS, Debian, Gateway
 
 # The version that the older package is given; the newer one has its own.
 OLD = "1.0.0"
@@ -40,7 +40,8 @@ MADE = (PAGE, CHANGES, COPYRIGHT, f"{UNITS}/wovelatsa.service")
 # What dpkg reads of it, and the scripts that dpkg runs.
 READ, SCRIPTS = ("conffiles", "control", "md5sums"), ("postinst", "postrm", "prerm")
 # A unit's lines that say how its gateway is run; the others say what it may do.
-RUNNING = "Type EnvironmentFile ExecStart SyslogIdentifier Restart RestartSec RestartPreventExitStatus".split()
+RUNNING = "Type Environment EnvironmentFile ExecStart SyslogIdentifier Restart RestartSec".split()
+RUNNING += ["RestartPreventExitStatus"]
 # What tools/package reads of the repository.
 READ_BY_IT = "README.md crates.txt docs packaging tools".split()
 AUTHOR = ["-c", "user.name=Nobody", "-c", "user.email=nobody@example.org"]
@@ -53,21 +54,7 @@ PAGES = 64
 
 
 class Service(Gateway):
-    """A gateway whose unit has `$NAME` as a word, too: the words of this setting, none if it isn't there."""
-
-    def run(self):
-        lines = dict(it.split("=", 1) for it in self.debian.lines_of(self.unit))
-        file = self.debian.at(lines["EnvironmentFile"].replace("%i", self.name)).read_text()
-        settings = dict(it.split("=", 1) for it in file.splitlines() if it[0] != "#")
-        self.words = ["chroot", f"--userspec={lines['User']}:{lines['User']}", str(self.debian.folder)]
-        for word in lines["ExecStart"].replace("%i", self.name).split():
-            if re.fullmatch(r"\$\w+", word):
-                self.words += settings.get(word[1:], "").split()
-            else:
-                self.words.append(re.sub(r"\$\{(\w+)\}", lambda it: settings[it[1]], word))
-        piped = {"stdin": subprocess.DEVNULL, "stdout": subprocess.PIPE, "stderr": subprocess.PIPE, "text": True}
-        mask = int(lines["UMask"], 8)
-        self.process = subprocess.Popen(self.words, env={**CLEAN, **settings}, umask=mask, **piped)
+    """A gateway with other settings, whose standard error is read as it runs."""
 
     def has(self, *options):
         """Sets its address, and these lines."""
@@ -294,28 +281,29 @@ def served(debian, gateway, rng):
 
 
 def logged(gateway, path, text):
-    """By the package's settings each reply is a line on standard error. None is by those of an older package, which
-    have no options, nor if these are none. By both options the line at the start isn't there."""
-    packed = (ROOT / "packaging/systemd/spool.env").read_text()
-    gateway.kill()
-    gateway.settings.write_text(packed.replace("127.0.0.1:8080", f"127.0.0.1:{gateway.port}"))
-    gateway.start()
-    there(gateway, path, text)
-    curl(f"http://127.0.0.1:{gateway.port}/files/99")
-    lines = [re.fullmatch(LINE, it.strip()) or it for it in gateway.logs(2)]
-    same("the log", [it[1] for it in lines], [f"GET {path} status=200", "GET /files/99 status=404 refusal=8:NoSuch"])
+    """By the package's settings each reply is a line on standard error, and by those of an older package, which have no
+    options. None is if these are none. By both options the line at the start isn't there."""
+    packed = (ROOT / "packaging/systemd/spool.env").read_text().replace("127.0.0.1:8080", f"127.0.0.1:{gateway.port}")
+    for settings in packed, f"LISTEN=127.0.0.1:{gateway.port}\n":
+        gateway.kill()
+        gateway.settings.write_text(settings)
+        gateway.start()
+        there(gateway, path, text)
+        curl(f"http://127.0.0.1:{gateway.port}/files/99")
+        lines = [re.fullmatch(LINE, it.strip()) or it for it in gateway.logs(2)]
+        wanted = [f"GET {path} status=200", "GET /files/99 status=404 refusal=8:NoSuch"]
+        same("the log", [it[1] for it in lines], wanted)
     gateway.kill()
     gateway.has("OPTIONS=--log --quiet")
     gateway.run()
     curl("-f", "--retry", "9", "--retry-connrefused", f"http://127.0.0.1:{gateway.port}{path}")
     holds("the log without the line at the start", f"GET {path} status=200" in gateway.logs(1)[0])
     same("what comes on standard output", select.select([gateway.process.stdout], [], [], 0)[0], [])
-    for options in (["OPTIONS="], []):
-        gateway.kill()
-        gateway.has(*options)
-        gateway.start()
-        there(gateway, path, text)
-        same("whether something comes on standard error", gateway.writes(0.5), False)
+    gateway.kill()
+    gateway.has("OPTIONS=")
+    gateway.start()
+    there(gateway, path, text)
+    same("whether something comes on standard error", gateway.writes(0.5), False)
 
 
 def in_use(gateway):

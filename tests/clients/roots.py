@@ -70,12 +70,17 @@ class Gateway:
         self.settings.write_text(f"LISTEN={address}\n")
 
     def run(self):
-        """Runs the command line, whose variables the settings give, and whose `%i` is the spool's name."""
+        """Runs the command line: `${NAME}` is a setting, `$NAME` its words, and `%i` the spool's name. The settings are
+        the unit's, and then those of the spool's file."""
         lines = dict(it.split("=", 1) for it in self.debian.lines_of(self.unit))
         file = lines["EnvironmentFile"].replace("%i", self.name)
-        settings = dict(it.split("=", 1) for it in self.debian.at(file).read_text().splitlines() if it[0] != "#")
-        line = re.sub(r"\$\{(\w+)\}", lambda it: settings[it[1]], lines["ExecStart"].replace("%i", self.name))
-        self.words = ["chroot", f"--userspec={lines['User']}:{lines['User']}", str(self.debian.folder), *line.split()]
+        given = [it for it in self.debian.at(file).read_text().splitlines() if it[0] != "#"]
+        settings = dict(it.split("=", 1) for it in [lines["Environment"], *given])
+        self.words = ["chroot", f"--userspec={lines['User']}:{lines['User']}", str(self.debian.folder)]
+        for word in lines["ExecStart"].replace("%i", self.name).split():
+            words = re.fullmatch(r"\$(\w+)", word)
+            one = re.sub(r"\$\{(\w+)\}", lambda it: settings[it[1]], word)
+            self.words += settings[words[1]].split() if words else [one]
         piped = {"stdin": subprocess.DEVNULL, "stdout": subprocess.PIPE, "stderr": subprocess.PIPE, "text": True}
         mask = int(lines["UMask"], 8)
         self.process = subprocess.Popen(self.words, env={**CLEAN, **settings}, umask=mask, **piped)
