@@ -1,4 +1,7 @@
 //! Running standard input as a script over a spool.
+ghost use Rattle.std.specs.Prelude.{◌≡◌, ℕ};
+ghost use Rattle.gateway_files.specs.declared.faults.Fault.{Fault};
+ghost use Rattle.gateway_script.specs.declared.faults.ScriptFault.{ScriptFault};
 
 use enc_index::IndexSet;
 use gateway_engine::{Counted, CountedRead, CountedWrite, ScriptFault, run};
@@ -52,7 +55,12 @@ fn run_over_disk<D: Disk + Drop, R: CountedRead, W: CountedWrite>(
 }
 
 // The program's error for a run that ended early.
-fn fault_of(fault: ScriptFault) -> Fault {
+fn fault_of(fault: ScriptFault) -> Fault
+    ensures memory { fault ≡ ScriptFault.NoMemory → result ≡ Fault.NoMemory }
+    ensures device { fault ≡ ScriptFault.DiskFault → result ≡ Fault.DiskFault }
+    ensures script { (line : ℕ) → fault ≡ ScriptFault.Script line → result ≡ Fault.Script line }
+    ensures io { fault ≡ ScriptFault.Io → result ≡ Fault.Io }
+{
     match fault {
         ScriptFault::NoMemory => Fault::NoMemory,
         ScriptFault::DiskFault => Fault::DiskFault,

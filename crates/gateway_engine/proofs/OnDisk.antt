@@ -1,6 +1,6 @@
 -- From the uploads on a disk to the disk.
-use Rattle.std.proofs.Common.{◌≡◌, ◌≤◌, ◌*◌, inl, inr, ℕ, List, [], ◌∷◌, Option, None, Some, Ok, Err, refl, sym}
-use Rattle.std.proofs.Common.{subst, arith, ⊎_elim, Bool, true, false, ◌∙◌}
+use Rattle.std.proofs.Common.{◌≡◌, ◌≤◌, ◌*◌, inl, inr, ℕ, List, [], ◌∷◌, Option, Some, Ok, Err, refl, sym}
+use Rattle.std.proofs.Common.{subst, arith, Bool, true, false, ◌∙◌}
 use Rattle.std.specs.Io.KnownBytes.{Appends}
 use Rattle.spool_disk.specs.Disk.{IsImage}
 use Rattle.spool_disk.specs.declared.disk.Disk.{Ghosts}

@@ -1,8 +1,8 @@
 -- Why the program ends before its work is done: what it says of it, and its status.
 use Rattle.std.specs.Prelude.{ℕ, List, [], ◌∷◌, ◌++◌, codes, decimal, Option, Some, None}
 use Rattle.std.specs.Borrow.{Bor}
-use Rattle.std_io.specs.declared.io.kind.ErrorKind.{ErrorKind}
-use Rattle.std_io.specs.declared.io.kind.ErrorKind.TheVariants as kinds
+use Rattle.std.specs.declared.io.ErrorKind.{ErrorKind}
+use Rattle.std.specs.declared.io.ErrorKind.TheVariants as kinds
 use Rattle.enc_index.specs.declared.kind.ReadError.TheVariants as lines
 use Rattle.spool_image.specs.declared.error.FormatError.{FormatError}
 use Rattle.spool_image.specs.declared.error.FormatError.TheVariants as formats

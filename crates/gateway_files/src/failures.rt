@@ -1,6 +1,6 @@
 //! What the program says of its end: the fault, and what the system said where it was the system that failed.
 ghost use Rattle.std.specs.Prelude.{◌≡◌};
-ghost use Rattle.std_io.specs.IoError.{error_kind};
+ghost use Rattle.std.specs.IoError.{error_kind};
 ghost use Rattle.gateway_files.specs.Faults.{opening_fault, status_of};
 ghost use Rattle.gateway_files.specs.Failures.{ended_with, fault_in};
 

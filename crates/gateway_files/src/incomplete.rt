@@ -30,15 +30,17 @@ pub fn delete_incomplete_file<'a>(
     spool: &'a str,
     yes: bool,
 ) -> Result<(), Failure<'a>> {
-    match incomplete_on(alloc, open_spool(rt, spool)?) {
-        (disk, Ok(numbers)) if yes => delete_numbers(rt, alloc, spool, disk, &numbers),
-        (_, Ok(numbers)) => {
-            say_doomed(&mut io::writer(rt), &numbers)?;
-            eprintln!(rt; "nothing was deleted: --yes deletes them")?;
-            Ok(())
-        }
-        (disk, Err(fault)) => Err(refused_spool(alloc, fault, spool, disk)),
+    let (disk, found) = incomplete_on(alloc, open_spool(rt, spool)?);
+    let numbers = match found {
+        Ok(numbers) => numbers,
+        Err(fault) => return Err(refused_spool(alloc, fault, spool, disk)),
+    };
+    if yes {
+        return delete_numbers(rt, alloc, spool, disk, &numbers);
     }
+    say_doomed(&mut io::writer(rt), &numbers)?;
+    eprintln!(rt; "nothing was deleted: --yes deletes them")?;
+    Ok(())
 }
 
 /// The numbers of the uploads on a disk that aren't complete: their length isn't known yet, or fewer bytes came. The

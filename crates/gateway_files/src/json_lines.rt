@@ -30,7 +30,7 @@ struct UploadLine<'a> {
     to: &'static str,
     mode: &'static str,
     /// null if the metadata gives none in UTF-8
-    filename: Option<&'a str>,
+    filename: Option<String>,
     /// as the client sent it
     metadata: &'a str,
     /// how often the text has U+FFFD, or the reference that stands for it
@@ -91,7 +91,7 @@ fn write_line<W: Write>(
         from: name_of(record.from),
         to: name_of(record.to),
         mode: mode_name(record.mode),
-        filename: filename.as_deref(),
+        filename,
         metadata: record.metadata.as_str(),
         losses,
     };

@@ -203,9 +203,6 @@ module _ {D : Type 0} (disk : Ghosts D) (given back : D) (n : ℕ) (before : Lis
           (part_prefix st is.past is.out is.most) refl is.most,
     )
 
-    none_first : (past : List Marked) → IsFirst [] past
-    none_first past = (past, sym (append-nil past))
-
     pub told : (fault : ScriptFault) → HasRunOn disk begun (Err (back, fault)) (Some held) (Some prefix) n st bytes
         → Lived (Some (run_fault fault))
     told scripts.NoMemory has = out_of_memory has
@@ -229,13 +226,13 @@ module _ {D : Type 0} (disk : Ghosts D) (given back : D) (n : ℕ) (before : Lis
       passed [] [] bytes (Some fault) [] before (none_first (the_script st [] bytes).run.past) ([], refl) leaves ends,
     )
 
-    pub unopened : {S : Type 0} {done : S → Type 0} (fault : OpenFault) → LoadsAs {T = S} (Err fault) done
+    pub unopened : {S : Type 0} (done : S → Type 0) (fault : OpenFault) → LoadsAs {T = S} (Err fault) done
         → AllShowOne disk back n before → Lived given prefix prefix bytes (Some (Open fault))
-    unopened opens.NoMemory refused still = unbegun (Open opens.NoMemory) refl refl still
-    unopened opens.DiskFault refused still = unbegun (Open opens.DiskFault) refl refl still
-    unopened opens.NotASpool refused still = absurd refused
-    unopened opens.Damaged refused still = absurd refused
-    unopened opens.Version refused still = absurd refused
+    unopened done opens.NoMemory refused still = unbegun (Open opens.NoMemory) refl refl still
+    unopened done opens.DiskFault refused still = unbegun (Open opens.DiskFault) refl refl still
+    unopened done opens.NotASpool refused still = absurd refused
+    unopened done opens.Damaged refused still = absurd refused
+    unopened done opens.Version refused still = absurd refused
 
 -- THE COUNTS of faults, and of refused allocations
 no_fault : {F : Type 0} {a b : ℕ} → (F → ⊥) → Counts F a b → Counts ⊥ a b

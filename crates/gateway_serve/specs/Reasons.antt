@@ -17,6 +17,13 @@ use Rattle.gateway_serve.specs.declared.requests.Request.{Request}
 use Rattle.gateway_serve.specs.declared.stays.Stay.{Stay}
 use Rattle.std.specs.declared.time.Duration.{Duration}
 
+-- when a link was opened, and when something last came or went
+abbrev pub opened_of : {S : Type 0} → Link S → Duration
+opened_of l = l.opened
+
+abbrev pub moved_of : {S : Type 0} → Link S → Duration
+moved_of l = l.moved
+
 -- how a link is at the time of a turn
 abbrev pub begun_by : Option Request → Duration → Duration
 begun_by None moved = moved
@@ -31,8 +38,8 @@ stay_of l tick = record {
   at = at_of l;
   wanted = tick.wanted;
   longest = tick.longest;
-  opened = l.opened;
-  moved = l.moved;
+  opened = opened_of l;
+  moved = moved_of l;
   begun = begun_by l.request l.moved;
   brought = brought_by l.request;
   time = tick.now;

@@ -9,7 +9,7 @@ ghost use Rattle.gateway_serve.specs.Streams.{StaysOf, socket_of};
 ghost use Rattle.gateway_serve.specs.Gone.{EndsBy, IfLost, IsFailure};
 ghost use Rattle.gateway_serve.specs.declared.sockets.Latest.{Latest};
 ghost use Rattle.gateway_serve.specs.Longest.{link_between_since};
-ghost use Rattle.gateway_serve.specs.Reasons.{IsLate, IsLostBy, stay_of};
+ghost use Rattle.gateway_serve.specs.Reasons.{IsLate, IsLostBy, moved_of, opened_of, stay_of};
 ghost use Rattle.std.specs.IoError.{error_kind};
 
 use crate::buffers::{Input, Output, PIECE};
@@ -67,12 +67,25 @@ pub(crate) struct Link<S> {
     pace: Pace,
 }
 
+impl<S: Drop> Link<S> {
+    /// Puts the socket to those that ended.
+    pub(crate) fn end(self, conn: usize, reason: Reason, ended: &mut Ended)
+        ensures ended { ended.new.sockets ≡ with_link conn reason self ended.old.sockets }
+        ensures waiting { FewWait self.output }
+    {
+        let _few = self.output.left();
+        ended.add(conn, self.socket, &reason);
+    }
+}
+
 impl<S: Read + Write> Link<S> {
     /// A connection of which nothing came, opened now.
     pub(crate) fn new(alloc: Global, accepted: Untouched<S>, now: Duration) -> Self
         ensures stream { stream_of (socket_of result) ≡ accepted }
         ensures latest { latest_of (socket_of result) ≡ Latest.None }
         ensures none { joint_of result ≡ nothing_yet }
+        ensures opened { opened_of result ≡ now }
+        ensures moved { moved_of result ≡ now }
     {
         Link {
             socket: accepted.into_socket(),
@@ -94,15 +107,6 @@ impl<S: Read + Write> Link<S> {
             At::Between => Some(self.moved),
             At::Head | At::Body | At::Reply => None,
         }
-    }
-
-    /// Puts the socket to those that ended.
-    pub(crate) fn end(&self, conn: usize, reason: Reason, ended: &mut Ended)
-        ensures ended { ended.new.sockets ≡ with_link conn reason self.now ended.old.sockets }
-        ensures waiting { FewWait self.now.output }
-    {
-        let _few = self.output.left();
-        ended.add(conn, &self.socket, &reason);
     }
 
     /// A turn: what is left is written, else the next piece of a text is asked for, else bytes are read and given to

@@ -13,6 +13,7 @@ use crate::sockets::{Ended, Untouched};
 use spool_disk::DiskFault;
 use std::alloc::Global;
 use std::io::{Read, Write};
+use std::mem;
 use std::time::Duration;
 use tus_session::{Connections, SessionError};
 
@@ -130,10 +131,9 @@ impl<S: Read + Write + Drop> Place<S> {
         ensures free { self.new ≡ Place.Free }
         ensures ended { ended.new.sockets ≡ with_place conn reason self.old ended.old.sockets }
     {
-        if let Place::Open(link) = self {
+        if let Place::Open(link) = mem::replace(self, Place::Free) {
             link.end(conn, reason, ended);
         }
-        *self = Place::Free;
     }
 }
 

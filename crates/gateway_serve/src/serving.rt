@@ -1,5 +1,5 @@
 //! Connections over sockets, turn by turn in one thread.
-ghost use Rattle.std.specs.Prelude.{◌≡◌, ◌⊎◌, List, [], IsErr, IfSome, length, Bool};
+ghost use Rattle.std.specs.Prelude.{◌≡◌, ◌⊎◌, ◌↔◌, List, [], IsErr, IsSomeAnd, IsTrue, IfSome, length, Bool};
 ghost use Rattle.upload_rules.specs.Answers.{Counts};
 ghost use Rattle.tus_session.specs.History.{State, Marked};
 ghost use Rattle.gateway_serve.specs.Served.{Serves, AllServed, AllLeft};
@@ -258,7 +258,12 @@ struct Round {
 
 impl Round {
     // The turn of the connection with this number.
-    fn tick(&self, conn: usize) -> Tick {
+    fn tick(&self, conn: usize) -> Tick
+        ensures now { result.now ≡ self.now.now }
+        ensures wanted { result.wanted ≡ self.now.wanted }
+        ensures longest { IsTrue result.longest ↔ IsSomeAnd self.now.longest (λ pause. pause.conn ≡ conn) }
+        ensures busy { result.busy ≡ self.now.was_busy }
+    {
         Tick {
             now: self.now,
             wanted: self.wanted,

@@ -59,9 +59,9 @@ pub(crate) struct Socket<S> {
     latest: Latest,
 }
 
-impl<S: Read + Write> Socket<S> {
+// A stream of which nothing is known but that it is one: so nothing is read of it or written to it.
+impl<S> Socket<S> {
     ghost use Rattle.gateway_serve.specs.Bytes.{came_of, went_of, stream_of, latest_of};
-    ghost use Rattle.gateway_serve.specs.Gone.{after_read, after_write};
 
     /// Nothing came, and nothing went.
     pub(crate) fn new(stream: S) -> Self
@@ -77,6 +77,11 @@ impl<S: Read + Write> Socket<S> {
             latest: Latest::None,
         }
     }
+}
+
+impl<S: Read + Write> Socket<S> {
+    ghost use Rattle.gateway_serve.specs.Bytes.{came_of, went_of, stream_of, latest_of};
+    ghost use Rattle.gateway_serve.specs.Gone.{after_read, after_write};
 
     /// Reads into the prefix of `buf`: how many bytes.
     pub(crate) fn read(&mut self, buf: &mut [u8]) -> io::Result<usize>
@@ -143,7 +148,7 @@ impl<S> Model for Untouched<S> {
     ghost invariant = { λ u. (came_of u.socket ≡ []) × (went_of u.socket ≡ []) × (latest_of u.socket ≡ None) };
 }
 
-impl<S: Read + Write> Untouched<S> {
+impl<S> Untouched<S> {
     ghost use Rattle.gateway_serve.specs.Bytes.{came_of, went_of, stream_of, latest_of};
 
     /// A stream as it was accepted.
@@ -201,9 +206,10 @@ impl Ended {
         } ∷ self.old.sockets }
     {}
 
-    /// A socket that served the connection with this number, and ended for this reason.
-    pub(crate) fn add<S>(&mut self, conn: usize, socket: &Socket<S>, reason: &Reason)
-        ensures { self.new.sockets ≡ current conn socket.now reason.now ∷ self.old.sockets }
+    /// A socket that served the connection with this number, and ended for this reason. Nothing comes or goes over it
+    /// any more.
+    pub(crate) fn add<S: Drop>(&mut self, conn: usize, socket: Socket<S>, reason: &Reason)
+        ensures { self.new.sockets ≡ current conn socket reason.now ∷ self.old.sockets }
     {
         self.note(conn, &socket.came, &socket.went, &socket.latest, reason);
     }

@@ -1,4 +1,4 @@
-use Rattle.std.proofs.Common.{ℕ, true, false, [], ◌∷◌, Some, Ok, Err, inl, refl, sym, subst}
+use Rattle.std.proofs.Common.{true, false, [], ◌∷◌, Some, Ok, Err, inl, refl, sym, subst}
 use Rattle.spool_image.specs.Spool.{disk_of, size_of}
 use Rattle.spool_image.specs.contracts.spool.SpoolUploads.TheImpl.Laws.{durable-law}
 use Rattle.upload_rules.specs.World.{at_rest}

@@ -21,7 +21,7 @@ returns-in-Err g c n before all =
     all m.1 (said.lasts n m.0 is) (said.honest.0 is.honest)
     (subst (λ (size : ℕ). 4096 * all_pages n ≤ size) (sym said.size) is.room) in
     let lived = unopened disk given back n before m.0 (g.met.D.Disk.counts_now back) (g.met.D.Disk.only_now given) all
-    m.1 c.args.round.now.written.bytes.items (read_of c.args.round.now.script.items) fault
+    m.1 c.args.round.now.written.bytes.items (read_of c.args.round.now.script.items) _ fault
     (said.opened is.honest is.shows.view is.shows.shows.valid is.shows.is (view_room disk given n m.0 is)) still in (
       lived.0,
       lived.1,
