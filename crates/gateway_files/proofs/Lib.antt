@@ -11,6 +11,7 @@ mod Utf8
 mod Pieces
 mod Planned
 mod Named
+mod Entries
 mod Exported
 mod Surveyed
 mod Reopened

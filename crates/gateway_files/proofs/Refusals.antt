@@ -1,10 +1,21 @@
 -- A refusal to open a spool, as `list` answers it.
-use Rattle.std.proofs.Common.{◌≡◌, ◌∙◌, ◌⊎◌, inl, inr, ap}
+use Rattle.std.proofs.Common.{◌≡◌, ◌∙◌, ◌⊎◌, inl, inr, ap, Err}
+use Rattle.spool_kept.specs.Loads.{LoadsAs}
+use Rattle.gateway_files.specs.Listing.{Lists}
 use Rattle.spool_kept.specs.declared.error.OpenFault.{OpenFault}
 use Rattle.spool_kept.specs.declared.error.OpenFault.TheVariants as opens
 use Rattle.gateway_files.specs.declared.faults.Fault.{Fault}
 use Rattle.gateway_files.specs.declared.faults.Fault.TheVariants.{NoMemory, DiskFault}
 use Rattle.gateway_files.specs.Faults.{open_fault}
+
+-- only by memory and the disk, so it is listed but for these
+pub lists_as : {S : Type 0} (T : Type 0) (done : S → Type 0) (e : OpenFault) (f : Fault) → f ≡ open_fault e
+    → LoadsAs {T = S} (Err e) done → Lists {T = T} (Err f)
+lists_as T done opens.NoMemory f said loads = inl (inl said)
+lists_as T done opens.DiskFault f said loads = inr said
+lists_as T done opens.NotASpool f said loads = absurd loads
+lists_as T done opens.Damaged f said loads = absurd loads
+lists_as T done opens.Version f said loads = absurd loads
 
 pub refused_as : (it e : OpenFault) (f : Fault) → f ≡ open_fault e
     → (e ≡ it) ⊎ (e ≡ opens.NoMemory) ⊎ (e ≡ opens.DiskFault)

@@ -66,19 +66,17 @@ pub fn incomplete_on<D: Disk + Drop>(alloc: Global, disk: D) -> (D, Result<Vec<u
     match Spool::open(alloc, disk) {
         Ok(spool) => {
             let numbers = incomplete_of(alloc, &spool);
-            (
-                spool.into_disk(),
-                numbers.map_err(|error| Fault::from(error)),
-            )
+            (spool.into_disk(), numbers)
         }
         Err((disk, fault)) => (disk, Err(Fault::from(fault))),
     }
 }
 
 // The numbers of the uploads that aren't complete.
-fn incomplete_of<U: Uploads>(alloc: Global, uploads: &U) -> Result<Vec<u64>, AllocError>
-    ensures { (w : World) → U.stands uploads.now true w → IsInOrder w.store
+fn incomplete_of<U: Uploads>(alloc: Global, uploads: &U) -> Result<Vec<u64>, Fault>
+    ensures numbers { (w : World) → U.stands uploads.now true w → IsInOrder w.store
         → IfOk result (λ numbers. numbers.items ≡ incomplete_of w.store) }
+    ensures refused { IfErr result (λ fault. fault ≡ Fault.NoMemory) }
 {
     let mut numbers = Vec::new(alloc);
     let mut number = 0;
@@ -90,7 +88,7 @@ fn incomplete_of<U: Uploads>(alloc: Global, uploads: &U) -> Result<Vec<u64>, All
         number = record.number;
     }
     // No memory holds so many numbers.
-    Err(AllocError)
+    Err(Fault::NoMemory)
 }
 
 // Adds the number of an upload, unless it is complete.

@@ -1,6 +1,7 @@
 //! The operator's index files.
-ghost use Rattle.std.specs.Prelude.{◌≡◌, map};
-ghost use Rattle.gateway_files.specs.IndexFiles.{entries, found, kind_of, named, standard_entries};
+ghost use Rattle.std.specs.Prelude.{◌≡◌, ◌≤◌, map};
+ghost use Rattle.enc_model.specs.Index.{code};
+ghost use Rattle.gateway_files.specs.IndexFiles.{entries, found, kind_of, named, one_of, standard_entries};
 
 use crate::failures::{Failure, Task};
 use crate::faults::Fault;
@@ -214,13 +215,22 @@ fn encodings_of(kind: Kind) -> &'static str {
 pub fn entries_of(index: &Index) -> u32
     ensures { result ≡ entries index.now.pairs 11280 }
 {
-    let mut count = 0u32;
+    let mut count = 0;
     for pointer in 0..MOST_POINTERS {
-        if index.code(pointer).is_some() {
-            count = count.saturating_add(1);
-        }
+        count += entry_at(index, pointer);
     }
     count
+}
+
+// Whether an index has an entry at a pointer: 1, or 0.
+fn entry_at(index: &Index, pointer: u32) -> u32
+    ensures one { result ≡ one_of (code index.now.pairs pointer) }
+    ensures most { result ≤ 1 }
+{
+    match index.code(pointer) {
+        Some(_) => 1,
+        None => 0,
+    }
 }
 
 // The bytes of a file, where it is there. One that is too long is a fault, as one that can't be read.

@@ -129,7 +129,11 @@ pub fn list_on<D: Disk + Drop, W: Write>(
     match open_surveyed(alloc, disk) {
         Ok((spool, survey)) => {
             let written = write_uploads(alloc, writer, &spool, long);
-            (spool.into_disk(), written.map(|()| survey))
+            let disk = spool.into_disk();
+            match written {
+                Ok(()) => (disk, Ok(survey)),
+                Err(fault) => (disk, Err(fault)),
+            }
         }
         Err((disk, fault)) => (disk, Err(Fault::from(fault))),
     }

@@ -11,12 +11,9 @@ use enc_model::Encoding;
 use std::io::{self, Write};
 use upload_rules::Uploads;
 
-/// A writer that counts the bytes that it takes, and the signs of lost bytes among them. It is only tested what it
-/// counts. A sign is U+FFFD in UTF-8, and in the other encodings, which lack it, the reference that stands for it; a
-/// text may have it for other reasons too.
+/// Bytes that were counted, and the signs of lost bytes among them.
 #[derive(Drop)]
-pub struct Tally<W> {
-    stream: W,
+struct Counted {
     sign: &'static [u8],
     /// how many bytes of a sign came last
     begun: usize,
@@ -24,34 +21,17 @@ pub struct Tally<W> {
     losses: u64,
 }
 
-impl<W> Tally<W> {
-    /// Nothing was written so far. What is written will be in this encoding.
-    pub fn new(stream: W, to: Encoding) -> Self {
-        Tally {
-            stream,
-            sign: match to {
-                Encoding::Utf8 => "\u{FFFD}".as_bytes(),
-                _ => b"&#65533;",
-            },
-            begun: 0,
-            bytes: 0,
-            losses: 0,
+impl Counted {
+    // Counts bytes.
+    fn add(&mut self, bytes: &[u8]) {
+        self.bytes = self.bytes.saturating_add(bytes.len() as u64);
+        for byte in bytes {
+            self.go_on(*byte);
         }
     }
 
-    /// How many bytes were written.
-    pub fn bytes(&self) -> u64 {
-        self.bytes
-    }
-
-    /// How many signs of lost bytes there were among them.
-    pub fn losses(&self) -> u64 {
-        self.losses
-    }
-
     // No byte of a sign but its first is that one, so a sign that breaks off begins again with it alone.
-    fn count(&mut self, byte: u8) {
-        self.bytes = self.bytes.saturating_add(1);
+    fn go_on(&mut self, byte: u8) {
         if self.sign.get(self.begun) == Some(&byte) {
             self.begun = self.begun.saturating_add(1);
         } else {
@@ -64,6 +44,44 @@ impl<W> Tally<W> {
     }
 }
 
+/// A writer that counts the bytes that it takes, and the signs of lost bytes among them. It is only tested what it
+/// counts. A sign is U+FFFD in UTF-8, and in the other encodings, which lack it, the reference that stands for it; a
+/// text may have it for other reasons too.
+#[derive(Drop)]
+pub struct Tally<W> {
+    stream: W,
+    counted: Counted,
+}
+
+impl<W> Tally<W> {
+    /// Nothing was written so far. What is written will be in this encoding.
+    pub fn new(stream: W, to: Encoding) -> Self {
+        let sign: &'static [u8] = match to {
+            Encoding::Utf8 => b"\xEF\xBF\xBD",
+            _ => b"&#65533;",
+        };
+        Tally {
+            stream,
+            counted: Counted {
+                sign,
+                begun: 0,
+                bytes: 0,
+                losses: 0,
+            },
+        }
+    }
+
+    /// How many bytes were written.
+    pub fn bytes(&self) -> u64 {
+        self.counted.bytes
+    }
+
+    /// How many signs of lost bytes there were among them.
+    pub fn losses(&self) -> u64 {
+        self.counted.losses
+    }
+}
+
 impl<W: Write> Write for Tally<W> {
     ghost use Rattle.gateway_files.specs.Streams.{tallied};
 
@@ -72,9 +90,7 @@ impl<W: Write> Write for Tally<W> {
     fn write(&mut self, buf: &[u8]) -> io::Result<usize> {
         let outcome = self.stream.write(buf);
         if let Ok(count) = outcome {
-            for byte in buf.iter().take(count) {
-                self.count(*byte);
-            }
+            self.counted.add(&buf[..count]);
         }
         outcome
     }

@@ -7,8 +7,8 @@ pub loop-init : goal.loop-init
 loop-init g c w stands order =
     told_first incomplete_one c.new-numbers.result.items w.store.uploads order.some c.new-numbers.ensures.items
 
-pub returns-in_default : goal.returns-in_default
-returns-in_default g c w stands order =
+pub returns-in_default-clause-numbers : goal.returns-in_default-clause-numbers
+returns-in_default-clause-numbers g c w stands order =
     told_none w.store.indexes incomplete_one (incomplete_of w.store) c.loop.numbers.items w.store.uploads c.loop.number _
     (c.record_after.ensures true w stands) (c.loop.invariant w stands order) c.in_default.is
 

@@ -23,3 +23,8 @@ returns-in-Err-clause-version g c honest other =
 pub returns-in-Err-clause-damaged : goal.returns-in-Err-clause-damaged
 returns-in-Err-clause-damaged g c honest damaged =
     refused_as Damaged c.in-Err.fault c.from.result c.from.ensures (c.in-Err.ensures.damaged honest damaged)
+
+pub returns-in-Ok-clause-numbers : goal.returns-in-Ok-clause-numbers
+returns-in-Ok-clause-numbers g c n m is =
+    c.incomplete_of-numbers.ensures.numbers (at_rest m (Some n)) (c.in-Ok.ensures.stands n m is)
+    (in_order g.D.Disk c.args.disk n m is)

@@ -1,26 +1,37 @@
-use Rattle.std.proofs.Common.{Some, subst, sym}
-use Rattle.spool_disk.specs.Disk.{IsImage}
+use Rattle.std.proofs.Common.{Some, subst, sym, true}
 use Rattle.spool_disk.specs.Views.{Lasts}
 use Rattle.spool_image.specs.LeftOnly.{AllShow, LeftOrShows}
+use Rattle.spool_image.specs.Spool.{SpoolStands}
 use Rattle.upload_rules.specs.World.{at_rest}
+use Rattle.gateway_files.specs.declared.surveying.Survey.{Survey}
 use Rattle.spool_kept.specs.declared.error.OpenFault.TheVariants.{Damaged, Version}
 use Rattle.gateway_files.proofs.InOrder.{in_order}
-use Rattle.gateway_files.proofs.Refusals.{refused_as}
+use Rattle.gateway_files.proofs.Refusals.{lists_as, refused_as}
 use Rattle.gateway_files.proofs.listing.list_on.Goals as goal
 
-pub returns-in-Ok-clause-lines : goal.returns-in-Ok-clause-lines
-returns-in-Ok-clause-lines g c n m is =
-    c.write_uploads-written.ensures.lines (at_rest m (Some n)) (c.in-Ok.ensures.stands n m is)
+pub returns-in-Ok-written-clause-lines : goal.returns-in-Ok-written-clause-lines
+returns-in-Ok-written-clause-lines g c n m is =
+    c.in-Ok-written.ensures.lines (at_rest m (Some n)) (c.in-Ok.ensures.stands n m is)
     (in_order g.D.Disk c.args.disk n m is)
 
-pub returns-in-Ok-clause-shows : goal.returns-in-Ok-clause-shows
-returns-in-Ok-clause-shows g c n m is ok =
-    subst (λ d. AllShow g.D.Disk d n m) (sym c.into_disk.ensures.same) (c.in-Ok.ensures.shows n m is)
+pub returns-in-Ok-written-clause-shows : goal.returns-in-Ok-written-clause-shows
+returns-in-Ok-written-clause-shows g c n m is ok =
+    subst (λ d. AllShow g.D.Disk d n m) (sym c.into_disk-disk.ensures.same) (c.in-Ok.ensures.shows n m is)
 
-pub returns-in-Ok-clause-lasts : goal.returns-in-Ok-clause-lasts
-returns-in-Ok-clause-lasts g c n m is =
-    subst (λ d. Lasts g.D.Disk c.args.disk d (LeftOrShows g.D.Disk c.args.disk n m)) (sym c.into_disk.ensures.same)
+pub returns-in-Ok-written-clause-lasts : goal.returns-in-Ok-written-clause-lasts
+returns-in-Ok-written-clause-lasts g c n m is =
+    subst (λ d. Lasts g.D.Disk c.args.disk d (LeftOrShows g.D.Disk c.args.disk n m)) (sym c.into_disk-disk.ensures.same)
     (c.in-Ok.ensures.lasts n m is)
+
+pub returns-in-Err-written-clause-lasts : goal.returns-in-Err-written-clause-lasts
+returns-in-Err-written-clause-lasts g c n m is =
+    subst (λ d. Lasts g.D.Disk c.args.disk d (LeftOrShows g.D.Disk c.args.disk n m)) (sym c.into_disk-disk.ensures.same)
+    (c.in-Ok.ensures.lasts n m is)
+
+pub returns-in-Err-clause-listed : goal.returns-in-Err-clause-listed
+returns-in-Err-clause-listed g c n m is =
+    lists_as Survey (λ opened. SpoolStands opened.0 true (at_rest m (Some n))) c.in-Err.fault c.from.result
+    c.from.ensures (c.in-Err.ensures.stands n m is)
 
 pub returns-in-Err-clause-version : goal.returns-in-Err-clause-version
 returns-in-Err-clause-version g c honest other =
@@ -29,8 +40,3 @@ returns-in-Err-clause-version g c honest other =
 pub returns-in-Err-clause-damaged : goal.returns-in-Err-clause-damaged
 returns-in-Err-clause-damaged g c honest damaged =
     refused_as Damaged c.in-Err.fault c.from.result c.from.ensures (c.in-Err.ensures.damaged honest damaged)
-
-pub returns-in-Ok-clause-unwritten : goal.returns-in-Ok-clause-unwritten
-returns-in-Ok-clause-unwritten g c honest clean =
-    subst (λ d. Lasts g.D.Disk c.args.disk d (IsImage (g.D.Disk.current c.args.disk) (g.D.Disk.unsynced c.args.disk)))
-    (sym c.into_disk.ensures.same) (c.in-Ok.ensures.unwritten honest clean)

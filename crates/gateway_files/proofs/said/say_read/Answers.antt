@@ -1,4 +1,5 @@
-use Rattle.std.proofs.Common.{ℕ, List, [], ◌∷◌, ◌++◌, None, ap, Bor, codes, count_by, flat_map, take}
+use Rattle.std.proofs.Common.{ℕ, List, [], ◌∷◌, ◌++◌, ◌∙◌, None, ap, append-nil, Bor, codes, count_by, flat_map}
+use Rattle.std.proofs.Common.{sym, take}
 use Rattle.std.proofs.lemmas.List.{take_all}
 use Rattle.std.specs.Prelude.{decimal}
 use Rattle.gateway_files.specs.Said.{file_lines, is_read}
@@ -16,12 +17,21 @@ no_text = record { ref_ptr = (0, 0); now = [] }
 abbrev other : IndexFile
 other = record { name = no_text; encodings = no_text; standard = 0; entries = None }
 
+pub loop-file-init : goal.loop-file-init
+loop-file-init g c =
+    let files = c.args.files.now in
+    appends_is (g.W.Write.contents c.args.writer.now) (g.W.Write.contents c.writeln.new.self)
+    (codes "index files read: " ++ (decimal c.count_read.result ++ (10 ∷ []))) (head files ++ [])
+    (ap (λ n. codes "index files read: " ++ (decimal n ++ (10 ∷ []))) c.count_read.ensures
+    ∙ sym (append-nil (head files)))
+    c.in_ok-writeln.ensures.bytes
+
 pub loop-file-preserved : goal.loop-file-preserved
 loop-file-preserved g c =
     wrote_item file_lines (head c.args.files.now) c.args.files.now c.loop-file.file-index other
     (g.W.Write.contents c.args.writer.now) (g.W.Write.contents c.loop-file.writer)
-    (g.W.Write.contents c.write-in-loop-file.new.self) c.loop-file-test.true c.loop-file.invariant
-    c.in_ok-write-2.ensures.bytes
+    (g.W.Write.contents c.write.new.self) c.loop-file-test.true c.loop-file.invariant
+    c.in_ok-write.ensures.bytes
 
 pub returns : goal.returns
 returns g c =

@@ -1,4 +1,4 @@
-use Rattle.std.proofs.Common.{◌≤◌, ◌*◌, ◌∙◌, ℕ, List, None, Some, ap, append-nil, refl, subst, sym}
+use Rattle.std.proofs.Common.{◌≤◌, ◌*◌, ◌∙◌, ℕ, List, None, Some, ap, refl, subst, sym}
 use Rattle.spool_journal.specs.Image.{all_pages}
 use Rattle.spool_image.specs.Spool.{disk_of}
 use Rattle.gateway_engine.proofs.OnDisk.{view_room}
