@@ -259,10 +259,10 @@ struct Round {
 impl Round {
     // The turn of the connection with this number.
     fn tick(&self, conn: usize) -> Tick
-        ensures now { result.now ≡ self.now.now }
-        ensures wanted { result.wanted ≡ self.now.wanted }
-        ensures longest { IsTrue result.longest ↔ IsSomeAnd self.now.longest (λ pause. pause.conn ≡ conn) }
-        ensures busy { result.busy ≡ self.now.was_busy }
+        ensures now { result.now ≡ self.entry.now.now }
+        ensures wanted { result.wanted ≡ self.entry.now.wanted }
+        ensures longest { IsTrue result.longest ↔ IsSomeAnd self.entry.now.longest (λ pause. pause.conn ≡ conn) }
+        ensures busy { result.busy ≡ self.entry.now.was_busy }
     {
         Tick {
             now: self.now,
