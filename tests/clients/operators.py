@@ -153,13 +153,14 @@ def try_texts(program, rng):
     same("references for U+FFFD", said, f"U+FFFD in the text: {text.count(b'&#65533;')}\n")
     for before in 0, 1, 4095, 4096, 10_000:
         words = ["text", "--from", "utf-8", "--to", "windows-1251", "--mode", "fatal", "--indexes", "idx"]
-        advice = f"windows-1251 lacks the character after byte {before} of the text"
+        advice = f"windows-1251 lacks U+3042, after the {before} bytes that were written"
         out = program.refuses(2, "refused: 6 Unencodable", advice, *words, given=b"a" * before + "\u3042b".encode())
         same("what comes before it", out, b"a" * before)
     words = ["text", "--indexes", "idx"]
     bad = "refused: 28 BadLabel"
-    program.refuses(2, bad, "--from klingon: the Encoding Standard has no such label", *words, "--from", "klingon")
-    program.refuses(2, bad, "--to big5", *words, "--from", "utf-8", "--to", "big5")
+    program.refuses(2, bad, "--from klingon: no label of an encoding that the gateway has", *words, "--from", "klingon")
+    big5 = ["--from", "utf-8", "--to", "big5"]
+    program.refuses(2, bad, "--to big5: no label of an encoding that the gateway has", *words, *big5)
     strict = ["--from", "utf-8", "--mode", "strict"]
     program.refuses(2, bad, "--mode strict: the modes are html and fatal", *words, *strict)
     lacks = ["text", "--indexes", "jis0208-missing", "--from", "sjis"]
@@ -271,7 +272,7 @@ def with_byte(whole, at, byte):
 def try_in_use(program):
     """While a gateway serves a spool, each command is told that it is in use."""
     server = Server(program.path, program.folder / "listed")
-    advice = "listed is in use: stop the gateway that serves it, or take a copy of the file"
+    advice = "listed is in use: stop the gateway that serves it"
     words = [["list"], ["list", "--long"], ["list", "--json"], ["delete", "--incomplete"]]
     words += [["upgrade"], ["script"], ["up"]]
     try:

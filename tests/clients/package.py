@@ -246,18 +246,18 @@ def without_spool(debian, gateway):
     gateway.has("OPTIONS=--logs")
     same("the status with a wrong option", gateway.ended()[0], 1)
     gateway.has()
-    refused(gateway, "39 CannotOpen")
+    refused(gateway, "39 CannotOpen", "cannot open the spool {}")
     spool = debian.at(f"{HOME}/{gateway.name}")
     spool.touch(mode=0o600)
-    refused(gateway, "39 CannotOpen")
+    refused(gateway, "39 CannotOpen", "cannot open the spool {}")
     spool.unlink()
 
 
-def refused(gateway, refusal):
+def refused(gateway, refusal, reason):
     """Its command line ends with status 2, and says why and of which spool."""
     status, said = gateway.ended()
     same(f"the status at {refusal}, with {said!r}", status, 2)
-    told = f"refused: {refusal}\ncannot open the spool {HOME}/{gateway.name}"
+    told = f"refused: {refusal}\n{reason.format(f'{HOME}/{gateway.name}')}"
     holds(f"what it says: {said!r}, not {told!r}", said.startswith(told))
 
 
@@ -309,7 +309,7 @@ def logged(gateway, path, text):
 def in_use(gateway):
     """While another process has its spool, its command line is refused, and that process goes on."""
     other = Service(gateway.debian, gateway.name, gateway.unit)
-    refused(other, "38 InUse")
+    refused(other, "38 InUse", "{} is in use: stop the gateway that serves it")
     same("the status of the one that has it", gateway.process.poll(), None)
 
 

@@ -37,7 +37,8 @@ pub(crate) fn run_script<'a>(
     }
 }
 
-// Opens the spool on a disk, runs a script from `reader` over it, and writes its output to `writer`. The disk is returned.
+// Opens the spool on a disk, runs a script from `reader` over it, and writes its output to `writer`. The disk is
+// returned.
 fn run_over_disk<D: Disk + Drop, R: CountedRead, W: CountedWrite>(
     alloc: Global,
     reader: &mut R,

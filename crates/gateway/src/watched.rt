@@ -2,15 +2,12 @@
 ghost use Rattle.gateway_engine.specs.Gateways.{GatewayStands, is_down, store_of};
 
 use gateway_engine::{Connections, Gateway};
+use gateway_files::used_of;
 use gateway_log::{Log, Stock};
-use spool_blocks::SLOTS;
 use std::io::Write;
 use std::time::Clock;
 use tus_session::{Answer, SessionError};
-use upload_rules::{Uploads, is_length};
-
-/// How many bytes of a text a block has.
-const BLOCK: u64 = 4096;
+use upload_rules::Uploads;
 
 /// A gateway whose calls are its own. After a call the spool is looked at, if the log wants that.
 pub(crate) struct Watched<'a, U: Uploads, T: Clock, W: Write + Drop> {
@@ -47,28 +44,6 @@ impl<'a, U: Uploads, T: Clock, W: Write + Drop> Watched<'a, U, T, W> {
                 .take_stock(stock_of(self.gateway.uploads(), self.blocks));
         }
     }
-}
-
-// What is left in a spool of so many text blocks.
-fn stock_of<U: Uploads>(uploads: &U, blocks: u64) -> Stock {
-    let mut stock = Stock {
-        free_blocks: blocks,
-        free_slots: u64::from(SLOTS),
-        incomplete: 0,
-    };
-    let mut number = 0;
-    for _ in 0..SLOTS {
-        let Some(record) = uploads.record_after(number) else {
-            return stock;
-        };
-        let complete = is_length(record.declared, record.accepted);
-        let used = record.text_len.div_ceil(BLOCK);
-        stock.free_blocks = stock.free_blocks.saturating_sub(used);
-        stock.free_slots = stock.free_slots.saturating_sub(1);
-        stock.incomplete = stock.incomplete.saturating_add(u64::from(!complete));
-        number = record.number;
-    }
-    stock
 }
 
 impl<U: Uploads, T: Clock, W: Write + Drop> Connections for Watched<'_, U, T, W> {

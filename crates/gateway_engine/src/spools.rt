@@ -84,16 +84,16 @@ impl<D: Disk> Gateway<Spool<D>> {
 ///
 /// The script is read whole before its first line is run.
 ///
-/// Refused with `NoMemory` where a growth outside the calls was refused, `DiskFault`, `Script` of the first line that is
-/// none or too long, and `Io`. What was committed and written before stands.
+/// Refused with `NoMemory` where a growth outside the calls was refused, `DiskFault`, `Script` of the first line that
+/// is none or too long, and `Io`. What was committed and written before stands.
 pub fn run<D: Disk, R: CountedRead, W: CountedWrite>(
     alloc: Global,
     reader: &mut R,
     writer: &mut W,
     spool: Spool<D>,
 ) -> Result<D, (D, ScriptFault)>
-    // Whatever the disk: for the uploads that the spool stands for, those that its opening read, the exit and the output
-    // are the script's, by a mark for each call, but for the bytes of texts, which are as many.
+    // Whatever the disk: for the uploads that the spool stands for, those that its opening read, the exit and the
+    // output are the script's, by a mark for each call, but for the bytes of texts, which are as many.
     ensures writes { (m : Store) (blocks : Option ℕ) → SpoolStands spool false (at_rest m blocks)
         → (script : List ℕ) × IsScript (R.remaining reader.old) script
         × Writes result (W.contents writer.new) (W.contents writer.old) (beginning m blocks) script }

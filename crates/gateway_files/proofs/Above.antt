@@ -132,7 +132,8 @@ module _ (x : IndexSet) (f : ℕ × Upload → List ℕ) (whole out : List ℕ) 
     (r : Option (Bor Record)) (t : TellsOf x (above n xs) (option_copied r))
     (before : out ++ flat_map f (after n xs) ≡ whole) where
   pub told_none : r ≡ None → out ≡ whole
-  told_none e = told_all f whole out xs n (untold x (above n xs) (option_copied r) (ap (λ o. option_copied o) e) t) before
+  told_none e =
+      told_all f whole out xs n (untold x (above n xs) (option_copied r) (ap (λ o. option_copied o) e) t) before
 
   pub told_next : (of : Record → List ℕ)
       → ((r : Record) (entry : ℕ × Upload) → Tells x entry.0 r entry.1 → of r ≡ f entry)

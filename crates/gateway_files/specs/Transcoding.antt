@@ -5,6 +5,8 @@ use Rattle.enc_model.specs.Decode.{text}
 use Rattle.enc_model.specs.Encode.{Coded, Tables}
 use Rattle.enc_model.specs.Transcode.{added, added_end}
 use Rattle.enc_stream.specs.Standing.{Standing, stepped_on}
+use Rattle.enc_stream.specs.declared.error.TranscodeError.{TranscodeError}
+use Rattle.enc_stream.specs.declared.error.TranscodeError.TheVariants as errors
 use Rattle.tus_request.specs.Metadata as metadata
 use Rattle.gateway_files.specs.declared.faults.Fault.{Fault}
 use Rattle.gateway_files.specs.declared.faults.Fault.TheVariants.{NoMemory, Io, Unencodable}
@@ -26,7 +28,13 @@ IsStored t c (Some input) prefix held =
 
 -- why it isn't: for memory, for the reader or the writer, or since a character has no code
 abbrev pub IsTextFault : Fault → Type 0
-IsTextFault f = (f ≡ NoMemory) ⊎ (f ≡ Io) ⊎ (f ≡ Unencodable)
+IsTextFault f = (f ≡ NoMemory) ⊎ (f ≡ Io) ⊎ ((c : Option ℕ) × (f ≡ Unencodable c))
+
+-- by the transcoder: which character that is, if the call met it
+abbrev pub transcode_fault : TranscodeError → Fault
+transcode_fault errors.NoMemory = NoMemory
+transcode_fault (errors.Unencodable c) = Unencodable (Some c)
+transcode_fault errors.Spent = Unencodable None
 
 -- ONE PIECE was read, and what it adds to the text was written
 pub record CopiesOn (t : Tables) (before after : Standing) (left left' prefix held : Option (List ℕ)) : Type 0 where

@@ -74,14 +74,8 @@ pub enum Advice<'a> {
     Blocks,
     /// A file in this folder isn't as long as its upload's text.
     Differs(&'a str),
-    /// This option has this label, which the standard doesn't know.
-    Label(&'static str, &'a str),
-    /// This is neither of the two modes.
-    Mode(&'a str),
-    /// The folder lacks an index file of the encoding that this label names.
-    NoIndex(&'a str, &'a str),
-    /// The encoding that this label names lacks the character after so many bytes of the text.
-    Lacks(&'a str, u64),
+    /// A text can't be shown as asked.
+    Text(TextAdvice<'a>),
 }
 
 impl fmt::Display for Advice<'_> {
@@ -102,27 +96,50 @@ impl fmt::Display for Advice<'_> {
                 f,
                 "{path} is a spool, and stays as it is: take another path, or remove it yourself"
             ),
-            Advice::InUse(path) => write!(
-                f,
-                "{path} is in use: stop the gateway that serves it, or take a copy of the file"
-            ),
+            Advice::InUse(path) => write!(f, "{path} is in use: stop the gateway that serves it"),
             Advice::Blocks => f.write_str("the number of blocks is 16 to 65536"),
             Advice::Differs(folder) => write!(
                 f,
                 "{folder} has a file that isn't as long as its upload's text: look at it before you delete the upload"
             ),
-            Advice::Label(option, label) => write!(
+            Advice::Text(advice) => write!(f, "{advice}"),
+        }
+    }
+}
+
+/// Why a text can't be shown as asked, and what to do next.
+#[derive(Clone, Copy, Debug, PartialEq, Eq, Drop)]
+pub enum TextAdvice<'a> {
+    /// This option has this label, which is of no encoding that the gateway has.
+    Label(&'static str, &'a str),
+    /// This is neither of the two modes.
+    Mode(&'a str),
+    /// The folder lacks an index file of the encoding that this label names.
+    NoIndex(&'a str, &'a str),
+    /// The encoding that this label names lacks this character. So many bytes were written before it.
+    Lacks(&'a str, Option<char>, u64),
+}
+
+impl fmt::Display for TextAdvice<'_> {
+    fn fmt<W: fmt::Write>(&self, f: &mut fmt::Formatter<W>) -> fmt::Result {
+        match self {
+            TextAdvice::Label(option, label) => write!(
                 f,
-                "{option} {label}: the Encoding Standard has no such label"
+                "{option} {label}: no label of an encoding that the gateway has, see docs/PROTOCOL.md"
             ),
-            Advice::Mode(mode) => write!(f, "--mode {mode}: the modes are html and fatal"),
-            Advice::NoIndex(folder, label) => write!(
+            TextAdvice::Mode(mode) => write!(f, "--mode {mode}: the modes are html and fatal"),
+            TextAdvice::NoIndex(folder, label) => write!(
                 f,
-                "{folder} lacks an index file that {label} needs"
+                "{folder} lacks an index file that {label} needs: fetch it from encoding.spec.whatwg.org"
             ),
-            Advice::Lacks(label, bytes) => write!(
+            TextAdvice::Lacks(label, Some(character), bytes) => write!(
                 f,
-                "{label} lacks the character after byte {bytes} of the text: --mode html writes its number"
+                "{label} lacks U+{:04X}, after the {bytes} bytes that were written: --mode html writes its number",
+                u32::from(*character)
+            ),
+            TextAdvice::Lacks(label, None, bytes) => write!(
+                f,
+                "{label} lacks a character, after the {bytes} bytes that were written: --mode html writes its number"
             ),
         }
     }

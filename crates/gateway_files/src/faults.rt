@@ -47,8 +47,9 @@ pub enum Fault {
     NoSuch,
     /// A label or a mode that isn't known, or an encoding whose index files aren't there.
     BadLabel,
-    /// A character without a code in the encoding that is written, in the mode `fatal`.
-    Unencodable,
+    /// This character has no code in the encoding that is written, in the mode `fatal`; an earlier call met it, if none
+    /// is here.
+    Unencodable(Option<char>),
 }
 
 impl fmt::Display for Fault {
@@ -82,6 +83,11 @@ impl Fault {
             | ErrorKind::IsADirectory
             | ErrorKind::NotADirectory
             | ErrorKind::ReadOnlyFilesystem
+            | ErrorKind::FilesystemLoop
+            | ErrorKind::StorageFull
+            | ErrorKind::QuotaExceeded
+            | ErrorKind::FileTooLarge
+            | ErrorKind::ExecutableFileBusy
             | ErrorKind::InvalidInput
             | ErrorKind::InvalidFilename => Fault::CannotOpen,
             ErrorKind::OutOfMemory => Fault::NoMemory,
@@ -100,7 +106,7 @@ impl Fault {
             Fault::Index(_, ReadError::Line(_)) => (3, "Line"),
             Fault::Index(_, ReadError::Range(_)) => (4, "Range"),
             Fault::Index(_, ReadError::Twice(_)) => (5, "Twice"),
-            Fault::Unencodable => (6, "Unencodable"),
+            Fault::Unencodable(_) => (6, "Unencodable"),
             Fault::NoSuch => (8, "NoSuch"),
             Fault::AlreadySpool => (13, "AlreadySpool"),
             Fault::Size => (14, "Size"),
@@ -207,16 +213,16 @@ impl From<UpgradeError> for Fault {
 }
 
 impl From<TranscodeError> for Fault {
-    ghost use Rattle.std.specs.Prelude.{◌⊎◌};
-    ghost use Rattle.gateway_files.specs.declared.faults.Fault.{Fault};
+    ghost use Rattle.gateway_files.specs.Transcoding.{transcode_fault};
 
-    ghost from_gives = { λ _ fault. (fault ≡ Fault.NoMemory) ⊎ (fault ≡ Fault.Unencodable) };
+    ghost from_gives = { λ below fault. fault ≡ transcode_fault below };
 
     fn from(error: TranscodeError) -> Self {
         match error {
             TranscodeError::NoMemory => Fault::NoMemory,
-            // one is spent by a character that has no code
-            TranscodeError::Unencodable(_) | TranscodeError::Spent => Fault::Unencodable,
+            TranscodeError::Unencodable(character) => Fault::Unencodable(Some(character)),
+            // one is spent by such a character
+            TranscodeError::Spent => Fault::Unencodable(None),
         }
     }
 }

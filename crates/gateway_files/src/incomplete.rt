@@ -1,8 +1,9 @@
 //! The uploads of a spool that aren't complete.
 ghost use Rattle.std.specs.Prelude.{◌≡◌, ◌++◌, ℕ, Err, IfErr, IfOk, IsOk, OnOk, flat_map, true};
 ghost use Rattle.std.specs.Io.KnownBytes.{Appends};
-ghost use Rattle.spool_disk.specs.Disk.{Counts};
+ghost use Rattle.spool_disk.specs.Disk.{Counts, IsImage};
 ghost use Rattle.spool_disk.specs.Views.{Lasts};
+ghost use Rattle.spool_load.specs.Reads.{NeedsReplay};
 ghost use Rattle.spool_load.specs.Refusals.{HasOtherVersion, IsDamaged, IsNoSpool};
 ghost use Rattle.upload_rules.specs.Store.{Store};
 ghost use Rattle.upload_rules.specs.World.{World};
@@ -10,7 +11,7 @@ ghost use Rattle.spool_image.specs.LeftOnly.{AllShow, IsSpool, LeftOrShows};
 ghost use Rattle.gateway_files.specs.declared.faults.Fault.{Fault};
 ghost use Rattle.gateway_files.specs.Deleting.{doomed_line, incomplete_of, incomplete_record};
 ghost use Rattle.gateway_files.specs.Lines.{IsInOrder};
-ghost use Rattle.gateway_files.specs.Listing.{ListRefusedFor, RefusesListAs};
+ghost use Rattle.gateway_files.specs.Listing.{ListRefusedFor, Lists, RefusesListAs};
 
 use crate::deleting::delete_numbers;
 use crate::failures::Failure;
@@ -39,7 +40,11 @@ pub fn delete_incomplete_file<'a>(
         return delete_numbers(rt, alloc, spool, disk, &numbers);
     }
     say_doomed(&mut io::writer(rt), &numbers)?;
-    eprintln!(rt; "nothing was deleted: --yes deletes them")?;
+    if !numbers.is_empty() {
+        // If standard error can't be written, this isn't said.
+        let told = eprintln!(rt; "nothing was deleted: --yes deletes them");
+        drop(told);
+    }
     Ok(())
 }
 
@@ -54,7 +59,11 @@ pub fn incomplete_on<D: Disk + Drop>(alloc: Global, disk: D) -> (D, Result<Vec<u
     ensures lasts { (n : ℕ) (m : Store) → IsSpool D.Disk disk n m
         → Lasts D.Disk disk result.0 (LeftOrShows D.Disk disk n m) }
 
+    ensures unwritten { D.honest disk → (NeedsReplay (D.size disk) (D.current disk) → ⊥)
+        → Lasts D.Disk disk result.0 (IsImage (D.current disk) (D.unsynced disk)) }
+
     // Each refusal has its reason, and each reason is answered so, unless memory or the disk refuses it.
+    ensures listed { (n : ℕ) (m : Store) → IsSpool D.Disk disk n m → Lists result.1 }
     ensures refused { D.honest disk → IfErr result.1 (ListRefusedFor (D.size disk) (D.current disk)) }
     ensures not_a_spool { D.honest disk → IsNoSpool (D.size disk) (D.current disk)
         → RefusesListAs result.1 Fault.NotASpool }

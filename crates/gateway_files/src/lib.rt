@@ -25,7 +25,7 @@ mod upgrading;
 pub use copies::copy_text;
 pub use deleting::{delete_file, delete_on};
 pub use exporting::{Done, export_file, export_on};
-pub use failures::{Advice, Failure, Task, ended};
+pub use failures::{Advice, Failure, Task, TextAdvice, ended};
 pub use faults::Fault;
 pub use folders::{FileFolder, Folder};
 pub use formatting::{Formatted, format_file, format_on, is_spool_on};
@@ -36,12 +36,9 @@ pub use listing::{list_file, list_on};
 pub use losses::Tally;
 pub use naming::{given_name, is_safe_name};
 pub use planning::{Job, plan};
-pub use said::{
-    say_formatted, say_free, say_losses, say_losses_of, say_open, say_read, say_served, say_up,
-    say_upgraded,
-};
+pub use said::{say_formatted, say_open, say_read, say_served, say_up, say_upgraded};
 pub use spool_files::{open_spool, refused_spool};
 pub use streams::Noted;
-pub use surveying::{Survey, open_surveyed};
+pub use surveying::{Survey, Used, open_surveyed, used_of};
 pub use transcoding::{Conversion, conversion_of, text_file, text_on};
 pub use upgrading::upgrade_file;

@@ -91,8 +91,8 @@ fn say_all_losses<W: Write, U: Uploads>(writer: &mut W, uploads: &mut U) -> Resu
     Ok(())
 }
 
-/// Writes a line for each upload of the spool on a disk, by number, with its metadata or without, and surveys the spool.
-/// The disk is handed back.
+/// Writes a line for each upload of the spool on a disk, by number, with its metadata or without, and surveys the
+/// spool. The disk is handed back.
 pub fn list_on<D: Disk + Drop, W: Write>(
     alloc: Global,
     writer: &mut W,

@@ -11,9 +11,9 @@ use enc_model::Encoding;
 use std::io::{self, Write};
 use upload_rules::Uploads;
 
-/// Bytes that were counted, and the signs of lost bytes among them.
+/// The signs of lost bytes among bytes that were counted.
 #[derive(Drop)]
-struct Counted {
+struct Signs {
     sign: &'static [u8],
     /// how many bytes of a sign came last
     begun: usize,
@@ -21,7 +21,7 @@ struct Counted {
     losses: u64,
 }
 
-impl Counted {
+impl Signs {
     // Counts bytes.
     fn add(&mut self, bytes: &[u8]) {
         self.bytes = self.bytes.saturating_add(bytes.len() as u64);
@@ -50,7 +50,7 @@ impl Counted {
 #[derive(Drop)]
 pub struct Tally<W> {
     stream: W,
-    counted: Counted,
+    signs: Signs,
 }
 
 impl<W> Tally<W> {
@@ -62,7 +62,7 @@ impl<W> Tally<W> {
         };
         Tally {
             stream,
-            counted: Counted {
+            signs: Signs {
                 sign,
                 begun: 0,
                 bytes: 0,
@@ -73,12 +73,12 @@ impl<W> Tally<W> {
 
     /// How many bytes were written.
     pub fn bytes(&self) -> u64 {
-        self.counted.bytes
+        self.signs.bytes
     }
 
     /// How many signs of lost bytes there were among them.
     pub fn losses(&self) -> u64 {
-        self.counted.losses
+        self.signs.losses
     }
 }
 
@@ -90,7 +90,7 @@ impl<W: Write> Write for Tally<W> {
     fn write(&mut self, buf: &[u8]) -> io::Result<usize> {
         let outcome = self.stream.write(buf);
         if let Ok(count) = outcome {
-            self.counted.add(&buf[..count]);
+            self.signs.add(&buf[..count]);
         }
         outcome
     }

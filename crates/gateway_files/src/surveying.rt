@@ -20,7 +20,7 @@ use spool_disk::Disk;
 use spool_image::{OpenFault, Spool};
 use spool_load::{Found, find};
 use std::alloc::Global;
-use upload_rules::Uploads;
+use upload_rules::{Uploads, is_length};
 
 /// How many bytes of a text a block has.
 const BLOCK: u64 = 4096;
@@ -114,27 +114,43 @@ fn survey_of<U: Uploads>(found: &Found, uploads: &U) -> Survey
     ensures { result.blocks ≡ found.now.layout }
 {
     let blocks = u64::from(found.layout.blocks());
-    let (count, used) = used_of(uploads);
+    let used = used_of(uploads);
     Survey {
         version: found.version.number(),
         blocks,
-        free_blocks: blocks.saturating_sub(used),
-        free_slots: u64::from(SLOTS).saturating_sub(count),
+        free_blocks: blocks.saturating_sub(used.blocks),
+        free_slots: used.free_slots,
     }
 }
 
-// How many uploads there are, and how many blocks their texts have.
-fn used_of<U: Uploads>(uploads: &U) -> (u64, u64) {
-    let mut count = 0u64;
-    let mut blocks = 0u64;
+/// What the uploads of a spool use.
+#[derive(Clone, Copy, Debug, PartialEq, Eq, Drop)]
+pub struct Used {
+    /// How many blocks their texts have.
+    pub blocks: u64,
+    /// How many uploads more there may be.
+    pub free_slots: u64,
+    /// How many of them aren't complete.
+    pub incomplete: u64,
+}
+
+/// What the uploads of a spool use. Blocks that open appends have reserved aren't counted.
+pub fn used_of<U: Uploads>(uploads: &U) -> Used {
+    let mut used = Used {
+        blocks: 0,
+        free_slots: u64::from(SLOTS),
+        incomplete: 0,
+    };
     let mut number = 0;
     for _ in 0..SLOTS {
         let Some(record) = uploads.record_after(number) else {
-            return (count, blocks);
+            return used;
         };
-        count = count.saturating_add(1);
-        blocks = blocks.saturating_add(record.text_len.div_ceil(BLOCK));
+        let complete = is_length(record.declared, record.accepted);
+        used.blocks = used.blocks.saturating_add(record.text_len.div_ceil(BLOCK));
+        used.free_slots = used.free_slots.saturating_sub(1);
+        used.incomplete = used.incomplete.saturating_add(u64::from(!complete));
         number = record.number;
     }
-    (count, blocks)
+    used
 }

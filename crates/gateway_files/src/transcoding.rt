@@ -6,9 +6,10 @@ ghost use Rattle.enc_labels.specs.Labels.{encoding_of};
 ghost use Rattle.enc_model.specs.Indexes.{tables};
 ghost use Rattle.enc_stream.specs.Standing.{IsOutput};
 ghost use Rattle.tus_request.specs.Metadata.{choice_with, mode_of};
+ghost use Rattle.gateway_files.specs.Failures.{fault_in};
 ghost use Rattle.gateway_files.specs.Transcoding.{CopiesOn, EndsOn, IsStored, IsTextFault, choice_in};
 
-use crate::failures::{Advice, Failure};
+use crate::failures::{Advice, Failure, TextAdvice};
 use crate::faults::Fault;
 use crate::index_files::{IndexFiles, read_indexes};
 use crate::losses::Tally;
@@ -56,7 +57,8 @@ pub fn conversion_of(from: &str, to: &str, mode: &str) -> Option<Conversion>
 }
 
 /// Writes standard input as what an upload of it with these labels and this mode would be stored as, by the index files
-/// of a folder, and on standard error how often the text has U+FFFD. `BadLabel` where an upload with them is refused so.
+/// of a folder, and on standard error how often the text has U+FFFD. `BadLabel` where an upload with them is refused
+/// so.
 pub fn text_file<'a>(
     rt: &HostRuntime,
     alloc: Global,
@@ -66,12 +68,12 @@ pub fn text_file<'a>(
     folder: &'a str,
 ) -> Result<(), Failure<'a>> {
     let Some(conversion) = conversion_of(from, to, mode) else {
-        return Err(Failure::advised(Fault::BadLabel, what_is_unknown(from, to, mode)));
+        return Err(refused_text(Fault::BadLabel, what_is_unknown(from, to, mode)));
     };
     let IndexFiles { set, files: _ } = read_indexes(rt, alloc, folder)?;
     for (encoding, label) in [(conversion.from, from), (conversion.to, to)] {
         if !set.offers(encoding) {
-            return Err(Failure::advised(Fault::BadLabel, Advice::NoIndex(folder, label)));
+            return Err(refused_text(Fault::BadLabel, TextAdvice::NoIndex(folder, label)));
         }
     }
     let mut input = Noted::new(rt.reader());
@@ -86,22 +88,28 @@ pub fn text_file<'a>(
             drop(told);
             Ok(())
         }
-        Err(Fault::Unencodable) => {
-            let advice = Advice::Lacks(to, tally.bytes());
-            Err(Failure::advised(Fault::Unencodable, advice))
+        Err(Fault::Unencodable(character)) => {
+            let advice = TextAdvice::Lacks(to, character, tally.bytes());
+            Err(refused_text(Fault::Unencodable(character), advice))
         }
         Err(fault) => Err(Failure::on_streams(fault, input.error(), error)),
     }
 }
 
+fn refused_text<'a>(fault: Fault, advice: TextAdvice<'a>) -> Failure<'a>
+    ensures { fault_in result ≡ fault }
+{
+    Failure::advised(fault, Advice::Text(advice))
+}
+
 // Which of the labels and the mode is unknown.
-fn what_is_unknown<'a>(from: &'a str, to: &'a str, mode: &'a str) -> Advice<'a> {
+fn what_is_unknown<'a>(from: &'a str, to: &'a str, mode: &'a str) -> TextAdvice<'a> {
     if encoding_of(from.as_bytes()).is_none() {
-        Advice::Label("--from", from)
+        TextAdvice::Label("--from", from)
     } else if encoding_of(to.as_bytes()).is_none() {
-        Advice::Label("--to", to)
+        TextAdvice::Label("--to", to)
     } else {
-        Advice::Mode(mode)
+        TextAdvice::Mode(mode)
     }
 }
 

@@ -130,8 +130,8 @@ module _ {D : Type 0} (disk : Ghosts D) (given back : D) (n : ℕ) (before : Lis
         (lasts.nothing_else (disk.moment given) image (omega arith) (now (disk.moment given) image lasts.later is));
   }
 
-  -- the bytes that were there, and those that a run of this script with this fault wrote after them, from the disk as it
-  -- was opened
+  -- the bytes that were there, and those that a run of this script with this fault wrote after them, from the disk as
+  -- it was opened
   module _ (begun : D) (prefix held bytes : List ℕ) where
     abbrev Lived : Option RunFault → Type 0
     Lived fault =
@@ -171,7 +171,8 @@ module _ {D : Type 0} (disk : Ghosts D) (given back : D) (n : ℕ) (before : Lis
               (ap (λ (s : State). s.world.store ∷ []) is.ended.state) (is.ended.exits, whole r is.ended),
         )
 
-    failed : HasRunOn disk begun (Err (back, scripts.DiskFault)) (Some held) (Some prefix) n st bytes → Lived (Some DiskFault)
+    failed : HasRunOn disk begun (Err (back, scripts.DiskFault)) (Some held) (Some prefix) n st bytes
+        → Lived (Some DiskFault)
     failed (marks, is) =
         let r = the_script st marks bytes in (
           last_stores st r.run.past,
@@ -265,7 +266,8 @@ pub counts_ran : {D : Type 0} {a b c : ℕ} (back : D) → Counts ⊥ a b → Co
     → Counts (IsFault None) a c
 counts_ran {c = c} back first then = subst (λ n. Counts ⊥ n c) (unfailed first) then
 
-told_counts : {D : Type 0} (back : D) (fault : ScriptFault) (a b : ℕ) → Counts (HasFailed {U = D} (Err (back, fault))) a b
+told_counts : {D : Type 0} (back : D) (fault : ScriptFault) (a b : ℕ)
+    → Counts (HasFailed {U = D} (Err (back, fault))) a b
     → Counts (IsFault (Some (run_fault fault))) a b
 told_counts back scripts.NoMemory a b counts = counts
 told_counts back scripts.DiskFault a b counts = counts

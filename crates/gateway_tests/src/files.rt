@@ -162,7 +162,7 @@ fn failure_says_what_the_system_said(rt: HostRuntime) {
     let used = FileDisk::create(&rt, "gateway_used_test", 4).expect(&rt, "a file");
     let twice = open_spool(&rt, "gateway_used_test").map(drop);
     let said = "refused: 38 InUse\n\
-    gateway_used_test is in use: stop the gateway that serves it, or take a copy of the file";
+    gateway_used_test is in use: stop the gateway that serves it";
     for ended in [
         open_spool(&rt, "gateway_used_test").map(drop),
         list_file(&rt, alloc, "gateway_used_test", false),

@@ -1,6 +1,6 @@
 //! The lines that a log writes for given bytes in and out, over scripted streams.
 
-use gateway_log::{Log, Logged};
+use gateway_log::{Log, Logged, Stock};
 use std::alloc::Global;
 use std::cell::Cell;
 use std::io::{self, Read, Write};
@@ -254,4 +254,41 @@ fn lines_of_a_log(rt: HostRuntime) {
             assert_eq!(rt; written, wanted, "{lines} in pieces of {size}");
         }
     }
+}
+
+#[test]
+fn stock_is_shown_in_the_line_of_a_minute(rt: HostRuntime) {
+    let alloc = rt.alloc();
+    let written = Cell::new(Vec::new(alloc));
+    let says: Cell<&'static [u8]> = Cell::new(b"");
+    let clock = Millis { now: Cell::new(0) };
+    let log = Log::new(
+        alloc,
+        &clock,
+        Paper {
+            alloc,
+            written: &written,
+        },
+    );
+    let door = Door { says: &says };
+    let listener = Logged::new(&door, &log);
+    let (mut stream, _) = listener.accept().expect(&rt, "a stream");
+    assert!(rt; log.wants_stock());
+    log.take_stock(Stock {
+        free_blocks: 7,
+        free_slots: 511,
+        incomplete: 1,
+    });
+    assert!(rt; !log.wants_stock());
+    clock.now.set(5000);
+    assert!(rt; log.wants_stock());
+    let head = b"PATCH /files/1 HTTP/1.1\r\nUpload-Offset: 0\r\nContent-Length: 3\r\n\r\n";
+    reads(&rt, &says, &mut stream, head, 512);
+    log.end();
+    drop(stream);
+    let wanted =
+        "minute connections=1 requests=1 2xx=0 4xx=0 5xx=0 in=64 out=0 bodies=1 free_blocks=7 \
+        free_slots=511 incomplete=1\n";
+    let lines = written.replace(Vec::new(alloc));
+    assert!(rt; lines.starts_with(&timed(&rt, alloc, wanted)));
 }

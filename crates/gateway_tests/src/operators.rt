@@ -71,7 +71,10 @@ fn uploads_are_deleted_by_their_numbers(rt: HostRuntime) {
 fn uploads_that_are_not_complete(rt: HostRuntime) {
     let alloc = rt.alloc();
     let (_, numbers) = incomplete_on(alloc, spool_with_three(&rt, alloc));
-    assert_eq!(rt; numbers.expect(&rt, "numbers").as_slice(), [1, 3]);
+    assert_eq!(rt;
+        numbers.expect(&rt, "numbers").as_slice(),
+        [1u64, 3].as_slice()
+    );
 }
 
 /// Each row: the encoding of a text, its pieces, and how often it has the sign of lost bytes.
@@ -188,7 +191,7 @@ static INPUTS: [Input; 5] = [
         },
         bytes: b"a\xE3\x81\x93",
         times: 1,
-        text: Err(Fault::Unencodable),
+        text: Err(Fault::Unencodable(Some('\u{3053}'))),
     },
     Input {
         conversion: Conversion {
@@ -228,7 +231,7 @@ fn input_is_written_as_it_would_be_stored(rt: HostRuntime) {
             }
             (ended, text) => {
                 assert!(rt; ended.err() == text.err());
-                assert_eq!(rt; written.as_slice(), b"a", "what comes before the character");
+                assert_eq!(rt; written.as_slice(), b"a".as_slice());
             }
         }
     }

@@ -9,12 +9,12 @@ loop-init g c w stands order =
 
 pub returns-in_default-clause-numbers : goal.returns-in_default-clause-numbers
 returns-in_default-clause-numbers g c w stands order =
-    told_none w.store.indexes incomplete_one (incomplete_of w.store) c.loop.numbers.items w.store.uploads c.loop.number _
-    (c.record_after.ensures true w stands) (c.loop.invariant w stands order) c.in_default.is
+    told_none w.store.indexes incomplete_one (incomplete_of w.store) c.loop.numbers.items w.store.uploads
+    c.loop.number _ (c.record_after.ensures true w stands) (c.loop.invariant w stands order) c.in_default.is
 
 pub loop-preserved : goal.loop-preserved
 loop-preserved g c w stands order =
-    told_next w.store.indexes incomplete_one (incomplete_of w.store) c.loop.numbers.items w.store.uploads c.loop.number _
-    (c.record_after.ensures true w stands) (c.loop.invariant w stands order) incomplete_record
+    told_next w.store.indexes incomplete_one (incomplete_of w.store) c.loop.numbers.items w.store.uploads
+    c.loop.number _ (c.record_after.ensures true w stands) (c.loop.invariant w stands order) incomplete_record
     (incomplete_is w.store.indexes) c.in-Some.record c.push_incomplete.new.numbers.items order.rising c.in-Some.is
     c.in_ok-push_incomplete.ensures
