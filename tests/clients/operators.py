@@ -11,14 +11,16 @@ a character without a code. `list` says what is free, names the texts with U+FFF
 the same as the records in the spool's bytes. `delete --incomplete` prints what it would delete, and deletes exactly
 that with `--yes`. Each refusal of a command has its status, its line, and a second line that says what to do. While a
 gateway serves a spool each command by hand is told that it is in use, and after it is ended the spool can be had at
-once.
+once. The log's line of a minute has what is left in the spool. It takes a minute and a half.
 """
 
 import json
 import re
 import shutil
+import socket
 import subprocess
 import tempfile
+import time
 from pathlib import Path
 
 from growths import patch, post
@@ -284,6 +286,31 @@ def try_in_use(program):
     return len(words)
 
 
+def try_minute(program):
+    """The log's line of a minute has the bodies under way, and what is left in the spool."""
+    spool = Spool((program.folder / "listed").read_bytes())
+    records = spool.records()
+    used = sum(-(-it.length // 4096) for it in records)
+    incomplete = sum(it.accepted != it.declared for it in records)
+    words = [program.path, "up", "listed", "--listen", "127.0.0.1:0", "--log"]
+    process = subprocess.Popen(words, cwd=program.folder, stdout=subprocess.PIPE, stderr=subprocess.PIPE, text=True)
+    try:
+        port = int(process.stdout.readline().rpartition(":")[2])
+        with socket.create_connection(("127.0.0.1", port)) as client:
+            head = ["PATCH /files/3 HTTP/1.1", "Tus-Resumable: 1.0.0", "Content-Type: application/offset+octet-stream"]
+            head += [f"Upload-Offset: {len(UPLOADS[2][0])}", "Content-Length: 9", "", ""]
+            client.sendall("\r\n".join(head).encode())
+            time.sleep(40)
+            client.sendall(b"ab")
+            line = process.stderr.readline()
+    finally:
+        process.kill()
+        process.wait()
+    left = f"free_blocks={BLOCKS - used} free_slots={512 - len(records)} incomplete={incomplete}"
+    holds(f"the line of a minute: {line!r}, not {left!r}", line.endswith(f" bodies=1 {left}\n") and " minute " in line)
+    return 1
+
+
 def main():
     given = parser_of(__doc__).parse_args()
     if not given.indexes:
@@ -300,6 +327,7 @@ def main():
             "uploads deleted": try_deletions(program),
             "refusals": try_refusals(program),
             "commands beside a gateway": try_in_use(program),
+            "minute of the log": try_minute(program),
         }
     print(", ".join(f"{count} {what}" for what, count in told.items()), "all as they have to be", sep=": ")
 

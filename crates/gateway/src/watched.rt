@@ -40,8 +40,12 @@ impl<'a, U: Uploads, T: Clock, W: Write + Drop> Watched<'a, U, T, W> {
     // Looks at the spool, if the log wants that.
     fn look(&self) {
         if self.log.wants_stock() {
-            self.log
-                .take_stock(stock_of(self.gateway.uploads(), self.blocks));
+            let used = used_of(self.gateway.uploads());
+            self.log.take_stock(Stock {
+                free_blocks: self.blocks.saturating_sub(used.blocks),
+                free_slots: used.free_slots,
+                incomplete: used.incomplete,
+            });
         }
     }
 }
