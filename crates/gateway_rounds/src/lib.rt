@@ -3,11 +3,13 @@
 #![tactic(auto)]
 
 mod faults;
+mod laws;
 mod life;
 mod round;
 mod streams;
 
 pub use faults::RunFault;
+pub use laws::runs_join;
 pub use life::{endure, live_through};
 pub use round::{End, Round, Run, Work};
 pub use streams::Written;

@@ -1,12 +1,13 @@
 //! Operators' commands: deletion, and the conversion of a text without an upload.
 
-use crate::spools::ran;
+use crate::spools::{opened, ran};
 use crate::talks::Step::{Added, Deferred, Made, Open};
 use crate::talks::{Step, Talk, fresh};
-use enc_index::IndexSet;
+use enc_index::{Index, IndexSet, Kind};
 use enc_model::{Encoding, Mode};
 use gateway_files::{
-    Conversion, Fault, Tally, conversion_of, delete_on, incomplete_on, list_on, text_on,
+    Conversion, Fault, Tally, Used, conversion_of, delete_on, entries_of, incomplete_on, list_on,
+    standard_entries, text_on, used_of,
 };
 use spool_disk::MemoryDisk;
 use std::alloc::Global;
@@ -74,6 +75,29 @@ fn uploads_that_are_not_complete(rt: HostRuntime) {
     assert_eq!(rt;
         numbers.expect(&rt, "numbers").as_slice(),
         [1u64, 3].as_slice()
+    );
+}
+
+#[test]
+fn what_uploads_use(rt: HostRuntime) {
+    let alloc = rt.alloc();
+    let gateway = opened(&rt, alloc, spool_with_three(&rt, alloc));
+    let used = Used {
+        blocks: 2,
+        free_slots: 509,
+        incomplete: 2,
+    };
+    assert_eq!(rt; used_of(gateway.uploads()), used);
+    drop(gateway.into_disk());
+}
+
+#[test]
+fn entries_of_an_index(rt: HostRuntime) {
+    let read = Index::read(rt.alloc(), b"0\t3000\n11279\t3001\n", Kind::Jis0208);
+    let index = read.expect(&rt, "an index");
+    assert_eq!(rt;
+        (entries_of(&index), standard_entries(Kind::Katakana)),
+        (2, 63)
     );
 }
 

@@ -1,0 +1,23 @@
+//! A law about an opening and the run after it. The function does nothing; its contract is the law.
+ghost use Rattle.std.specs.Prelude.{◌≤◌, ℕ, List};
+ghost use Rattle.spool_disk.specs.Views.{Lasts};
+ghost use Rattle.spool_image.specs.LeftOnly.{AllShow, LeftOnly, LeftOrShows};
+ghost use Rattle.upload_rules.specs.Answers.{Among};
+ghost use Rattle.upload_rules.specs.Store.{Store};
+ghost use Rattle.tus_session.specs.Images.{AllAmong};
+ghost use Rattle.gateway_engine.specs.RanOn.{LastsOver};
+
+use spool_disk::Disk;
+
+/// What images since a moment before an opening were limited to, they still are after it, and after the run over the
+/// opened spool, once the uploads that were opened, and those after each change of the run, are among it. So what
+/// `Spool::open` (`lasts`, `shows`) and `run` (`runs`) promise joins.
+pub fn runs_join<D: Disk>()
+    ensures opened { (before opened : D) (n t : ℕ) (m : Store) (ms : List Store) → t ≤ D.moment before → Among m ms
+        → LeftOnly D.Disk before n t ms → Lasts D.Disk before opened (LeftOrShows D.Disk before n m)
+        → AllShow D.Disk opened n m → LeftOnly D.Disk opened n t ms }
+    ensures ran { (before opened now : D) (n t : ℕ) (m : Store) (stores ms : List Store) → t ≤ D.moment before
+        → Among m ms → AllAmong stores ms → LeftOnly D.Disk before n t ms
+        → Lasts D.Disk before opened (LeftOrShows D.Disk before n m) → AllShow D.Disk opened n m
+        → LastsOver D.Disk opened now n stores → LeftOnly D.Disk now n t ms }
+{}
