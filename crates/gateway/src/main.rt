@@ -52,13 +52,13 @@ fn obey<'a>(rt: &'a HostRuntime, order: Order<'a>) -> Result<u8, Failure<'a>> {
             drop(told);
         }
         Order::Script { spool } => run_script(rt, alloc, spool)?,
-        Order::Serve(service) => serve_file(rt, alloc, service)?,
+        Order::Serve(service) => serve_file(rt, alloc, service).1?,
         Order::Up {
             spool,
             listen,
             quiet,
             log,
-        } => serve_up(rt, alloc, spool, listen, Telling { quiet, log })?,
+        } => serve_up(rt, alloc, spool, listen, Telling { quiet, log }).1?,
         Order::List { spool, long } => list_file(rt, alloc, spool, long)?,
         Order::Json { spool } => json_file(rt, alloc, spool)?,
         Order::Delete { spool, numbers } => delete_file(rt, alloc, spool, &numbers)?,

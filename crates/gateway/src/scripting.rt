@@ -1,14 +1,21 @@
 //! Running standard input as a script over a spool.
-ghost use Rattle.std.specs.Prelude.{◌≡◌, ℕ};
+ghost use Rattle.std.specs.Prelude.{◌≡◌, ℕ, Some, Err, IsOk};
+ghost use Rattle.spool_disk.specs.Disk.{Counts};
+ghost use Rattle.spool_image.specs.LeftOnly.{IsSpool};
+ghost use Rattle.upload_rules.specs.Store.{Store};
+ghost use Rattle.gateway_files.specs.Failures.{fault_in};
+ghost use Rattle.gateway_files.specs.SpoolFiles.{Disks, Leaves};
+ghost use Rattle.gateway.specs.Scripts.{HasRunSpool};
 ghost use Rattle.gateway_files.specs.declared.faults.Fault.{Fault};
 ghost use Rattle.gateway_script.specs.declared.faults.ScriptFault.{ScriptFault};
 
 use enc_index::IndexSet;
 use gateway_engine::{Counted, CountedRead, CountedWrite, ScriptFault, run};
-use gateway_files::{Failure, Fault, Noted, open_spool, refused_spool};
+use gateway_files::{Failure, Fault, Noted, SpoolFiles, SystemFiles, open_in, refused_in};
 use spool_disk::{Disk, MemoryDisk};
 use spool_image::{Spool, format, pages_of};
 use std::alloc::Global;
+use std::io;
 
 // How many text blocks a spool in memory has.
 const MEMORY_BLOCKS: u32 = 64;
@@ -23,17 +30,73 @@ pub(crate) fn run_script<'a>(
     let mut output = Noted::new(rt.stdout());
     let mut reader = Counted::new(&mut input);
     let mut writer = Counted::new(&mut output);
-    if spool == "-" {
-        let disk = spool_in_memory(alloc)?;
-        let (_disk, ran) = run_over_disk(alloc, &mut reader, &mut writer, disk);
-        return ran.map_err(|fault| Failure::on_streams(fault, input.error(), output.error()));
-    }
-    let disk = open_spool(rt, spool)?;
-    let (disk, ran) = run_over_disk(alloc, &mut reader, &mut writer, disk);
-    match ran {
+    match run_at(rt, alloc, spool, &mut reader, &mut writer) {
         Ok(()) => Ok(()),
-        Err(Fault::Io) => Err(Failure::on_streams(Fault::Io, input.error(), output.error())),
-        Err(fault) => Err(refused_spool(alloc, fault, spool, disk)),
+        Err(failure) => Err(by_streams(failure, input.error(), output.error())),
+    }
+}
+
+// A failure of a run, with the reason of the stream that failed where it was for one.
+fn by_streams<'a>(
+    failure: Failure<'a>,
+    input: Option<io::Error>,
+    output: Option<io::Error>,
+) -> Failure<'a>
+    ensures { fault_in result ≡ fault_in failure.entry }
+{
+    match failure.fault() {
+        Fault::Io => Failure::on_streams(Fault::Io, input, output),
+        _ => failure,
+    }
+}
+
+// Runs a script over the spool at this path, or in memory for `-`.
+fn run_at<'a, R: CountedRead, W: CountedWrite>(
+    rt: &HostRuntime,
+    alloc: Global,
+    spool: &'a str,
+    reader: &mut R,
+    writer: &mut W,
+) -> Result<(), Failure<'a>> {
+    if spool == "-" {
+        return run_in_memory(alloc, reader, writer);
+    }
+    run_in(alloc, &mut SystemFiles::new(rt), spool, reader, writer)
+}
+
+// Runs a script over a fresh spool in memory.
+fn run_in_memory<'a, R: CountedRead, W: CountedWrite>(
+    alloc: Global,
+    reader: &mut R,
+    writer: &mut W,
+) -> Result<(), Failure<'a>> {
+    let disk = spool_in_memory(alloc)?;
+    let (_disk, ran) = run_over_disk(alloc, reader, writer, disk);
+    Ok(ran?)
+}
+
+// Runs a script over the spool in the file at this path.
+fn run_in<'a, F: SpoolFiles, R: CountedRead, W: CountedWrite>(
+    alloc: Global,
+    files: &mut F,
+    path: &'a str,
+    reader: &mut R,
+    writer: &mut W,
+) -> Result<(), Failure<'a>>
+    // Where it ends well the output of the script's events over the spool's uploads was written, and the file has the
+    // uploads after them.
+    ensures runs { (disks : Disks F.File) (d : F.File) (n : ℕ) (m : Store) → F.holds files.old disks
+        → disks path.now ≡ Some d → IsSpool F.File.Disk d n m → IsOk result
+        → Leaves (F.holds files.new) disks path.now (HasRunSpool F.File.Disk n m (R.remaining reader.old)
+        (W.contents writer.old) (W.contents writer.new)) }
+{
+    let (disk, ran) = run_over_disk(alloc, reader, writer, open_in(files, path)?);
+    match ran {
+        Ok(()) => {
+            files.close(path, disk);
+            Ok(())
+        }
+        Err(fault) => Err(refused_in(files, fault, path, disk)),
     }
 }
 
@@ -44,7 +107,15 @@ fn run_over_disk<D: Disk + Drop, R: CountedRead, W: CountedWrite>(
     reader: &mut R,
     writer: &mut W,
     disk: D,
-) -> (D, Result<(), Fault>) {
+) -> (D, Result<(), Fault>)
+    // A run of a spool that ends well has written the output of the script's events over its uploads, and the disk has
+    // those after them.
+    ensures runs { (n : ℕ) (m : Store) → IsSpool D.Disk disk n m → IsOk result.1
+        → HasRunSpool D.Disk n m (R.remaining reader.old) (W.contents writer.old) (W.contents writer.new) result.0 }
+
+    // The disk failed exactly where it says so.
+    ensures counts { Counts (result.1 ≡ Err Fault.DiskFault) (D.failures disk) (D.failures result.0) }
+{
     let spool = match Spool::open(alloc, disk) {
         Ok(spool) => spool,
         Err((disk, fault)) => return (disk, Err(Fault::from(fault))),

@@ -1,7 +1,11 @@
 //! Serving a spool in a file over sockets.
-ghost use Rattle.std.specs.Prelude.{◌≡◌, [], ◌∷◌, IsErr, IsErrAnd, IsOk};
+ghost use Rattle.std.specs.Prelude.{◌≡◌, ◌≢◌, [], ◌∷◌, IfOk, IsErr, IsErrAnd, IsOk, IsSomeAnd, Some};
 ghost use Rattle.std.specs.Net.Addr.{ipv4_octets};
 ghost use Rattle.std.specs.Net.Socket.{v4_ip, v4_port};
+ghost use Rattle.spool_disk.specs.File.{failed_in};
+ghost use Rattle.upload_rules.specs.Answers.{Counts};
+ghost use Rattle.gateway_engine.specs.Gateways.{disk_in};
+ghost use Rattle.gateway.specs.Addresses.{IsLocal};
 ghost use Rattle.gateway_files.specs.Failures.{fault_in};
 ghost use Rattle.gateway_files.specs.Faults.{status_of};
 
@@ -13,89 +17,100 @@ use gateway_files::{
 };
 use gateway_log::{Log, Logged};
 use gateway_orders::Service;
-use gateway_serve::{Outcome, serve_on};
+use gateway_serve::{Acceptor, Listening, Outcome, serve_on};
 use spool_disk::{DiskFault, FileDisk};
 use spool_image::Spool;
 use std::alloc::Global;
 use std::io::{self, IsTerminal, Read, Write};
-use std::net::{Ipv4Addr, OpenListener, OpenStream, SocketAddr, SocketAddrV4, TcpListener};
+use std::net::{Ipv4Addr, OpenListener, SocketAddr, SocketAddrV4, TcpListener};
 
 /// Serves the spool in a file at a port of 127.0.0.1, which is printed. At the end the number of connections is printed
-/// on standard error.
+/// on standard error. The disk is handed back, where its spool was opened.
 pub(crate) fn serve_file<'a>(
     rt: &HostRuntime,
     alloc: Global,
     service: Service<'a>,
-) -> Result<(), Failure<'a>> {
+) -> (Option<FileDisk>, Result<(), Failure<'a>>)
+    ensures device { IsSomeAnd result.0 (λ disk. failed_in disk ≢ 0)
+        → IsErrAnd result.1 (λ failure. status_of (fault_in failure) ≡ 3) }
+{
     let spool = service.spool;
-    let gateway = match Gateway::open(alloc, open_spool(rt, spool)?) {
-        Ok(gateway) => gateway,
-        Err((disk, fault)) => return Err(refused_spool(alloc, Fault::from(fault), spool, disk)),
+    let (gateway, _survey) = match open_gateway(rt, alloc, spool) {
+        Ok(opened) => opened,
+        Err(failure) => return (None, Err(failure)),
     };
-    let listener = match listen(rt, service.port) {
-        Ok(listener) => listener,
-        Err(failure) => {
-            drop(gateway.into_disk());
-            return Err(failure);
-        }
+    let bound = match listen(rt, service.port) {
+        Ok(bound) => bound,
+        Err(failure) => return (Some(gateway.into_disk()), Err(failure)),
     };
+    let mut acceptor = Listening::new(&bound.listener);
+    let (connections, turns) = (service.connections, service.turns);
     let Outcome {
         gateway,
-        connections,
+        clients,
         ended: _,
         served,
-    } = serve_on(
-        alloc,
-        rt,
-        &listener,
-        gateway,
-        service.connections,
-        service.turns,
-    );
-    let disk = gateway.into_disk();
+    } = serve_on(alloc, rt, &mut acceptor, gateway, connections, turns);
     // If standard error can't be written, the count isn't reported.
-    let told = say_served(&mut rt.stderr(), connections);
-    drop(told);
-    outcome(served, spool, &disk)
+    drop(say_served(&mut rt.stderr(), clients.opened));
+    outcome(served, spool, gateway.into_disk())
 }
 
-// The result of serving: a disk fault gives exit status 3.
+// The result of serving: a disk fault gives exit status 3. The disk is handed back.
 fn outcome<'a>(
     served: Result<(), DiskFault>,
     spool: &'a str,
-    disk: &FileDisk,
-) -> Result<(), Failure<'a>>
-    ensures done { IsOk served → IsOk result }
-    ensures device { IsErr served → IsErrAnd result (λ failure. status_of (fault_in failure) ≡ 3) }
+    disk: FileDisk,
+) -> (Option<FileDisk>, Result<(), Failure<'a>>)
+    ensures disk { result.0 ≡ Some disk }
+    ensures done { IsOk served → IsOk result.1 }
+    ensures device { IsErr served → IsErrAnd result.1 (λ failure. status_of (fault_in failure) ≡ 3) }
 {
-    match served {
+    let told = match served {
         Ok(()) => Ok(()),
-        Err(fault) => Err(Failure::on_spool(Fault::from(fault), spool, disk)),
-    }
+        Err(fault) => Err(Failure::on_spool(Fault::from(fault), spool, &disk)),
+    };
+    (Some(disk), told)
+}
+
+/// A listener, what it was asked to listen at, and its actual address: for port 0 the system chooses a port.
+#[derive(Drop)]
+struct Bound {
+    listener: TcpListener,
+    asked: SocketAddr,
+    address: SocketAddr,
 }
 
 // Listens at a port of 127.0.0.1, and prints it.
-fn listen<'a>(rt: &HostRuntime, port: u16) -> Result<TcpListener, Failure<'a>> {
-    let (listener, address) = listen_at(rt, SocketAddr::V4(address_of(port)))?;
-    println!(rt; "listening {address}")?;
-    Ok(listener)
+fn listen<'a>(rt: &HostRuntime, port: u16) -> Result<Bound, Failure<'a>>
+    ensures { IfOk result (λ bound. IsLocal bound.asked port) }
+{
+    let bound = listen_at(rt, SocketAddr::V4(address_of(port)))?;
+    println!(rt; "listening {}", bound.address)?;
+    Ok(bound)
 }
 
-// A listener at an address, and its actual address: for port 0 the system chooses a port.
-fn listen_at<'a>(
-    rt: &HostRuntime,
-    address: SocketAddr,
-) -> Result<(TcpListener, SocketAddr), Failure<'a>> {
+// A listener at this address.
+fn listen_at<'a>(rt: &HostRuntime, address: SocketAddr) -> Result<Bound, Failure<'a>>
+    ensures { IfOk result (λ bound. bound.asked ≡ address) }
+{
     match bind(rt, address) {
         Ok(bound) => Ok(bound),
         Err(error) => Err(Failure::new(Fault::from(error), Task::Listen(address), error)),
     }
 }
 
-fn bind(rt: &HostRuntime, address: SocketAddr) -> io::Result<(TcpListener, SocketAddr)> {
-    let listener = TcpListener::bind(rt, address)?;
+// Asks the system for a listener: that it listens at the address that it was asked for, and nowhere else, is trusted.
+fn bind(rt: &HostRuntime, asked: SocketAddr) -> io::Result<Bound>
+    ensures { IfOk result (λ bound. bound.asked ≡ asked) }
+{
+    let listener = TcpListener::bind(rt, asked)?;
     let address = listener.local_addr()?;
-    Ok((listener, address))
+    Ok(Bound {
+        listener,
+        asked,
+        address,
+    })
 }
 
 // The address to listen at: a port of 127.0.0.1, and never another address.
@@ -123,52 +138,55 @@ impl Telling {
 }
 
 /// Serves the spool in a file until the program is ended or there is a disk fault. Prints the spool and the address,
-/// unless it is quiet, and a warning on standard error if other machines may reach the address.
+/// unless it is quiet, and a warning on standard error if other machines may reach the address. The disk is handed back,
+/// where its spool was opened.
 pub(crate) fn serve_up<'a>(
     rt: &HostRuntime,
     alloc: Global,
     spool: &'a str,
     listen: SocketAddr,
     telling: Telling,
-) -> Result<(), Failure<'a>> {
-    let (gateway, survey) = match open_gateway(alloc, open_spool(rt, spool)?) {
+) -> (Option<FileDisk>, Result<(), Failure<'a>>)
+    ensures device { IsSomeAnd result.0 (λ disk. failed_in disk ≢ 0)
+        → IsErrAnd result.1 (λ failure. status_of (fault_in failure) ≡ 3) }
+{
+    let (gateway, survey) = match open_gateway(rt, alloc, spool) {
         Ok(opened) => opened,
-        Err((disk, fault)) => return Err(refused_spool(alloc, fault, spool, disk)),
+        Err(failure) => return (None, Err(failure)),
     };
     let told = if telling.quiet {
         None
     } else {
         Some((spool, survey))
     };
-    match listen_openly(rt, alloc, listen, told) {
-        Ok(listener) => {
-            let (gateway, served) = if telling.has_log(rt) {
-                serve_logged(rt, alloc, &listener, gateway, survey.blocks)
-            } else {
-                serve_on_and_on(rt, alloc, &listener, gateway)
-            };
-            outcome(served, spool, &gateway.into_disk())
-        }
-        Err(failure) => {
-            drop(gateway.into_disk());
-            Err(failure)
-        }
-    }
+    let bound = match listen_openly(rt, alloc, listen, told) {
+        Ok(bound) => bound,
+        Err(failure) => return (Some(gateway.into_disk()), Err(failure)),
+    };
+    let (gateway, served) = if telling.has_log(rt) {
+        serve_logged(rt, alloc, &bound.listener, gateway, survey.blocks)
+    } else {
+        serve_on_and_on(rt, alloc, &mut Listening::new(&bound.listener), gateway)
+    };
+    outcome(served, spool, gateway.into_disk())
 }
 
-// A gateway over the spool on a disk, and how much of the spool is in use. A refusal returns the disk.
-fn open_gateway(
+// A gateway over the spool in a file, and how much of the spool is in use. No call of the file failed.
+fn open_gateway<'a>(
+    rt: &HostRuntime,
     alloc: Global,
-    disk: FileDisk,
-) -> Result<(Gateway<Spool<FileDisk>>, Survey), (FileDisk, Fault)> {
-    let (spool, survey) = match open_surveyed(alloc, disk) {
-        Ok(opened) => opened,
-        Err((disk, fault)) => return Err((disk, Fault::from(fault))),
+    spool: &'a str,
+) -> Result<(Gateway<Spool<FileDisk>>, Survey), Failure<'a>>
+    ensures { IfOk result (λ opened. failed_in (disk_in opened.0) ≡ 0) }
+{
+    let (disk, fault) = match open_surveyed(alloc, open_spool(rt, spool)?) {
+        Ok((uploads, survey)) => match Gateway::new(alloc, uploads) {
+            Ok(gateway) => return Ok((gateway, survey)),
+            Err((uploads, _)) => (uploads.into_disk(), Fault::NoMemory),
+        },
+        Err((disk, fault)) => (disk, Fault::from(fault)),
     };
-    match Gateway::new(alloc, spool) {
-        Ok(gateway) => Ok((gateway, survey)),
-        Err((spool, _)) => Err((spool.into_disk(), Fault::NoMemory)),
-    }
+    Err(refused_spool(fault, spool, disk))
 }
 
 // Listens at an address. Prints the spool and the address, if `told` is given, and a warning if others may reach it.
@@ -177,22 +195,23 @@ fn listen_openly<'a>(
     alloc: Global,
     listen: SocketAddr,
     told: Option<(&'a str, Survey)>,
-) -> Result<TcpListener, Failure<'a>> {
-    let (listener, address) = listen_at(rt, listen)?;
+) -> Result<Bound, Failure<'a>>
+    ensures { IfOk result (λ bound. bound.asked ≡ listen) }
+{
+    let bound = listen_at(rt, listen)?;
     // A listener that waits would serve nobody.
-    if let Err(error) = listener.set_nonblocking(true) {
+    if let Err(error) = bound.listener.set_nonblocking(true) {
         return Err(Failure::new(Fault::from(error), Task::Listen(listen), error));
     }
-    let place = address.to_string(alloc)?;
-    if !address.ip().is_loopback() {
+    let place = bound.address.to_string(alloc)?;
+    if !bound.address.ip().is_loopback() {
         // If standard error can't be written, the warning is lost.
-        let warned = say_open(&mut rt.stderr(), place.as_str());
-        drop(warned);
+        drop(say_open(&mut rt.stderr(), place.as_str()));
     }
     if let Some((spool, survey)) = told {
         say_up(&mut io::writer(rt), spool, &survey, place.as_str())?;
     }
-    Ok(listener)
+    Ok(bound)
 }
 
 // Serves as `serve_on_and_on` does, with a log on standard error. The spool has so many text blocks.
@@ -202,32 +221,37 @@ fn serve_logged(
     listener: &TcpListener,
     gateway: Gateway<Spool<FileDisk>>,
     blocks: u64,
-) -> (Gateway<Spool<FileDisk>>, Result<(), DiskFault>) {
+) -> (Gateway<Spool<FileDisk>>, Result<(), DiskFault>)
+    ensures counts { Counts (IsErr result.1) (failed_in (disk_in gateway))
+        (failed_in (disk_in result.0)) }
+{
     let log = Log::new(alloc, rt, rt.stderr());
     let watched = Watched::new(gateway, blocks, &log);
-    let (watched, served) = serve_on_and_on(rt, alloc, &Logged::new(listener, &log), watched);
+    let logged = Logged::new(listener, &log);
+    let (watched, served) = serve_on_and_on(rt, alloc, &mut Listening::new(&logged), watched);
     log.end();
     (watched.into_gateway(), served)
 }
 
 // Serves until there is a disk fault; when serving ends by itself, it begins again. The gateway is returned.
-fn serve_on_and_on<L: OpenListener, C: Connections>(
+fn serve_on_and_on<A: Acceptor, C: Connections>(
     rt: &HostRuntime,
     alloc: Global,
-    listener: &L,
+    acceptor: &mut A,
     gateway: C,
 ) -> (C, Result<(), DiskFault>)
 where
-    L::Stream: Read + Write + OpenStream,
+    A::Stream: Read + Write + Drop,
+    ensures counts { Counts (IsErr result.1) (C.failures gateway) (C.failures result.0) }
 {
     let mut gateway = gateway;
     for _ in 0..u64::MAX {
         let Outcome {
             gateway: next,
-            connections: _,
+            clients: _,
             ended: _,
             served,
-        } = serve_on(alloc, rt, listener, gateway, u64::MAX, u64::MAX);
+        } = serve_on(alloc, rt, acceptor, gateway, u64::MAX, u64::MAX);
         gateway = next;
         if served.is_err() {
             return (gateway, served);

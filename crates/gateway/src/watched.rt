@@ -1,4 +1,5 @@
 //! A gateway whose log is told what is left in its spool.
+ghost use Rattle.std.specs.Prelude.{◌≡◌};
 ghost use Rattle.gateway_engine.specs.Gateways.{GatewayStands, is_down, store_of};
 
 use gateway_engine::{Connections, Gateway};
@@ -19,7 +20,9 @@ pub(crate) struct Watched<'a, U: Uploads, T: Clock, W: Write + Drop> {
 
 impl<'a, U: Uploads, T: Clock, W: Write + Drop> Watched<'a, U, T, W> {
     /// A gateway over a spool of so many text blocks, and its log.
-    pub(crate) fn new(gateway: Gateway<U>, blocks: u64, log: &'a Log<'a, T, W>) -> Self {
+    pub(crate) fn new(gateway: Gateway<U>, blocks: u64, log: &'a Log<'a, T, W>) -> Self
+        ensures { result.gateway ≡ gateway }
+    {
         Watched {
             gateway,
             blocks,
@@ -28,7 +31,9 @@ impl<'a, U: Uploads, T: Clock, W: Write + Drop> Watched<'a, U, T, W> {
     }
 
     /// The gateway.
-    pub(crate) fn into_gateway(self) -> Gateway<U> {
+    pub(crate) fn into_gateway(self) -> Gateway<U>
+        ensures { result ≡ self.entry.gateway }
+    {
         let Watched {
             gateway,
             blocks: _,

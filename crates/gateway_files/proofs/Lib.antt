@@ -1,5 +1,3 @@
-mod Finding
-mod Files
 mod Writing
 mod Above
 mod InOrder
@@ -15,3 +13,5 @@ mod Entries
 mod Exported
 mod Surveyed
 mod Reopened
+mod Held
+mod Indexing

@@ -1,10 +1,19 @@
 -- The names of the index files: that of each index of the gateway, as the Encoding Standard names it (section 5).
-use Rattle.std.specs.Prelude.{ℕ, zero, suc, ◌+◌, List, [], ◌∷◌, codes, bytes_eq, if◌then◌else◌, Option, Some, None}
+use Rattle.std.specs.Prelude.{ℕ, zero, suc, ◌+◌, List, [], ◌∷◌, codes, Option, Some, None}
+use Rattle.std.specs.Prelude.{◌≡◌, Result, Ok, Err}
 use Rattle.std.specs.Borrow.{Bor}
 use Rattle.enc_model.specs.declared.Encoding.TheVariants as e
 use Rattle.enc_model.specs.Index.{Index, code}
+use Rattle.enc_model.specs.Indexes.{IndexSet, no_indexes}
+use Rattle.enc_index.specs.Files.{file_of}
+use Rattle.enc_index.specs.Kinds.{set_kind}
 use Rattle.enc_index.specs.declared.kind.Kind.{Kind}
 use Rattle.enc_index.specs.declared.kind.Kind.TheVariants.{Jis0208, Jis0212, Katakana, Single}
+use Rattle.enc_index.specs.declared.kind.ReadError.{ReadError}
+use Rattle.enc_index.specs.declared.kind.ReadError.TheVariants as lines
+use Rattle.gateway_files.specs.Folders.{Files}
+use Rattle.gateway_files.specs.declared.faults.Fault.{Fault}
+use Rattle.gateway_files.specs.declared.faults.Fault.TheVariants as faults
 
 -- in the order of a spool's index area
 unfoldable pub index_files : List (List ℕ × Kind)
@@ -20,14 +29,31 @@ index_files =
     ∷ (codes "index-windows-1257.txt", Single e.Windows1257) ∷ (codes "index-windows-1258.txt", Single e.Windows1258)
     ∷ []
 
--- the kind in the first row of this name
-unfoldable pub found : List (List ℕ × Kind) → List ℕ → Option Kind
-found [] name = None
-found (row ∷ rows) name = if bytes_eq row.0 name then Some row.1 else found rows name
+-- a set with what a file of this content has as an index of this kind, where there is such a file
+abbrev pub with_read : IndexSet → Kind → Result Index ReadError → IndexSet
+with_read set kind (Ok index) = set_kind set kind index
+with_read set kind (Err error) = set
 
--- which index the file of this name has
-abbrev pub kind_of : List ℕ → Option Kind
-kind_of name = found index_files name
+abbrev pub with_file : IndexSet → Kind → Option (List ℕ) → IndexSet
+with_file set kind None = set
+with_file set kind (Some bytes) = with_read set kind (file_of kind bytes)
+
+-- why it isn't: the file's first bad line, or memory or the folder
+abbrev pub IsReadFault : List ℕ → Kind → Option (List ℕ) → Fault → Type 0
+IsReadFault name kind there faults.NoMemory = Unit {0}
+IsReadFault name kind there faults.Io = Unit {0}
+IsReadFault name kind there (faults.Index file lines.NoMemory) = file.now ≡ name
+IsReadFault name kind (Some bytes) (faults.Index file error) = (file.now ≡ name) × (file_of kind bytes ≡ Err error)
+IsReadFault name kind there fault = ⊥
+
+-- with what the files of these names have, each as an index of its kind
+unfoldable pub read_as : List (List ℕ × Kind) → Files → IndexSet → IndexSet
+read_as [] files set = set
+read_as (row ∷ rows) files set = read_as rows files (with_file set row.1 (files row.0))
+
+-- THE INDEXES OF A FOLDER, by its files
+abbrev pub indexes_of : Files → IndexSet
+indexes_of files = read_as index_files files no_indexes
 
 -- a row of the code's table
 abbrev pub named : Bor (List ℕ) × Kind → List ℕ × Kind

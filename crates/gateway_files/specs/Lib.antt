@@ -11,6 +11,9 @@ pub mod Deleting
 pub mod Naming
 pub mod Planning
 pub mod Folders
+pub mod SpoolFiles
+pub mod Upgrading
+pub mod Listed
 pub mod Exporting
 pub mod Surveying
 pub mod Transcoding

@@ -49,7 +49,7 @@ pub(crate) fn delete_numbers<'a>(
         Ok(true) => Ok(()),
         Ok(false) => Err(Failure::from(Fault::NoSuch)),
         Err(Fault::Io) => Err(Failure::on_streams(Fault::Io, None, output.error())),
-        Err(fault) => Err(refused_spool(alloc, fault, spool, disk)),
+        Err(fault) => Err(refused_spool(fault, spool, disk)),
     }
 }
 

@@ -55,7 +55,7 @@ pub fn export_file<'a>(
             Err(Failure::new(Fault::Io, Task::WriteInto(folder), error))
         }
         (Err(Fault::Io), None) => Err(Failure::on_streams(Fault::Io, None, output.error())),
-        (Err(fault), _) => Err(refused_spool(alloc, fault, spool, disk)),
+        (Err(fault), _) => Err(refused_spool(fault, spool, disk)),
     }
 }
 

@@ -192,8 +192,8 @@ impl<'a> Failure<'a> {
         }
     }
 
-    /// As `on_spool`, with an advice where the file can't be read as a spool.
-    pub(crate) fn on_given(fault: Fault, path: &'a str, disk: &FileDisk) -> Self
+    /// As `on_disk`, with an advice where the file can't be read as a spool.
+    pub(crate) fn on_given(fault: Fault, path: &'a str, error: Option<io::Error>) -> Self
         ensures { fault_in result ≡ fault }
     {
         match fault {
@@ -201,7 +201,7 @@ impl<'a> Failure<'a> {
             Fault::Damaged => Failure::advised(fault, Advice::Damaged(path)),
             Fault::Version => Failure::advised(fault, Advice::Version(path)),
             Fault::AlreadyNew => Failure::advised(fault, Advice::AlreadyNew(path)),
-            _ => Failure::on_spool(fault, path, disk),
+            _ => Failure::on_disk(fault, path, error),
         }
     }
 
@@ -209,7 +209,14 @@ impl<'a> Failure<'a> {
     pub fn on_spool(fault: Fault, path: &'a str, disk: &FileDisk) -> Self
         ensures { fault_in result ≡ fault }
     {
-        match (fault, disk.error()) {
+        Failure::on_disk(fault, path, disk.error())
+    }
+
+    /// As `on_spool`, where this is what the disk says.
+    pub(crate) fn on_disk(fault: Fault, path: &'a str, error: Option<io::Error>) -> Self
+        ensures { fault_in result ≡ fault }
+    {
+        match (fault, error) {
             (Fault::DiskFault, Some(error)) => Failure::new(fault, Task::UseSpool(path), error),
             _ => Failure::from(fault),
         }
@@ -224,6 +231,13 @@ impl<'a> Failure<'a> {
             (Fault::Io, None, Some(error)) => Failure::new(fault, Task::Print, error),
             _ => Failure::from(fault),
         }
+    }
+
+    /// Why it ended.
+    pub fn fault(&self) -> Fault
+        ensures { result ≡ fault_in self.now }
+    {
+        self.fault
     }
 
     /// The status that the program ends with, as `Fault::status`.

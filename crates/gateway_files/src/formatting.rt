@@ -1,20 +1,24 @@
 //! A new spool in a file.
-ghost use Rattle.std.specs.Prelude.{◌≡◌, ◌↔◌, ℕ, Err, IfOk, IsOk, OnOk, true, false};
+ghost use Rattle.std.specs.Prelude.{◌≡◌, ◌↔◌, ℕ, Err, IfOk, IsErr, IsOk, OnOk, Some, true, false};
+ghost use Rattle.std.specs.IoError.{error_kind};
+ghost use Rattle.std.specs.declared.io.ErrorKind.{ErrorKind};
 ghost use Rattle.spool_disk.specs.Disk.{Counts, IsImage, Keeps};
 ghost use Rattle.spool_disk.specs.Views.{Lasts};
 ghost use Rattle.spool_journal.specs.Image.{all_pages};
 ghost use Rattle.upload_rules.specs.Store.{no_uploads};
 ghost use Rattle.spool_image.specs.Format.{FitsSpool, HasMagic, IsRefusal, LeftByFormat};
 ghost use Rattle.spool_image.specs.LeftOnly.{AllShow};
+ghost use Rattle.gateway_files.specs.SpoolFiles.{Disks, Leaves, LeavesOthers, OnlyRead};
 
-use crate::failures::{Advice, Failure};
+use crate::failures::{Advice, Failure, Task};
 use crate::faults::Fault;
 use crate::index_files::{IndexFile, IndexFiles, read_indexes};
-use crate::spool_files::{find_spool, make_spool};
+use crate::spool_files::{SpoolFiles, SystemFiles};
 use enc_index::IndexSet;
-use spool_disk::Disk;
+use spool_disk::{Disk, DiskFault};
 use spool_image::{FormatError, format, pages_of};
 use std::alloc::Global;
+use std::io::{self, ErrorKind};
 
 /// A spool that was made.
 #[derive(Drop)]
@@ -58,22 +62,23 @@ pub fn format_on<D: Disk>(disk: &mut D, blocks: u32, indexes: &IndexSet) -> Resu
     pages_of(blocks).ok_or(FormatError::Size)
 }
 
-/// Whether a disk begins as a spool does. It writes nothing.
-pub fn is_spool_on<D: Disk>(disk: &mut D, indexes: &IndexSet) -> Result<bool, Fault>
+// What a spool begins with.
+const MAGIC: [u8; 8] = *b"TUSSPOOL";
+
+/// Whether a disk begins as a spool does. It is read and no more.
+pub fn is_spool_on<D: Disk>(disk: &mut D) -> Result<bool, DiskFault>
     ensures yes { D.honest disk.old → IfOk result (λ is. is ≡ true → HasMagic (D.size disk.old) (D.current disk.old)) }
     ensures no { D.honest disk.old → IfOk result (λ is. is ≡ false
         → HasMagic (D.size disk.old) (D.current disk.old) → ⊥) }
-    ensures same { D.honest disk.old → IsOk result
-        → Keeps (D.current disk.old) (D.current disk.new) (D.unsynced disk.old) (D.unsynced disk.new) }
-    ensures lasts { D.honest disk.old → IsOk result
-        → Lasts D.Disk disk.old disk.new (IsImage (D.current disk.old) (D.unsynced disk.old)) }
+    ensures reads { OnlyRead D.Disk disk.old disk.new }
+    ensures counts { Counts (IsErr result) (D.failures disk.old) (D.failures disk.new) }
 {
-    // No spool has 0 text blocks, so none is made: what is refused before that is a spool.
-    match format(disk, 0, indexes) {
-        Err(FormatError::AlreadySpool) => Ok(true),
-        Err(FormatError::DiskFault) => Err(Fault::DiskFault),
-        _ => Ok(false),
+    if disk.len() < 8 {
+        return Ok(false);
     }
+    let mut prefix = [0; 8];
+    disk.read(0, &mut prefix)?;
+    Ok(prefix == MAGIC)
 }
 
 /// Makes a spool without uploads in a file, which is made or lengthened. One that is a spool stays as it is.
@@ -83,31 +88,98 @@ pub fn format_file<'a>(
     spool: &'a str,
     blocks: u32,
     folder: &'a str,
-) -> Result<Formatted, Failure<'a>> {
+) -> Result<Formatted, Failure<'a>>
+    ensures { IfOk result (λ made. made.pages ≡ all_pages blocks) }
+{
     let IndexFiles { set, files } = read_indexes(rt, alloc, folder)?;
+    let pages = format_in(&mut SystemFiles::new(rt), spool, blocks, &set)?;
+    Ok(Formatted { pages, files })
+}
+
+/// Makes a spool without uploads, of so many text blocks, in the file at this path, which is made or lengthened: how
+/// many pages it has. One that is a spool stays as it is.
+pub fn format_in<'a, F: SpoolFiles>(
+    files: &mut F,
+    path: &'a str,
+    blocks: u32,
+    indexes: &IndexSet,
+) -> Result<u32, Failure<'a>>
+    // A spool is refused, and only read.
+    ensures untouched { (disks : Disks F.File) (d : F.File) → F.holds files.old disks → disks path.now ≡ Some d
+        → F.File.honest d → HasMagic (F.File.size d) (F.File.current d)
+        → IsErr result × Leaves (F.holds files.new) disks path.now (OnlyRead F.File.Disk d) }
+
+    // What is made shows no uploads, these indexes and so many blocks, and so many pages are told.
+    ensures made { (disks : Disks F.File) → F.holds files.old disks → OnOk result (Leaves (F.holds files.new) disks
+        path.now (λ d. AllShow F.File.Disk d blocks (no_uploads indexes.now))) }
+    ensures pages { IfOk result (λ pages. pages ≡ all_pages blocks) }
+
+    // Refused or not, the other files stay.
+    ensures others { (disks : Disks F.File) → F.holds files.old disks
+        → LeavesOthers (F.holds files.new) disks path.now }
+{
     let Some(pages) = pages_of(blocks) else {
         return Err(Failure::advised(Fault::Size, Advice::Blocks));
     };
-    refuse_spool(rt, spool, &set)?;
-    let mut disk = make_spool(rt, spool, 4096 * pages as u64)?;
-    match format_on(&mut disk, blocks, &set) {
-        Ok(pages) => Ok(Formatted { pages, files }),
-        Err(error) => Err(Failure::on_spool(Fault::from(error), spool, &disk)),
-    }
+    refuse_spool(files, path)?;
+    make_spool(files, path, pages, blocks, indexes)
 }
 
 // Refuses a file that is a spool, before it is lengthened. One that isn't there is none.
-fn refuse_spool<'a>(
-    rt: &HostRuntime,
-    spool: &'a str,
-    indexes: &IndexSet,
-) -> Result<(), Failure<'a>> {
-    let Some(mut disk) = find_spool(rt, spool)? else {
-        return Ok(());
+fn refuse_spool<'a, F: SpoolFiles>(files: &mut F, path: &'a str) -> Result<(), Failure<'a>>
+    ensures spool { (disks : Disks F.File) (d : F.File) → F.holds files.old disks → disks path.now ≡ Some d
+        → F.File.honest d → HasMagic (F.File.size d) (F.File.current d)
+        → IsErr result × Leaves (F.holds files.new) disks path.now (OnlyRead F.File.Disk d) }
+    ensures others { (disks : Disks F.File) → F.holds files.old disks
+        → LeavesOthers (F.holds files.new) disks path.now }
+{
+    let mut disk = match files.open(path) {
+        Ok(disk) => disk,
+        Err(error) => return if_missing(path, error),
     };
-    match is_spool_on(&mut disk, indexes) {
+    let looked = is_spool_on(&mut disk);
+    let error = files.error_of(&disk);
+    files.close(path, disk);
+    match looked {
         Ok(false) => Ok(()),
-        Ok(true) => Err(Failure::advised(Fault::AlreadySpool, Advice::AlreadySpool(spool))),
-        Err(fault) => Err(Failure::on_spool(fault, spool, &disk)),
+        Ok(true) => Err(Failure::advised(Fault::AlreadySpool, Advice::AlreadySpool(path))),
+        Err(fault) => Err(Failure::on_disk(Fault::from(fault), path, error)),
+    }
+}
+
+// A file wasn't opened: that is well where there is none.
+fn if_missing<'a>(path: &'a str, error: io::Error) -> Result<(), Failure<'a>>
+    ensures { IsOk result → error_kind error ≡ ErrorKind.NotFound }
+{
+    match error.kind() {
+        ErrorKind::NotFound => Ok(()),
+        _ => Err(Failure::on_opening(Task::MakeSpool(path), path, error)),
+    }
+}
+
+// Makes a spool of so many pages in a file.
+fn make_spool<'a, F: SpoolFiles>(
+    files: &mut F,
+    path: &'a str,
+    pages: u32,
+    blocks: u32,
+    indexes: &IndexSet,
+) -> Result<u32, Failure<'a>>
+    ensures made { (disks : Disks F.File) → F.holds files.old disks → OnOk result (Leaves (F.holds files.new) disks
+        path.now (λ d. AllShow F.File.Disk d blocks (no_uploads indexes.now))) }
+    ensures pages { IfOk result (λ pages. pages ≡ all_pages blocks) }
+    ensures others { (disks : Disks F.File) → F.holds files.old disks
+        → LeavesOthers (F.holds files.new) disks path.now }
+{
+    let mut disk = match files.create(path, 4096 * pages as u64) {
+        Ok(disk) => disk,
+        Err(error) => return Err(Failure::on_opening(Task::MakeSpool(path), path, error)),
+    };
+    let made = format_on(&mut disk, blocks, indexes);
+    let error = files.error_of(&disk);
+    files.close(path, disk);
+    match made {
+        Ok(pages) => Ok(pages),
+        Err(fault) => Err(Failure::on_disk(Fault::from(fault), path, error)),
     }
 }

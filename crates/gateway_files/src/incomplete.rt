@@ -34,7 +34,7 @@ pub fn delete_incomplete_file<'a>(
     let (disk, found) = incomplete_on(alloc, open_spool(rt, spool)?);
     let numbers = match found {
         Ok(numbers) => numbers,
-        Err(fault) => return Err(refused_spool(alloc, fault, spool, disk)),
+        Err(fault) => return Err(refused_spool(fault, spool, disk)),
     };
     if yes {
         return delete_numbers(rt, alloc, spool, disk, &numbers);

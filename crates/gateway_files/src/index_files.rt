@@ -1,7 +1,11 @@
 //! The operator's index files.
-ghost use Rattle.std.specs.Prelude.{◌≡◌, ◌≤◌, map};
+ghost use Rattle.std.specs.Prelude.{◌≡◌, ◌≤◌, IfErr, IfOk, OnOk, map, option_map};
 ghost use Rattle.enc_model.specs.Index.{code};
-ghost use Rattle.gateway_files.specs.IndexFiles.{entries, found, kind_of, named, one_of, standard_entries};
+ghost use Rattle.enc_model.specs.Indexes.{no_indexes};
+ghost use Rattle.gateway_files.specs.Failures.{fault_in};
+ghost use Rattle.gateway_files.specs.Folders.{Files};
+ghost use Rattle.gateway_files.specs.IndexFiles.{IsReadFault, entries, indexes_of, named, one_of, read_as};
+ghost use Rattle.gateway_files.specs.IndexFiles.{standard_entries, with_file};
 
 use crate::failures::{Failure, Task};
 use crate::faults::Fault;
@@ -20,7 +24,7 @@ const MOST: u64 = 1_048_576;
 // The pointers of the longest index, jis0208.
 const MOST_POINTERS: u32 = 11_280;
 
-// The names of the files in their folder, in the order of a spool's index area.
+// The names of the files in their folder (the Encoding Standard, section 5), in the order of a spool's index area.
 static FILES: [(&str, Kind); 18] = [
     ("index-jis0208.txt", Kind::Jis0208),
     ("index-jis0212.txt", Kind::Jis0212),
@@ -68,26 +72,6 @@ static FILES: [(&str, Kind); 18] = [
         Kind::Single(Encoding::Windows1258),
     ),
 ];
-
-/// Which index the file of this name has, if it is the name of an index file: those of the Encoding Standard, section
-/// 5, of each index that the gateway has.
-pub fn kind_of(name: &str) -> Option<Kind>
-    ensures { result ≡ kind_of name.now }
-{
-    find(&FILES, name)
-}
-
-// The kind in the first row of this name.
-fn find(table: &[(&str, Kind)], name: &str) -> Option<Kind>
-    ensures { result ≡ found (map named table.now) name.now }
-{
-    for (known, kind) in table {
-        if *known == name {
-            return Some(*kind);
-        }
-    }
-    None
-}
 
 /// An index file, and how much of it was found.
 #[derive(Clone, Copy, Debug, PartialEq, Eq, Drop)]
@@ -137,6 +121,48 @@ pub(crate) struct IndexFiles {
     pub(crate) files: Vec<IndexFile>,
 }
 
+/// A folder whose files are read.
+pub trait Readable {
+    /// It has these files.
+    ghost has: { Self → Files → Type 0 };
+
+    /// The content of the file of this name. `None` where there is none.
+    fn read(&self, alloc: Global, name: &str) -> io::Result<Option<Vec<u8>>>
+        ensures { (files : Files) → has self.now files
+            → IfOk result (λ found. option_map (λ bytes. bytes.items) found ≡ files name.now) };
+}
+
+/// A folder of the file system that index files are in.
+///
+/// No contract says what a file system keeps, so of no files it is proved that it has them: that it behaves as a folder
+/// is a premise of whoever relies on it.
+#[derive(Drop)]
+struct IndexFolder<'a> {
+    rt: &'a HostRuntime,
+    path: &'a str,
+}
+
+impl Readable for IndexFolder<'_> {
+    // of no files it is known
+    ghost has = { λ folder files. ⊥ };
+
+    // One that is too long is a fault, as one that can't be read.
+    fn read(&self, alloc: Global, name: &str) -> io::Result<Option<Vec<u8>>> {
+        let path = format!(in alloc; "{}/{name}", self.path)?;
+        let file = match File::open(self.rt, path.as_str()) {
+            Ok(file) => file,
+            Err(error) if error.kind() == ErrorKind::NotFound => return Ok(None),
+            Err(error) => return Err(error),
+        };
+        let mut bytes = Vec::new(alloc);
+        file.take(MOST + 1).read_to_end(&mut bytes)?;
+        if bytes.len() as u64 > MOST {
+            return Err(io::Error::new(ErrorKind::FileTooLarge, "it has more than 1,048,576 bytes"));
+        }
+        Ok(Some(bytes))
+    }
+}
+
 /// Reads the index files that stand in a folder, which has to be there. A file that isn't there isn't set.
 pub(crate) fn read_indexes<'a>(
     rt: &HostRuntime,
@@ -144,44 +170,75 @@ pub(crate) fn read_indexes<'a>(
     folder: &'a str,
 ) -> Result<IndexFiles, Failure<'a>> {
     find_folder(rt, folder)?;
+    read_indexes_from(alloc, &IndexFolder { rt, path: folder }, folder)
+}
+
+/// Reads the index files of a folder, which is at this path.
+pub(crate) fn read_indexes_from<'a, F: Readable>(
+    alloc: Global,
+    folder: &F,
+    path: &'a str,
+) -> Result<IndexFiles, Failure<'a>>
+    ensures { (files : Files) → F.has folder.now files → IfOk result (λ read. read.set ≡ indexes_of files) }
+{
+    read_rows(alloc, folder, path, &FILES)
+}
+
+// Reads the files of a table, each as an index of its kind.
+fn read_rows<'a, F: Readable>(
+    alloc: Global,
+    folder: &F,
+    path: &'a str,
+    table: &[(&'static str, Kind)],
+) -> Result<IndexFiles, Failure<'a>>
+    ensures { (files : Files) → F.has folder.now files
+        → IfOk result (λ read. read.set ≡ read_as (map named table.now) files no_indexes) }
+{
     let mut set = IndexSet::new(alloc)?;
     let mut files = Vec::new(alloc);
-    for (name, kind) in FILES.iter() {
-        let index = read_index(rt, alloc, folder, name, *kind)?;
+    for (name, kind) in table {
+        let entries = read_into(alloc, &mut set, folder, path, name, *kind)?;
         let file = IndexFile {
             name,
             encodings: encodings_of(*kind),
             standard: standard_entries(*kind),
-            entries: index.as_ref().map(|index| entries_of(index)),
+            entries,
         };
         if files.push(file).is_err() {
             return Err(Failure::from(Fault::NoMemory));
-        }
-        if let Some(index) = index {
-            set.set(index);
         }
     }
     Ok(IndexFiles { set, files })
 }
 
-// Reads the index file of this name, where it is there.
-fn read_index<'a>(
-    rt: &HostRuntime,
+// Reads the index file of this name, where it is there, into a set: how many entries it has.
+fn read_into<'a, F: Readable>(
     alloc: Global,
-    folder: &'a str,
+    set: &mut IndexSet,
+    folder: &F,
+    path: &'a str,
     name: &'static str,
     kind: Kind,
-) -> Result<Option<Index>, Failure<'a>> {
-    let bytes = match read_file(rt, alloc, folder, name) {
+) -> Result<Option<u32>, Failure<'a>>
+    ensures read { (files : Files) → F.has folder.now files
+        → OnOk result (set.new ≡ with_file set.old kind (files name.now)) }
+    ensures refused { (files : Files) → F.has folder.now files
+        → IfErr result (λ failure. IsReadFault name.now kind (files name.now) (fault_in failure)) }
+{
+    let bytes = match folder.read(alloc, name) {
         Ok(Some(bytes)) => bytes,
         Ok(None) => return Ok(None),
         Err(error) => {
-            let task = Task::ReadIndex(folder, name);
+            let task = Task::ReadIndex(path, name);
             return Err(Failure::new(Fault::from(error), task, error));
         }
     };
     match Index::read(alloc, &bytes, kind) {
-        Ok(index) => Ok(Some(index)),
+        Ok(index) => {
+            let entries = entries_of(&index);
+            set.set(index);
+            Ok(Some(entries))
+        }
         Err(error) => Err(Failure::from(Fault::Index(name, error))),
     }
 }
@@ -231,25 +288,4 @@ fn entry_at(index: &Index, pointer: u32) -> u32
         Some(_) => 1,
         None => 0,
     }
-}
-
-// The bytes of a file, where it is there. One that is too long is a fault, as one that can't be read.
-fn read_file(
-    rt: &HostRuntime,
-    alloc: Global,
-    folder: &str,
-    name: &str,
-) -> io::Result<Option<Vec<u8>>> {
-    let path = format!(in alloc; "{folder}/{name}")?;
-    let file = match File::open(rt, path.as_str()) {
-        Ok(file) => file,
-        Err(error) if error.kind() == ErrorKind::NotFound => return Ok(None),
-        Err(error) => return Err(error),
-    };
-    let mut bytes = Vec::new(alloc);
-    file.take(MOST + 1).read_to_end(&mut bytes)?;
-    if bytes.len() as u64 > MOST {
-        return Err(io::Error::new(ErrorKind::FileTooLarge, "it has more than 1,048,576 bytes"));
-    }
-    Ok(Some(bytes))
 }

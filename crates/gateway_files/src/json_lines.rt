@@ -41,7 +41,7 @@ struct UploadLine<'a> {
 pub fn json_file<'a>(rt: &HostRuntime, alloc: Global, spool: &'a str) -> Result<(), Failure<'a>> {
     let mut uploads = match Spool::open(alloc, open_spool(rt, spool)?) {
         Ok(uploads) => uploads,
-        Err((disk, fault)) => return Err(refused_spool(alloc, Fault::from(fault), spool, disk)),
+        Err((disk, fault)) => return Err(refused_spool(Fault::from(fault), spool, disk)),
     };
     let mut output = Noted::new(io::writer(rt));
     let written = write_all(alloc, &mut output, &mut uploads);
@@ -49,7 +49,7 @@ pub fn json_file<'a>(rt: &HostRuntime, alloc: Global, spool: &'a str) -> Result<
     match written {
         Ok(()) => Ok(()),
         Err(Fault::Io) => Err(Failure::on_streams(Fault::Io, None, output.error())),
-        Err(fault) => Err(refused_spool(alloc, fault, spool, disk)),
+        Err(fault) => Err(refused_spool(fault, spool, disk)),
     }
 }
 

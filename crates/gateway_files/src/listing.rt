@@ -1,6 +1,6 @@
 //! The uploads of a spool, line by line.
-ghost use Rattle.std.specs.Prelude.{◌≡◌, ◌++◌, ℕ, Err, IfErr, IfOk, IsOk, OnOk, Some, option_map, string_bytes};
-ghost use Rattle.std.specs.Prelude.{true};
+ghost use Rattle.std.specs.Prelude.{◌≡◌, ◌⊎◌, ◌++◌, ℕ, Err, IfErr, IfOk, IsOk, None, Ok, OnOk, Some, option_map};
+ghost use Rattle.std.specs.Prelude.{string_bytes, true};
 ghost use Rattle.std.specs.Io.KnownBytes.{Appends};
 ghost use Rattle.spool_disk.specs.Disk.{Counts, IsImage};
 ghost use Rattle.spool_disk.specs.Views.{Lasts};
@@ -10,16 +10,20 @@ ghost use Rattle.upload_rules.specs.Store.{Store};
 ghost use Rattle.upload_rules.specs.World.{World};
 ghost use Rattle.spool_image.specs.LeftOnly.{AllShow, IsSpool, LeftOrShows};
 ghost use Rattle.gateway_files.specs.declared.faults.Fault.{Fault};
+ghost use Rattle.gateway_files.specs.Failures.{fault_in};
+ghost use Rattle.gateway_files.specs.Listed.{ListsAs, RefusedList};
 ghost use Rattle.gateway_files.specs.Listing.{IsWriteFault, ListRefusedFor, Lists, RefusesListAs};
 ghost use Rattle.gateway_files.specs.Lines.{IsInOrder, length_text, lines_of, mode_text, record_line, spaced};
 ghost use Rattle.gateway_files.specs.Lines.{shown_name, told_of};
+ghost use Rattle.gateway_files.specs.SpoolFiles.{Disks, Leaves, NotOpened, with_disk};
+ghost use Rattle.gateway_files.specs.Streams.{stream_of};
 
 use crate::failures::Failure;
 use crate::faults::Fault;
 use crate::losses::losses_of;
 use crate::naming::{given_name, is_clean};
 use crate::said::{say_free, say_losses_of};
-use crate::spool_files::{open_spool, refused_spool};
+use crate::spool_files::{SpoolFiles, SystemFiles, open_in, refused_by, refused_spool};
 use crate::streams::Noted;
 use crate::surveying::{Survey, open_surveyed};
 use enc_labels::name_of;
@@ -41,17 +45,44 @@ pub fn list_file<'a>(
     long: bool,
 ) -> Result<(), Failure<'a>> {
     let mut output = Noted::new(io::writer(rt));
-    let (disk, listed) = list_on(alloc, &mut output, open_spool(rt, spool)?, long);
-    match listed {
-        // If standard error can't be written, this isn't reported.
-        Ok(survey) => drop(say_free(&mut rt.stderr(), &survey)),
-        Err(Fault::Io) => return Err(Failure::on_streams(Fault::Io, None, output.error())),
-        Err(fault) => return Err(refused_spool(alloc, fault, spool, disk)),
-    }
+    let (disk, survey) = list_in(alloc, &mut SystemFiles::new(rt), &mut output, spool, long)?;
+    // If standard error can't be written, this isn't reported.
+    drop(say_free(&mut rt.stderr(), &survey));
     if long {
         tell_losses(rt, alloc, spool, disk)?;
     }
     Ok(())
+}
+
+/// Writes a line for each upload of the spool in the file at this path, as `list_on` does, and surveys the spool. The
+/// file stays open; where it is refused it is closed.
+pub fn list_in<'a, F: SpoolFiles, W: Write>(
+    alloc: Global,
+    files: &mut F,
+    writer: &mut Noted<W>,
+    path: &'a str,
+    long: bool,
+) -> Result<(F::File, Survey), Failure<'a>>
+    // Its disk is listed, with what `list_on` promises. The other files stay.
+    ensures listed { (disks : Disks F.File) (d : F.File) → F.holds files.old disks → disks path.now ≡ Some d
+        → IfOk result (λ opened. F.holds files.new (with_disk disks path.now None) × ListsAs F.File.Disk d opened.0 long
+        (W.contents (stream_of writer.old)) (W.contents (stream_of writer.new)) (Ok opened.1)) }
+
+    // Or it can't be opened, or it is refused as `list_on` refuses it, and then at most looked at.
+    ensures refused { (disks : Disks F.File) (d : F.File) → F.holds files.old disks → disks path.now ≡ Some d
+        → IfErr result (λ failure. Leaves (F.holds files.new) disks path.now
+        (λ d'. NotOpened d failure d' ⊎ RefusedList F.File.Disk d long (W.contents (stream_of writer.old))
+        (W.contents (stream_of writer.new)) (fault_in failure) d')) }
+{
+    let disk = match open_in(files, path) {
+        Ok(disk) => disk,
+        Err(failure) => return Err(failure),
+    };
+    let (disk, listed) = list_on(alloc, writer, disk, long);
+    match listed {
+        Ok(survey) => Ok((disk, survey)),
+        Err(fault) => Err(refused_by(files, fault, writer.error(), path, disk)),
+    }
 }
 
 // Says on standard error which texts have U+FFFD, and how often.
@@ -63,14 +94,14 @@ fn tell_losses<'a>(
 ) -> Result<(), Failure<'a>> {
     let mut uploads = match Spool::open(alloc, disk) {
         Ok(uploads) => uploads,
-        Err((disk, fault)) => return Err(refused_spool(alloc, Fault::from(fault), spool, disk)),
+        Err((disk, fault)) => return Err(refused_spool(Fault::from(fault), spool, disk)),
     };
     let told = say_all_losses(&mut rt.stderr(), &mut uploads);
     let disk = uploads.into_disk();
     match told {
         // If standard error can't be written, this isn't reported.
         Ok(()) | Err(Fault::Io) => Ok(()),
-        Err(fault) => Err(refused_spool(alloc, fault, spool, disk)),
+        Err(fault) => Err(refused_spool(fault, spool, disk)),
     }
 }
 

@@ -1,5 +1,11 @@
 //! The commands of the program, as its help describes them.
 
+ghost use Rattle.std.specs.Prelude.{◌≡◌, Some, IfOk, map};
+ghost use Rattle.clap.specs.Words.{app_of, new_rule, rule_of, shape_of};
+ghost use Rattle.clap.specs.declared.builder.ArgAction.TheVariants.{Set, SetTrue};
+ghost use Rattle.clap.specs.declared.builder.texts.Texts.TheVariants.{One};
+ghost use Rattle.gateway_orders.specs.Program.{numbers_rule, program, rule_for, shape_for};
+
 use clap::{Arg, ArgAction, Command, value_parser};
 use std::alloc::{AllocError, Global};
 use std::io::{self, Write};
@@ -240,11 +246,10 @@ static COMMANDS: [Described; 9] = [
 ];
 
 /// All commands. Usage names the program `gateway`, whatever its file is called.
-pub(crate) fn gateway<'a>(alloc: Global) -> Result<Command<'a>, AllocError> {
-    let mut commands = Vec::new(alloc);
-    for described in COMMANDS.iter() {
-        commands.push(command(alloc, described)?)?;
-    }
+pub(crate) fn gateway<'a>(alloc: Global) -> Result<Command<'a>, AllocError>
+    ensures { IfOk result (λ command. app_of command ≡ program) }
+{
+    let commands = commands_of(alloc, COMMANDS.as_slice())?;
     Command::new(alloc, "gateway")
         .bin_name("gateway")?
         .version(VERSION)
@@ -255,6 +260,16 @@ pub(crate) fn gateway<'a>(alloc: Global) -> Result<Command<'a>, AllocError> {
         )
         .subcommand_required(true)
         .subcommands(commands)
+}
+
+fn commands_of<'a>(alloc: Global, all: &[Described]) -> Result<Vec<Command<'a>>, AllocError>
+    ensures { IfOk result (λ commands. map shape_of commands.items ≡ map shape_for all.now) }
+{
+    let mut commands = Vec::new(alloc);
+    for described in all {
+        commands.push(command(alloc, described)?)?;
+    }
+    Ok(commands)
 }
 
 /// The command `up` by itself, for an error that is found after the parse. `Command::error` changes the command that
@@ -273,7 +288,9 @@ pub(crate) fn write_names<W: Write>(out: &mut W) -> io::Result<()> {
     writeln!(out)
 }
 
-fn command<'a>(alloc: Global, described: &Described) -> Result<Command<'a>, AllocError> {
+fn command<'a>(alloc: Global, described: &Described) -> Result<Command<'a>, AllocError>
+    ensures { IfOk result (λ command. shape_of command ≡ shape_for described.now) }
+{
     let mut args = Vec::new(alloc);
     for given in described.takes {
         args.push(argument(alloc, given)?)?;
@@ -284,38 +301,59 @@ fn command<'a>(alloc: Global, described: &Described) -> Result<Command<'a>, Allo
         .args(args)
 }
 
-fn argument<'a>(alloc: Global, given: &Given) -> Result<Arg<'a>, AllocError> {
+fn argument<'a>(alloc: Global, given: &Given) -> Result<Arg<'a>, AllocError>
+    ensures { IfOk result (λ arg. rule_of arg ≡ rule_for given.now) }
+{
     let arg = Arg::new(alloc, given.name).help(given.help);
-    Ok(match given.with {
-        With::Word => arg.required(true),
-        With::NumbersOr(others) => arg
-            .num_args(1..)
-            .value_parser(value_parser!(u64))
-            .required_unless_present_any(others)?
-            .conflicts_with_all(others)?,
-        With::Nothing => flag(arg, given.name),
-        With::NothingOr(other) => flag(arg, given.name).conflicts_with(other)?,
-        With::NothingWith(other) => flag(arg, given.name).requires_arg(other)?,
-        With::Text(value) => option(arg, given.name, value).required(true),
-        With::TextOr(value, text) => option(arg, given.name, value).default_value(text),
-        With::U16(value) => option(arg, given.name, value)
-            .required(true)
-            .value_parser(value_parser!(u16)),
-        With::U32(value) => option(arg, given.name, value)
-            .required(true)
-            .value_parser(value_parser!(u32)),
-        With::U64(value) => option(arg, given.name, value)
-            .required(true)
-            .value_parser(value_parser!(u64)),
-    })
+    match given.with {
+        With::Word => Ok(arg.required(true)),
+        With::NumbersOr(others) => numbers(arg, others),
+        With::Nothing => Ok(flag(arg, given.name)),
+        With::NothingOr(other) => flag(arg, given.name).conflicts_with(other),
+        With::NothingWith(other) => flag(arg, given.name).requires_arg(other),
+        With::Text(value) => Ok(option(arg, given.name, value).required(true)),
+        With::TextOr(value, text) => Ok(option(arg, given.name, value).default_value(text)),
+        With::U16(value) => Ok(
+            option(arg, given.name, value)
+                .required(true)
+                .value_parser(value_parser!(u16)),
+        ),
+        With::U32(value) => Ok(
+            option(arg, given.name, value)
+                .required(true)
+                .value_parser(value_parser!(u32)),
+        ),
+        With::U64(value) => Ok(
+            option(arg, given.name, value)
+                .required(true)
+                .value_parser(value_parser!(u64)),
+        ),
+    }
+}
+
+// One or more numbers by themselves, for an argument that is required where none of the others is given, and refused
+// beside them.
+fn numbers<'a>(arg: Arg<'a>, others: &[&'a str]) -> Result<Arg<'a>, AllocError>
+    requires { rule_of arg ≡ new_rule arg.id.now }
+    ensures { IfOk result (λ numbers. rule_of numbers
+        ≡ numbers_rule (map (λ other. other.now) others.now) arg.entry.id.now) }
+{
+    arg.num_args(1..)
+        .value_parser(value_parser!(u64))
+        .required_unless_present_any(others)?
+        .conflicts_with_all(others)
 }
 
 // An argument after `--` that is this name, with nothing after it.
-fn flag<'a>(arg: Arg<'a>, name: &'a str) -> Arg<'a> {
+fn flag<'a>(arg: Arg<'a>, name: &'a str) -> Arg<'a>
+    ensures { result ≡ record arg.entry { long = Some name.entry; action = Some SetTrue } }
+{
     arg.long(name).action(ArgAction::SetTrue)
 }
 
 // An argument after `--` and this name, with a value of this name in the help.
-fn option<'a>(arg: Arg<'a>, name: &'a str, value: &'a str) -> Arg<'a> {
+fn option<'a>(arg: Arg<'a>, name: &'a str, value: &'a str) -> Arg<'a>
+    ensures { result ≡ record arg.entry { long = Some name.entry; action = Some Set; val_names = One value.entry } }
+{
     arg.long(name).action(ArgAction::Set).value_name(value)
 }

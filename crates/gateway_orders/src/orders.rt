@@ -1,4 +1,9 @@
 //! Orders.
+#![tactic(auto, using(crate::proofs::Rows::by_rows))]
+
+ghost use Rattle.std.specs.Prelude.{codes, map, string_bytes, IfOk, IfSome};
+ghost use Rattle.clap.specs.Words.{found_of, rows_of};
+ghost use Rattle.gateway_orders.specs.Orders.{IsOrder, IsOrderOf};
 
 use crate::commands::{gateway, up};
 use clap::error::ErrorKind;
@@ -82,33 +87,45 @@ pub struct Service<'a> {
 }
 
 /// Reads a command line, which begins with the program's name. Unknown, superfluous and missing words are usage faults,
-/// and so are requests for help and for the version. It is only tested which words give which order, and that `None`
-/// doesn't occur: clap requires a command, and each argument that its order needs is required or has a default.
-pub fn read_order<'a>(alloc: Global, words: &'a [String]) -> Result<Option<Order<'a>>, Error> {
+/// and so are requests for help and for the version. An order is the one of the command that the words name, and what
+/// is given for each of that command's arguments stands in the place of that name. It is only tested that `None`
+/// doesn't occur (clap requires a command, and each argument that its order needs is required or has a default), and
+/// which fault comes for which words.
+pub fn read_order<'a>(alloc: Global, words: &'a [String]) -> Result<Option<Order<'a>>, Error>
+    ensures { IfOk result (λ read. IfSome read (IsOrderOf (map string_bytes words.entry.now))) }
+{
     let matches = gateway(alloc)?.try_get_matches_from(words)?;
     match matches.subcommand() {
-        Some(("up", given)) => up_order(alloc, given),
-        Some(("delete", given)) => Ok(delete_order(alloc, given)?),
-        Some((name, given)) => Ok(order_of(name, given)),
+        Some((name, given)) => order_of(alloc, name, given),
         None => Ok(None),
     }
 }
 
-// The order of a command whose words need no further parsing.
-fn order_of<'a>(name: &str, given: &ArgMatches<'a>) -> Option<Order<'a>> {
+// The order of the command of this name, with what is given for its arguments.
+fn order_of<'a>(
+    alloc: Global,
+    name: &str,
+    given: &ArgMatches<'a>,
+) -> Result<Option<Order<'a>>, Error>
+    ensures { IfOk result (λ read. IfSome read (IsOrder name.now (rows_of (found_of given.now)))) }
+{
     match name {
-        "format" => format_order(given),
-        "script" => script_order(given),
-        "serve" => serve_order(given),
-        "list" => list_order(given),
-        "export" => export_order(given),
-        "text" => text_order(given),
-        "upgrade" => upgrade_order(given),
-        _ => None,
+        "format" => Ok(format_order(given)),
+        "script" => Ok(script_order(given)),
+        "serve" => Ok(serve_order(given)),
+        "up" => up_order(alloc, given),
+        "list" => Ok(list_order(given)),
+        "delete" => Ok(delete_order(alloc, given)?),
+        "export" => Ok(export_order(given)),
+        "text" => Ok(text_order(given)),
+        "upgrade" => Ok(upgrade_order(given)),
+        _ => Ok(None),
     }
 }
 
-fn format_order<'a>(given: &ArgMatches<'a>) -> Option<Order<'a>> {
+fn format_order<'a>(given: &ArgMatches<'a>) -> Option<Order<'a>>
+    ensures { IfSome result (IsOrder (codes "format") (rows_of (found_of given.now))) }
+{
     Some(Order::Format {
         spool: given.get_str("SPOOL")?,
         blocks: given.get_one::<u32>("blocks")?,
@@ -116,13 +133,17 @@ fn format_order<'a>(given: &ArgMatches<'a>) -> Option<Order<'a>> {
     })
 }
 
-fn script_order<'a>(given: &ArgMatches<'a>) -> Option<Order<'a>> {
+fn script_order<'a>(given: &ArgMatches<'a>) -> Option<Order<'a>>
+    ensures { IfSome result (IsOrder (codes "script") (rows_of (found_of given.now))) }
+{
     Some(Order::Script {
         spool: given.get_str("SPOOL")?,
     })
 }
 
-fn serve_order<'a>(given: &ArgMatches<'a>) -> Option<Order<'a>> {
+fn serve_order<'a>(given: &ArgMatches<'a>) -> Option<Order<'a>>
+    ensures { IfSome result (IsOrder (codes "serve") (rows_of (found_of given.now))) }
+{
     Some(Order::Serve(Service {
         spool: given.get_str("SPOOL")?,
         port: given.get_one::<u16>("port")?,
@@ -132,7 +153,9 @@ fn serve_order<'a>(given: &ArgMatches<'a>) -> Option<Order<'a>> {
 }
 
 // An address that can't be parsed is a usage fault.
-fn up_order<'a>(alloc: Global, given: &ArgMatches<'a>) -> Result<Option<Order<'a>>, Error> {
+fn up_order<'a>(alloc: Global, given: &ArgMatches<'a>) -> Result<Option<Order<'a>>, Error>
+    ensures { IfOk result (λ read. IfSome read (IsOrder (codes "up") (rows_of (found_of given.now)))) }
+{
     let (Some(spool), Some(address)) = (given.get_str("SPOOL"), given.get_str("listen")) else {
         return Ok(None);
     };
@@ -155,7 +178,9 @@ fn no_address(alloc: Global, address: &str) -> Result<Error, Error> {
     Ok(up(alloc)?.error(ErrorKind::ValueValidation, message.as_str())?)
 }
 
-fn list_order<'a>(given: &ArgMatches<'a>) -> Option<Order<'a>> {
+fn list_order<'a>(given: &ArgMatches<'a>) -> Option<Order<'a>>
+    ensures { IfSome result (IsOrder (codes "list") (rows_of (found_of given.now))) }
+{
     let spool = given.get_str("SPOOL")?;
     if given.get_flag("json") {
         return Some(Order::Json { spool });
@@ -167,10 +192,9 @@ fn list_order<'a>(given: &ArgMatches<'a>) -> Option<Order<'a>> {
 }
 
 // Numbers that can't be parsed were refused before.
-fn delete_order<'a>(
-    alloc: Global,
-    given: &ArgMatches<'a>,
-) -> Result<Option<Order<'a>>, AllocError> {
+fn delete_order<'a>(alloc: Global, given: &ArgMatches<'a>) -> Result<Option<Order<'a>>, AllocError>
+    ensures { IfOk result (λ read. IfSome read (IsOrder (codes "delete") (rows_of (found_of given.now)))) }
+{
     let Some(spool) = given.get_str("SPOOL") else {
         return Ok(None);
     };
@@ -191,7 +215,9 @@ fn delete_order<'a>(
     Ok(Some(Order::Delete { spool, numbers }))
 }
 
-fn export_order<'a>(given: &ArgMatches<'a>) -> Option<Order<'a>> {
+fn export_order<'a>(given: &ArgMatches<'a>) -> Option<Order<'a>>
+    ensures { IfSome result (IsOrder (codes "export") (rows_of (found_of given.now))) }
+{
     Some(Order::Export {
         spool: given.get_str("SPOOL")?,
         folder: given.get_str("DIR")?,
@@ -199,7 +225,9 @@ fn export_order<'a>(given: &ArgMatches<'a>) -> Option<Order<'a>> {
     })
 }
 
-fn text_order<'a>(given: &ArgMatches<'a>) -> Option<Order<'a>> {
+fn text_order<'a>(given: &ArgMatches<'a>) -> Option<Order<'a>>
+    ensures { IfSome result (IsOrder (codes "text") (rows_of (found_of given.now))) }
+{
     Some(Order::Text {
         from: given.get_str("from")?,
         to: given.get_str("to")?,
@@ -208,7 +236,9 @@ fn text_order<'a>(given: &ArgMatches<'a>) -> Option<Order<'a>> {
     })
 }
 
-fn upgrade_order<'a>(given: &ArgMatches<'a>) -> Option<Order<'a>> {
+fn upgrade_order<'a>(given: &ArgMatches<'a>) -> Option<Order<'a>>
+    ensures { IfSome result (IsOrder (codes "upgrade") (rows_of (found_of given.now))) }
+{
     Some(Order::Upgrade {
         spool: given.get_str("SPOOL")?,
     })

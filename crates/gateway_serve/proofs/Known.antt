@@ -1,5 +1,5 @@
 -- Where the disk is known to be honest, the conversations are the history's own.
-use Rattle.std.proofs.Common.{◌≡◌, ◌==◌, ℕ, Bool, true, false, List, [], ◌∷◌, ◌++◌, ap, ◌∙◌, if◌then◌else◌}
+use Rattle.std.proofs.Common.{◌≡◌, ◌==◌, ℕ, Bool, true, false, List, [], ◌∷◌, ap, ◌∙◌, if◌then◌else◌}
 use Rattle.tus_action.proofs.Pieces.{all_appended}
 use Rattle.tus_session.specs.History.{State, Marked, Outcome, Gave, Done, Refused, step, history, conn_in}
 use Rattle.gateway_serve.specs.Conversations.{Conversation, Either, GaveAs, AreTalks, goes_on, conversations}

@@ -1,7 +1,9 @@
 mod All
 mod After
 mod Carries
+mod NextTurn
 mod Freed
+mod Heads
 mod Joints
 mod Lost
 mod Pauses

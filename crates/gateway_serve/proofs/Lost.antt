@@ -1,5 +1,6 @@
 -- Why connections ended.
-use Rattle.std.proofs.Common.{◌≡◌, ◌⊎◌, inl, inr, refl, sym, subst, ℕ, ◌+◌, List, [], ◌∷◌, Option}
+use Rattle.std.proofs.Common.{◌≡◌, ◌≢◌, ◌⊎◌, ◌<◌, ◌≤◌, inl, inr, refl, sym, subst, ℕ, ◌+◌, List, [], ◌∷◌}
+use Rattle.std.proofs.Common.{length, Option, arith}
 use Rattle.std.specs.declared.io.ErrorKind.{ErrorKind}
 use Rattle.gateway_serve.specs.Sockets.{Seen, IsQuiet, IsQuietly}
 use Rattle.gateway_serve.specs.Bytes.{latest_of, current}
@@ -17,6 +18,7 @@ use Rattle.gateway_serve.specs.declared.requests.Request.{Request}
 use Rattle.gateway_serve.specs.declared.reasons.Gone.{Gone}
 use Rattle.gateway_serve.specs.declared.reasons.Gone.TheVariants as Why
 use Rattle.gateway_serve.specs.declared.reasons.Gone.TheVariants.{Failed}
+use Rattle.gateway_serve.specs.declared.reasons.Reason.{Reason}
 use Rattle.gateway_serve.specs.declared.reasons.Reason.TheVariants.{Over}
 use Rattle.gateway_serve.specs.declared.links.Stage.{Stage}
 use Rattle.gateway_serve.specs.declared.links.Stage.TheVariants as Stages
@@ -24,6 +26,8 @@ use Rattle.gateway_serve.specs.declared.links.Left.{Left}
 use Rattle.gateway_serve.specs.declared.links.Left.TheVariants as Is
 use Rattle.gateway_serve.specs.declared.places.Place.{Place}
 use Rattle.gateway_serve.specs.declared.places.Place.TheVariants.{Free, Open}
+use Rattle.gateway_serve.specs.declared.places.Turned.{Turned}
+use Rattle.gateway_serve.specs.declared.places.Turned.TheVariants as Came
 
 -- a read or write failed, and that is the latest call
 pub failed_lost : (left : Left) (latest : Latest) (kind : ErrorKind) → latest ≡ Was.Failed kind
@@ -97,3 +101,24 @@ none_more ended = (0, none)
 
 pub none_left_reasoned : (ended : List Seen) → ended ≡ [] → IsLeftReasoned ended
 none_left_reasoned ended e = subst IsLeftReasoned (sym e) ([], ([], tt {0}, none_more []), none_more [])
+
+-- HOW MANY ENDED: a place adds one or none
+more_there : {S : Type 0} (n : ℕ) (reason : Reason) (p : Place S) (ended : List Seen)
+    → length ended ≤ length (with_place n reason p ended)
+more_there n reason Free ended = omega arith
+more_there n reason (Open l) ended = omega arith
+
+pub more_ended : {S : Type 0} (n : ℕ) (reason : Reason) (p : Place S) (ended ended' : List Seen)
+    → ended' ≡ with_place n reason p ended → length ended ≤ length ended'
+more_ended n reason p ended ended' with = subst (λ e. length ended ≤ length e) (sym with) (more_there n reason p ended)
+
+-- so no more connections are closed than ended
+pub closed_ended : (turned : Turned) (closed closed' : ℕ) (ended ended' : List Seen) → length ended ≤ length ended'
+    → (turned ≡ Came.Closed → length ended < length ended') → (turned ≡ Came.Closed → closed' ≤ closed + 1)
+    → (turned ≢ Came.Closed → closed' ≡ closed) → closed ≤ length ended → closed' ≤ length ended'
+closed_ended Came.Idle closed closed' ended ended' more one adds same few =
+    omega (arith, more, few, same (λ e. absurd (cc)))
+closed_ended Came.Moved closed closed' ended ended' more one adds same few =
+    omega (arith, more, few, same (λ e. absurd (cc)))
+closed_ended Came.Closed closed closed' ended ended' more one adds same few =
+    omega (arith, few, one refl, adds refl)

@@ -4,7 +4,7 @@ use Rattle.std.proofs.lemmas.Bool.{cases_eq}
 use Rattle.std.specs.Prelude.{IfSome}
 use Rattle.std.specs.declared.time.Duration.{Duration}
 use Rattle.gateway_serve.specs.Longest.{between_since, pause_of, since_of, BeganBy, IsOf, IsLongest}
-use Rattle.gateway_serve.specs.declared.serving.Pause.{Pause}
+use Rattle.gateway_serve.specs.declared.rounds.Pause.{Pause}
 use Rattle.gateway_serve.specs.declared.places.Place.{Place}
 use Rattle.gateway_serve.specs.declared.places.Place.TheVariants.{Free}
 

@@ -5,9 +5,8 @@ use Rattle.std.proofs.lemmas.Bool.Decides.{nat_tests}
 use Rattle.tus_session.specs.Turns.{Conn, fresh, came_turn, more_turn}
 use Rattle.tus_session.specs.History.{State, Event, Opened, Came, More, Ended, Mark, Served, OutOfMemory, Failed}
 use Rattle.tus_session.specs.History.{most_open, opened_if}
-use Rattle.tus_session.specs.History.{Outcome, Gave, Done, Refused, put, kept, is_closed, opened_at, came_at, more_at}
+use Rattle.tus_session.specs.History.{Outcome, Gave, Done, Refused, is_closed, opened_at, came_at, more_at}
 use Rattle.tus_session.specs.History.{ended_at, lost_at, failed_at, conn_in, step}
-use Rattle.tus_session.specs.declared.errors.SessionError.TheVariants.{TooMany}
 use Rattle.tus_session.proofs.InPlace.{conns_here, conns_else}
 
 pub by_true : {X : Type 0} (b : Bool) (x y : X) → b ≡ true → (if b then x else y) ≡ x

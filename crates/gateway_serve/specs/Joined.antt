@@ -22,7 +22,7 @@ use Rattle.gateway_serve.specs.declared.reasons.Reason.{Reason}
 use Rattle.gateway_serve.specs.declared.reasons.Reason.TheVariants as Why
 use Rattle.gateway_serve.specs.declared.places.Place.{Place}
 use Rattle.gateway_serve.specs.declared.places.Place.TheVariants.{Free, Open}
-use Rattle.gateway_serve.specs.declared.serving.Server.{Server}
+use Rattle.gateway_serve.specs.declared.server.Server.{Server}
 
 -- a socket and its connection: all bytes that came and went, those that wait for the session and for the socket, and
 -- whether the session closed it

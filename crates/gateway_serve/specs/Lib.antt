@@ -1,3 +1,4 @@
+pub mod Acceptors
 pub mod Bytes
 pub mod Conversations
 pub mod Gone
@@ -5,8 +6,10 @@ pub mod Joined
 pub mod Longest
 pub mod Reasons
 pub mod Requests
+pub mod Rests
 pub mod Served
 pub mod Sockets
 pub mod Stays
 pub mod Streams
+pub mod Turns
 pub mod Waiting

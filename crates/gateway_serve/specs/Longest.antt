@@ -5,7 +5,7 @@ use Rattle.std.specs.declared.time.Duration.{Duration}
 use Rattle.gateway_serve.specs.Joined.{at_of}
 use Rattle.gateway_serve.specs.declared.stays.At.{At}
 use Rattle.gateway_serve.specs.declared.stays.At.TheVariants.{Between, Head, Body, Reply}
-use Rattle.gateway_serve.specs.declared.serving.Pause.{Pause}
+use Rattle.gateway_serve.specs.declared.rounds.Pause.{Pause}
 use Rattle.gateway_serve.specs.declared.links.Link.{Link}
 use Rattle.gateway_serve.specs.declared.places.Place.{Place}
 use Rattle.gateway_serve.specs.declared.places.Place.TheVariants.{Free, Open}

@@ -1,7 +1,9 @@
 //! How often a quiet socket is asked, and how long an idle server rests.
-ghost use Rattle.std.specs.Prelude.{◌≡◌, IsTrue, false};
+ghost use Rattle.std.specs.Prelude.{◌≡◌, ◌≤◌, ◌+◌, ◌↔◌, IsTrue, IsFalse, IfSome, IsSome, false};
+ghost use Rattle.std.specs.Duration.{as_nanos};
+ghost use Rattle.gateway_serve.specs.Acceptors.{passes_of};
+ghost use Rattle.gateway_serve.specs.Rests.{IsIdle, passed, rest_at};
 
-use std::thread;
 use std::time::{Clock, Duration};
 
 /// A quiet socket is passed over in at most so many turns, one after the other.
@@ -35,7 +37,9 @@ pub(crate) struct Pace {
 
 impl Pace {
     /// Of a socket that is asked in the next turn.
-    pub(crate) fn new() -> Self {
+    pub(crate) fn new() -> Self
+        ensures { passes_of result ≡ 0 }
+    {
         Pace {
             between: 0,
             left: 0,
@@ -44,7 +48,8 @@ impl Pace {
 
     /// Whether the socket is asked in this turn. Where the turn before did nothing each one is.
     pub(crate) fn is_due(&mut self, busy: bool) -> bool
-        ensures { busy ≡ false → IsTrue result }
+        ensures idle { busy ≡ false → IsTrue result }
+        ensures passed { IsFalse result → passes_of self.old ≡ passes_of self.new + 1 }
     {
         if busy && self.left > 0 {
             self.left -= 1;
@@ -54,7 +59,9 @@ impl Pace {
     }
 
     /// The socket was asked, and had something to do or not.
-    pub(crate) fn asked(&mut self, moved: bool) {
+    pub(crate) fn asked(&mut self, moved: bool)
+        ensures { passes_of self.new ≤ 31 }
+    {
         self.between = if moved {
             0
         } else {
@@ -62,6 +69,11 @@ impl Pace {
         };
         self.left = self.between;
     }
+}
+
+/// The time that a clock shows: one call of the clock. `None` where it can't be read.
+pub(crate) fn time<T: Clock>(clock: &T) -> Option<Duration> {
+    clock.monotonic().ok()
 }
 
 /// The time as a server read it last, and when it last had something to do.
@@ -72,23 +84,31 @@ pub(crate) struct Watch {
 }
 
 impl Watch {
-    /// Started now. A clock that can't be read stands still.
-    pub(crate) fn new<T: Clock>(clock: &T) -> Self {
-        let now = clock.monotonic().unwrap_or(Duration::ZERO);
+    /// Started at this time. With a clock that can't be read it stands still.
+    pub(crate) fn new(time: Option<Duration>) -> Self
+        ensures { IfSome time (λ now. result ≡ record { now = now; busy = now }) }
+    {
+        let now = time.unwrap_or(Duration::ZERO);
         Watch { now, busy: now }
     }
 
-    /// Reads the clock after a turn. Where no socket had anything to do for 200 microseconds it rests, for a 32nd of
-    /// the time since one had, at most 10 milliseconds: so a client waits at most a 32nd of its own silence longer.
-    pub(crate) fn rest<T: Clock>(&mut self, clock: &T, was_busy: bool) {
-        self.now = clock.monotonic().unwrap_or(self.now);
+    /// After a turn, at this time: how long the server rests. Where no socket had anything to do for 200 microseconds
+    /// that is a 32nd of the time since one had, at most 10 milliseconds: so a client waits at most a 32nd of its own
+    /// silence longer.
+    pub(crate) fn rest(&mut self, time: Option<Duration>, was_busy: bool) -> Option<Duration>
+        ensures time { self.new ≡ passed self.old time was_busy }
+        ensures rests { IsSome result ↔ IsIdle self.new }
+        ensures rest { IfSome result (λ rest. as_nanos rest ≡ rest_at self.new) }
+    {
+        self.now = time.unwrap_or(self.now);
         if was_busy {
             self.busy = self.now;
         }
         let idle = self.now.saturating_sub(self.busy);
         if idle >= Duration::from_micros(SHORTEST_IDLE) {
-            let rest = (idle / 32).min(Duration::from_millis(LONGEST_REST));
-            thread::sleep(clock, rest);
+            Some((idle / 32).min(Duration::from_millis(LONGEST_REST)))
+        } else {
+            None
         }
     }
 }

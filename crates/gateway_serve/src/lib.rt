@@ -1,17 +1,23 @@
 //! Serving over sockets: the connections of a gateway, turn by turn in one thread.
 #![tactic(auto)]
 
+mod acceptors;
 mod buffers;
+mod doors;
 mod idle;
 mod laws;
 mod links;
 mod places;
 mod reasons;
 mod requests;
+mod rounds;
+mod server;
 mod serving;
 mod sockets;
 mod stays;
 
+pub use acceptors::{Acceptor, Listening};
+pub use doors::Clients;
 pub use laws::known_talks;
 pub use reasons::{Gone, Reason};
 pub use serving::{Outcome, serve_on};

@@ -1,5 +1,5 @@
 //! A socket and its connection of the gateway.
-ghost use Rattle.std.specs.Prelude.{◌≡◌, ◌≢◌, ◌⊎◌, ◌↔◌, IsErr, IsErrOf, IfOk, IfSome, IsTrue};
+ghost use Rattle.std.specs.Prelude.{◌≡◌, ◌≢◌, ◌⊎◌, ◌↔◌, IsErr, IsErrOf, IfOk, IfSome, IsTrue, length};
 ghost use Rattle.upload_rules.specs.Answers.{Counts};
 ghost use Rattle.gateway_serve.specs.Joined.{Goes, IsOver, Writes, Reads, joint_of, nothing_yet, with_link};
 ghost use Rattle.gateway_serve.specs.Joined.{stage_by, stage_after, taken_after, at_of};
@@ -10,6 +10,8 @@ ghost use Rattle.gateway_serve.specs.Gone.{EndsBy, IfLost, IsFailure};
 ghost use Rattle.gateway_serve.specs.declared.sockets.Latest.{Latest};
 ghost use Rattle.gateway_serve.specs.Longest.{link_between_since};
 ghost use Rattle.gateway_serve.specs.Reasons.{IsLate, IsLostBy, moved_of, opened_of, stay_of};
+ghost use Rattle.gateway_serve.specs.Requests.{measured_by, request_by};
+ghost use Rattle.gateway_serve.specs.Stays as stays;
 ghost use Rattle.std.specs.IoError.{error_kind};
 
 use crate::buffers::{Input, Output, PIECE};
@@ -196,6 +198,8 @@ impl<S: Read + Write> Link<S> {
 
     // Measures the speed of a body anew, where it was fast enough for long enough.
     fn measure(&mut self, stay: &Stay)
+        ensures over { stays.IsOver stay.now → self.new.request ≡ self.old.request }
+        ensures goes_on { (stays.IsOver stay.now → ⊥) → self.new.request ≡ measured_by self.old.request stay.now.time }
         ensures socket { socket_of self.new ≡ socket_of self.old }
         ensures same { joint_of self.new ≡ joint_of self.old }
     {
@@ -356,7 +360,9 @@ impl<S: Read + Write> Link<S> {
 
     // The request that it is in, once the session took so many bytes of what was read, where so many waited to be
     // written before: none, if a reply was given.
-    fn request_after(&self, taken: usize, owed: usize, now: Duration) -> Option<Request> {
+    fn request_after(&self, taken: usize, owed: usize, now: Duration) -> Option<Request>
+        ensures { result ≡ request_by self.now.request owed (length self.now.output) self.now.input taken now }
+    {
         if self.output.left().len().saturating_sub(owed) > CONTINUE.len() {
             return None;
         }

@@ -1,5 +1,5 @@
 //! A place for a connection.
-ghost use Rattle.std.specs.Prelude.{◌≡◌, ◌↔◌, IsTrue, IsErr, IsErrOf};
+ghost use Rattle.std.specs.Prelude.{◌≡◌, ◌↔◌, ◌<◌, ◌≤◌, IsTrue, IsErr, IsErrOf, Ok, length};
 ghost use Rattle.upload_rules.specs.Answers.{Counts};
 ghost use Rattle.gateway_serve.specs.Joined.{GoesAt, OthersStay, IsNew, MayEnd, PlaceWaits, with_place};
 ghost use Rattle.gateway_serve.specs.Streams.{PlaceIsOf, PlaceKeeps};
@@ -78,6 +78,8 @@ impl<S: Read + Write + Drop> Place<S> {
         ensures serves { GoesAt C.Connections gateway.old gateway.new result self.old self.new
             ended.old.sockets ended.new.sockets conn }
         ensures others { OthersStay conn ended.old.sockets ended.new.sockets }
+        ensures more { length ended.old.sockets ≤ length ended.new.sockets }
+        ensures closed { result ≡ Ok Turned.Closed → length ended.old.sockets < length ended.new.sockets }
         ensures counts { Counts (IsErr result) (C.failures gateway.old) (C.failures gateway.new) }
     {
         let Place::Open(link) = self else {

@@ -1,6 +1,7 @@
 //! What serving sees of a request: whether its head came, and how fast its body comes.
-ghost use Rattle.std.specs.Prelude.{◌≡◌};
-ghost use Rattle.gateway_serve.specs.Requests.{at_in};
+ghost use Rattle.std.specs.Prelude.{◌≡◌, None, true, false};
+ghost use Rattle.gateway_serve.specs.Requests.{added, at_in, begun_at, has_come, head_after, looked, measured};
+ghost use Rattle.gateway_serve.specs.Requests.{measured_from};
 
 use crate::stays::At;
 use std::time::Duration;
@@ -21,7 +22,9 @@ enum HeadEnd {
 
 impl HeadEnd {
     // After one more byte.
-    fn after(self, byte: u8) -> Self {
+    fn after(self, byte: u8) -> Self
+        ensures { result ≡ head_after self byte }
+    {
         match (self, byte) {
             (HeadEnd::Found, _) | (HeadEnd::LineStart, b'\n') => HeadEnd::Found,
             (HeadEnd::InLine, b'\n') | (HeadEnd::LineStart, b'\r') => HeadEnd::LineStart,
@@ -43,8 +46,7 @@ pub(crate) struct Request {
 impl Request {
     /// Of which nothing came, at this time.
     pub(crate) fn new(now: Duration) -> Self
-        ensures begun { result.begun ≡ now }
-        ensures brought { result.brought ≡ 0 }
+        ensures { result ≡ begun_at None now }
     {
         Request {
             head: HeadEnd::InLine,
@@ -64,7 +66,9 @@ impl Request {
     }
 
     /// More of it came. The bytes of a body are counted, and not looked at.
-    pub(crate) fn add(&mut self, bytes: &[u8], now: Duration) {
+    pub(crate) fn add(&mut self, bytes: &[u8], now: Duration)
+        ensures { self.new ≡ added self.old bytes.now now }
+    {
         if !self.has_head() {
             self.look_for_end(bytes, now);
         }
@@ -72,7 +76,10 @@ impl Request {
     }
 
     // Looks for the head's end, from which on the speed of the body is measured.
-    fn look_for_end(&mut self, bytes: &[u8], now: Duration) {
+    fn look_for_end(&mut self, bytes: &[u8], now: Duration)
+        requires { has_come self.old.head ≡ false }
+        ensures { self.new ≡ looked self.old bytes.now now }
+    {
         for byte in bytes {
             self.head = self.head.after(*byte);
             if self.has_head() {
@@ -83,18 +90,24 @@ impl Request {
     }
 
     /// Measures the speed of the body anew, where it was measured for ten seconds.
-    pub(crate) fn measure(&mut self, now: Duration) {
+    pub(crate) fn measure(&mut self, now: Duration)
+        ensures { self.new ≡ measured self.old now }
+    {
         if self.has_head() && now.saturating_sub(self.begun).as_secs() >= MEASURED {
             self.measure_from(now);
         }
     }
 
-    fn measure_from(&mut self, now: Duration) {
+    fn measure_from(&mut self, now: Duration)
+        ensures { self.new ≡ measured_from self.old true now }
+    {
         self.begun = now;
         self.brought = 0;
     }
 
-    fn has_head(&self) -> bool {
+    fn has_head(&self) -> bool
+        ensures { result ≡ has_come self.now.head }
+    {
         self.head == HeadEnd::Found
     }
 }

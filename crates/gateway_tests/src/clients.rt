@@ -2,7 +2,7 @@
 
 use crate::spools::opened;
 use crate::talks::fresh;
-use gateway_serve::{Outcome, serve_on};
+use gateway_serve::{Listening, Outcome, serve_on};
 use std::alloc::Global;
 use std::cell::Cell;
 use std::io::{self, ErrorKind, Read, Write};
@@ -173,13 +173,21 @@ pub(crate) fn served(
     turns: u64,
 ) -> u64 {
     let gateway = opened(rt, alloc, fresh(rt, alloc, blocks, None));
+    let mut acceptor = Listening::new(clients);
     let Outcome {
         gateway,
         served,
-        connections,
+        clients,
         ended: _,
-    } = serve_on(alloc, clock, clients, gateway, MOST_OPEN as u64 + 2, turns);
+    } = serve_on(
+        alloc,
+        clock,
+        &mut acceptor,
+        gateway,
+        MOST_OPEN as u64 + 2,
+        turns,
+    );
     assert!(rt; served.is_ok());
     drop(gateway.into_disk());
-    connections
+    clients.opened
 }

@@ -2,7 +2,7 @@
 
 use crate::spools::{calls_of_opening, opened};
 use crate::talks::fresh;
-use gateway_serve::{Outcome, serve_on};
+use gateway_serve::{Listening, Outcome, serve_on};
 use spool_disk::{Disk, FuseDisk, MemoryDisk};
 use std::alloc::Global;
 use std::io::{Read, Write};
@@ -96,12 +96,13 @@ fn served<R: Abort + Clock, D: Disk + Drop>(
     connections: u64,
 ) -> (D, bool) {
     let gateway = opened(rt, alloc, disk);
+    let mut acceptor = Listening::new(listener);
     let Outcome {
         gateway,
         served,
-        connections: _,
+        clients: _,
         ended: _,
-    } = serve_on(alloc, rt, listener, gateway, connections, 1000);
+    } = serve_on(alloc, rt, &mut acceptor, gateway, connections, 1000);
     (gateway.into_disk(), served.is_ok())
 }
 

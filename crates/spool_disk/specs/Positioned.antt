@@ -1,7 +1,7 @@
 -- The calls of a file.
-use Rattle.std.specs.Prelude.{ℕ, ◌++◌, nat_lt, Bool, true, if◌then◌else◌, List, [], ◌∷◌}
+use Rattle.std.specs.Prelude.{ℕ, ◌++◌, nat_lt, Bool, true, false, if◌then◌else◌, List, [], ◌∷◌}
 use Rattle.spool_disk.specs.declared.positioned.FileCall.{FileCall}
-use Rattle.spool_disk.specs.declared.positioned.FileCall.TheVariants.{Len, SetLen, SyncAll, SyncFolder}
+use Rattle.spool_disk.specs.declared.positioned.FileCall.TheVariants.{Open, Lock, Len, SetLen, SyncAll, SyncFolder}
 
 -- A call that was made, the bytes that it read or wrote, and whether it succeeded.
 pub record Made : Type 0 where
@@ -13,6 +13,11 @@ pub record Made : Type 0 where
 abbrev pub made : FileCall → List ℕ → Bool → Made
 made c bs ok = record { call = c; bytes = bs; done = ok }
 
+-- The calls that open a file, the latest first: it is opened and never emptied, made only if that is asked for, and then
+-- locked.
+abbrev pub opened : Bool → List Made
+opened create = made Lock [] true ∷ made (Open create false) [] true ∷ []
+
 -- The calls that make a file of length `found` at least `len` long, the latest first: its length is asked for, it is
 -- extended if needed, and all of it is synced.
 abbrev pub lengthened : (found len : ℕ) → List Made
@@ -20,6 +25,6 @@ lengthened found len =
     made SyncAll [] true ∷ (if nat_lt found len then made (SetLen len) [] true ∷ [] else [])
     ++ made (Len found) [] true ∷ []
 
--- The same calls, and last a sync of its folder.
+-- The calls that open or make a file of at least this length, and last a sync of its folder.
 abbrev pub created : (found len : ℕ) → List Made
-created found len = made SyncFolder [] true ∷ lengthened found len
+created found len = made SyncFolder [] true ∷ lengthened found len ++ opened true

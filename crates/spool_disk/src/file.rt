@@ -1,7 +1,7 @@
 //! A file as a disk.
-ghost use Rattle.std.specs.Prelude.{◌≡◌, ◌↔◌, ◌++◌, ℕ, [], ◌∷◌, true, is_ok, IfOk, IfErr, IsErr, OnOk, Some};
+ghost use Rattle.std.specs.Prelude.{◌≡◌, ◌↔◌, ◌++◌, ℕ, [], ◌∷◌, true, false, is_ok, IfOk, IfErr, IsErr, OnOk, Some};
 ghost use Rattle.spool_disk.specs.Disk.{Counts, IsImage};
-ghost use Rattle.spool_disk.specs.Positioned.{made, lengthened, created};
+ghost use Rattle.spool_disk.specs.Positioned.{made, opened, lengthened, created};
 
 use crate::{Disk, DiskFault, FileCall, Positioned, SystemFile};
 use std::fs::{File, Files};
@@ -51,7 +51,7 @@ impl PositionedDisk<SystemFile> {
     /// `DiskFault` for any error of the file system, and if another disk has the file's lock.
     pub fn open<R: Files<File = File>>(rt: &R, path: &str) -> Result<Self, DiskFault>
         ensures none { IfOk result (λ disk. failed_in disk ≡ 0) }
-        ensures made { IfOk result (λ disk. calls_in disk ≡ made (FileCall.Len (length_of disk)) [] true ∷ []) }
+        ensures made { IfOk result (λ disk. calls_in disk ≡ made (FileCall.Len (length_of disk)) [] true ∷ opened false) }
     {
         FileDisk::try_open(rt, path).map_err(DiskFault::from)
     }
@@ -71,7 +71,7 @@ impl PositionedDisk<SystemFile> {
     /// As `open`, with the system's error: `ResourceBusy` if another disk has the file's lock.
     pub fn try_open<R: Files<File = File>>(rt: &R, path: &str) -> io::Result<Self>
         ensures none { IfOk result (λ disk. failed_in disk ≡ 0) }
-        ensures made { IfOk result (λ disk. calls_in disk ≡ made (FileCall.Len (length_of disk)) [] true ∷ []) }
+        ensures made { IfOk result (λ disk. calls_in disk ≡ made (FileCall.Len (length_of disk)) [] true ∷ opened false) }
     {
         let mut file = SystemFile::open(rt, path)?;
         let len = file.len()?;

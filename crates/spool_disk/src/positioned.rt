@@ -7,6 +7,15 @@ use std::io;
 /// A call of a file.
 #[derive(Clone, Copy, Debug)]
 pub enum FileCall {
+    /// It was opened, to be read and written.
+    Open {
+        /// Whether it is made where there is none.
+        create: bool,
+        /// Whether it is emptied.
+        truncate: bool,
+    },
+    /// Its exclusive lock was taken (`flock`).
+    Lock,
     /// It was asked for its length in bytes; this was the answer.
     Len(u64),
     /// It was read from this place on.

@@ -1,7 +1,7 @@
 //! Files of the operating system. That each call here is the one that its clause names is trusted and not proved, since
 //! no contract of the kit states what a file does.
-ghost use Rattle.std.specs.Prelude.{◌≡◌, [], ◌∷◌, is_ok, IfOk};
-ghost use Rattle.spool_disk.specs.Positioned.{made};
+ghost use Rattle.std.specs.Prelude.{◌≡◌, [], ◌∷◌, true, false, is_ok, IfOk};
+ghost use Rattle.spool_disk.specs.Positioned.{made, opened};
 
 use crate::log::Log;
 use crate::{FileCall, Positioned};
@@ -20,42 +20,55 @@ pub struct SystemFile {
 impl SystemFile {
     ghost use Rattle.spool_disk.specs.SystemFile.{calls_of};
 
-    /// Opens the file at the path, or creates it.
+    /// Opens the file at the path, or creates it. Its contents stay.
     ///
     /// # Errors
     ///
     /// `ResourceBusy` if it is locked.
     pub fn create<R: Files<File = File>>(rt: &R, path: &str) -> io::Result<Self>
-        ensures { IfOk result (λ file. calls_of file ≡ []) }
+        ensures { IfOk result (λ file. calls_of file ≡ opened true) }
     {
-        let file = OpenOptions::new()
-            .read(true)
-            .write(true)
-            .create(true)
-            .open(rt, path)?;
-        SystemFile::lock(file)
+        SystemFile::opened(rt, path, true, false)?.locked()
     }
 
-    /// Opens the file at the path.
+    /// Opens the file at the path. Its contents stay.
     ///
     /// # Errors
     ///
     /// `ResourceBusy` if it is locked.
     pub fn open<R: Files<File = File>>(rt: &R, path: &str) -> io::Result<Self>
-        ensures { IfOk result (λ file. calls_of file ≡ []) }
+        ensures { IfOk result (λ file. calls_of file ≡ opened false) }
     {
-        let file = OpenOptions::new().read(true).write(true).open(rt, path)?;
-        SystemFile::lock(file)
+        SystemFile::opened(rt, path, false, false)?.locked()
     }
 
-    // Takes the file's exclusive lock.
-    fn lock(file: File) -> io::Result<Self>
-        ensures { IfOk result (λ file. calls_of file ≡ []) }
+    // Opens the file at the path: one call of the system.
+    fn opened<R: Files<File = File>>(
+        rt: &R,
+        path: &str,
+        create: bool,
+        truncate: bool,
+    ) -> io::Result<Self>
+        ensures { IfOk result (λ file. calls_of file ≡ made (FileCall.Open create truncate) [] true ∷ []) }
     {
-        match file.try_lock() {
+        let file = OpenOptions::new()
+            .read(true)
+            .write(true)
+            .create(create)
+            .truncate(truncate)
+            .open(rt, path)?;
+        let log = Log::new().and(&FileCall::Open { create, truncate }, &[], true);
+        Ok(SystemFile { file, log })
+    }
+
+    // Takes the file's exclusive lock: one call of the system.
+    fn locked(self) -> io::Result<Self>
+        ensures { IfOk result (λ file. calls_of file ≡ made FileCall.Lock [] true ∷ calls_of self) }
+    {
+        match self.file.try_lock() {
             Ok(()) => Ok(SystemFile {
-                file,
-                log: Log::new(),
+                file: self.file,
+                log: self.log.and(&FileCall::Lock, &[], true),
             }),
             Err(TryLockError::WouldBlock) => {
                 Err(io::Error::new(io::ErrorKind::ResourceBusy, "it is in use"))

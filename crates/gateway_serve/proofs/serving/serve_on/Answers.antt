@@ -1,15 +1,8 @@
-use Rattle.std.proofs.Common.{[], arith}
+use Rattle.std.proofs.Common.{[], subst, sym, arith}
+use Rattle.gateway_serve.specs.Reasons.{AllReasoned}
 use Rattle.gateway_serve.specs.Joined.{places_of, ended_of}
-use Rattle.gateway_serve.proofs.All.{new_joins, none_served}
-use Rattle.gateway_serve.proofs.Lost.{none_left_reasoned}
+use Rattle.gateway_serve.proofs.All.{new_joins}
 use Rattle.gateway_serve.proofs.serving.serve_on.Goals as goal
-
-pub returns-then-is_err-clause-serves : goal.returns-then-is_err-clause-serves
-returns-then-is_err-clause-serves g c = λ sure st stands. (
-  [],
-  record { stands = stands; images = λ known. record { later = omega arith; limits = λ n t ms le left among. left } },
-  none_served sure c.new.result.sockets st c.new.ensures,
-)
 
 pub returns-clause-serves : goal.returns-clause-serves
 returns-clause-serves g c = λ sure st stands.
@@ -22,5 +15,6 @@ returns-clause-serves g c = λ sure st stands.
     (new_joins sure (places_of c.new-server.result) (ended_of c.new-server.result) st c.new-server.ensures.places
     c.new-server.ensures.ended)
 
-pub returns-then-is_err-clause-reasons : goal.returns-then-is_err-clause-reasons
-returns-then-is_err-clause-reasons g c = none_left_reasoned c.new.result.sockets c.new.ensures
+pub returns-clause-reasons : goal.returns-clause-reasons
+returns-clause-reasons g c =
+    c.serve-served.ensures.reasons (subst AllReasoned (sym c.new-server.ensures.ended) tt)

@@ -1,0 +1,29 @@
+-- Index files that are read one after the other.
+use Rattle.std.proofs.Common.{◌≡◌, ◌∙◌, ◌+◌, ◌<◌, ◌≤◌, ℕ, Bor, List, ◌∷◌, drop, get_or, length, map, refl}
+use Rattle.std.proofs.lemmas.List.{at_drop_more, at_drop_all}
+use Rattle.enc_model.specs.Indexes.{IndexSet}
+use Rattle.enc_index.specs.declared.kind.Kind.{Kind}
+use Rattle.gateway_files.specs.Folders.{Files}
+use Rattle.gateway_files.specs.IndexFiles.{named, read_as, with_file}
+
+abbrev Row : Type 0
+Row = Bor (List ℕ) × Kind
+
+module _ (files : Files) (set : IndexSet) where
+  -- what the rows from this one on make of the set
+  abbrev left : List Row → IndexSet
+  left rows = read_as (map named rows) files set
+
+  first : (row : Row) (rows : List Row)
+      → left (row ∷ rows) ≡ read_as (map named rows) files (with_file set row.1 (files row.0.now))
+  unfolding read_as
+  first row rows = refl
+
+  pub read_next : (rows : List Row) (i : ℕ) (d : Row) → i < length rows
+      → left (drop i rows) ≡ read_as (map named (drop (i + 1) rows)) files
+      (with_file set (get_or rows i d).1 (files (get_or rows i d).0.now))
+  read_next rows i d lt = at_drop_more left rows i d lt ∙ first (get_or rows i d) (drop (i + 1) rows)
+
+  pub read_past : (rows : List Row) (i : ℕ) → length rows ≤ i → left (drop i rows) ≡ set
+  unfolding read_as
+  read_past rows i le = at_drop_all left rows i le

@@ -1,0 +1,10 @@
+use Rattle.std.proofs.Common.{◌≡◌, drop, map}
+use Rattle.enc_model.specs.Indexes.{no_indexes}
+use Rattle.gateway_files.specs.Folders.{Files}
+use Rattle.gateway_files.specs.IndexFiles.{named, read_as}
+use Rattle.gateway_files.proofs.index_files.read_rows.Given as goal
+
+abbrev pub invariant-loop-name : goal.invariant-loop-name
+invariant-loop-name g l =
+    (files : Files) → g.F.Readable.has l.folder files
+    → read_as (map named (drop l.name-index l.table)) files l.set ≡ read_as (map named l.table) files no_indexes

@@ -1,0 +1,41 @@
+-- What `list` makes of the spool in a file.
+use Rattle.std.specs.Prelude.{◌≡◌, ℕ, Bool, List, Option, Result, Err, IfErr, IfOk, IsOk, OnOk}
+use Rattle.std.specs.Io.KnownBytes.{Appends}
+use Rattle.spool_disk.specs.Disk.{Counts, IsImage}
+use Rattle.spool_disk.specs.Views.{Lasts}
+use Rattle.spool_disk.specs.declared.disk.Disk.{Ghosts}
+use Rattle.spool_load.specs.Reads.{NeedsReplay}
+use Rattle.spool_load.specs.Refusals.{HasOtherVersion, IsDamaged, IsNoSpool}
+use Rattle.spool_image.specs.LeftOnly.{AllShow, IsSpool, LeftOrShows}
+use Rattle.upload_rules.specs.Store.{Store}
+use Rattle.gateway_files.specs.Lines.{lines_of}
+use Rattle.gateway_files.specs.Listing.{ListRefusedFor, Lists, RefusesListAs}
+use Rattle.gateway_files.specs.SpoolFiles.{OnlyRead}
+use Rattle.gateway_files.specs.declared.faults.Fault.{Fault}
+use Rattle.gateway_files.specs.declared.faults.Fault.TheVariants.{NotASpool, Version, Damaged, DiskFault}
+use Rattle.gateway_files.specs.declared.surveying.Survey.{Survey}
+
+-- A LIST OF A DISK'S UPLOADS and its answer, from what the writer had to what it has: all that `list_on` says of them
+pub record ListsAs {D : Type 0} (disk : Ghosts D) (d d' : D) (long : Bool) (before after : Option (List ℕ))
+    (result : Result Survey Fault) : Type 0
+  where
+    pub lines : (n : ℕ) (m : Store) → IsSpool disk d n m → OnOk result (Appends before after (lines_of long m))
+    pub shows : (n : ℕ) (m : Store) → IsSpool disk d n m → IsOk result → AllShow disk d' n m
+    pub blocks : (n : ℕ) (m : Store) → IsSpool disk d n m → IfOk result (λ survey. survey.blocks ≡ n)
+    pub lasts : (n : ℕ) (m : Store) → IsSpool disk d n m → Lasts disk d d' (LeftOrShows disk d n m)
+    pub unwritten : disk.honest d → (NeedsReplay (disk.size d) (disk.current d) → ⊥)
+        → Lasts disk d d' (IsImage (disk.current d) (disk.unsynced d))
+    pub listed : (n : ℕ) (m : Store) → IsSpool disk d n m → Lists result
+    pub refused : disk.honest d → IfErr result (ListRefusedFor (disk.size d) (disk.current d))
+    pub not_a_spool : disk.honest d → IsNoSpool (disk.size d) (disk.current d) → RefusesListAs result NotASpool
+    pub version : disk.honest d → HasOtherVersion (disk.size d) (disk.current d) → RefusesListAs result Version
+    pub damaged : disk.honest d → IsDamaged (disk.size d) (disk.current d) → RefusesListAs result Damaged
+    pub counts : Counts (result ≡ Err DiskFault) (disk.failures d) (disk.failures d')
+
+-- THE LIST WAS REFUSED with this fault, and then the spool's file was at most looked at
+pub record RefusedList {D : Type 0} (disk : Ghosts D) (d : D) (long : Bool) (before after : Option (List ℕ))
+    (fault : Fault) (d' : D) : Type 0
+  where
+    pub now : D
+    pub lists : ListsAs disk d now long before after (Err fault)
+    pub reads : OnlyRead disk now d'

@@ -1,0 +1,70 @@
+-- What becomes of clients, turn by turn.
+use Rattle.std.proofs.Common.{◌≡◌, ◌<◌, ◌≤◌, ℕ, ◌+◌, ◌-◌, ◌^◌, List, [], ◌∷◌, length, Bool, true, false}
+use Rattle.std.proofs.Common.{refl, ap, sym, subst, ◌∙◌, arith}
+use Rattle.gateway_serve.specs.Acceptors.{LetsIn, LetsInBy, given, one_if}
+use Rattle.gateway_serve.specs.declared.doors.Clients.{Clients}
+use Rattle.gateway_serve.specs.declared.doors.Door.{Door}
+
+-- before the first
+pub none_asked : (before : List Bool) (passes : ℕ) → passes ≡ 0
+    → LetsIn before before 0 (record { opened = 0; refused = 0; waits = 0 }) false passes
+unfolding given
+none_asked before passes none = record {
+  since = [];
+  asked = refl;
+  each = refl;
+  most = omega arith;
+  often = omega (arith, none);
+  none = λ _. refl;
+}
+
+-- the listener was asked, and none waited
+given_one : (gave : Bool) (since : List Bool) (n : ℕ) → given since ≡ n → given (gave ∷ since) ≡ n + one_if gave
+unfolding given
+given_one true since n e = omega (arith, e)
+given_one false since n e = omega (arith, e)
+
+none_given : (gave : Bool) (since : List Bool) (waits : ℕ) → (given since ≡ 0 → waits ≡ 0)
+    → given (gave ∷ since) ≡ 0 → waits ≡ 0
+unfolding given
+none_given true since waits none e = absurd (omega (arith, e))
+none_given false since waits none e = none (omega (arith, e))
+
+pub asked_one : (before answers answers' : List Bool) (turns : ℕ) (clients : Clients) (waits waits' gave : Bool)
+    (passes passes' : ℕ) → answers' ≡ gave ∷ answers → waits ≡ false → waits' ≡ gave → passes' ≤ 31
+    → LetsIn before answers turns clients waits passes → LetsIn before answers' (turns + 1) clients waits' passes'
+asked_one before answers answers' turns clients waits waits' gave passes passes' e out is few l =
+    let all : given l.since ≡ clients.opened + clients.refused + one_if false =
+    l.each ∙ ap (λ b. clients.opened + clients.refused + one_if b) out in
+    record {
+      since = gave ∷ l.since;
+      asked = e ∙ ap (λ xs. gave ∷ xs) l.asked;
+      each = subst (λ b. given (gave ∷ l.since) ≡ clients.opened + clients.refused + one_if b) (sym is)
+          (given_one gave l.since (clients.opened + clients.refused) (omega (arith, all)));
+      most = omega (arith, l.most);
+      often = omega (arith, l.often, few);
+      none = none_given gave l.since clients.waits l.none;
+    }
+
+-- each answer gave one client at most
+given_few : (since : List Bool) → given since ≤ length since
+unfolding given
+given_few [] = omega arith
+given_few (true ∷ since) = omega (arith, given_few since)
+given_few (false ∷ since) = omega (arith, given_few since)
+
+-- so one more turn can be counted
+pub counts_on : (before answers : List Bool) (turns left : ℕ) (clients : Clients) (waits : Bool) (passes : ℕ)
+    → LetsIn before answers (turns - left) clients waits passes → 0 < left → left ≤ turns → turns < 2 ^ 64
+    → (clients.opened + clients.refused + 1 < 2 ^ 64) × (clients.waits + 1 < 2 ^ 64)
+counts_on before answers turns left clients waits passes l some few fits = (
+  omega (arith, l.each, given_few l.since, l.most, some, few, fits),
+  omega (arith, l.most, some, few, fits),
+)
+
+-- one turn fewer is left
+pub next_turn : {S : Type 0} (left turns : ℕ) (before answers : List Bool) (d : Door S) → 0 < left → left ≤ turns
+    → LetsInBy before answers (turns - left + 1) d → LetsInBy before answers (turns - (left - 1)) d
+next_turn left turns before answers d some few lets =
+    let e : turns - left + 1 ≡ turns - (left - 1) = omega (arith, some, few) in
+    subst (λ taken. LetsInBy before answers taken d) e lets

@@ -1,0 +1,100 @@
+use Rattle.std.proofs.Common.{◌+◌, ◌<◌, ◌≤◌, get_or, length, Result, Ok, Err, ◌∙◌, refl, arith}
+use Rattle.spool_disk.specs.declared.disk.DiskFault.{DiskFault}
+use Rattle.tus_session.proofs.Counting.{uncounted}
+use Rattle.gateway_serve.specs.Reasons.{none}
+use Rattle.gateway_serve.proofs.All.{among_all, all_served, free_before}
+use Rattle.gateway_serve.proofs.Carries.{among_keep}
+use Rattle.gateway_serve.proofs.Lost.{ended_once, more_ended}
+use Rattle.gateway_serve.specs.declared.reasons.Reason.TheVariants.{Over}
+use Rattle.gateway_serve.proofs.rounds.end_each.Goals as goal
+
+pub returns-in-Err-clause-serves : goal.returns-in-Err-clause-serves
+returns-in-Err-clause-serves g c = λ sure before st past went joins.
+    let s = c.loop-conn.invariant.1 sure before st past went joins in
+    let told : Result (Unit {0}) DiskFault = Err c.in-Err.fault in
+    let inside : c.loop-conn.conn < length c.loop-conn.places =
+    omega (arith, c.loop-conn-test.true, c.loop-conn.auto.places) in
+    among_all g.C.Connections c.loop-conn.gateway c.end.new.gateway told c.loop-conn.places c.loop-conn.conn
+    c.index-places-conn.result c.end.new.self c.loop-conn.ended.sockets c.end.new.ended.sockets
+    c.in-Err.ensures.serves c.end.ensures.others inside sure before st s.0 s.1 s.2
+
+pub returns-in-Err-clause-streams : goal.returns-in-Err-clause-streams
+returns-in-Err-clause-streams g c = λ have had.
+    let s = c.loop-conn.invariant.2 have had in
+    let inside : c.loop-conn.conn < length c.loop-conn.places =
+    omega (arith, c.loop-conn-test.true, c.loop-conn.auto.places) in
+    among_keep g.S.Read.remaining g.S.Write.contents c.loop-conn.places c.loop-conn.conn c.index-places-conn.result
+    c.end.new.self c.loop-conn.ended.sockets c.end.new.ended.sockets inside c.end.ensures.streams s.0 s.1
+
+pub loop-conn-init : goal.loop-conn-init
+loop-conn-init g c = (
+  refl,
+  λ sure before st past went joins. (past, went, joins),
+  λ have had. (have, had),
+  λ k lt. absurd (omega (arith, lt)),
+  none,
+  omega arith,
+)
+
+pub loop-conn-preserved : goal.loop-conn-preserved
+loop-conn-preserved g c =
+    let inside : c.loop-conn.conn < length c.loop-conn.places =
+    omega (arith, c.loop-conn-test.true, c.loop-conn.auto.places) in (
+      uncounted (λ fails. absurd (cc)) c.in-Ok.ensures.counts ∙ c.loop-conn.invariant.0,
+      λ sure before st past went joins.
+          let s = c.loop-conn.invariant.1 sure before st past went joins in
+          let told : Result (Unit {0}) DiskFault = Ok tt in
+          among_all g.C.Connections c.loop-conn.gateway c.end.new.gateway told c.loop-conn.places c.loop-conn.conn
+          c.index-places-conn.result c.end.new.self c.loop-conn.ended.sockets c.end.new.ended.sockets
+          c.in-Ok.ensures.serves c.end.ensures.others inside sure before st s.0 s.1 s.2,
+      λ have had.
+          let s = c.loop-conn.invariant.2 have had in
+          among_keep g.S.Read.remaining g.S.Write.contents c.loop-conn.places c.loop-conn.conn
+          c.index-places-conn.result c.end.new.self c.loop-conn.ended.sockets c.end.new.ended.sockets inside
+          c.end.ensures.streams s.0 s.1,
+      free_before c.loop-conn.conn c.loop-conn.places c.end.new.self inside c.end.ensures.free c.loop-conn.invariant.3,
+      ended_once c.args.ended.now.sockets c.loop-conn.conn
+          (get_or c.loop-conn.places c.loop-conn.conn c.index-places-conn.result) c.loop-conn.ended.sockets
+          c.end.new.ended.sockets c.end.ensures.ended c.loop-conn.invariant.4,
+      omega (
+        arith,
+        c.loop-conn.invariant.5,
+        more_ended c.loop-conn.conn Over
+            (get_or c.loop-conn.places c.loop-conn.conn c.index-places-conn.result) c.loop-conn.ended.sockets
+            c.end.new.ended.sockets c.end.ensures.ended,
+      ),
+    )
+
+pub returns-clause-serves : goal.returns-clause-serves
+returns-clause-serves g c = λ sure before st past went joins.
+    let s = c.loop-conn.invariant.1 sure before st past went joins in
+    let most : length c.loop-conn.places ≤ c.loop-conn.conn =
+    omega (arith, c.loop-conn-test.false, c.loop-conn.auto.places) in (
+      s.0,
+      s.1,
+      all_served sure c.loop-conn.places c.loop-conn.ended.sockets st s.0
+          (λ k lt. c.loop-conn.invariant.3 k (omega (arith, lt, most))) s.2,
+    )
+
+pub returns-in-Err-clause-once : goal.returns-in-Err-clause-once
+returns-in-Err-clause-once g c = (
+  c.loop-conn.conn + 1,
+  ended_once c.args.ended.now.sockets c.loop-conn.conn
+      (get_or c.loop-conn.places c.loop-conn.conn c.index-places-conn.result) c.loop-conn.ended.sockets
+      c.end.new.ended.sockets c.end.ensures.ended c.loop-conn.invariant.4,
+)
+
+pub returns-clause-once : goal.returns-clause-once
+returns-clause-once g c = (c.loop-conn.conn, c.loop-conn.invariant.4)
+
+pub returns-clause-more : goal.returns-clause-more
+returns-clause-more g c = c.loop-conn.invariant.5
+
+pub returns-in-Err-clause-more : goal.returns-in-Err-clause-more
+returns-in-Err-clause-more g c = omega (
+  arith,
+  c.loop-conn.invariant.5,
+  more_ended c.loop-conn.conn Over
+      (get_or c.loop-conn.places c.loop-conn.conn c.index-places-conn.result) c.loop-conn.ended.sockets
+      c.end.new.ended.sockets c.end.ensures.ended,
+)

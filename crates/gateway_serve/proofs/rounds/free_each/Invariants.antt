@@ -1,0 +1,14 @@
+use Rattle.std.proofs.Common.{Bool, List}
+use Rattle.tus_session.specs.History.{State, Marked}
+use Rattle.gateway_serve.specs.Joined.{AllFell}
+use Rattle.gateway_serve.specs.Streams.{AllKeep}
+use Rattle.gateway_serve.specs.Reasons.{EndedOnce}
+use Rattle.gateway_serve.proofs.All.{HalfLeft}
+use Rattle.gateway_serve.proofs.rounds.free_each.Given as goal
+
+abbrev pub invariant-loop-conn : goal.invariant-loop-conn
+invariant-loop-conn g l =
+    ((sure : Bool) (st : State) (past : List Marked) → AllFell sure l.fn.places l.fn.ended.sockets st past
+    → HalfLeft sure l.conn l.places l.ended.sockets st past)
+    × AllKeep g.S.Read.remaining g.S.Write.contents l.fn.places l.places l.fn.ended.sockets l.ended.sockets
+    × EndedOnce l.fn.ended.sockets l.conn l.ended.sockets

@@ -1,0 +1,100 @@
+use Rattle.std.proofs.Common.{◌+◌, ◌-◌, ◌∙◌, inl, inr, is_some, sym, subst, arith}
+use Rattle.std.proofs.lemmas.List.{with_items_is}
+use Rattle.gateway_serve.specs.Joined.{AllJoin, AllFell, ended_of}
+use Rattle.gateway_serve.specs.Served.{Serves, AllServed}
+use Rattle.gateway_serve.specs.Streams.{AllHave}
+use Rattle.tus_session.proofs.Counting.{uncounted}
+use Rattle.gateway_serve.proofs.NextTurn.{counts_on, next_turn}
+use Rattle.gateway_serve.proofs.Lost.{none_more}
+use Rattle.gateway_serve.specs.Acceptors.{passes_of}
+use Rattle.gateway_serve.specs.Turns.{door_of}
+use Rattle.gateway_serve.proofs.server.Server.take_turns.Goals.{then-loop-left-test+else-self-connections}
+use Rattle.gateway_serve.proofs.server.Server.take_turns.Goals.{else-loop-left-test}
+use Rattle.gateway_serve.proofs.server.Server.take_turns.Goals as goal
+
+pub loop-left-preserved : goal.loop-left-preserved
+loop-left-preserved g c = (
+  uncounted (λ fails. absurd (cc)) c.in_ok-turn.ensures.counts ∙ c.loop-left.invariant.0,
+  λ sure before st past went joins.
+      let s = c.loop-left.invariant.1 sure before st past went joins in
+      c.in_ok-turn.ensures.serves sure before st s.0 s.1 s.2,
+  λ have had.
+      let s = c.loop-left.invariant.2 have had in
+      c.in_ok-turn.ensures.streams s.0 s.1,
+  λ all. c.in_ok-turn.ensures.reasons (c.loop-left.invariant.3 all),
+  omega (arith, c.loop-left.invariant.4),
+  next_turn c.loop-left.left c.args.turns (g.A.Acceptor.answers c.args.acceptor.now)
+      (g.A.Acceptor.answers c.turn.new.acceptor) (door_of c.turn.new.self) (omega (arith, c.loop-left-test.true))
+      c.loop-left.invariant.4
+      (c.in_ok-turn.ensures.clients (g.A.Acceptor.answers c.args.acceptor.now) (c.args.turns - c.loop-left.left)
+      c.loop-left.invariant.5),
+  c.in_ok-turn.ensures.closed c.loop-left.invariant.6,
+)
+
+pub returns-clause-streams : goal.returns-clause-streams
+returns-clause-streams g c = λ have had.
+    let a = c.loop-left.invariant.2 have had in
+    let same = with_items_is c.loop-left.self.places c.end_each.new.places
+    (omega (arith, c.end_each.auto.places, c.deref_mut.ensures.len)) in
+    let b = c.end_each.ensures.streams
+    (subst (AllHave g.S.Read.remaining g.S.Write.contents) (sym c.deref_mut.ensures.value) a.0) a.1 in
+    (subst (AllHave g.S.Read.remaining g.S.Write.contents) (sym same) b.0, b.1)
+
+pub returns-clause-serves : goal.returns-clause-serves
+returns-clause-serves g c = λ sure before st past went joins.
+    let s = c.loop-left.invariant.1 sure before st past went joins in
+    let ended = c.end_each.new.ended.sockets in
+    let same = with_items_is c.loop-left.self.places c.end_each.new.places
+    (omega (arith, c.end_each.auto.places, c.deref_mut.ensures.len)) in
+    subst (λ places. Serves g.C.Connections sure before c.end_each.new.gateway st c.end_each.result
+    (AllServed sure ended st) (AllFell sure places ended st)) (sym same)
+    (c.end_each.ensures.serves sure before st s.0 s.1
+    (subst (λ places. AllJoin sure places (ended_of c.loop-left.self) st s.0) (sym c.deref_mut.ensures.value) s.2))
+
+pub returns-clause-reasons : goal.returns-clause-reasons
+returns-clause-reasons g c = λ all. (
+  ended_of c.loop-left.self,
+  c.loop-left.invariant.3 all,
+  c.end_each.ensures.once,
+)
+
+pub returns-in_err-turn-clause-reasons : goal.returns-in_err-turn-clause-reasons
+returns-in_err-turn-clause-reasons g c = λ all. (
+  ended_of c.turn.new.self,
+  c.turn.ensures.reasons (c.loop-left.invariant.3 all),
+  none_more (ended_of c.turn.new.self),
+)
+
+pub returns-in_err-turn-clause-clients : goal.returns-in_err-turn-clause-clients
+returns-in_err-turn-clause-clients g c = record {
+  taken = c.args.turns - c.loop-left.left + 1;
+  waits = is_some (door_of c.turn.new.self).waiting;
+  passes = passes_of (door_of c.turn.new.self).pace;
+  lets = c.in_err-turn.ensures.clients (g.A.Acceptor.answers c.args.acceptor.now)
+      (c.args.turns - c.loop-left.left) c.loop-left.invariant.5;
+  all = inl c.from_residual.ensures.0;
+}
+
+pub returns-clause-clients : goal.returns-clause-clients
+returns-clause-clients g c = record {
+  taken = c.args.turns - c.loop-left.left;
+  waits = is_some (door_of c.loop-left.self).waiting;
+  passes = passes_of (door_of c.loop-left.self).pace;
+  lets = c.loop-left.invariant.5;
+  all = elim c.loop-left-test.branch [
+    | then-loop-left-test+else-self-connections w ↦ inr (inl (omega (
+      arith,
+      w.if-self-connections,
+      c.loop-left.invariant.6,
+      c.end_each.ensures.more,
+    )))
+    | else-loop-left-test w ↦ inr (inr (omega (arith, w.loop-left-test, c.loop-left.invariant.4)))
+  ];
+}
+
+pub turn-requires-clause-room : goal.turn-requires-clause-room
+turn-requires-clause-room g c =
+    (counts_on (g.A.Acceptor.answers c.args.acceptor.now) (g.A.Acceptor.answers c.loop-left.acceptor) c.args.turns
+    c.loop-left.left c.loop-left.self.door.clients (is_some c.loop-left.self.door.waiting)
+    (passes_of c.loop-left.self.door.pace) c.loop-left.invariant.5 (omega (arith, c.loop-left-test.true))
+    c.loop-left.invariant.4 (omega (arith, c.ranges.turns.fits))).0

@@ -1,0 +1,25 @@
+use Rattle.std.proofs.Common.{◌≡◌, ◌≤◌, ◌-◌, length, Result, Ok}
+use Rattle.spool_disk.specs.declared.disk.DiskFault.{DiskFault}
+use Rattle.gateway_serve.specs.Acceptors.{LetsInBy}
+use Rattle.gateway_serve.specs.Joined.{GoesOn, places_of, ended_of}
+use Rattle.gateway_serve.specs.Streams.{AllKeep}
+use Rattle.gateway_serve.specs.Reasons.{StayReasoned}
+use Rattle.gateway_serve.specs.Turns.{closed_of, door_of}
+use Rattle.gateway_serve.proofs.server.Server.take_turns.Given as goal
+
+abbrev pub invariant-loop-left : goal.invariant-loop-left
+invariant-loop-left g l =
+    let on : Result (Unit {0}) DiskFault = Ok tt in
+    (g.C.Connections.failures l.gateway ≡ g.C.Connections.failures l.fn.gateway)
+    × GoesOn g.C.Connections l.fn.gateway l.gateway on (places_of l.fn.self) (places_of l.self) (ended_of l.fn.self)
+    (ended_of l.self)
+    × AllKeep g.S.Read.remaining g.S.Write.contents (places_of l.fn.self) (places_of l.self) (ended_of l.fn.self)
+    (ended_of l.self)
+    × StayReasoned (ended_of l.fn.self) (ended_of l.self)
+    × (l.left ≤ l.fn.turns)
+    × LetsInBy (g.A.Acceptor.answers l.fn.acceptor) (g.A.Acceptor.answers l.acceptor) (l.fn.turns - l.left)
+    (door_of l.self)
+    × (closed_of l.self ≤ length (ended_of l.self))
+
+abbrev pub decreases-loop-left : goal.decreases-loop-left
+decreases-loop-left g l = l.left

@@ -1,0 +1,33 @@
+-- What a server has when a turn begins.
+use Rattle.std.specs.Prelude.{◌≡◌, ◌≢◌, ◌<◌, ◌+◌, ◌^◌, ℕ, List, length, get_or, Bool}
+use Rattle.gateway_serve.specs.Acceptors.{LetsInBy}
+use Rattle.gateway_serve.specs.declared.doors.Clients.{Clients}
+use Rattle.gateway_serve.specs.declared.doors.Door.{Door}
+use Rattle.gateway_serve.specs.declared.places.Place.{Place}
+use Rattle.gateway_serve.specs.declared.places.Place.TheVariants.{Free}
+use Rattle.gateway_serve.specs.declared.server.Server.{Server}
+
+abbrev pub door_of : {S : Type 0} → Server S → Door S
+door_of s = s.door
+
+abbrev pub closed_of : {S : Type 0} → Server S → ℕ
+closed_of s = s.closed
+
+-- nobody came yet
+abbrev pub IsFresh : {S : Type 0} → Server S → Type 0
+IsFresh s = ((before : List Bool) → LetsInBy before before 0 (door_of s)) × (closed_of s ≡ 0)
+
+-- one more client can be counted
+abbrev pub HasRoom : Clients → Type 0
+HasRoom clients = clients.opened + clients.refused + 1 < 2 ^ 64
+
+-- all places are taken
+abbrev pub NoneIsFree : {S : Type 0} → List (Place S) → Type 0
+NoneIsFree places = (k : ℕ) → k < length places → get_or places k Free ≢ Free
+
+-- all but the places, and the client who waits, is as it was
+pub record RestStays {S : Type 0} (s s' : Server S) : Type 0 where
+  pub clients : (door_of s').clients ≡ (door_of s).clients
+  pub pace : (door_of s').pace ≡ (door_of s).pace
+  pub ended : s'.ended.sockets ≡ s.ended.sockets
+  pub closed : closed_of s' ≡ closed_of s

@@ -1,0 +1,103 @@
+//! Listeners that are asked for clients.
+ghost use Rattle.std.specs.Prelude.{◌≡◌, [], ◌∷◌, List, Bool, is_some};
+ghost use Rattle.std.specs.Borrow.{ftrue};
+
+use std::marker::Model;
+use std::net::{OpenListener, OpenStream};
+
+/// A listener that is asked for clients, one at a time, and never waits for one. Its ghost record has each answer.
+pub trait Acceptor {
+    /// The stream of a client. Its reads and writes don't wait.
+    type Stream;
+
+    /// Whether each call of `accept` gave a client, the latest first.
+    ghost answers: { Self → List Bool };
+
+    /// The stream of a client that connected. `None` where there is none, and where accepting failed.
+    fn accept(&mut self) -> Option<Self::Stream>
+        ensures { answers self.new ≡ is_some result ∷ answers self.old };
+}
+
+/// The ghost record of a listener's answers. It takes neither memory nor time.
+#[derive(Drop)]
+struct Answers {
+    ghost given: { List Bool },
+}
+
+impl Model for Answers {
+    ghost also_owns = { λ _. ftrue };
+}
+
+impl Answers {
+    // None.
+    fn new() -> Answers
+        ensures { result.given ≡ [] }
+    {
+        Answers {}
+    }
+
+    // These and one more.
+    fn and(&self, _gave: bool) -> Answers
+        ensures { result.given ≡ _gave ∷ self.now.given }
+    {
+        Answers {}
+    }
+}
+
+/// A listener of the operating system, or one that stands for it. That each call of `accept` makes one of the inner
+/// listener, and answers what that gave, is trusted and not proved, since no contract of the kit states what a listener
+/// gives.
+#[derive(Drop)]
+pub struct Listening<'a, L> {
+    listener: &'a L,
+    /// whether it could be made not to wait
+    asks: bool,
+    answers: Answers,
+}
+
+impl<'a, L: OpenListener> Listening<'a, L> {
+    ghost use Rattle.gateway_serve.specs.Acceptors.{answers_of};
+
+    /// A listener that was asked nothing so far. It is made not to wait; one that can't be is never asked.
+    pub fn new(listener: &'a L) -> Self
+        ensures { answers_of result ≡ [] }
+    {
+        Listening {
+            listener,
+            asks: listener.set_nonblocking(true).is_ok(),
+            answers: Answers::new(),
+        }
+    }
+}
+
+impl<L: OpenListener> Listening<'_, L>
+where
+    L::Stream: OpenStream,
+{
+    // The stream of the next client: one call of the listener. A stream that can't be made not to wait is closed.
+    fn next(&self) -> Option<L::Stream> {
+        if !self.asks {
+            return None;
+        }
+        let (stream, _peer) = self.listener.accept().ok()?;
+        stream.set_nonblocking(true).ok()?;
+        Some(stream)
+    }
+}
+
+impl<L: OpenListener> Acceptor for Listening<'_, L>
+where
+    L::Stream: OpenStream,
+{
+    type Stream = L::Stream;
+
+    ghost use Rattle.gateway_serve.specs.Acceptors.{answers_of};
+
+    ghost answers = { answers_of };
+
+    fn accept(&mut self) -> Option<L::Stream> {
+        let client = self.next();
+        self.answers = self.answers.and(client.is_some());
+        client
+    }
+}

@@ -1,0 +1,171 @@
+//! Turns of all places.
+ghost use Rattle.std.specs.Prelude.{◌≡◌, ◌≢◌, ◌⊎◌, ◌↔◌, ◌≤◌, ◌+◌, List, Bool, length};
+ghost use Rattle.std.specs.Prelude.{IfSome, IsErr, IsNone, IsSomeAnd, IsTrue};
+ghost use Rattle.upload_rules.specs.Answers.{Counts};
+ghost use Rattle.tus_session.specs.History.{State, Marked};
+ghost use Rattle.gateway_serve.specs.Joined.{AllFell, GoesOn, Ends, IsFreeAt};
+ghost use Rattle.gateway_serve.specs.Longest.{BeganBy, IsLongest, pause_of, since_of};
+ghost use Rattle.gateway_serve.specs.Reasons.{StayReasoned, AtMostOnce};
+ghost use Rattle.gateway_serve.specs.Served.{AllLeft};
+ghost use Rattle.gateway_serve.specs.Streams.{AllKeep};
+ghost use Rattle.gateway_serve.specs.Turns.{NoneIsFree};
+
+use crate::idle::Tick;
+use crate::places::{Place, Turned};
+use crate::reasons::Reason;
+use crate::sockets::Ended;
+use spool_disk::DiskFault;
+use std::io::{Read, Write};
+use std::time::Duration;
+use tus_session::Connections;
+
+/// A turn of all places.
+#[derive(Drop)]
+pub(crate) struct Round {
+    pub(crate) now: Duration,
+    /// whether the turn before did something
+    pub(crate) was_busy: bool,
+    /// whether a socket waits for a place
+    pub(crate) wanted: bool,
+    /// the longest pause, where one is wanted
+    pub(crate) longest: Option<Pause>,
+    /// whether anything was done
+    pub(crate) busy: bool,
+    /// how many connections were closed
+    pub(crate) closed: u64,
+    /// it ends once so many were
+    pub(crate) connections: u64,
+}
+
+impl Round {
+    // The turn of the connection with this number.
+    fn tick(&self, conn: usize) -> Tick
+        ensures now { result.now ≡ self.entry.now.now }
+        ensures wanted { result.wanted ≡ self.entry.now.wanted }
+        ensures longest { IsTrue result.longest ↔ IsSomeAnd self.entry.now.longest (λ pause. pause.conn ≡ conn) }
+        ensures busy { result.busy ≡ self.entry.now.was_busy }
+    {
+        Tick {
+            now: self.now,
+            wanted: self.wanted,
+            longest: self.longest.is_some_and(|pause| pause.conn == conn),
+            busy: self.was_busy,
+        }
+    }
+
+    // The turn of a place came to this. Where it is free now, no other is wanted.
+    fn add(&mut self, turned: Turned)
+        ensures closed { turned ≡ Turned.Closed → self.new.closed ≤ self.old.closed + 1 }
+        ensures open { turned ≢ Turned.Closed → self.new.closed ≡ self.old.closed }
+    {
+        let closed = turned == Turned::Closed;
+        self.closed = self.closed.saturating_add(u64::from(closed));
+        self.wanted = self.wanted && !closed;
+        self.busy = self.busy || turned != Turned::Idle;
+    }
+}
+
+/// A connection that is between requests, and since when.
+#[derive(Clone, Copy, Drop)]
+pub(crate) struct Pause {
+    conn: usize,
+    since: Duration,
+}
+
+/// The longest pause, if a connection is between requests.
+pub(crate) fn longest_pause<S: Read + Write + Drop>(places: &[Place<S>]) -> Option<Pause>
+    ensures { IsLongest places.now (length places.now) result }
+{
+    let mut longest = None;
+    for (conn, place) in places.iter().enumerate() {
+        longest = longer(longest, conn, place.between_since());
+    }
+    longest
+}
+
+// The longer one of two pauses: of one that is known, and of the connection with this number, since this time.
+fn longer(known: Option<Pause>, conn: usize, since: Option<Duration>) -> Option<Pause>
+    ensures one { (result ≡ known) ⊎ (result ≡ pause_of conn since) }
+    ensures known { BeganBy result (since_of known) }
+    ensures other { BeganBy result since }
+{
+    match (known, since) {
+        (known, None) => known,
+        (None, Some(since)) => Some(Pause { conn, since }),
+        (Some(pause), Some(since)) if pause.since.as_nanos() <= since.as_nanos() => Some(pause),
+        (Some(_), Some(since)) => Some(Pause { conn, since }),
+    }
+}
+
+/// The first place that is free.
+pub(crate) fn first_free<S: Read + Write + Drop>(places: &[Place<S>]) -> Option<usize>
+    ensures free { IfSome result (λ conn. IsFreeAt places.now conn) }
+    ensures none { IsNone result → NoneIsFree places.now }
+{
+    for (conn, place) in places.iter().enumerate() {
+        if place.is_free() {
+            return Some(conn);
+        }
+    }
+    None
+}
+
+/// Each open connection has its turn, in order, until so many were closed.
+pub(crate) fn turn_each<S: Read + Write + Drop, C: Connections>(
+    places: &mut [Place<S>],
+    gateway: &mut C,
+    ended: &mut Ended,
+    round: &mut Round,
+) -> Result<(), DiskFault>
+    ensures streams { AllKeep S.remaining S.contents places.old places.new ended.old.sockets ended.new.sockets }
+    ensures reasons { StayReasoned ended.old.sockets ended.new.sockets }
+    ensures serves { GoesOn C.Connections gateway.old gateway.new result places.old places.new
+        ended.old.sockets ended.new.sockets }
+    ensures counts { Counts (IsErr result) (C.failures gateway.old) (C.failures gateway.new) }
+    ensures closed { round.old.closed ≤ length ended.old.sockets → round.new.closed ≤ length ended.new.sockets }
+{
+    for (conn, place) in places.iter_mut().enumerate() {
+        if round.closed == round.connections {
+            return Ok(());
+        }
+        match place.turn(gateway, conn, round.tick(conn), ended) {
+            Ok(turned) => round.add(turned),
+            Err(fault) => return Err(fault),
+        }
+    }
+    Ok(())
+}
+
+/// Ends the connections that are open, in order.
+pub(crate) fn end_each<S: Read + Write + Drop, C: Connections>(
+    places: &mut [Place<S>],
+    gateway: &mut C,
+    ended: &mut Ended,
+) -> Result<(), DiskFault>
+    ensures streams { AllKeep S.remaining S.contents places.old places.new ended.old.sockets ended.new.sockets }
+    ensures once { AtMostOnce ended.old.sockets ended.new.sockets }
+    ensures more { length ended.old.sockets ≤ length ended.new.sockets }
+    ensures serves { Ends C.Connections gateway.old gateway.new result places.old places.new
+        ended.old.sockets ended.new.sockets }
+    ensures counts { Counts (IsErr result) (C.failures gateway.old) (C.failures gateway.new) }
+{
+    for (conn, place) in places.iter_mut().enumerate() {
+        match place.end(gateway, conn, Reason::Over, ended) {
+            Ok(()) => {}
+            Err(fault) => return Err(fault),
+        }
+    }
+    Ok(())
+}
+
+/// Lets all sockets go: the session isn't told.
+pub(crate) fn free_each<S: Read + Write + Drop>(places: &mut [Place<S>], ended: &mut Ended)
+    ensures streams { AllKeep S.remaining S.contents places.old places.new ended.old.sockets ended.new.sockets }
+    ensures once { AtMostOnce ended.old.sockets ended.new.sockets }
+    ensures left { (sure : Bool) (st : State) (past : List Marked)
+        → AllFell sure places.old ended.old.sockets st past → AllLeft sure ended.new.sockets st past }
+{
+    for (conn, place) in places.iter_mut().enumerate() {
+        place.free(conn, Reason::Over, ended);
+    }
+}

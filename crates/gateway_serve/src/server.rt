@@ -1,0 +1,254 @@
+//! A server: the connections that are open, and the listener's clients.
+ghost use Rattle.std.specs.Prelude.{◌≡◌, ◌<◌, ◌≤◌, ◌+◌, ◌^◌, ℕ, List, [], Bool, is_some, length};
+ghost use Rattle.std.specs.Prelude.{IfSome, IsErr, IsFalse, IsNone, IsTrue, None};
+ghost use Rattle.upload_rules.specs.Answers.{Counts};
+ghost use Rattle.gateway_serve.specs.Acceptors.{HasServed, LetsInBy, one_if};
+ghost use Rattle.gateway_serve.specs.Joined.{GoesOn, Ends, Finishes, IsFreeAt, SamePlaces, ended_of, places_of};
+ghost use Rattle.gateway_serve.specs.Longest.{IsLongest};
+ghost use Rattle.gateway_serve.specs.Reasons.{AllReasoned, StayReasoned, EndsReasoned, IsLeftReasoned};
+ghost use Rattle.gateway_serve.specs.Streams.{AllHave, AllHad, AllKeep};
+ghost use Rattle.gateway_serve.specs.Turns.{HasRoom, IsFresh, NoneIsFree, RestStays, closed_of, door_of};
+
+use crate::acceptors::Acceptor;
+use crate::doors::Door;
+use crate::idle::{Watch, time};
+use crate::places::{Place, unless_failed};
+use crate::rounds::{Round, end_each, first_free, free_each, longest_pause, turn_each};
+use crate::sockets::{Ended, Untouched};
+use spool_disk::DiskFault;
+use std::alloc::Global;
+use std::io::{Read, Write};
+use std::thread;
+use std::time::Clock;
+use tus_session::{Connections, MOST_OPEN};
+
+/// The connections that are open, and how many were closed.
+#[derive(Drop)]
+pub(crate) struct Server<S> {
+    alloc: Global,
+    pub(crate) door: Door<S>,
+    /// By the connections' numbers. There are at most `MOST_OPEN` places; another one is made when it is needed.
+    places: Vec<Place<S>>,
+    pub(crate) ended: Ended,
+    closed: u64,
+    /// whether anything was done in the latest turn
+    busy: bool,
+    watch: Watch,
+}
+
+impl<S: Read + Write + Drop> Server<S> {
+    /// No connection is open, and no client came.
+    pub(crate) fn new(alloc: Global, watch: Watch) -> Self
+        ensures places { places_of result ≡ [] }
+        ensures ended { ended_of result ≡ [] }
+        ensures clients { (before : List Bool) → LetsInBy before before 0 (door_of result) }
+        ensures closed { closed_of result ≡ 0 }
+    {
+        Server {
+            alloc,
+            door: Door::new(),
+            places: Vec::new(alloc),
+            ended: Ended::new(),
+            closed: 0,
+            busy: false,
+            watch,
+        }
+    }
+
+    /// Takes turns until so many connections were closed, at most so many turns. Then the open connections are ended,
+    /// in order. After a disk fault their sockets are let go.
+    pub(crate) fn serve<A: Acceptor<Stream = S>, C: Connections, T: Clock>(
+        &mut self,
+        clock: &T,
+        acceptor: &mut A,
+        gateway: &mut C,
+        connections: u64,
+        turns: u64,
+    ) -> Result<(), DiskFault>
+        requires { IsFresh self.old }
+        ensures reasons { AllReasoned (ended_of self.old) → IsLeftReasoned (ended_of self.new) }
+        ensures streams { AllHave S.remaining S.contents (places_of self.old)
+            → AllHad S.remaining S.contents (ended_of self.old) → AllHad S.remaining S.contents (ended_of self.new) }
+        ensures serves { Finishes C.Connections gateway.old gateway.new result (places_of self.old)
+            (ended_of self.old) (ended_of self.new) }
+        ensures counts { Counts (IsErr result) (C.failures gateway.old) (C.failures gateway.new) }
+        ensures clients { HasServed (A.answers acceptor.old) (A.answers acceptor.new) turns connections
+            (door_of self.new).clients (ended_of self.new) (IsErr result) }
+    {
+        match self.take_turns(clock, acceptor, gateway, connections, turns) {
+            Ok(()) => Ok(()),
+            Err(fault) => {
+                free_each(&mut self.places, &mut self.ended);
+                Err(fault)
+            }
+        }
+    }
+
+    // Takes turns, then ends the open connections.
+    fn take_turns<A: Acceptor<Stream = S>, C: Connections, T: Clock>(
+        &mut self,
+        clock: &T,
+        acceptor: &mut A,
+        gateway: &mut C,
+        connections: u64,
+        turns: u64,
+    ) -> Result<(), DiskFault>
+        requires { IsFresh self.old }
+        ensures reasons { AllReasoned (ended_of self.old) → EndsReasoned (ended_of self.new) }
+        ensures streams { AllKeep S.remaining S.contents (places_of self.old) (places_of self.new)
+            (ended_of self.old) (ended_of self.new) }
+        ensures serves { Ends C.Connections gateway.old gateway.new result (places_of self.old) (places_of self.new)
+            (ended_of self.old) (ended_of self.new) }
+        ensures counts { Counts (IsErr result) (C.failures gateway.old) (C.failures gateway.new) }
+        ensures clients { HasServed (A.answers acceptor.old) (A.answers acceptor.new) turns connections
+            (door_of self.new).clients (ended_of self.new) (IsErr result) }
+    {
+        let mut left = turns;
+        while left > 0 && self.closed < connections {
+            self.turn(acceptor, gateway, connections)?;
+            if let Some(rest) = self.watch.rest(time(clock), self.busy) {
+                thread::sleep(clock, rest);
+            }
+            left -= 1;
+        }
+        end_each(&mut self.places, gateway, &mut self.ended)
+    }
+
+    // A turn: the listener's, then that of the client who waits, and then each connection's, in order.
+    fn turn<A: Acceptor<Stream = S>, C: Connections>(
+        &mut self,
+        acceptor: &mut A,
+        gateway: &mut C,
+        connections: u64,
+    ) -> Result<(), DiskFault>
+        requires room { HasRoom (door_of self.old).clients }
+        requires waits { (door_of self.old).clients.waits + 1 < 2 ^ 64 }
+        ensures reasons { StayReasoned (ended_of self.old) (ended_of self.new) }
+        ensures streams { AllKeep S.remaining S.contents (places_of self.old) (places_of self.new)
+            (ended_of self.old) (ended_of self.new) }
+        ensures serves { GoesOn C.Connections gateway.old gateway.new result (places_of self.old) (places_of self.new)
+            (ended_of self.old) (ended_of self.new) }
+        ensures counts { Counts (IsErr result) (C.failures gateway.old) (C.failures gateway.new) }
+        ensures clients { (before : List Bool) (turns : ℕ)
+            → LetsInBy before (A.answers acceptor.old) turns (door_of self.old)
+            → LetsInBy before (A.answers acceptor.new) (turns + 1) (door_of self.new) }
+        ensures closed { closed_of self.old ≤ length (ended_of self.old)
+            → closed_of self.new ≤ length (ended_of self.new) }
+    {
+        let opened = self.door.clients.opened;
+        self.door.ask(acceptor, self.busy);
+        self.seat(gateway)?;
+        let mut round = self.round(opened, connections);
+        let taken = turn_each(&mut self.places, gateway, &mut self.ended, &mut round);
+        self.busy = round.busy;
+        self.closed = round.closed;
+        taken
+    }
+
+    // The turn of all places, where so many connections were opened before it.
+    fn round(&self, opened: u64, connections: u64) -> Round
+        ensures now { result.now ≡ self.now.watch.now }
+        ensures was_busy { result.was_busy ≡ self.now.busy }
+        ensures wanted { result.wanted ≡ is_some (door_of self.now).waiting }
+        ensures longest { IsTrue result.wanted
+            → IsLongest (places_of self.now) (length (places_of self.now)) result.longest }
+        ensures unwanted { IsFalse result.wanted → result.longest ≡ None }
+        ensures closed { result.closed ≡ self.now.closed }
+        ensures connections { result.connections ≡ connections }
+    {
+        let wanted = self.door.waits();
+        Round {
+            now: self.watch.now,
+            was_busy: self.busy,
+            wanted,
+            longest: if wanted {
+                longest_pause(&self.places)
+            } else {
+                None
+            },
+            busy: self.door.clients.opened > opened,
+            closed: self.closed,
+            connections,
+        }
+    }
+
+    // Opens a connection for the client who waits, where a place is free. Where the session refuses it, the client's
+    // socket is closed.
+    fn seat<C: Connections>(&mut self, gateway: &mut C) -> Result<(), DiskFault>
+        requires { HasRoom (door_of self.old).clients }
+        ensures reasons { StayReasoned (ended_of self.old) (ended_of self.new) }
+        ensures streams { AllKeep S.remaining S.contents (places_of self.old) (places_of self.new)
+            (ended_of self.old) (ended_of self.new) }
+        ensures serves { GoesOn C.Connections gateway.old gateway.new result (places_of self.old) (places_of self.new)
+            (ended_of self.old) (ended_of self.new) }
+        ensures counts { Counts (IsErr result) (C.failures gateway.old) (C.failures gateway.new) }
+        ensures clients { (before answers : List Bool) (turns : ℕ) → LetsInBy before answers turns (door_of self.old)
+            → LetsInBy before answers turns (door_of self.new) }
+        ensures takes { IsTrue (is_some (door_of self.new).waiting) → NoneIsFree (places_of self.new) }
+        ensures ended { ended_of self.new ≡ ended_of self.old }
+        ensures closed { closed_of self.new ≡ closed_of self.old }
+    {
+        let Some((conn, socket)) = self.next_place() else {
+            return Ok(());
+        };
+        match gateway.opened(conn) {
+            Ok(()) => {
+                self.places[conn] = Place::open(self.alloc, socket, self.watch.now);
+                self.door.clients.opened += 1;
+                Ok(())
+            }
+            Err(error) => {
+                self.door.clients.refused += 1;
+                unless_failed(Err(error))
+            }
+        }
+    }
+
+    // The number of a free place, and the client who waits for it.
+    fn next_place(&mut self) -> Option<(usize, Untouched<S>)>
+        ensures free { IfSome result (λ next. IsFreeAt (places_of self.new) next.0) }
+        ensures same { SamePlaces (places_of self.old) (places_of self.new) }
+        ensures rest { RestStays self.old self.new }
+        ensures waits { one_if (is_some (door_of self.old).waiting)
+            ≡ one_if (is_some result) + one_if (is_some (door_of self.new).waiting) }
+        ensures takes { IsTrue (is_some (door_of self.new).waiting) → NoneIsFree (places_of self.new) }
+    {
+        if !self.door.waits() {
+            return None;
+        }
+        let conn = self.free_place()?;
+        Some((conn, self.door.open()?))
+    }
+
+    // The number of the first place that is free.
+    fn free_place(&mut self) -> Option<usize>
+        ensures free { IfSome result (λ conn. IsFreeAt (places_of self.new) conn) }
+        ensures none { IsNone result → NoneIsFree (places_of self.new) }
+        ensures same { SamePlaces (places_of self.old) (places_of self.new) }
+        ensures door { door_of self.new ≡ door_of self.old }
+        ensures ended { ended_of self.new ≡ ended_of self.old }
+        ensures closed { closed_of self.new ≡ closed_of self.old }
+    {
+        match first_free(&self.places) {
+            Some(conn) => Some(conn),
+            None => self.new_place(),
+        }
+    }
+
+    // The number of another place, where there are fewer than `MOST_OPEN` and memory for it is there.
+    fn new_place(&mut self) -> Option<usize>
+        ensures free { IfSome result (λ conn. IsFreeAt (places_of self.new) conn) }
+        ensures none { IsNone result → places_of self.new ≡ places_of self.old }
+        ensures same { SamePlaces (places_of self.old) (places_of self.new) }
+        ensures door { door_of self.new ≡ door_of self.old }
+        ensures ended { ended_of self.new ≡ ended_of self.old }
+        ensures closed { closed_of self.new ≡ closed_of self.old }
+    {
+        let conn = self.places.len();
+        if conn < MOST_OPEN && self.places.push(Place::Free).is_ok() {
+            Some(conn)
+        } else {
+            None
+        }
+    }
+}
