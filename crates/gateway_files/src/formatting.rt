@@ -15,8 +15,8 @@ use crate::faults::Fault;
 use crate::index_files::{IndexFile, IndexFiles, read_indexes};
 use crate::spool_files::{SpoolFiles, SystemFiles};
 use enc_index::IndexSet;
-use spool_disk::{Disk, DiskFault};
-use spool_image::{FormatError, format, pages_of};
+use spool_disk::Disk;
+use spool_image::{FormatError, format, is_spool, pages_of};
 use std::alloc::Global;
 use std::io::{self, ErrorKind};
 
@@ -60,25 +60,6 @@ pub fn format_on<D: Disk>(disk: &mut D, blocks: u32, indexes: &IndexSet) -> Resu
 {
     format(disk, blocks, indexes)?;
     pages_of(blocks).ok_or(FormatError::Size)
-}
-
-// What a spool begins with.
-const MAGIC: [u8; 8] = *b"TUSSPOOL";
-
-/// Whether a disk begins as a spool does. It is read and no more.
-pub fn is_spool_on<D: Disk>(disk: &mut D) -> Result<bool, DiskFault>
-    ensures yes { D.honest disk.old → IfOk result (λ is. is ≡ true → HasMagic (D.size disk.old) (D.current disk.old)) }
-    ensures no { D.honest disk.old → IfOk result (λ is. is ≡ false
-        → HasMagic (D.size disk.old) (D.current disk.old) → ⊥) }
-    ensures reads { OnlyRead D.Disk disk.old disk.new }
-    ensures counts { Counts (IsErr result) (D.failures disk.old) (D.failures disk.new) }
-{
-    if disk.len() < 8 {
-        return Ok(false);
-    }
-    let mut prefix = [0; 8];
-    disk.read(0, &mut prefix)?;
-    Ok(prefix == MAGIC)
 }
 
 /// Makes a spool without uploads in a file, which is made or lengthened. One that is a spool stays as it is.
@@ -137,7 +118,7 @@ fn refuse_spool<'a, F: SpoolFiles>(files: &mut F, path: &'a str) -> Result<(), F
         Ok(disk) => disk,
         Err(error) => return if_missing(path, error),
     };
-    let looked = is_spool_on(&mut disk);
+    let looked = is_spool(&mut disk);
     let error = files.error_of(&disk);
     files.close(path, disk);
     match looked {

@@ -28,7 +28,7 @@ pub use exporting::{Done, export_file, export_on};
 pub use failures::{Advice, Failure, Task, TextAdvice, ended};
 pub use faults::Fault;
 pub use folders::{FileFolder, Folder};
-pub use formatting::{Formatted, format_file, format_in, format_on, is_spool_on};
+pub use formatting::{Formatted, format_file, format_in, format_on};
 pub use incomplete::{delete_incomplete_file, incomplete_on};
 pub use index_files::{IndexFile, Readable, entries_of, standard_entries};
 pub use json_lines::json_file;

@@ -9,8 +9,8 @@ ghost use Rattle.gateway_files.specs.SpoolFiles.{with_disk};
 
 use crate::failures::{Advice, Failure, Task};
 use crate::faults::Fault;
-use crate::formatting::is_spool_on;
 use spool_disk::{Disk, FileDisk};
+use spool_image::is_spool;
 use std::io;
 
 /// Files that spools are in, opened by their paths. One that is open is out until it is closed.
@@ -159,7 +159,7 @@ pub fn refused_spool<'a>(fault: Fault, path: &'a str, disk: FileDisk) -> Failure
 fn is_cut_short<D: Disk>(fault: Fault, disk: &mut D) -> bool
     ensures { OnlyRead D.Disk disk.old disk.new }
 {
-    fault == Fault::NotASpool && matches!(is_spool_on(disk), Ok(true))
+    fault == Fault::NotASpool && matches!(is_spool(disk), Ok(true))
 }
 
 // The refusal of a file, which begins as a spool where it is cut short, and where this is what the disk says.

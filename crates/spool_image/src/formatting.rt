@@ -79,8 +79,12 @@ fn write_first<D: Disk>(disk: &mut D, layout: &Layout) -> Result<(), DiskFault>
     disk.sync()
 }
 
-// Whether the disk begins as a spool.
-fn is_spool<D: Disk>(disk: &mut D) -> Result<bool, DiskFault>
+/// Whether a disk begins as a spool does: with its eight magic bytes. It is read and no more.
+///
+/// # Errors
+///
+/// `DiskFault` if it can't be read.
+pub fn is_spool<D: Disk>(disk: &mut D) -> Result<bool, DiskFault>
     ensures size { D.size disk.new ≡ D.size disk.old }
     ensures honest { D.honest disk.old ↔ D.honest disk.new }
     ensures counts { Counts (IsErr result) (D.failures disk.old) (D.failures disk.new) }

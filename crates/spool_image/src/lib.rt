@@ -9,7 +9,7 @@ mod spool;
 mod upgrading;
 
 pub use error::{FormatError, UpgradeError};
-pub use formatting::format;
+pub use formatting::{format, is_spool};
 pub use laws::{cut_openings, images_open, limits_open, shown_texts};
 pub use layout::pages_of;
 pub use spool::{Spool, SpoolAppend};
