@@ -35,8 +35,8 @@ pub(crate) fn serve_file<'a>(
         → IsErrAnd result.1 (λ failure. status_of (fault_in failure) ≡ 3) }
 {
     let spool = service.spool;
-    let (gateway, _survey) = match open_gateway(rt, alloc, spool) {
-        Ok(opened) => opened,
+    let gateway = match open_gateway(rt, alloc, spool) {
+        Ok(gateway) => gateway,
         Err(failure) => return (None, Err(failure)),
     };
     let bound = match listen(rt, service.port) {
@@ -54,6 +54,20 @@ pub(crate) fn serve_file<'a>(
     // If standard error can't be written, the count isn't reported.
     drop(say_served(&mut rt.stderr(), clients.opened));
     outcome(served, spool, gateway.into_disk())
+}
+
+// A gateway over the spool in a file. No call of the file failed.
+fn open_gateway<'a>(
+    rt: &HostRuntime,
+    alloc: Global,
+    spool: &'a str,
+) -> Result<Gateway<Spool<FileDisk>>, Failure<'a>>
+    ensures { IfOk result (λ gateway. failed_in (disk_in gateway) ≡ 0) }
+{
+    match Gateway::open(alloc, open_spool(rt, spool)?) {
+        Ok(gateway) => Ok(gateway),
+        Err((disk, fault)) => Err(refused_spool(Fault::from(fault), spool, disk)),
+    }
 }
 
 // The result of serving: a disk fault gives exit status 3. The disk is handed back.
@@ -138,8 +152,8 @@ impl Telling {
 }
 
 /// Serves the spool in a file until the program is ended or there is a disk fault. Prints the spool and the address,
-/// unless it is quiet, and a warning on standard error if other machines may reach the address. The disk is handed back,
-/// where its spool was opened.
+/// unless it is quiet, and a warning on standard error if other machines may reach the address. The disk is handed
+/// back, where its spool was opened.
 pub(crate) fn serve_up<'a>(
     rt: &HostRuntime,
     alloc: Global,
@@ -150,7 +164,7 @@ pub(crate) fn serve_up<'a>(
     ensures device { IsSomeAnd result.0 (λ disk. failed_in disk ≢ 0)
         → IsErrAnd result.1 (λ failure. status_of (fault_in failure) ≡ 3) }
 {
-    let (gateway, survey) = match open_gateway(rt, alloc, spool) {
+    let (gateway, survey) = match open_with_survey(rt, alloc, spool) {
         Ok(opened) => opened,
         Err(failure) => return (None, Err(failure)),
     };
@@ -171,8 +185,8 @@ pub(crate) fn serve_up<'a>(
     outcome(served, spool, gateway.into_disk())
 }
 
-// A gateway over the spool in a file, and how much of the spool is in use. No call of the file failed.
-fn open_gateway<'a>(
+// As `open_gateway`, and how much of the spool is in use.
+fn open_with_survey<'a>(
     rt: &HostRuntime,
     alloc: Global,
     spool: &'a str,

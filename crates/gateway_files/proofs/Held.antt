@@ -1,5 +1,6 @@
 -- Files that spools are in, of which one is opened and closed.
-use Rattle.std.proofs.Common.{◌≡◌, ◌∙◌, ap, arith, inl, refl, subst, sym, ℕ, Bool, true, false, List, Option, Some, if◌then◌else◌}
+use Rattle.std.proofs.Common.{◌≡◌, ◌∙◌, ap, arith, inl, refl, subst, sym, ℕ, Bool, true, false, List, Option, Some}
+use Rattle.std.proofs.Common.{if◌then◌else◌}
 use Rattle.std.specs.Prelude.{bytes_eq}
 use Rattle.std.proofs.lemmas.Slice.Eq.{bytes_eq-Decides}
 use Rattle.spool_disk.specs.declared.disk.Disk.{Ghosts}

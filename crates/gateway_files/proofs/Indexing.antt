@@ -1,10 +1,12 @@
--- Index files that are read one after the other.
-use Rattle.std.proofs.Common.{◌≡◌, ◌∙◌, ◌+◌, ◌<◌, ◌≤◌, ℕ, Bor, List, ◌∷◌, drop, get_or, length, map, refl}
+-- Index files that are read one after the other, and their table at worked examples.
+use Rattle.std.proofs.Common.{◌≡◌, ◌∙◌, ◌+◌, ◌<◌, ◌≤◌, ℕ, Bor, List, [], ◌∷◌, codes, drop, get_or, length, map, refl}
 use Rattle.std.proofs.lemmas.List.{at_drop_more, at_drop_all}
 use Rattle.enc_model.specs.Indexes.{IndexSet}
 use Rattle.enc_index.specs.declared.kind.Kind.{Kind}
+use Rattle.enc_index.specs.declared.kind.Kind.TheVariants.{Jis0208, Single}
+use Rattle.enc_model.specs.declared.Encoding.TheVariants as e
 use Rattle.gateway_files.specs.Folders.{Files}
-use Rattle.gateway_files.specs.IndexFiles.{named, read_as, with_file}
+use Rattle.gateway_files.specs.IndexFiles.{index_files, named, read_as, with_file}
 
 abbrev Row : Type 0
 Row = Bor (List ℕ) × Kind
@@ -27,3 +29,11 @@ module _ (files : Files) (set : IndexSet) where
   pub read_past : (rows : List Row) (i : ℕ) → length rows ≤ i → left (drop i rows) ≡ set
   unfolding read_as
   read_past rows i le = at_drop_all left rows i le
+
+how_many : length index_files ≡ 18
+unfolding index_files
+how_many = refl
+
+last_file : get_or index_files 17 ([], Jis0208) ≡ (codes "index-windows-1258.txt", Single e.Windows1258)
+unfolding index_files
+last_file = refl

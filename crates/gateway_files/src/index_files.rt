@@ -114,11 +114,11 @@ impl fmt::Display for IndexFile {
 }
 
 /// The index files of a folder.
-pub(crate) struct IndexFiles {
-    /// What they say.
-    pub(crate) set: IndexSet,
+pub struct IndexFiles {
+    /// The indexes that they have.
+    pub set: IndexSet,
     /// Each file, in the order of a spool's index area.
-    pub(crate) files: Vec<IndexFile>,
+    pub files: Vec<IndexFile>,
 }
 
 /// A folder whose files are read.
@@ -173,8 +173,8 @@ pub(crate) fn read_indexes<'a>(
     read_indexes_from(alloc, &IndexFolder { rt, path: folder }, folder)
 }
 
-/// Reads the index files of a folder, which is at this path.
-pub(crate) fn read_indexes_from<'a, F: Readable>(
+/// Reads the index files of a folder, which is at this path. A file that isn't there isn't set.
+pub fn read_indexes_from<'a, F: Readable>(
     alloc: Global,
     folder: &F,
     path: &'a str,

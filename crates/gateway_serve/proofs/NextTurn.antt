@@ -68,3 +68,15 @@ pub next_turn : {S : Type 0} (left turns : ℕ) (before answers : List Bool) (d 
 next_turn left turns before answers d some few lets =
     let e : turns - left + 1 ≡ turns - (left - 1) = omega (arith, some, few) in
     subst (λ taken. LetsInBy before answers taken d) e lets
+
+-- and however many it may pass over
+pub taken_so : (before answers : List Bool) (turns : ℕ) (clients : Clients) (waits : Bool) (passes : ℕ)
+    → LetsIn before answers turns clients waits passes → LetsIn before answers turns clients waits 0
+taken_so before answers turns clients waits passes l = record {
+  since = l.since;
+  asked = l.asked;
+  each = l.each;
+  most = l.most;
+  often = omega (arith, l.often);
+  none = l.none;
+}

@@ -24,7 +24,7 @@ given (gave ∷ answers) = one_if gave + given answers
 
 -- WHAT BECOMES OF CLIENTS in so many turns, of a listener that had answered this before: each that it gave has a
 -- connection, or was refused one, or waits for a place. It is asked in at least every 32nd turn, but for those in which
--- one waits
+-- one waits; so many turns may pass it over before the next one
 pub record LetsIn (before answers : List Bool) (turns : ℕ) (clients : Clients) (waits : Bool) (passes : ℕ) : Type 0
   where
     pub since : List Bool
@@ -42,6 +42,5 @@ pub record HasServed (before answers : List Bool) (turns connections : ℕ) (cli
     (failed : Type 0) : Type 0 where
   pub taken : ℕ
   pub waits : Bool
-  pub passes : ℕ
-  pub lets : LetsIn before answers taken clients waits passes
+  pub lets : LetsIn before answers taken clients waits 0
   pub all : failed ⊎ (connections ≤ length ended) ⊎ (taken ≡ turns)

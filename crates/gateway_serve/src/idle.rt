@@ -1,5 +1,5 @@
 //! How often a quiet socket is asked, and how long an idle server rests.
-ghost use Rattle.std.specs.Prelude.{◌≡◌, ◌≤◌, ◌+◌, ◌↔◌, IsTrue, IsFalse, IfSome, IsSome, false};
+ghost use Rattle.std.specs.Prelude.{◌≡◌, ◌≤◌, ◌+◌, ◌↔◌, IsTrue, IsFalse, IfSome, IsNone, IsSome, false};
 ghost use Rattle.std.specs.Duration.{as_nanos};
 ghost use Rattle.gateway_serve.specs.Acceptors.{passes_of};
 ghost use Rattle.gateway_serve.specs.Rests.{IsIdle, passed, rest_at};
@@ -86,7 +86,9 @@ pub(crate) struct Watch {
 impl Watch {
     /// Started at this time. With a clock that can't be read it stands still.
     pub(crate) fn new(time: Option<Duration>) -> Self
-        ensures { IfSome time (λ now. result ≡ record { now = now; busy = now }) }
+        ensures read { IfSome time (λ now. result.now ≡ now) }
+        ensures unread { IsNone time → as_nanos result.now ≡ 0 }
+        ensures busy { result.busy ≡ result.now }
     {
         let now = time.unwrap_or(Duration::ZERO);
         Watch { now, busy: now }

@@ -1,6 +1,6 @@
 //! Turns of all places.
 ghost use Rattle.std.specs.Prelude.{◌≡◌, ◌≢◌, ◌⊎◌, ◌↔◌, ◌≤◌, ◌+◌, List, Bool, length};
-ghost use Rattle.std.specs.Prelude.{IfSome, IsErr, IsNone, IsSomeAnd, IsTrue};
+ghost use Rattle.std.specs.Prelude.{IfSome, IsErr, IsFalse, IsNone, IsSomeAnd, IsTrue};
 ghost use Rattle.upload_rules.specs.Answers.{Counts};
 ghost use Rattle.tus_session.specs.History.{State, Marked};
 ghost use Rattle.gateway_serve.specs.Joined.{AllFell, GoesOn, Ends, IsFreeAt};
@@ -57,6 +57,8 @@ impl Round {
     fn add(&mut self, turned: Turned)
         ensures closed { turned ≡ Turned.Closed → self.new.closed ≤ self.old.closed + 1 }
         ensures open { turned ≢ Turned.Closed → self.new.closed ≡ self.old.closed }
+        ensures wanted { IsTrue self.new.wanted ↔ IsTrue self.old.wanted × (turned ≢ Turned.Closed) }
+        ensures idle { IsFalse self.new.busy ↔ IsFalse self.old.busy × (turned ≡ Turned.Idle) }
     {
         let closed = turned == Turned::Closed;
         self.closed = self.closed.saturating_add(u64::from(closed));

@@ -1,5 +1,5 @@
 //! A server: the connections that are open, and the listener's clients.
-ghost use Rattle.std.specs.Prelude.{◌≡◌, ◌<◌, ◌≤◌, ◌+◌, ◌^◌, ℕ, List, [], Bool, is_some, length};
+ghost use Rattle.std.specs.Prelude.{◌≡◌, ◌↔◌, ◌<◌, ◌≤◌, ◌+◌, ◌^◌, ℕ, List, [], Bool, is_some, length};
 ghost use Rattle.std.specs.Prelude.{IfSome, IsErr, IsFalse, IsNone, IsTrue, None};
 ghost use Rattle.upload_rules.specs.Answers.{Counts};
 ghost use Rattle.gateway_serve.specs.Acceptors.{HasServed, LetsInBy, one_if};
@@ -7,7 +7,7 @@ ghost use Rattle.gateway_serve.specs.Joined.{GoesOn, Ends, Finishes, IsFreeAt, S
 ghost use Rattle.gateway_serve.specs.Longest.{IsLongest};
 ghost use Rattle.gateway_serve.specs.Reasons.{AllReasoned, StayReasoned, EndsReasoned, IsLeftReasoned};
 ghost use Rattle.gateway_serve.specs.Streams.{AllHave, AllHad, AllKeep};
-ghost use Rattle.gateway_serve.specs.Turns.{HasRoom, IsFresh, NoneIsFree, RestStays, closed_of, door_of};
+ghost use Rattle.gateway_serve.specs.Turns.{HasRoom, IsFresh, IsFull, NoneIsFree, RestStays, closed_of, door_of};
 
 use crate::acceptors::Acceptor;
 use crate::doors::Door;
@@ -150,6 +150,7 @@ impl<S: Read + Write + Drop> Server<S> {
         ensures now { result.now ≡ self.now.watch.now }
         ensures was_busy { result.was_busy ≡ self.now.busy }
         ensures wanted { result.wanted ≡ is_some (door_of self.now).waiting }
+        ensures busy { IsTrue result.busy ↔ (opened < (door_of self.now).clients.opened) }
         ensures longest { IsTrue result.wanted
             → IsLongest (places_of self.now) (length (places_of self.now)) result.longest }
         ensures unwanted { IsFalse result.wanted → result.longest ≡ None }
@@ -184,7 +185,8 @@ impl<S: Read + Write + Drop> Server<S> {
         ensures counts { Counts (IsErr result) (C.failures gateway.old) (C.failures gateway.new) }
         ensures clients { (before answers : List Bool) (turns : ℕ) → LetsInBy before answers turns (door_of self.old)
             → LetsInBy before answers turns (door_of self.new) }
-        ensures takes { IsTrue (is_some (door_of self.new).waiting) → NoneIsFree (places_of self.new) }
+        ensures takes { IsTrue (is_some (door_of self.new).waiting)
+            → NoneIsFree (places_of self.new) × IsFull self.old }
         ensures ended { ended_of self.new ≡ ended_of self.old }
         ensures closed { closed_of self.new ≡ closed_of self.old }
     {
@@ -211,7 +213,8 @@ impl<S: Read + Write + Drop> Server<S> {
         ensures rest { RestStays self.old self.new }
         ensures waits { one_if (is_some (door_of self.old).waiting)
             ≡ one_if (is_some result) + one_if (is_some (door_of self.new).waiting) }
-        ensures takes { IsTrue (is_some (door_of self.new).waiting) → NoneIsFree (places_of self.new) }
+        ensures takes { IsTrue (is_some (door_of self.new).waiting)
+            → NoneIsFree (places_of self.new) × IsFull self.old }
     {
         if !self.door.waits() {
             return None;
@@ -223,7 +226,7 @@ impl<S: Read + Write + Drop> Server<S> {
     // The number of the first place that is free.
     fn free_place(&mut self) -> Option<usize>
         ensures free { IfSome result (λ conn. IsFreeAt (places_of self.new) conn) }
-        ensures none { IsNone result → NoneIsFree (places_of self.new) }
+        ensures none { IsNone result → NoneIsFree (places_of self.new) × IsFull self.old }
         ensures same { SamePlaces (places_of self.old) (places_of self.new) }
         ensures door { door_of self.new ≡ door_of self.old }
         ensures ended { ended_of self.new ≡ ended_of self.old }
@@ -238,7 +241,7 @@ impl<S: Read + Write + Drop> Server<S> {
     // The number of another place, where there are fewer than `MOST_OPEN` and memory for it is there.
     fn new_place(&mut self) -> Option<usize>
         ensures free { IfSome result (λ conn. IsFreeAt (places_of self.new) conn) }
-        ensures none { IsNone result → places_of self.new ≡ places_of self.old }
+        ensures none { IsNone result → (places_of self.new ≡ places_of self.old) × IsFull self.old }
         ensures same { SamePlaces (places_of self.old) (places_of self.new) }
         ensures door { door_of self.new ≡ door_of self.old }
         ensures ended { ended_of self.new ≡ ended_of self.old }

@@ -13,8 +13,8 @@ pub record Made : Type 0 where
 abbrev pub made : FileCall → List ℕ → Bool → Made
 made c bs ok = record { call = c; bytes = bs; done = ok }
 
--- The calls that open a file, the latest first: it is opened and never emptied, made only if that is asked for, and then
--- locked.
+-- The calls that open a file, the latest first: it is opened and never emptied, made only if that is asked for, and
+-- then locked.
 abbrev pub opened : Bool → List Made
 opened create = made Lock [] true ∷ made (Open create false) [] true ∷ []
 

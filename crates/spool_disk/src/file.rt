@@ -51,7 +51,8 @@ impl PositionedDisk<SystemFile> {
     /// `DiskFault` for any error of the file system, and if another disk has the file's lock.
     pub fn open<R: Files<File = File>>(rt: &R, path: &str) -> Result<Self, DiskFault>
         ensures none { IfOk result (λ disk. failed_in disk ≡ 0) }
-        ensures made { IfOk result (λ disk. calls_in disk ≡ made (FileCall.Len (length_of disk)) [] true ∷ opened false) }
+        ensures made { IfOk result (λ disk.
+            calls_in disk ≡ made (FileCall.Len (length_of disk)) [] true ∷ opened false) }
     {
         FileDisk::try_open(rt, path).map_err(DiskFault::from)
     }
@@ -71,7 +72,8 @@ impl PositionedDisk<SystemFile> {
     /// As `open`, with the system's error: `ResourceBusy` if another disk has the file's lock.
     pub fn try_open<R: Files<File = File>>(rt: &R, path: &str) -> io::Result<Self>
         ensures none { IfOk result (λ disk. failed_in disk ≡ 0) }
-        ensures made { IfOk result (λ disk. calls_in disk ≡ made (FileCall.Len (length_of disk)) [] true ∷ opened false) }
+        ensures made { IfOk result (λ disk.
+            calls_in disk ≡ made (FileCall.Len (length_of disk)) [] true ∷ opened false) }
     {
         let mut file = SystemFile::open(rt, path)?;
         let len = file.len()?;

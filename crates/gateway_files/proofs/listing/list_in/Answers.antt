@@ -25,8 +25,8 @@ returns-in-Ok-listed-clause-listed g c disks d held is =
       opened.1,
       subst (λ x. ListsAs disk x now c.args.long before after (Ok c.in-Ok-listed.survey))
           (one_disk c.in-Ok.disk d (disks c.args.path.now) opened.0 is)
-          (subst (λ (r : Result Survey Fault). ListsAs disk c.in-Ok.disk now c.args.long before after r) c.in-Ok-listed.is
-          lists),
+          (subst (λ (answer : Result Survey Fault). ListsAs disk c.in-Ok.disk now c.args.long before after answer)
+          c.in-Ok-listed.is lists),
     )
 
 pub returns-in-Err-listed-clause-refused : goal.returns-in-Err-listed-clause-refused

@@ -4,7 +4,7 @@ use Rattle.gateway_serve.specs.Joined.{AllJoin, AllFell, ended_of}
 use Rattle.gateway_serve.specs.Served.{Serves, AllServed}
 use Rattle.gateway_serve.specs.Streams.{AllHave}
 use Rattle.tus_session.proofs.Counting.{uncounted}
-use Rattle.gateway_serve.proofs.NextTurn.{counts_on, next_turn}
+use Rattle.gateway_serve.proofs.NextTurn.{counts_on, next_turn, taken_so}
 use Rattle.gateway_serve.proofs.Lost.{none_more}
 use Rattle.gateway_serve.specs.Acceptors.{passes_of}
 use Rattle.gateway_serve.specs.Turns.{door_of}
@@ -69,9 +69,11 @@ pub returns-in_err-turn-clause-clients : goal.returns-in_err-turn-clause-clients
 returns-in_err-turn-clause-clients g c = record {
   taken = c.args.turns - c.loop-left.left + 1;
   waits = is_some (door_of c.turn.new.self).waiting;
-  passes = passes_of (door_of c.turn.new.self).pace;
-  lets = c.in_err-turn.ensures.clients (g.A.Acceptor.answers c.args.acceptor.now)
-      (c.args.turns - c.loop-left.left) c.loop-left.invariant.5;
+  lets = taken_so (g.A.Acceptor.answers c.args.acceptor.now) (g.A.Acceptor.answers c.turn.new.acceptor)
+      (c.args.turns - c.loop-left.left + 1) (door_of c.turn.new.self).clients
+      (is_some (door_of c.turn.new.self).waiting) (passes_of (door_of c.turn.new.self).pace)
+      (c.in_err-turn.ensures.clients (g.A.Acceptor.answers c.args.acceptor.now)
+      (c.args.turns - c.loop-left.left) c.loop-left.invariant.5);
   all = inl c.from_residual.ensures.0;
 }
 
@@ -79,8 +81,10 @@ pub returns-clause-clients : goal.returns-clause-clients
 returns-clause-clients g c = record {
   taken = c.args.turns - c.loop-left.left;
   waits = is_some (door_of c.loop-left.self).waiting;
-  passes = passes_of (door_of c.loop-left.self).pace;
-  lets = c.loop-left.invariant.5;
+  lets = taken_so (g.A.Acceptor.answers c.args.acceptor.now) (g.A.Acceptor.answers c.loop-left.acceptor)
+      (c.args.turns - c.loop-left.left) (door_of c.loop-left.self).clients
+      (is_some (door_of c.loop-left.self).waiting) (passes_of (door_of c.loop-left.self).pace)
+      c.loop-left.invariant.5;
   all = elim c.loop-left-test.branch [
     | then-loop-left-test+else-self-connections w ↦ inr (inl (omega (
       arith,
