@@ -2,20 +2,12 @@
 ghost use Rattle.std.specs.Prelude.{◌≡◌, ◌≤◌, ◌+◌, ◌↔◌, ℕ, length, IsErr, IsOk};
 ghost use Rattle.spool_disk.specs.Disk.{span, IsImage, Elapses, Writes, Syncs, Keeps, Counts};
 
-use std::error::Error;
-use std::fmt;
+use thiserror::Error;
 
 /// A disk fault: the call failed.
-#[derive(Clone, Copy, Debug, PartialEq, Eq)]
+#[derive(Clone, Copy, Debug, PartialEq, Eq, Drop, Error)]
+#[error("the disk failed")]
 pub struct DiskFault;
-
-impl fmt::Display for DiskFault {
-    fn fmt<W: fmt::Write>(&self, f: &mut fmt::Formatter<W>) -> fmt::Result {
-        f.write_str("the disk failed")
-    }
-}
-
-impl Error for DiskFault {}
 
 /// A disk of bytes. Every call may fail; a call that failed changes nothing outside its range.
 pub trait Disk {

@@ -5,17 +5,19 @@ use spool_disk::DiskFault;
 use spool_kept::OpenFault;
 use spool_load::LoadError;
 use std::alloc::AllocError;
-use std::error::Error;
-use std::fmt;
+use thiserror::Error;
 
 /// Why `format` makes no spool.
-#[derive(Clone, Copy, Debug, PartialEq, Eq)]
+#[derive(Clone, Copy, Debug, PartialEq, Eq, Drop, Error)]
 pub enum FormatError {
     /// The disk begins as a spool.
+    #[error("the disk is a spool already")]
     AlreadySpool,
     /// The number of text blocks isn't 16 to 65,536, or the disk is too short for it.
+    #[error("a spool of this size can't be made there")]
     Size,
     /// A disk fault.
+    #[error("the disk failed")]
     DiskFault,
 }
 
@@ -29,24 +31,14 @@ impl From<DiskFault> for FormatError {
     }
 }
 
-impl fmt::Display for FormatError {
-    fn fmt<W: fmt::Write>(&self, f: &mut fmt::Formatter<W>) -> fmt::Result {
-        f.write_str(match self {
-            FormatError::AlreadySpool => "the disk is a spool already",
-            FormatError::Size => "a spool of this size can't be made there",
-            FormatError::DiskFault => "the disk failed",
-        })
-    }
-}
-
-impl Error for FormatError {}
-
 /// Why `upgrade` fails.
-#[derive(Clone, Copy, Debug, PartialEq, Eq)]
+#[derive(Clone, Copy, Debug, PartialEq, Eq, Drop, Error)]
 pub enum UpgradeError {
     /// The spool can't be opened.
+    #[error(transparent)]
     Open(OpenFault),
     /// The spool has version 2 already.
+    #[error("the spool is of version 2 already")]
     AlreadyNew,
 }
 
@@ -92,14 +84,3 @@ impl From<AllocError> for UpgradeError {
         UpgradeError::Open(OpenFault::NoMemory)
     }
 }
-
-impl fmt::Display for UpgradeError {
-    fn fmt<W: fmt::Write>(&self, f: &mut fmt::Formatter<W>) -> fmt::Result {
-        match self {
-            UpgradeError::Open(fault) => fault.fmt(f),
-            UpgradeError::AlreadyNew => f.write_str("the spool is of version 2 already"),
-        }
-    }
-}
-
-impl Error for UpgradeError {}

@@ -2,15 +2,16 @@
 ghost use Rattle.std.specs.Prelude.{◌≡◌};
 
 use spool_disk::DiskFault;
-use std::error::Error;
-use std::fmt;
+use thiserror::Error;
 
 /// Why `recover` failed.
-#[derive(Clone, Copy, Debug, PartialEq, Eq)]
+#[derive(Clone, Copy, Debug, PartialEq, Eq, Drop, Error)]
 pub enum RecoverError {
     /// A disk fault.
+    #[error("the disk failed")]
     DiskFault,
     /// The gate is open and the journal's head is invalid.
+    #[error("the journal is damaged")]
     Damaged,
 }
 
@@ -23,14 +24,3 @@ impl From<DiskFault> for RecoverError {
         RecoverError::DiskFault
     }
 }
-
-impl fmt::Display for RecoverError {
-    fn fmt<W: fmt::Write>(&self, f: &mut fmt::Formatter<W>) -> fmt::Result {
-        f.write_str(match self {
-            RecoverError::DiskFault => "the disk failed",
-            RecoverError::Damaged => "the journal is damaged",
-        })
-    }
-}
-
-impl Error for RecoverError {}

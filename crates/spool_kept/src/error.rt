@@ -5,22 +5,26 @@ use spool_disk::DiskFault;
 use spool_journal::RecoverError;
 use spool_pages::Damaged;
 use std::alloc::AllocError;
-use std::error::Error;
-use std::fmt;
+use thiserror::Error;
 
 /// Why a disk is not opened as a spool.
-#[derive(Clone, Copy, Debug, PartialEq, Eq)]
+#[derive(Clone, Copy, Debug, PartialEq, Eq, Drop, Error)]
 pub enum OpenFault {
     /// The disk doesn't begin with the first bytes of a spool and a number of text blocks from 16 to 65,536, or it is
     /// shorter than its layout.
+    #[error("the disk is no spool")]
     NotASpool,
     /// The disk failed in this call.
+    #[error("the disk failed")]
     DiskFault,
     /// The bytes are none that are ever written to a spool.
+    #[error("the spool is damaged")]
     Damaged,
     /// The spool has another version.
+    #[error("the spool has another version")]
     Version,
     /// Out of memory.
+    #[error("no memory is left")]
     NoMemory,
 }
 
@@ -47,26 +51,14 @@ impl From<RecoverError> for OpenFault {
     }
 }
 
-impl fmt::Display for OpenFault {
-    fn fmt<W: fmt::Write>(&self, f: &mut fmt::Formatter<W>) -> fmt::Result {
-        f.write_str(match self {
-            OpenFault::NotASpool => "the disk is no spool",
-            OpenFault::DiskFault => "the disk failed",
-            OpenFault::Damaged => "the spool is damaged",
-            OpenFault::Version => "the spool has another version",
-            OpenFault::NoMemory => "no memory is left",
-        })
-    }
-}
-
-impl Error for OpenFault {}
-
 /// Why what was read of a spool is not kept.
-#[derive(Clone, Copy, Debug, PartialEq, Eq)]
+#[derive(Clone, Copy, Debug, PartialEq, Eq, Drop, Error)]
 pub enum CheckError {
     /// It is not what a spool may say.
+    #[error("the spool is damaged")]
     Damaged,
     /// Out of memory.
+    #[error("no memory is left")]
     NoMemory,
 }
 
@@ -89,14 +81,3 @@ impl From<AllocError> for CheckError {
         CheckError::NoMemory
     }
 }
-
-impl fmt::Display for CheckError {
-    fn fmt<W: fmt::Write>(&self, f: &mut fmt::Formatter<W>) -> fmt::Result {
-        f.write_str(match self {
-            CheckError::Damaged => "the spool is damaged",
-            CheckError::NoMemory => "no memory is left",
-        })
-    }
-}
-
-impl Error for CheckError {}

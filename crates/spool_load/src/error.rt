@@ -5,15 +5,16 @@ use spool_disk::DiskFault;
 use spool_kept::{CheckError, OpenFault};
 use spool_pages::Damaged;
 use std::alloc::AllocError;
-use std::error::Error;
-use std::fmt;
+use thiserror::Error;
 
 /// Why a spool that was found can't be read.
-#[derive(Clone, Copy, Debug, PartialEq, Eq)]
+#[derive(Clone, Copy, Debug, PartialEq, Eq, Drop, Error)]
 pub enum LoadError {
     /// A disk fault.
+    #[error("the disk failed")]
     DiskFault,
     /// What was read fails a check, or there is no memory for it.
+    #[error(transparent)]
     Check(CheckError),
 }
 
@@ -72,14 +73,3 @@ impl From<LoadError> for OpenFault {
         }
     }
 }
-
-impl fmt::Display for LoadError {
-    fn fmt<W: fmt::Write>(&self, f: &mut fmt::Formatter<W>) -> fmt::Result {
-        match self {
-            LoadError::DiskFault => f.write_str("the disk failed"),
-            LoadError::Check(check) => check.fmt(f),
-        }
-    }
-}
-
-impl Error for LoadError {}

@@ -1,15 +1,7 @@
 //! Bytes that no spool writes.
-use std::error::Error;
-use std::fmt;
+use thiserror::Error;
 
 /// The bytes of a slot or a row are invalid: no spool ever writes them.
-#[derive(Clone, Copy, Debug, PartialEq, Eq, Drop)]
+#[derive(Clone, Copy, Debug, PartialEq, Eq, Drop, Error)]
+#[error("a slot's or a row's bytes are damaged")]
 pub struct Damaged;
-
-impl fmt::Display for Damaged {
-    fn fmt<W: fmt::Write>(&self, f: &mut fmt::Formatter<W>) -> fmt::Result {
-        f.write_str("a slot's or a row's bytes are damaged")
-    }
-}
-
-impl Error for Damaged {}

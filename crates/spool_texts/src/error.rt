@@ -3,17 +3,19 @@ ghost use Rattle.std.specs.Prelude.{◌≡◌};
 
 use spool_disk::DiskFault;
 use std::alloc::AllocError;
-use std::error::Error;
-use std::fmt;
+use thiserror::Error;
 
 /// Why the text of a draft can't begin or grow.
-#[derive(Clone, Copy, Debug, PartialEq, Eq)]
+#[derive(Clone, Copy, Debug, PartialEq, Eq, Drop, Error)]
 pub enum DraftError {
     /// Out of memory.
+    #[error("out of memory")]
     NoMemory,
     /// A disk fault.
+    #[error("the disk failed")]
     DiskFault,
     /// No block is free.
+    #[error("no block is free")]
     Full,
 }
 
@@ -36,15 +38,3 @@ impl From<AllocError> for DraftError {
         DraftError::NoMemory
     }
 }
-
-impl fmt::Display for DraftError {
-    fn fmt<W: fmt::Write>(&self, f: &mut fmt::Formatter<W>) -> fmt::Result {
-        f.write_str(match self {
-            DraftError::NoMemory => "out of memory",
-            DraftError::DiskFault => "the disk failed",
-            DraftError::Full => "no block is free",
-        })
-    }
-}
-
-impl Error for DraftError {}
