@@ -30,7 +30,9 @@ pub use faults::Fault;
 pub use folders::{FileFolder, Folder};
 pub use formatting::{Formatted, format_file, format_in, format_on};
 pub use incomplete::{delete_incomplete_file, incomplete_on};
-pub use index_files::{IndexFile, IndexFiles, Readable, entries_of, read_indexes_from, standard_entries};
+pub use index_files::{
+    IndexFile, IndexFiles, Readable, entries_of, read_indexes_from, standard_entries,
+};
 pub use json_lines::json_file;
 pub use listing::{list_file, list_in, list_on};
 pub use losses::Tally;

@@ -34,3 +34,8 @@ pub returns-in_err-seat-clause-clients : goal.returns-in_err-seat-clause-clients
 returns-in_err-seat-clause-clients g c = λ before turns lets.
     c.seat.ensures.clients before (g.A.Acceptor.answers c.ask.new.acceptor) (turns + 1)
     (c.ask.ensures.clients before turns lets)
+
+pub returns-clause-closed : goal.returns-clause-closed
+returns-clause-closed g c few =
+    c.turn_each-taken.ensures.closed
+    (rw (c.round-round.ensures.closed, c.in_ok-seat.ensures.closed, c.in_ok-seat.ensures.ended) few)
