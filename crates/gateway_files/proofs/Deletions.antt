@@ -90,22 +90,22 @@ and_true true = refl
 and_true false = refl
 
 -- ON THE WAY: the store, what was written, and what is still to be deleted
-pub record Halfway {U B : Type 0} (u : Ghosts U B) (w : World) (before now : U) (numbers rest : List ℕ)
+pub record Halfway {U B : Type 0} (u : Ghosts U B) (sure : Bool) (w : World) (before now : U) (numbers rest : List ℕ)
     (prefix held : Option (List ℕ)) (all : Bool) : Type 0 where
   pub store : Store
-  pub stands : u.stands now true (record w { store = store })
+  pub stands : u.stands now sure (record w { store = store })
   pub remains : left store rest ≡ left w.store numbers
   pub out : List ℕ
   pub wrote : Appends prefix held out
   pub lines : out ++ deletion_lines store rest ≡ deletion_lines w.store numbers
   pub there : all && all_there store rest ≡ all_there w.store numbers
   pub passed : AllAmong (stages store rest) (stages w.store numbers)
-  pub limits : LimitsTo (u.moment before) (u.moment now) (u.left_only before) (u.left_only now)
+  pub limits : sure ≡ true → LimitsTo (u.moment before) (u.moment now) (u.left_only before) (u.left_only now)
       (stages w.store numbers)
 
-module _ {U B : Type 0} (u : Ghosts U B) (w : World) (numbers : List ℕ) where
-  pub begun : (now : U) (prefix : Option (List ℕ)) → u.stands now true w
-      → Halfway u w now now numbers numbers prefix prefix true
+module _ {U B : Type 0} (u : Ghosts U B) (sure : Bool) (w : World) (numbers : List ℕ) where
+  pub begun : (now : U) (prefix : Option (List ℕ)) → u.stands now sure w
+      → Halfway u sure w now now numbers numbers prefix prefix true
   begun now prefix stands = record {
     store = w.store;
     stands = stands;
@@ -115,29 +115,29 @@ module _ {U B : Type 0} (u : Ghosts U B) (w : World) (numbers : List ℕ) where
     lines = refl;
     there = refl;
     passed = λ m among. among;
-    limits = record { later = omega arith; limits = λ blocks t ms le left among. left };
+    limits = λ e. record { later = omega arith; limits = λ blocks t ms le left among. left };
   }
 
   module _ (before now next : U) (n : ℕ) (rest : List ℕ) (prefix held : Option (List ℕ)) (all : Bool)
-      (is : Halfway u w before now numbers (n ∷ rest) prefix held all)
-      (crash : Limits (u.moment now) (u.moment next) (u.left_only now) (u.left_only next) is.store
+      (is : Halfway u sure w before now numbers (n ∷ rest) prefix held all)
+      (crash : sure ≡ true → Limits (u.moment now) (u.moment next) (u.left_only now) (u.left_only next) is.store
       (deleted_store is.store n)) where
-    pub limits_more : LimitsTo (u.moment before) (u.moment next) (u.left_only before) (u.left_only next)
+    pub limits_more : sure ≡ true → LimitsTo (u.moment before) (u.moment next) (u.left_only before) (u.left_only next)
         (stages w.store numbers)
-    limits_more = record {
-      later = let a = is.limits.later in let b = crash.later in omega (arith, a, b);
+    limits_more e = record {
+      later = let a = (is.limits e).later in let b = (crash e).later in omega (arith, a, b);
       limits = λ blocks t ms le left among.
-          let a = is.limits.later in
-          crash.limits blocks t ms (omega (arith, le, a)) (is.limits.limits blocks t ms le left among)
+          let a = (is.limits e).later in
+          (crash e).limits blocks t ms (omega (arith, le, a)) ((is.limits e).limits blocks t ms le left among)
           (among is.store (is.passed is.store (inl refl)))
           (among (deleted_store is.store n) (is.passed (deleted_store is.store n)
           (inr (first_stage (deleted_store is.store n) rest))));
     }
 
     pub further : (on : Option (List ℕ)) (there : Bool)
-        → u.stands next true (terminated (record w { store = is.store }) n)
+        → u.stands next sure (terminated (record w { store = is.store }) n)
         → there ≡ is_there (upload_of is.store n) → Appends held on (deletion_line there n)
-        → Halfway u w before next numbers rest prefix on (all && there)
+        → Halfway u sure w before next numbers rest prefix on (all && there)
     further on there stands same line = record {
       store = deleted_store is.store n;
       stands = stands;
@@ -154,9 +154,9 @@ module _ {U B : Type 0} (u : Ghosts U B) (w : World) (numbers : List ℕ) where
     }
 
   module _ (before now : U) (prefix held : Option (List ℕ)) (all : Bool)
-      (is : Halfway u w before now numbers [] prefix held all) where
-    pub done_stands : u.stands now true (record w { store = left w.store numbers })
-    done_stands = subst (λ s. u.stands now true (record w { store = s })) (sym (left_all is.store) ∙ is.remains)
+      (is : Halfway u sure w before now numbers [] prefix held all) where
+    pub done_stands : u.stands now sure (record w { store = left w.store numbers })
+    done_stands = subst (λ s. u.stands now sure (record w { store = s })) (sym (left_all is.store) ∙ is.remains)
         is.stands
 
     pub done_lines : Appends prefix held (deletion_lines w.store numbers)

@@ -2,17 +2,20 @@
 use Rattle.std.proofs.Common.{ℕ, arith}
 use Rattle.spool_disk.specs.declared.disk.Disk.{Ghosts}
 use Rattle.spool_image.specs.LeftOnly.{IsSpool}
+use Rattle.spool_kept.specs.Shows.{Shows}
+use Rattle.spool_pages.specs.View.{View}
 use Rattle.upload_rules.specs.Store.{Store}
 use Rattle.gateway_files.specs.Lines.{IsInOrder}
 
+pub shown_in_order : (v : View) (m : Store) → Shows v m → IsInOrder m
+shown_in_order v m shows = record {
+  rising = shows.rising;
+  some = λ u there.
+      let slot = shows.all 0 u there in
+      let least = (shows.valid.records slot.slot slot.used slot.there).some in
+      let number = slot.number in
+      absurd (omega (arith, least, number));
+}
+
 pub in_order : {D : Type 0} (disk : Ghosts D) (d : D) (n : ℕ) (m : Store) → IsSpool disk d n m → IsInOrder m
-in_order disk d n m is =
-    let shows = is.shows.shows in
-    record {
-      rising = shows.rising;
-      some = λ u there.
-          let slot = shows.all 0 u there in
-          let least = (shows.valid.records slot.slot slot.used slot.there).some in
-          let number = slot.number in
-          absurd (omega (arith, least, number));
-    }
+in_order disk d n m is = shown_in_order is.shows.view m is.shows.shows

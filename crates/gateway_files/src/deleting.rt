@@ -1,5 +1,5 @@
 //! Uploads of a spool, deleted by their numbers.
-ghost use Rattle.std.specs.Prelude.{◌≡◌, ℕ, Err, IfErr, IfOk, IsErrOf, IsOk, OnOk, true};
+ghost use Rattle.std.specs.Prelude.{◌≡◌, ℕ, Bool, Err, IfErr, IfOk, IsErrOf, IsOk, OnOk, true};
 ghost use Rattle.std.specs.Io.KnownBytes.{Appends};
 ghost use Rattle.spool_disk.specs.Disk.{Counts};
 ghost use Rattle.spool_load.specs.Refusals.{HasOtherVersion, IsDamaged, IsNoSpool};
@@ -94,18 +94,22 @@ pub fn delete_on<D: Disk + Drop, W: Write>(
     }
 }
 
-// Deletes the uploads of these numbers, and writes a line for each: whether each had one.
-fn delete_uploads<W: Write, U: Uploads>(
+/// Deletes the uploads of these numbers, one after the other, and writes a line for each: whether each had one.
+///
+/// Refused with `NoMemory`, `DiskFault` or `Io` at one of them: the others before it are deleted.
+pub fn delete_uploads<W: Write, U: Uploads>(
     writer: &mut W,
     uploads: &mut U,
     numbers: &[u64],
 ) -> Result<bool, Fault>
-    ensures stands { (w : World) → U.stands uploads.old true w
-        → OnOk result (U.stands uploads.new true (record w { store = left w.store numbers.now })) }
-    ensures lines { (w : World) → U.stands uploads.old true w
+    // Whatever the disk, for the uploads that they stand for: those of all other numbers are left, and what was written
+    // tells which were there.
+    ensures stands { (sure : Bool) (w : World) → U.stands uploads.old sure w
+        → OnOk result (U.stands uploads.new sure (record w { store = left w.store numbers.now })) }
+    ensures lines { (sure : Bool) (w : World) → U.stands uploads.old sure w
         → OnOk result (Appends (W.contents writer.old) (W.contents writer.new)
         (deletion_lines w.store numbers.now)) }
-    ensures all { (w : World) → U.stands uploads.old true w
+    ensures all { (sure : Bool) (w : World) → U.stands uploads.old sure w
         → IfOk result (λ all. all ≡ all_there w.store numbers.now) }
     ensures crash { (w : World) → U.stands uploads.old true w
         → LimitsTo (U.moment uploads.old) (U.moment uploads.new) (U.left_only uploads.old) (U.left_only uploads.new)
@@ -127,9 +131,9 @@ fn delete_one<W: Write, U: Uploads>(
     uploads: &mut U,
     number: u64,
 ) -> Result<bool, Fault>
-    ensures stands { (w : World) → U.stands uploads.old true w
-        → OnOk result (U.stands uploads.new true (terminated w number)) }
-    ensures there { (w : World) → U.stands uploads.old true w
+    ensures stands { (sure : Bool) (w : World) → U.stands uploads.old sure w
+        → OnOk result (U.stands uploads.new sure (terminated w number)) }
+    ensures there { (sure : Bool) (w : World) → U.stands uploads.old sure w
         → IfOk result (λ there. there ≡ is_there (upload_of w.store number)) }
     ensures line { IfOk result (λ there. Appends (W.contents writer.old) (W.contents writer.new)
         (deletion_line there number)) }
@@ -146,9 +150,9 @@ fn delete_one<W: Write, U: Uploads>(
 
 // Deletes the upload of a number: whether there was one.
 fn terminate<U: Uploads>(uploads: &mut U, number: u64) -> Result<bool, Fault>
-    ensures stands { (w : World) → U.stands uploads.old true w
-        → OnOk result (U.stands uploads.new true (terminated w number)) }
-    ensures there { (w : World) → U.stands uploads.old true w
+    ensures stands { (sure : Bool) (w : World) → U.stands uploads.old sure w
+        → OnOk result (U.stands uploads.new sure (terminated w number)) }
+    ensures there { (sure : Bool) (w : World) → U.stands uploads.old sure w
         → IfOk result (λ there. there ≡ is_there (upload_of w.store number)) }
     ensures crash { (w : World) → U.stands uploads.old true w
         → Limits (U.moment uploads.old) (U.moment uploads.new) (U.left_only uploads.old) (U.left_only uploads.new)

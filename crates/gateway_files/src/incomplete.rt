@@ -1,5 +1,5 @@
 //! The uploads of a spool that aren't complete.
-ghost use Rattle.std.specs.Prelude.{◌≡◌, ◌++◌, ℕ, Err, IfErr, IfOk, IsOk, OnOk, flat_map, true};
+ghost use Rattle.std.specs.Prelude.{◌≡◌, ◌++◌, ℕ, Err, IfErr, IfOk, IsOk, OnOk, flat_map, Bool};
 ghost use Rattle.std.specs.Io.KnownBytes.{Appends};
 ghost use Rattle.spool_disk.specs.Disk.{Counts, IsImage};
 ghost use Rattle.spool_disk.specs.Views.{Lasts};
@@ -74,16 +74,19 @@ pub fn incomplete_on<D: Disk + Drop>(alloc: Global, disk: D) -> (D, Result<Vec<u
 {
     match Spool::open(alloc, disk) {
         Ok(spool) => {
-            let numbers = incomplete_of(alloc, &spool);
+            let numbers = incomplete_numbers(alloc, &spool);
             (spool.into_disk(), numbers)
         }
         Err((disk, fault)) => (disk, Err(Fault::from(fault))),
     }
 }
 
-// The numbers of the uploads that aren't complete.
-fn incomplete_of<U: Uploads>(alloc: Global, uploads: &U) -> Result<Vec<u64>, Fault>
-    ensures numbers { (w : World) → U.stands uploads.now true w → IsInOrder w.store
+/// The numbers of the uploads that aren't complete, in order.
+///
+/// Refused with `NoMemory` alone.
+pub fn incomplete_numbers<U: Uploads>(alloc: Global, uploads: &U) -> Result<Vec<u64>, Fault>
+    // Whatever the disk: for the uploads that they stand for.
+    ensures numbers { (sure : Bool) (w : World) → U.stands uploads.now sure w → IsInOrder w.store
         → IfOk result (λ numbers. numbers.items ≡ incomplete_of w.store) }
     ensures refused { IfErr result (λ fault. fault ≡ Fault.NoMemory) }
 {

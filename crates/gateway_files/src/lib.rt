@@ -11,6 +11,7 @@ mod formatting;
 mod incomplete;
 mod index_files;
 mod json_lines;
+mod laws;
 mod listing;
 mod losses;
 mod naming;
@@ -23,18 +24,19 @@ mod transcoding;
 mod upgrading;
 
 pub use copies::copy_text;
-pub use deleting::{delete_file, delete_on};
+pub use deleting::{delete_file, delete_on, delete_uploads};
 pub use exporting::{Done, export_file, export_on};
 pub use failures::{Advice, Failure, Task, TextAdvice, ended};
 pub use faults::Fault;
 pub use folders::{FileFolder, Folder};
 pub use formatting::{Formatted, format_file, format_in, format_on};
-pub use incomplete::{delete_incomplete_file, incomplete_on};
+pub use incomplete::{delete_incomplete_file, incomplete_numbers, incomplete_on};
 pub use index_files::{
     IndexFile, IndexFiles, Readable, entries_of, read_indexes_from, standard_entries,
 };
 pub use json_lines::json_file;
-pub use listing::{list_file, list_in, list_on};
+pub use laws::shown_in_order;
+pub use listing::{list_file, list_in, list_on, write_uploads};
 pub use losses::Tally;
 pub use naming::{given_name, is_safe_name};
 pub use planning::{Job, plan};

@@ -1,6 +1,6 @@
 //! The uploads of a spool, line by line.
 ghost use Rattle.std.specs.Prelude.{◌≡◌, ◌⊎◌, ◌++◌, ℕ, Err, IfErr, IfOk, IsOk, None, Ok, OnOk, Some, option_map};
-ghost use Rattle.std.specs.Prelude.{string_bytes, true};
+ghost use Rattle.std.specs.Prelude.{string_bytes, Bool};
 ghost use Rattle.std.specs.Io.KnownBytes.{Appends};
 ghost use Rattle.spool_disk.specs.Disk.{Counts, IsImage};
 ghost use Rattle.spool_disk.specs.Views.{Lasts};
@@ -170,14 +170,17 @@ pub fn list_on<D: Disk + Drop, W: Write>(
     }
 }
 
-// Writes a line for each upload, by number: all of them at once.
-fn write_uploads<W: Write, U: Uploads>(
+/// Writes a line for each upload, by number, with its metadata or without: all of them at once.
+///
+/// Refused with `NoMemory` before anything was written, and with `Io` where the writer refused.
+pub fn write_uploads<W: Write, U: Uploads>(
     alloc: Global,
     writer: &mut W,
     uploads: &U,
     long: bool,
 ) -> Result<(), Fault>
-    ensures lines { (w : World) → U.stands uploads.now true w → IsInOrder w.store
+    // Whatever the disk: for the uploads that they stand for.
+    ensures lines { (sure : Bool) (w : World) → U.stands uploads.now sure w → IsInOrder w.store
         → OnOk result (Appends (W.contents writer.old) (W.contents writer.new) (lines_of long w.store)) }
     ensures refused { IfErr result IsWriteFault }
 {
@@ -188,7 +191,7 @@ fn write_uploads<W: Write, U: Uploads>(
 
 // The lines of the uploads, by number.
 fn lines_of<U: Uploads>(alloc: Global, uploads: &U, long: bool) -> Result<String, AllocError>
-    ensures lines { (w : World) → U.stands uploads.now true w → IsInOrder w.store
+    ensures lines { (sure : Bool) (w : World) → U.stands uploads.now sure w → IsInOrder w.store
         → IfOk result (λ lines. string_bytes lines ≡ lines_of long w.store) }
 {
     let mut lines = String::new(alloc);

@@ -1,5 +1,5 @@
 //! Which texts are to be written, and the names of their files.
-ghost use Rattle.std.specs.Prelude.{◌≡◌, IfOk, OnOk, map, option_map, string_bytes, true};
+ghost use Rattle.std.specs.Prelude.{◌≡◌, IfOk, OnOk, map, option_map, string_bytes, Bool};
 ghost use Rattle.upload_rules.specs.Lengths.{is_length};
 ghost use Rattle.upload_rules.specs.World.{World};
 ghost use Rattle.gateway_files.specs.Lines.{IsInOrder};
@@ -33,7 +33,8 @@ impl Job {
 /// All uploads by number. The text of one is written where it is complete, or where all are. Its file has the name that
 /// its metadata gives, where that is safe and no other file has it, and else its number.
 pub fn plan<U: Uploads>(alloc: Global, uploads: &U, all: bool) -> Result<Vec<Job>, AllocError>
-    ensures { (w : World) → U.stands uploads.now true w → IsInOrder w.store
+    // Whatever the disk: for the uploads that they stand for.
+    ensures { (sure : Bool) (w : World) → U.stands uploads.now sure w → IsInOrder w.store
         → IfOk result (λ jobs. map job_shown jobs.items ≡ jobs_of all w.store) }
 {
     let mut jobs = Vec::new(alloc);

@@ -1,6 +1,6 @@
 //! How much of a spool is in use.
-ghost use Rattle.std.specs.Prelude.{◌≡◌, ◌↔◌, ℕ, Err, IfErr, IfOk, OnOk, Some, true};
-ghost use Rattle.spool_disk.specs.Disk.{Counts, IsImage, Keeps};
+ghost use Rattle.std.specs.Prelude.{◌≡◌, ◌↔◌, ℕ, Err, IfErr, IfOk, OnOk, Some, false, true};
+ghost use Rattle.spool_disk.specs.Disk.{Counts, IsImage, Keeps as KeepsAll};
 ghost use Rattle.spool_disk.specs.Views.{Lasts};
 ghost use Rattle.spool_journal.specs.Image.{journal_pages, overlaid};
 ghost use Rattle.spool_journal.specs.Phases.{Settled};
@@ -12,7 +12,9 @@ ghost use Rattle.upload_rules.specs.Store.{Store};
 ghost use Rattle.upload_rules.specs.World.{at_rest};
 ghost use Rattle.spool_image.specs.LeftOnly.{AllShow, IsSpool, LeftOrShows};
 ghost use Rattle.spool_image.specs.Opening.{ReadsSame, Unwritten};
-ghost use Rattle.spool_image.specs.Spool.{IsFault, OpensAs, OpensFrom, RefusesAs, SpoolStands, disk_of};
+ghost use Rattle.spool_image.specs.Spool.{IsFault, Keeps, OpensAs, OpensFrom, RefusesAs, SpoolStands, disk_of};
+ghost use Rattle.spool_kept.specs.Shows.{Shows};
+ghost use Rattle.spool_pages.specs.View.{View};
 ghost use Rattle.gateway_files.specs.Surveying.{disk_left};
 
 use spool_blocks::SLOTS;
@@ -48,6 +50,11 @@ pub fn open_surveyed<D: Disk>(alloc: Global, disk: D) -> Result<(Spool<D>, Surve
     ensures stands { (n : ℕ) (m : Store) → IsSpool D.Disk disk n m
         → OpensAs result (λ opened. SpoolStands opened.0 true (at_rest m (Some n))) }
     ensures blocks { (n : ℕ) (m : Store) → IsSpool D.Disk disk n m → IfOk result (λ opened. opened.1.blocks ≡ n) }
+
+    // On any disk what it has in memory is a view, and it stands for the uploads that this view shows.
+    ensures view { IfOk result (λ opened. (v : View) × Keeps opened.0 v) }
+    ensures kept { (v : View) (m : Store) → Shows v m
+        → IfOk result (λ opened. Keeps opened.0 v → SpoolStands opened.0 false (at_rest m (Some v.blocks))) }
 
     // What is opened is a valid spool, and it is what a read shows. Each refusal has its reason, and each reason is
     // answered so, unless memory or the disk refuses it.
@@ -97,7 +104,7 @@ fn find_whole<D: Disk>(disk: &mut D) -> Result<Found, OpenFault>
         → Lasts D.Disk disk.old disk.new (IsImage (D.current disk.old) (D.unsynced disk.old)) }
     ensures same { D.honest disk.old → (NeedsReplay (D.size disk.old) (D.current disk.old) → ⊥)
         → (result ≡ Err OpenFault.DiskFault → ⊥)
-        → Keeps (D.current disk.old) (D.current disk.new) (D.unsynced disk.old) (D.unsynced disk.new) }
+        → KeepsAll (D.current disk.old) (D.current disk.new) (D.unsynced disk.old) (D.unsynced disk.new) }
     ensures found { (n : ℕ) (m : Store) → IsSpool D.Disk disk.old n m → LoadsAs result (λ found. found.layout ≡ n) }
     ensures shows { (n : ℕ) (m : Store) → IsSpool D.Disk disk.old n m → OnOk result (AllShow D.Disk disk.new n m) }
     ensures lasts { (n : ℕ) (m : Store) → IsSpool D.Disk disk.old n m

@@ -1,4 +1,4 @@
-use Rattle.std.proofs.Common.{[], ◌∷◌, Some, inl, inr, refl, subst, sym}
+use Rattle.std.proofs.Common.{[], ◌∷◌, Some, inl, inr, refl, subst, sym, true}
 use Rattle.spool_image.specs.LeftOnly.{AllShow}
 use Rattle.spool_image.specs.Spool.{disk_of, size_of}
 use Rattle.spool_image.specs.contracts.spool.SpoolUploads.TheImpl.Laws.{durable-law}
@@ -16,7 +16,7 @@ returns-in-Ok-clause-shows g c n m is ok =
     let s = c.delete_uploads-deleted.new.uploads in
     let m' = left m c.args.numbers.now in
     let stands = when_ok c.delete_uploads-deleted.result _ ok
-    (c.delete_uploads-deleted.ensures.stands (at_rest m (Some n)) (c.in-Ok.ensures.stands n m is)) in
+    (c.delete_uploads-deleted.ensures.stands true (at_rest m (Some n)) (c.in-Ok.ensures.stands n m is)) in
     subst (λ d. AllShow g.D.Disk d n m') (sym c.into_disk.ensures.same)
     (all_show g.D.Disk (disk_of s) (size_of s) n m' (g.met.D.Disk.counts_now (disk_of s))
     (durable-law g.row.D g.D.Disk g.D.Disk-dict
@@ -25,11 +25,11 @@ returns-in-Ok-clause-shows g c n m is ok =
 
 pub returns-in-Ok-clause-lines : goal.returns-in-Ok-clause-lines
 returns-in-Ok-clause-lines g c n m is =
-    c.delete_uploads-deleted.ensures.lines (at_rest m (Some n)) (c.in-Ok.ensures.stands n m is)
+    c.delete_uploads-deleted.ensures.lines true (at_rest m (Some n)) (c.in-Ok.ensures.stands n m is)
 
 pub returns-in-Ok-clause-all : goal.returns-in-Ok-clause-all
 returns-in-Ok-clause-all g c n m is =
-    c.delete_uploads-deleted.ensures.all (at_rest m (Some n)) (c.in-Ok.ensures.stands n m is)
+    c.delete_uploads-deleted.ensures.all true (at_rest m (Some n)) (c.in-Ok.ensures.stands n m is)
 
 pub returns-in-Ok-clause-lasts : goal.returns-in-Ok-clause-lasts
 returns-in-Ok-clause-lasts g c n m is =

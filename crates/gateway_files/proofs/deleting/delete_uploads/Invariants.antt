@@ -1,4 +1,4 @@
-use Rattle.std.proofs.Common.{◌≡◌, drop, true}
+use Rattle.std.proofs.Common.{◌≡◌, drop, Bool}
 use Rattle.upload_rules.specs.World.{World}
 use Rattle.gateway_files.proofs.Deletions.{Halfway}
 use Rattle.gateway_files.proofs.deleting.delete_uploads.Given as goal
@@ -6,6 +6,6 @@ use Rattle.gateway_files.proofs.deleting.delete_uploads.Given as goal
 abbrev pub invariant-loop-number : goal.invariant-loop-number
 invariant-loop-number g l =
     (g.U.Uploads.failures l.uploads ≡ g.U.Uploads.failures l.fn.uploads)
-    × ((w : World) → g.U.Uploads.stands l.fn.uploads true w
-    → Halfway g.U.Uploads w l.fn.uploads l.uploads l.numbers (drop l.number-index l.numbers)
+    × ((sure : Bool) (w : World) → g.U.Uploads.stands l.fn.uploads sure w
+    → Halfway g.U.Uploads sure w l.fn.uploads l.uploads l.numbers (drop l.number-index l.numbers)
     (g.W.Write.contents l.fn.writer) (g.W.Write.contents l.writer) l.all)

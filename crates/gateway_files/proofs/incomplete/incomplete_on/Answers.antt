@@ -1,4 +1,4 @@
-use Rattle.std.proofs.Common.{Some, subst, sym}
+use Rattle.std.proofs.Common.{Some, subst, sym, true}
 use Rattle.spool_disk.specs.Views.{Lasts}
 use Rattle.spool_image.specs.LeftOnly.{AllShow, LeftOrShows}
 use Rattle.upload_rules.specs.World.{at_rest}
@@ -26,5 +26,5 @@ returns-in-Err-clause-damaged g c honest damaged =
 
 pub returns-in-Ok-clause-numbers : goal.returns-in-Ok-clause-numbers
 returns-in-Ok-clause-numbers g c n m is =
-    c.incomplete_of-numbers.ensures.numbers (at_rest m (Some n)) (c.in-Ok.ensures.stands n m is)
+    c.incomplete_numbers-numbers.ensures.numbers true (at_rest m (Some n)) (c.in-Ok.ensures.stands n m is)
     (in_order g.D.Disk c.args.disk n m is)

@@ -1,4 +1,4 @@
-use Rattle.std.proofs.Common.{◌≡◌, ◌++◌, flat_map, true}
+use Rattle.std.proofs.Common.{◌≡◌, ◌++◌, flat_map, Bool}
 use Rattle.std.specs.Prelude.{string_bytes}
 use Rattle.upload_rules.specs.World.{World}
 use Rattle.gateway_files.specs.Lines.{IsInOrder, lines_of, upload_line}
@@ -7,6 +7,6 @@ use Rattle.gateway_files.proofs.listing.lines_of.Given as goal
 
 abbrev pub invariant-loop : goal.invariant-loop
 invariant-loop g l =
-    (w : World) → g.U.Uploads.stands l.fn.uploads true w → IsInOrder w.store
+    (sure : Bool) (w : World) → g.U.Uploads.stands l.fn.uploads sure w → IsInOrder w.store
     → string_bytes l.lines ++ flat_map (upload_line l.long w.store.indexes) (after l.number w.store.uploads)
     ≡ lines_of l.long w.store

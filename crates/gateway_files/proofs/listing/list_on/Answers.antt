@@ -11,7 +11,7 @@ use Rattle.gateway_files.proofs.listing.list_on.Goals as goal
 
 pub returns-in-Ok-written-clause-lines : goal.returns-in-Ok-written-clause-lines
 returns-in-Ok-written-clause-lines g c n m is =
-    c.in-Ok-written.ensures.lines (at_rest m (Some n)) (c.in-Ok.ensures.stands n m is)
+    c.in-Ok-written.ensures.lines true (at_rest m (Some n)) (c.in-Ok.ensures.stands n m is)
     (in_order g.D.Disk c.args.disk n m is)
 
 pub returns-in-Ok-written-clause-shows : goal.returns-in-Ok-written-clause-shows

@@ -1,4 +1,4 @@
-use Rattle.std.proofs.Common.{◌≡◌, map, true}
+use Rattle.std.proofs.Common.{◌≡◌, map, Bool}
 use Rattle.upload_rules.specs.World.{World}
 use Rattle.gateway_files.specs.Lines.{IsInOrder}
 use Rattle.gateway_files.specs.Planning.{job_shown, jobs_from, jobs_of}
@@ -7,5 +7,5 @@ use Rattle.gateway_files.proofs.planning.plan.Given as goal
 
 abbrev pub invariant-loop : goal.invariant-loop
 invariant-loop g l =
-    (w : World) → g.U.Uploads.stands l.fn.uploads true w → IsInOrder w.store
+    (sure : Bool) (w : World) → g.U.Uploads.stands l.fn.uploads sure w → IsInOrder w.store
     → jobs_from l.all (map job_shown l.jobs.items) (after l.number w.store.uploads) ≡ jobs_of l.all w.store

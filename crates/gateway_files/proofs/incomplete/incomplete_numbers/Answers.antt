@@ -1,20 +1,19 @@
-use Rattle.std.proofs.Common.{true}
 use Rattle.gateway_files.specs.Deleting.{incomplete_of, incomplete_one, incomplete_record}
 use Rattle.gateway_files.proofs.Above.{incomplete_is, told_first, told_next, told_none}
-use Rattle.gateway_files.proofs.incomplete.incomplete_of.Goals as goal
+use Rattle.gateway_files.proofs.incomplete.incomplete_numbers.Goals as goal
 
 pub loop-init : goal.loop-init
-loop-init g c w stands order =
+loop-init g c sure w stands order =
     told_first incomplete_one c.new-numbers.result.items w.store.uploads order.some c.new-numbers.ensures.items
 
 pub returns-in_default-clause-numbers : goal.returns-in_default-clause-numbers
-returns-in_default-clause-numbers g c w stands order =
+returns-in_default-clause-numbers g c sure w stands order =
     told_none w.store.indexes incomplete_one (incomplete_of w.store) c.loop.numbers.items w.store.uploads
-    c.loop.number _ (c.record_after.ensures true w stands) (c.loop.invariant w stands order) c.in_default.is
+    c.loop.number _ (c.record_after.ensures sure w stands) (c.loop.invariant sure w stands order) c.in_default.is
 
 pub loop-preserved : goal.loop-preserved
-loop-preserved g c w stands order =
+loop-preserved g c sure w stands order =
     told_next w.store.indexes incomplete_one (incomplete_of w.store) c.loop.numbers.items w.store.uploads
-    c.loop.number _ (c.record_after.ensures true w stands) (c.loop.invariant w stands order) incomplete_record
+    c.loop.number _ (c.record_after.ensures sure w stands) (c.loop.invariant sure w stands order) incomplete_record
     (incomplete_is w.store.indexes) c.in-Some.record c.push_incomplete.new.numbers.items order.rising c.in-Some.is
     c.in_ok-push_incomplete.ensures
