@@ -2,13 +2,12 @@
 use Rattle.std.proofs.Common.{ℕ, ◌+◌, ◌/◌, ◌%◌, ◌<◌, ◌≤◌, ◌≡◌, Bool, true, false, ◌&&◌, ◌||◌, ◌⊎◌, inl, inr, List, []}
 use Rattle.std.proofs.Common.{◌∷◌, refl, arith, nat_lt}
 use Rattle.std.specs.List.{AllByRecursion, list_any}
-use Rattle.std.proofs.lemmas.Bool.{cases_lt}
+use Rattle.std.proofs.lemmas.Bool.{and_parts, cases_lt}
 use Rattle.std.proofs.lemmas.Bool.Decides.{nat_tests}
 use Rattle.enc_model.specs.Index.{within}
 use Rattle.enc_model.specs.Encode.{utf8_bytes}
 use Rattle.enc_index.specs.Scalars.{is_scalar}
 use Rattle.enc_laws.specs.Subparts.{Ranges, table, fills, is_sequence, scalar_of}
-use Rattle.enc_laws.proofs.Leads.{both}
 
 -- A SEQUENCE has one of the table's rows.
 
@@ -29,32 +28,32 @@ IsScalarSequence here = is_scalar (scalar_of here) ≡ true
 row1 : (r : ℕ × ℕ) → ((a : ℕ) → within r.0 r.1 a ≡ true → IsScalarSequence (a ∷ [])) → (here : List ℕ)
     → fills (r ∷ []) here ≡ true → IsScalarSequence here
 row1 r f [] e = absurd cc
-row1 r f (a ∷ []) e = f a (both (within r.0 r.1 a) true e).0
-row1 r f (a ∷ b ∷ here) e = let g = (both (within r.0 r.1 a) false e).1 in absurd cc
+row1 r f (a ∷ []) e = f a (and_parts (within r.0 r.1 a) true e).0
+row1 r f (a ∷ b ∷ here) e = let g = (and_parts (within r.0 r.1 a) false e).1 in absurd cc
 
 row2 : (r s : ℕ × ℕ) → ((a b : ℕ) → within r.0 r.1 a ≡ true → within s.0 s.1 b ≡ true → IsScalarSequence (a ∷ b ∷ [])) →
     (here : List ℕ) → fills (r ∷ s ∷ []) here ≡ true → IsScalarSequence here
 row2 r s f [] e = absurd cc
 row2 r s f (a ∷ here) e =
-    let p = both (within r.0 r.1 a) (fills (s ∷ []) here) e in
+    let p = and_parts (within r.0 r.1 a) (fills (s ∷ []) here) e in
     go here p.1 p.0
   where
     go : (here : List ℕ) → fills (s ∷ []) here ≡ true → within r.0 r.1 a ≡ true → IsScalarSequence (a ∷ here)
     go [] e w = absurd cc
-    go (b ∷ []) e w = f a b w (both (within s.0 s.1 b) true e).0
-    go (b ∷ c ∷ here) e w = let g = (both (within s.0 s.1 b) false e).1 in absurd cc
+    go (b ∷ []) e w = f a b w (and_parts (within s.0 s.1 b) true e).0
+    go (b ∷ c ∷ here) e w = let g = (and_parts (within s.0 s.1 b) false e).1 in absurd cc
 
 row3 : (r s t : ℕ × ℕ) → ((a b c : ℕ) → within r.0 r.1 a ≡ true → within s.0 s.1 b ≡ true → within t.0 t.1 c ≡ true
     → IsScalarSequence (a ∷ b ∷ c ∷ [])) →
     (here : List ℕ) → fills (r ∷ s ∷ t ∷ []) here ≡ true → IsScalarSequence here
 row3 r s t f [] e = absurd cc
-row3 r s t f (a ∷ []) e = let g = (both (within r.0 r.1 a) false e).1 in absurd cc
+row3 r s t f (a ∷ []) e = let g = (and_parts (within r.0 r.1 a) false e).1 in absurd cc
 row3 r s t f (a ∷ b ∷ []) e = let g =
-    (both (within s.0 s.1 b) false (both (within r.0 r.1 a) (within s.0 s.1 b && false) e).1).1 in absurd cc
+    (and_parts (within s.0 s.1 b) false (and_parts (within r.0 r.1 a) (within s.0 s.1 b && false) e).1).1 in absurd cc
 row3 r s t f (a ∷ b ∷ c ∷ here) e =
-    let p = both (within r.0 r.1 a) (within s.0 s.1 b && (within t.0 t.1 c && fills [] here)) e in
-    let q = both (within s.0 s.1 b) (within t.0 t.1 c && fills [] here) p.1 in
-    let v = both (within t.0 t.1 c) (fills [] here) q.1 in
+    let p = and_parts (within r.0 r.1 a) (within s.0 s.1 b && (within t.0 t.1 c && fills [] here)) e in
+    let q = and_parts (within s.0 s.1 b) (within t.0 t.1 c && fills [] here) p.1 in
+    let v = and_parts (within t.0 t.1 c) (fills [] here) q.1 in
     go here v.1 (f a b c p.0 q.0 v.0)
   where
     go : (here : List ℕ) → fills [] here ≡ true → IsScalarSequence (a ∷ b ∷ c ∷ [])
@@ -67,18 +66,18 @@ row4 : (r s t u : ℕ × ℕ) → ((a b c d : ℕ) → within r.0 r.1 a ≡ true
     (here : List ℕ) → fills (r ∷ s ∷ t ∷ u ∷ []) here ≡ true → IsScalarSequence here
 row4 r s t u f [] e = absurd cc
 row4 r s t u f (a ∷ here) e =
-    let p = both (within r.0 r.1 a) (fills (s ∷ t ∷ u ∷ []) here) e in
+    let p = and_parts (within r.0 r.1 a) (fills (s ∷ t ∷ u ∷ []) here) e in
     go here p.1 p.0
   where
     go : (here : List ℕ) → fills (s ∷ t ∷ u ∷ []) here ≡ true → within r.0 r.1 a ≡ true → IsScalarSequence (a ∷ here)
     go [] e w = absurd cc
-    go (b ∷ []) e w = let g = (both (within s.0 s.1 b) false e).1 in absurd cc
+    go (b ∷ []) e w = let g = (and_parts (within s.0 s.1 b) false e).1 in absurd cc
     go (b ∷ c ∷ []) e w = let g =
-        (both (within t.0 t.1 c) false (both (within s.0 s.1 b) (within t.0 t.1 c && false) e).1).1 in absurd cc
+        (and_parts (within t.0 t.1 c) false (and_parts (within s.0 s.1 b) (within t.0 t.1 c && false) e).1).1 in absurd cc
     go (b ∷ c ∷ d ∷ here) e w =
-        let q = both (within s.0 s.1 b) (within t.0 t.1 c && (within u.0 u.1 d && fills [] here)) e in
-        let v = both (within t.0 t.1 c) (within u.0 u.1 d && fills [] here) q.1 in
-        let x = both (within u.0 u.1 d) (fills [] here) v.1 in
+        let q = and_parts (within s.0 s.1 b) (within t.0 t.1 c && (within u.0 u.1 d && fills [] here)) e in
+        let v = and_parts (within t.0 t.1 c) (within u.0 u.1 d && fills [] here) q.1 in
+        let x = and_parts (within u.0 u.1 d) (fills [] here) v.1 in
         last here x.1 (f a b c d w q.0 v.0 x.0)
       where
         last : (here : List ℕ) → fills [] here ≡ true → IsScalarSequence (a ∷ b ∷ c ∷ d ∷ [])

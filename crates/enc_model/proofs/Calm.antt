@@ -12,39 +12,59 @@ use Rattle.enc_model.specs.Utf16.{utf16, Utf16, utf16_end}
 use Rattle.enc_model.specs.Japanese.{single, shift_jis, euc_jp, EucJp, euc_jp_start, iso2022, Iso2022}
 use Rattle.enc_model.specs.Japanese.{iso2022_end}
 
-ends8 : (s : Utf8) → Ends 4 utf8 s
+pub utf8_calm : IsCalm utf8
 unfolding utf8
-ends8 s =
-    elim (s.needed == 0) as (λ v. EndsStep (Ends 3 utf8) utf8
-    (if v then record {
-      state = s;
-      answer = Finished;
-      restored = [];
-    } else record { state = utf8_start; answer = Error; restored = [] }))
-    [ true ↦ tt | false ↦ (lit≤ tt, tt, tt) ]
+utf8_calm = record {
+  few = λ s b. grind (arith, common_steps);
+  quiet = λ s b. grind (arith, common_steps);
+  ends = λ s.
+      elim (s.needed == 0) as (λ v. EndsStep (Ends 3 utf8) utf8
+      (if v then record {
+        state = s;
+        answer = Finished;
+        restored = [];
+      } else record { state = utf8_start; answer = Error; restored = [] }))
+      [ true ↦ tt | false ↦ (lit≤ tt, tt, tt) ];
+}
 
-ends16 : (o : Bool) (s : Utf16) → Ends 4 (utf16 o) s
+pub utf16_calm : (o : Bool) → IsCalm (utf16 o)
 unfolding utf16
-ends16 o s =
-    elim s.byte as (λ x. EndsStep (Ends 3 (utf16 o)) (utf16 o) (utf16_end x s.lead)) [
-      | None ↦ elim s.lead as (λ y. EndsStep (Ends 3 (utf16 o)) (utf16 o) (utf16_end None y))
-          [ None ↦ tt | Some y ↦ (lit≤ tt, tt, tt) ]
-      | Some x ↦ (lit≤ tt, tt, tt)
-    ]
+utf16_calm o = record {
+  few = λ s b. grind (arith, common_steps);
+  quiet = λ s b. grind (arith, common_steps);
+  ends = λ s.
+      elim s.byte as (λ x. EndsStep (Ends 3 (utf16 o)) (utf16 o) (utf16_end x s.lead)) [
+        | None ↦ elim s.lead as (λ y. EndsStep (Ends 3 (utf16 o)) (utf16 o) (utf16_end None y))
+            [ None ↦ tt | Some y ↦ (lit≤ tt, tt, tt) ]
+        | Some x ↦ (lit≤ tt, tt, tt)
+      ];
+}
 
-ends_sjis : (i : Index) (s : ℕ) → Ends 4 (shift_jis i) s
+pub single_calm : (i : Index) → IsCalm (single i)
+unfolding single
+single_calm i = record { few = λ s b. lit≤ tt; quiet = λ s b. tt; ends = λ s. tt }
+
+pub shift_jis_calm : (i : Index) → IsCalm (shift_jis i)
 unfolding shift_jis
-ends_sjis i s =
-    elim (s == 0) as (λ v. EndsStep (Ends 3 (shift_jis i)) (shift_jis i)
-    (record { state = 0; answer = if v then Finished else Error; restored = [] }))
-    [ true ↦ tt | false ↦ (lit≤ tt, tt, tt) ]
+shift_jis_calm i = record {
+  few = λ s b. grind (arith, common_steps);
+  quiet = λ s b. grind (arith, common_steps);
+  ends = λ s.
+      elim (s == 0) as (λ v. EndsStep (Ends 3 (shift_jis i)) (shift_jis i)
+      (record { state = 0; answer = if v then Finished else Error; restored = [] }))
+      [ true ↦ tt | false ↦ (lit≤ tt, tt, tt) ];
+}
 
-ends_euc : (i j : Index) (s : EucJp) → Ends 4 (euc_jp i j) s
+pub euc_jp_calm : (i j : Index) → IsCalm (euc_jp i j)
 unfolding euc_jp
-ends_euc i j s =
-    elim (s.lead == 0) as (λ v. EndsStep (Ends 3 (euc_jp i j)) (euc_jp i j)
-    (record { state = euc_jp_start; answer = if v then Finished else Error; restored = [] }))
-    [ true ↦ tt | false ↦ (lit≤ tt, tt, tt) ]
+euc_jp_calm i j = record {
+  few = λ s b. grind (arith, common_steps);
+  quiet = λ s b. grind (arith, common_steps);
+  ends = λ s.
+      elim (s.lead == 0) as (λ v. EndsStep (Ends 3 (euc_jp i j)) (euc_jp i j)
+      (record { state = euc_jp_start; answer = if v then Finished else Error; restored = [] }))
+      [ true ↦ tt | false ↦ (lit≤ tt, tt, tt) ];
+}
 
 ends2022 : (i : Index) (s : Iso2022) → Ends 4 (iso2022 i) s
 unfolding iso2022
@@ -68,38 +88,6 @@ ends2022 i s =
             | Lead ↦ (lit≤ tt, (refl, tt), (lit≤ tt, tt, tt))
           ]
     ]
-
-pub utf8_calm : IsCalm utf8
-unfolding utf8
-utf8_calm = record { few = λ s b. grind (arith, common_steps); quiet = λ s b. grind (arith, common_steps); ends = ends8 }
-
-pub utf16_calm : (o : Bool) → IsCalm (utf16 o)
-unfolding utf16
-utf16_calm o = record {
-  few = λ s b. grind (arith, common_steps);
-  quiet = λ s b. grind (arith, common_steps);
-  ends = ends16 o;
-}
-
-pub single_calm : (i : Index) → IsCalm (single i)
-unfolding single
-single_calm i = record { few = λ s b. lit≤ tt; quiet = λ s b. tt; ends = λ s. tt }
-
-pub shift_jis_calm : (i : Index) → IsCalm (shift_jis i)
-unfolding shift_jis
-shift_jis_calm i = record {
-  few = λ s b. grind (arith, common_steps);
-  quiet = λ s b. grind (arith, common_steps);
-  ends = ends_sjis i;
-}
-
-pub euc_jp_calm : (i j : Index) → IsCalm (euc_jp i j)
-unfolding euc_jp
-euc_jp_calm i j = record {
-  few = λ s b. grind (arith, common_steps);
-  quiet = λ s b. grind (arith, common_steps);
-  ends = ends_euc i j;
-}
 
 pub iso2022_calm : (i : Index) → IsCalm (iso2022 i)
 unfolding iso2022

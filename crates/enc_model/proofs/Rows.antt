@@ -48,7 +48,7 @@ unfolding steps steps_within code pointer_where utf8 utf16 single shift_jis euc_
     single_encoder encode shift_jis_encoder euc_jp_encoder iso2022_encoder decoding decoded decode text
 utf8_cuts = (refl, refl, refl)
 
--- UTF-16: a lead unit is held, and in the middle of a pair; a whole pair; a lead unit at the end, and one that stands alone.
+-- UTF-16: a lead unit is held, and in the middle of a pair; a whole pair; a lead unit at the end, and one alone.
 utf16_cuts : Gives Utf16Le Utf8 (0x3D ∷ 0xD8 ∷ []) false []
     × Gives Utf16Le Utf8 (0x3D ∷ 0xD8 ∷ 0x00 ∷ []) false []
     × Gives Utf16Le Utf8 (0x3D ∷ 0xD8 ∷ 0x00 ∷ 0xDE ∷ []) true (0xF0 ∷ 0x9F ∷ 0x98 ∷ 0x80 ∷ [])
@@ -93,29 +93,20 @@ unfolding steps steps_within code pointer_where utf8 utf16 single shift_jis euc_
     single_encoder encode shift_jis_encoder euc_jp_encoder iso2022_encoder decoding decoded decode text digits
 to_iso2022 = (refl, refl, refl)
 
--- The minus sign, as the Japanese encoders take it.
-minus : Gives Utf8 ShiftJis (0xE2 ∷ 0x88 ∷ 0x92 ∷ []) true (0x81 ∷ 0x7C ∷ [])
+-- The minus sign, a character with a pointer in the range that Shift_JIS leaves out, and half-width katakana, as each of
+-- the three Japanese encoders takes them.
+to_japanese : Gives Utf8 ShiftJis (0xE2 ∷ 0x88 ∷ 0x92 ∷ []) true (0x81 ∷ 0x7C ∷ [])
+    × Gives Utf8 ShiftJis (0xE7 ∷ 0xBA ∷ 0x8A ∷ []) true (0xFA ∷ 0x5C ∷ [])
+    × Gives Utf8 ShiftJis (0xEF ∷ 0xBD ∷ 0xA1 ∷ []) true (0xA1 ∷ [])
     × Gives Utf8 EucJp (0xE2 ∷ 0x88 ∷ 0x92 ∷ []) true (0xA1 ∷ 0xDD ∷ [])
-    × Gives Utf8 Iso2022Jp (0xE2 ∷ 0x88 ∷ 0x92 ∷ []) true (0x1B ∷ 0x24 ∷ 0x42 ∷ 0x21 ∷ 0x5D ∷ 0x1B ∷ 0x28 ∷ 0x42 ∷ [])
-unfolding steps steps_within code pointer_where utf8 utf16 single shift_jis euc_jp iso2022 coded coded_within
-    single_encoder encode shift_jis_encoder euc_jp_encoder iso2022_encoder decoding decoded decode text
-minus = (refl, refl, refl)
-
--- A character with a pointer in the range that Shift_JIS leaves out.
-excluded_range : Gives Utf8 ShiftJis (0xE7 ∷ 0xBA ∷ 0x8A ∷ []) true (0xFA ∷ 0x5C ∷ [])
     × Gives Utf8 EucJp (0xE7 ∷ 0xBA ∷ 0x8A ∷ []) true (0xF9 ∷ 0xA1 ∷ [])
-    × Gives Utf8 Iso2022Jp (0xE7 ∷ 0xBA ∷ 0x8A ∷ []) true (0x1B ∷ 0x24 ∷ 0x42 ∷ 0x79 ∷ 0x21 ∷ 0x1B ∷ 0x28 ∷ 0x42 ∷ [])
-unfolding steps steps_within code pointer_where utf8 utf16 single shift_jis euc_jp iso2022 coded coded_within
-    single_encoder encode shift_jis_encoder euc_jp_encoder iso2022_encoder decoding decoded decode text
-excluded_range = (refl, refl, refl)
-
--- Half-width katakana, as the Japanese encoders take it.
-half_width : Gives Utf8 ShiftJis (0xEF ∷ 0xBD ∷ 0xA1 ∷ []) true (0xA1 ∷ [])
     × Gives Utf8 EucJp (0xEF ∷ 0xBD ∷ 0xA1 ∷ []) true (0x8E ∷ 0xA1 ∷ [])
+    × Gives Utf8 Iso2022Jp (0xE2 ∷ 0x88 ∷ 0x92 ∷ []) true (0x1B ∷ 0x24 ∷ 0x42 ∷ 0x21 ∷ 0x5D ∷ 0x1B ∷ 0x28 ∷ 0x42 ∷ [])
+    × Gives Utf8 Iso2022Jp (0xE7 ∷ 0xBA ∷ 0x8A ∷ []) true (0x1B ∷ 0x24 ∷ 0x42 ∷ 0x79 ∷ 0x21 ∷ 0x1B ∷ 0x28 ∷ 0x42 ∷ [])
     × Gives Utf8 Iso2022Jp (0xEF ∷ 0xBD ∷ 0xA1 ∷ []) true (0x1B ∷ 0x24 ∷ 0x42 ∷ 0x21 ∷ 0x23 ∷ 0x1B ∷ 0x28 ∷ 0x42 ∷ [])
 unfolding steps steps_within code pointer_where utf8 utf16 single shift_jis euc_jp iso2022 coded coded_within
     single_encoder encode shift_jis_encoder euc_jp_encoder iso2022_encoder decoding decoded decode text
-half_width = (refl, refl, refl)
+to_japanese = (refl, refl, refl, refl, refl, refl, refl, refl, refl)
 
 -- A character without a code in an encoding that refuses it.
 fatal_refusal : (text rows Utf8 Windows1252 Fatal (0xE3 ∷ 0x81 ∷ 0x82 ∷ []) false).fault ≡ Some 0x3042

@@ -3,11 +3,6 @@ use Rattle.enc_model.proofs.Feeding.{feed_refused}
 use Rattle.enc_model.proofs.Parts.{if_err, read_begins, read_more, read_refused}
 use Rattle.enc_model.proofs.decoder.give_prefixes.Goals as goal
 
-pub loop-at-init : goal.loop-at-init
-loop-at-init g c =
-    read_begins g.S.Sink.takes g.S.Sink.refuses g.met.S.Sink.is_sink _ (g.met.D.Decoder.calm c.args.tables.now)
-    c.args.piece.now c.args.sink.now c.args.state.now
-
 pub returns-in_err-ascii-clause-refused : goal.returns-in_err-ascii-clause-refused
 returns-in_err-ascii-clause-refused g c =
     let h = g.D.Decoder.handler c.args.tables.now in
@@ -32,3 +27,8 @@ loop-at-preserved g c =
     c.loop-at.invariant prefix.ensures.within
     (subst (λ z. g.S.Sink.takes c.loop-at.sink z c.ascii.new.self) (ap (λ run. run.text) (sym prefix.ensures.own))
     c.in_ok-ascii.ensures) (ap (λ run. run.state) (sym prefix.ensures.own))
+
+pub loop-at-init : goal.loop-at-init
+loop-at-init g c =
+    read_begins g.S.Sink.takes g.S.Sink.refuses g.met.S.Sink.is_sink _ (g.met.D.Decoder.calm c.args.tables.now)
+    c.args.piece.now c.args.sink.now c.args.state.now
