@@ -53,21 +53,6 @@ anywhere (Wrote b s) P h = tt
 anywhere (Restore b s) P h = tt
 anywhere (Unmappable b s d) P h = h s
 
-sjis_plain : (i : Index) (z : Shift) (x : ℕ) → 0x20 ≤ x → x < 0x5C → StandsFor (shift_jis_encoder i) z x
-unfolding shift_jis_encoder
-sjis_plain i z x l h = grind (arith, nat_tests)
-
-euc_plain : (i : Index) (z : Shift) (x : ℕ) → 0x20 ≤ x → x < 0x5C → StandsFor (euc_jp_encoder i) z x
-unfolding euc_jp_encoder
-euc_plain i z x l h = grind (arith, nat_tests)
-
-single_plain : (i : Index) (z : Shift) (x : ℕ) → 0x20 ≤ x → x < 0x5C → StandsFor (single_encoder i) z x
-unfolding single_encoder
-single_plain i z x l h = grind (arith, nat_tests)
-
-utf8_plain : (z : Shift) (x : ℕ) → 0x20 ≤ x → x < 0x5C → StandsFor utf8_encoder z x
-utf8_plain z x l h = grind (arith, nat_tests)
-
 iso_plain : (i k : Index) (z : Shift) (x : ℕ) → is_jis z ≡ false → 0x20 ≤ x → x < 0x5C
     → StandsFor (iso2022_encoder i k) z x
 unfolding iso2022_encoder
@@ -88,22 +73,23 @@ weaker (Restore b s) P Q h p = tt
 weaker (Unmappable b s d) P Q h p = h s p
 
 encoder_plain : (t : Tables) (e : Encoding) → HasPlain (encoder t e)
+unfolding shift_jis_encoder euc_jp_encoder single_encoder
 encoder_plain t encodings.Utf8 s c x l h = tt
 encoder_plain t encodings.Utf16Be s c x l h = tt
 encoder_plain t encodings.Utf16Le s c x l h = tt
 encoder_plain t encodings.ShiftJis s c x l h =
     let f = shift_jis_encoder t.jis0208 in anywhere (settled f c (f s c)) (λ z. StandsFor f z x)
-    (λ z. sjis_plain t.jis0208 z x l h)
+    (λ z. grind (arith, nat_tests))
 encoder_plain t encodings.EucJp s c x l h =
     let f = euc_jp_encoder t.jis0208 in anywhere (settled f c (f s c)) (λ z. StandsFor f z x)
-    (λ z. euc_plain t.jis0208 z x l h)
+    (λ z. grind (arith, nat_tests))
 encoder_plain t encodings.Iso2022Jp s c x l h =
     let f = iso2022_encoder t.jis0208 t.katakana in
     weaker (settled f c (f s c)) (λ z. is_jis z ≡ false) (λ z. StandsFor f z x)
     (λ z o. iso_plain t.jis0208 t.katakana z x o l h) (iso_out t.jis0208 t.katakana s c)
 encoder_plain t e s c x l h =
     let f = single_encoder (t.single e) in anywhere (settled f c (f s c)) (λ z. StandsFor f z x)
-    (λ z. single_plain (t.single e) z x l h)
+    (λ z. grind (arith, nat_tests))
 
 -- THE CODE OF ONE CHARACTER
 

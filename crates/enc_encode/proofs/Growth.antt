@@ -2,7 +2,7 @@
 use Rattle.std.proofs.Common.{ℕ, List, ◌++◌, ◌≡◌, ◌<◌, ◌≤◌, ◌+◌, sym, ◌∙◌, ap, append_assoc}
 use Rattle.std.proofs.Common.{arith, length, length-append, Vec, Result, Ok, Err, vec_capacity, vec_len}
 use Rattle.std.proofs.Common.{subst, take, drop, take-append-drop, ◌⊎◌, inl, inr}
-use Rattle.std.proofs.lemmas.List.{take_all, take-take, length-take, length-take-le}
+use Rattle.std.proofs.lemmas.List.{take_all, take-take, length-take, length-take-le, length-drop}
 use Rattle.std.proofs.Math.Seq.{take-add}
 use Rattle.std.specs.Result.{IsErrAnd}
 use Rattle.enc_model.specs.Transcode.{GrownByPrefix}
@@ -66,13 +66,15 @@ module _ {Z : Type 0} where
 
   -- by some more
   pub more_of : (old : Vec ℕ Z) (x : List ℕ) (n k m : ℕ) (mid new : Vec ℕ Z) → Filled old x n mid
-      → n + k ≤ length x → m ≤ length (take k (drop n x)) → new.items ≡ mid.items ++ take m (take k (drop n x))
+      → m ≤ length (take k (drop n x)) → new.items ≡ mid.items ++ take m (take k (drop n x))
       → vec_capacity mid ≤ vec_capacity new → Filled old x (n + m) new
-  more_of old x n k m mid new p inside few e a =
+  more_of old x n k m mid new p few e a =
       let l = length-take k (drop n x) in
+      let left = length-drop n x in
+      let within = p.within in
       let small : m ≤ k = omega (arith, few, l) in
       let b = p.capacity in record {
-        within = omega (arith, small, inside);
+        within = omega (arith, few, l, left, within);
         items = e ∙ ap (λ z. mid.items ++ z) (take-take m k (drop n x) small)
             ∙ ap (λ z. z ++ take m (drop n x)) p.items ∙ append_assoc old.items (take n x) (take m (drop n x))
             ∙ ap (λ z. old.items ++ z) (sym (take-add n m x));

@@ -3,14 +3,14 @@ use Rattle.std.proofs.Common.{ℕ, zero, suc, ◌≡◌, ◌<◌, ◌≤◌, ◌
 use Rattle.std.proofs.Common.{map, length}
 use Rattle.std.proofs.Common.{replicate, get_or, refl, ap, ap₂, sym, ◌∙◌, subst, arith, bit_and, Fits, w8, ltb, true}
 use Rattle.std.proofs.lemmas.Bool.Decides.{nat_tests}
-use Rattle.std.proofs.lemmas.List.{length-map, get_or-map}
+use Rattle.std.proofs.lemmas.List.{map-id, length-map, get_or-map}
 use Rattle.std.proofs.lemmas.List.Sums.{prefix_len-le-length, prefix_len_passes}
 use Rattle.std.proofs.lemmas.Nat.{and_mask}
 use Rattle.std.proofs.lemmas.Simd.{zip2_splat, zip2_of_maps, splat_is_map, Each1-get_or}
 use Rattle.std.specs.List.{prefix_len}
 use lib.Lanes.{Each1, zip2, number_l, digits_l}
 use Rattle.lane_kernels.specs.Units.{units_of}
-use Rattle.lane_kernels.proofs.Made.{low_units}
+use Rattle.lane_kernels.proofs.Made.{length-units_of, low_units}
 use Rattle.enc_encode.specs.Letters.{IsLetter, pair_codes}
 
 -- LEADS AND TRAILS
@@ -40,14 +40,6 @@ all [] below = refl
 all (a ∷ []) below = refl
 all (a ∷ b ∷ xs) below = ap₂ (λ y ys. y ∷ ys) (each a b below.0 below.1.0) (all xs below.1.1)
 
-units_long : (n : ℕ) (xs : List ℕ) → length xs ≡ 2 * n → length (units_of false xs) ≡ n
-units_long zero [] long = refl
-units_long zero (a ∷ xs) long = absurd (omega (arith, long))
-units_long (suc n) [] long = absurd (omega (arith, long))
-units_long (suc n) (a ∷ []) long = absurd (omega (arith, long))
-units_long (suc n) (a ∷ b ∷ xs) long =
-    let rest = units_long n xs (omega (arith, long)) in omega (arith, rest)
-
 abbrev units : List ℕ → List ℕ
 units lanes = digits_l 65536 16 (number_l 256 lanes)
 
@@ -57,7 +49,7 @@ pub codes_are : (lanes : List ℕ) → length lanes ≡ 32 → Each1 (λ x. x < 
 codes_are lanes long below =
     let v = units lanes in
     let is : v ≡ units_of false lanes = low_units 16 lanes long below in
-    let many : length v ≡ 16 = ap length is ∙ units_long 16 lanes long in
+    let many : length v ≡ 16 = ap length is ∙ length-units_of false 16 lanes long in
     zip2_of_maps plus (λ x. last x * 2 ^ 6 % 2 ^ 16) (λ x. x / 2 ^ 8) v
     (zip2_of_maps left last (λ _. 6) v (zip2_splat bit_and v 16 255 many) (splat_is_map v 16 6 many))
     (zip2_splat right v 16 8 many)
@@ -80,10 +72,6 @@ fit : (b : ℕ) (v : List ℕ) → Each1 (Fits w8) (map (λ p. (p + b) % 256) v)
 fit b [] = tt
 fit b (p ∷ v) = (record { fits = omega arith }, fit b v)
 
-same : (v : List ℕ) → map (λ x. x) v ≡ v
-same [] = refl
-same (x ∷ v) = ap (λ rest. x ∷ rest) (same v)
-
 module _ (b : ℕ) (v : List ℕ) (long : length v ≡ 16) where
   masked : zip2 bit_and (zip2 plus v (replicate 16 b)) (replicate 16 255) ≡ map (λ p. (p + b) % 256) v
   masked =
@@ -95,7 +83,7 @@ module _ (b : ℕ) (v : List ℕ) (long : length v ≡ 16) where
 
   pub bytes_are : map (λ x. x) (zip2 bit_and (zip2 plus v (replicate 16 b)) (replicate 16 255))
       ≡ map (λ p. (p + b) % 256) v
-  bytes_are = same (zip2 bit_and (zip2 plus v (replicate 16 b)) (replicate 16 255)) ∙ masked
+  bytes_are = map-id (zip2 bit_and (zip2 plus v (replicate 16 b)) (replicate 16 255)) ∙ masked
 
 -- LETTERS
 

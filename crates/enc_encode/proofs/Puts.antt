@@ -1,25 +1,34 @@
 -- Bytes that were put after others, place by place.
-use Rattle.std.proofs.Common.{ℕ, suc, ◌≡◌, ◌<◌, ◌≤◌, ◌+◌, List, [], ◌∷◌, ◌++◌, sym, ◌∙◌, ap, ap₂, subst, arith}
+use Rattle.std.proofs.Common.{ℕ, suc, ◌≡◌, ◌<◌, ◌≤◌, ◌+◌, ◌-◌, List, [], ◌∷◌, ◌++◌, sym, ◌∙◌, ap, ap₂, subst, arith}
 use Rattle.std.proofs.Common.{All, append_assoc, length, take, drop, get_or, set}
 use Rattle.std.proofs.lemmas.List.{length-take-le, take-append-le, take-take, take_more, take_more_set}
 use Rattle.std.proofs.lemmas.List.Elements.{All-append, All-cons}
-use Rattle.std.proofs.lemmas.Simd.{length-put_chunk, take_more_put_chunk}
+use Rattle.std.proofs.lemmas.Simd.{length-chunk, length-put_chunk, take_more_put_chunk}
 use Rattle.std.proofs.Math.Seq.{take-add, take-append-add, drop-cons}
 use lib.Lanes.{put_chunk}
 
+-- how far bytes were put after the first so many
+abbrev pub PutTo : List ℕ → List ℕ → List ℕ → ℕ → ℕ → Type 0
+PutTo bytes old held from at = (at ≤ length bytes) × (from + at ≤ 2048) × (length held ≡ 2048)
+    × All (λ b. b < 128) (take at bytes) × (take (from + at) held ≡ take from old ++ take at bytes)
+
 -- the first of lanes that were stored after the first so many
-pub stored : (code part more lanes : List ℕ) (from n w : ℕ) → length lanes ≡ w → n ≤ w → from ≤ length code
-    → w ≤ length part →
-    take (from + n) (take from code ++ (put_chunk 0 part lanes ++ more)) ≡ take from code ++ take n lanes
-stored code part more lanes from n w long few inside room =
-    let prefix = take from code in
+pub stored : (held more lanes : List ℕ) (from n w : ℕ) → length held ≡ 2048 → length lanes ≡ w → n ≤ w
+    → from + w ≤ 2048 →
+    take (from + n) (take from held ++ (put_chunk 0 (take (2048 - from) (drop from held)) lanes ++ more))
+    ≡ take from held ++ take n lanes
+stored held more lanes from n w full long few room =
+    let prefix = take from held in
+    let part = take (2048 - from) (drop from held) in
+    let part_long = length-chunk from (2048 - from) held (omega (arith, room, full)) in
     let new = put_chunk 0 part lanes in
-    let prefix_long : length prefix ≡ from = length-take-le from code inside in
+    let prefix_long : length prefix ≡ from = length-take-le from held (omega (arith, room, full)) in
     let new_long : length new ≡ length part = length-put_chunk 0 part lanes in
-    let whole : take w new ≡ lanes = take_more_put_chunk 0 part lanes w (omega (arith, long)) room in
+    let whole : take w new ≡ lanes =
+    take_more_put_chunk 0 part lanes w (omega (arith, long)) (omega (arith, part_long, room)) in
     subst (λ k. take (k + n) (prefix ++ (new ++ more)) ≡ prefix ++ take n (new ++ more)) prefix_long
     (take-append-add prefix (new ++ more) n)
-    ∙ ap (λ z. prefix ++ z) (take-append-le n new more (omega (arith, new_long, room, few))
+    ∙ ap (λ z. prefix ++ z) (take-append-le n new more (omega (arith, new_long, part_long, room, few))
     ∙ sym (take-take n w new few) ∙ ap (take n) whole)
 
 -- the first of the lanes at a place, or all

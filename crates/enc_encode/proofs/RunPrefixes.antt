@@ -12,7 +12,7 @@ use Rattle.enc_model.proofs.Gathered.{ascii_chars, ascii_utf8}
 use lib.Utf8.{encode}
 use Rattle.enc_model.specs.declared.Encoding.{Encoding}
 use Rattle.enc_model.specs.declared.Mode.{Mode}
-use Rattle.enc_model.specs.Encode.{Shift, Encoder, Coded, Tables, all_codes, code_of, coded, encoder}
+use Rattle.enc_model.specs.Encode.{Shift, Encoder, Coded, Tables, code_of, coded, encoder}
 use Rattle.enc_model.proofs.Coding.{coded_is}
 use Rattle.enc_model.proofs.Transcoding.{coded_both}
 use Rattle.enc_model.proofs.Steady.{encoder_steady}
@@ -41,21 +41,11 @@ one_stays : (f : Encoder) (mode : Mode) (s : Shift) (c : ℕ) (b : List ℕ) →
 }
 one_stays f mode s c b e = rw e refl
 
-all_stay : (f : Encoder) (mode : Mode) (s : Shift) (cs bytes : List ℕ) → AllGiven (Stays f s) cs bytes →
-    all_codes (code_of f mode) s cs ≡ record { bytes = bytes; state = s; fault = None }
-all_stay f mode s [] bytes p = rw p refl
-all_stay f mode s (c ∷ cs) bytes p =
-    rw (one_stays f mode s c p.0 p.3, all_stay f mode s cs p.1 p.4, p.2) refl
-
-pub run_code : (t : Tables) (e : Encoding) (mode : Mode) (s : Shift) (cs bytes : List ℕ)
-    → AllGiven (Stays (encoder t e) s) cs bytes →
-    coded (encoder t e) mode s cs ≡ record { bytes = bytes; state = s; fault = None }
-run_code t e mode s cs bytes p =
-    coded_is (encoder t e) (encoder_steady t e) mode s cs ∙ all_stay (encoder t e) mode s cs bytes p
-
 pub stays_coded : (t : Tables) (e : Encoding) (mode : Mode) (s : Shift) (c : ℕ) (b : List ℕ)
     → Stays (encoder t e) s c b → IsCoded t e mode s c b
-stays_coded t e mode s c b h = run_code t e mode s (c ∷ []) b (b, [], sym (append-nil b), h, refl)
+stays_coded t e mode s c b h =
+    coded_is (encoder t e) (encoder_steady t e) mode s (c ∷ [])
+    ∙ rw (one_stays (encoder t e) mode s c b h, append-nil) refl
 
 pub coded_run : (t : Tables) (e : Encoding) (mode : Mode) (s : Shift) (cs bytes : List ℕ)
     → AllGiven (IsCoded t e mode s) cs bytes →
@@ -68,17 +58,6 @@ coded_run t e mode s (c ∷ cs) bytes p =
     ∙ rw (h, coded_run t e mode s cs p.1 p.4, p.2) refl
 
 -- A FRONT
-
-all_more : (gives : ℕ → List ℕ → Type 0) (cs bytes : List ℕ) (c : ℕ) (b : List ℕ) → AllGiven gives cs bytes
-    → gives c b → AllGiven gives (cs ++ c ∷ []) (bytes ++ b)
-all_more gives [] bytes c b p q = (b, [], rw p (sym (append-nil b)), q, refl)
-all_more gives (d ∷ cs) bytes c b p q = (
-  p.0,
-  p.1 ++ b,
-  ap (λ z. z ++ b) p.2 ∙ append_assoc p.0 p.1 b,
-  p.3,
-  all_more gives cs p.1 c b p.4 q,
-)
 
 all_weaker : (gives are : ℕ → List ℕ → Type 0) → ((c : ℕ) (b : List ℕ) → gives c b → are c b) → (cs bytes : List ℕ)
     → AllGiven gives cs bytes → AllGiven are cs bytes
@@ -112,34 +91,17 @@ pub stays_run : (t : Tables) (e : Encoding) (mode : Mode) (s : Shift) (text rest
 stays_run t e mode s text rest held new =
     run_weaker (Stays (encoder t e) s) (IsCoded t e mode s) text rest held new (stays_coded t e mode s)
 
-module _ (gives : ℕ → List ℕ → Type 0) where
-  -- no character yet
-  pub run_none : (text held kept : List ℕ) → kept ≡ held → RunPrefix gives text text held kept
-  run_none text held kept e = record {
-    prefix = [];
-    bytes = [];
-    parts = refl;
-    own = IsUtf8-nil;
-    kept = e ∙ sym (append-nil held);
-    given = subst (λ z. AllGiven gives z []) (sym chars-nil) refl;
-  }
-
-  -- one character more
-  pub run_more : (text rest left held kept new b : List ℕ) → IsUtf8 rest → RunPrefix gives text rest held kept
-      → FirstGiven gives rest b left → new ≡ kept ++ b → RunPrefix gives text left held new
-  run_more text rest left held kept new b u p q e =
-      let one = encode q.c in
-      let own = char_own rest left q.c u q.parts in
-      let all : chars (p.prefix ++ one) ≡ chars p.prefix ++ q.c ∷ [] =
-      chars-append p.prefix one p.own ∙ ap (λ z. chars p.prefix ++ z) (char_one q.c own) in record {
-        prefix = p.prefix ++ one;
-        bytes = p.bytes ++ b;
-        parts = p.parts ∙ ap (λ z. p.prefix ++ z) q.parts ∙ sym (append_assoc p.prefix one left);
-        own = IsUtf8-append p.prefix one p.own own;
-        kept = e ∙ ap (λ z. z ++ b) p.kept ∙ append_assoc held p.bytes b;
-        given = subst (λ z. AllGiven gives z (p.bytes ++ b)) (sym all)
-            (all_more gives (chars p.prefix) p.bytes q.c b p.given q.given);
-      }
+-- no character yet
+pub run_none : (gives : ℕ → List ℕ → Type 0) (text held kept : List ℕ) → kept ≡ held
+    → RunPrefix gives text text held kept
+run_none gives text held kept e = record {
+  prefix = [];
+  bytes = [];
+  parts = refl;
+  own = IsUtf8-nil;
+  kept = e ∙ sym (append-nil held);
+  given = subst (λ z. AllGiven gives z []) (sym chars-nil) refl;
+}
 
 -- two more items after the first ones
 pub take_two_set : (xs : List ℕ) (n a b : ℕ) → n + 1 < length xs
@@ -190,6 +152,21 @@ run_both gives text rest left held kept new p q = record {
   given = subst (λ z. AllGiven gives z (p.bytes ++ q.bytes)) (sym (chars-append p.prefix q.prefix p.own))
       (all_both gives (chars p.prefix) (chars q.prefix) p.bytes q.bytes p.given q.given);
 }
+
+-- one character more
+pub run_more : (gives : ℕ → List ℕ → Type 0) (text rest left held kept new b : List ℕ) → IsUtf8 rest
+    → RunPrefix gives text rest held kept → FirstGiven gives rest b left → new ≡ kept ++ b
+    → RunPrefix gives text left held new
+run_more gives text rest left held kept new b u p q e =
+    let own = char_own rest left q.c u q.parts in
+    run_both gives text rest left held kept new p (record {
+      prefix = encode q.c;
+      bytes = b;
+      parts = q.parts;
+      own = own;
+      kept = e;
+      given = subst (λ z. AllGiven gives z b) (sym (char_one q.c own)) (b, [], sym (append-nil b), q.given, refl);
+    })
 
 -- ASCII that stands for itself
 pub run_ascii : (gives : ℕ → List ℕ → Type 0) → ((c : ℕ) → c < 128 → gives c (c ∷ [])) → (text : List ℕ) (n : ℕ)

@@ -4,7 +4,7 @@ use Rattle.std.proofs.Common.{List, [], ◌∷◌, ◌++◌, length, Option, Som
 use Rattle.std.proofs.Common.{slice_index_or, IfSome, unwrap_or, SomeIff, MatchOption, nat_lt, nat_le, ◌==◌, inl, inr}
 use Rattle.std.proofs.Common.{lit<, lit≤, subst}
 use Rattle.std.proofs.lemmas.Bool.Decides.{nat_tests}
-use Rattle.std.proofs.lemmas.Bool.{cases_lt, leb-true, ltb-true}
+use Rattle.std.proofs.lemmas.Bool.{and_parts, cases_lt, leb-true, ltb-true}
 use Rattle.std.proofs.lemmas.List.{get_or_past}
 use Rattle.std.proofs.lemmas.Nat.{from_be_bytes-to_be_bytes_4, be_bytes_4}
 use Rattle.std.specs.Char.{IsScalar, InScalarRange, OutOfScalarRange}
@@ -40,10 +40,6 @@ codes_scalar codes n word e h k =
       | inr l ↦ rw (get_or_past codes k none l) (tt)
     ]
 
-both_true : (a b : Bool) → (a && b) ≡ true → (a ≡ true) × (b ≡ true)
-both_true true b e = (refl, e)
-both_true false b e = absurd cc
-
 record Ascending (low bound : ℕ) (pair : ℕ × ℕ) (index : Index) : Type 0 where
   from : low ≤ pair.0
   below : pair.0 < bound
@@ -54,10 +50,10 @@ ascending : (low bound : ℕ) (pair : ℕ × ℕ) (index : Index) → ascends lo
     → Ascending low bound pair index
 unfolding ascends
 ascending low bound pair index a =
-    let outer = both_true ((nat_le low pair.0 && nat_lt pair.0 bound) && is_scalar pair.1)
+    let outer = and_parts ((nat_le low pair.0 && nat_lt pair.0 bound) && is_scalar pair.1)
     (ascends (suc pair.0) bound index) a in
-    let middle = both_true (nat_le low pair.0 && nat_lt pair.0 bound) (is_scalar pair.1) outer.0 in
-    let inner = both_true (nat_le low pair.0) (nat_lt pair.0 bound) middle.0 in
+    let middle = and_parts (nat_le low pair.0 && nat_lt pair.0 bound) (is_scalar pair.1) outer.0 in
+    let inner = and_parts (nat_le low pair.0) (nat_lt pair.0 bound) middle.0 in
     record {
       from = leb-true low pair.0 inner.0;
       below = ltb-true pair.0 bound inner.1;
@@ -246,31 +242,16 @@ words_is x area start pointers index a l v h k i =
     word_is x area (start + k) (entry_of index k) a (omega arith) (h k i) (code_small index pointers k v)
 
 spot_jis0208 : (k : ℕ) → k < 11280 → spot_of (0 + k) ≡ (0, k)
-spot_jis0208 k h =
-    let first : nat_lt (0 + k) 11280 ≡ true = grind (arith, nat_tests, h) in
-    rw first (ap (λ p. (0, p)) (omega arith))
+spot_jis0208 k h = grind (arith, nat_tests)
 
 spot_jis0212 : (k : ℕ) → k < 8836 → spot_of (11280 + k) ≡ (1, k)
-spot_jis0212 k h =
-    let first : nat_lt (11280 + k) 11280 ≡ false = grind (arith, nat_tests) in
-    let second : nat_lt (11280 + k) 20116 ≡ true = grind (arith, nat_tests, h) in
-    rw (first, second) (ap (λ p. (1, p)) (omega arith))
+spot_jis0212 k h = grind (arith, nat_tests)
 
 spot_katakana : (k : ℕ) → k < 63 → spot_of (20116 + k) ≡ (2, k)
-spot_katakana k h =
-    let first : nat_lt (20116 + k) 11280 ≡ false = grind (arith, nat_tests) in
-    let second : nat_lt (20116 + k) 20116 ≡ false = grind (arith, nat_tests) in
-    let third : nat_lt (20116 + k) 20179 ≡ true = grind (arith, nat_tests, h) in
-    rw (first, second, third) (ap (λ p. (2, p)) (omega arith))
+spot_katakana k h = grind (arith, nat_tests)
 
 spot_single : (n k : ℕ) → k < 128 → spot_of (20179 + 128 * n + k) ≡ (3 + n, k)
-spot_single n k h =
-    let first : nat_lt (20179 + 128 * n + k) 11280 ≡ false = grind (arith, nat_tests) in
-    let second : nat_lt (20179 + 128 * n + k) 20116 ≡ false = grind (arith, nat_tests) in
-    let third : nat_lt (20179 + 128 * n + k) 20179 ≡ false = grind (arith, nat_tests) in
-    let file : (20179 + 128 * n + k - 20179) / 128 ≡ n = omega arith in
-    let pointer : (20179 + 128 * n + k - 20179) % 128 ≡ k = omega arith in
-    rw (first, second, third, file, pointer) refl
+spot_single n k h = grind (arith, nat_tests)
 
 entry_in : (x : IndexSet) (entry file p : ℕ) → spot_of entry ≡ (file, p)
     → entry_at x entry ≡ entry_of (nth_file x file) p
@@ -300,12 +281,7 @@ pub katakana_in : (x : IndexSet) (area : List ℕ) → IsIndexSet x → IsAreaOf
 katakana_in x area v a = file_in x area 2 20116 63 a (lit< tt) (lit≤ tt) v.katakana spot_katakana
 
 nth_single : (x : IndexSet) (n : ℕ) → nth_file x (3 + n) ≡ slice_index_or x.single n None
-nth_single x n =
-    let first : (3 + n == 0) ≡ false = grind (arith, nat_tests) in
-    let second : (3 + n == 1) ≡ false = grind (arith, nat_tests) in
-    let third : (3 + n == 2) ≡ false = grind (arith, nat_tests) in
-    let place : 3 + n - 3 ≡ n = omega arith in
-    rw (first, second, third, place) refl
+nth_single x n = grind (arith, nat_tests)
 
 pub single_in : (x : IndexSet) (area : List ℕ) → IsIndexSet x → IsAreaOf x area → (n : ℕ) → n < 15
     → IsFileIn area (3 + n) (20179 + 128 * n) 128 (slice_index_or x.single n None)
@@ -322,9 +298,7 @@ made a b c d = record { jis0208 = a; jis0212 = b; katakana = c; single = d }
 pub set_is : (x : IndexSet) (jis0208 jis0212 katakana : Option Index) (single : List (Option Index))
     → jis0208 ≡ x.jis0208 → jis0212 ≡ x.jis0212 → katakana ≡ x.katakana → single ≡ x.single →
     made jis0208 jis0212 katakana single ≡ x
-set_is x a b c d ea eb ec ed =
-    ap (λ y. made y b c d) ea ∙ ap (λ y. made x.jis0208 y c d) eb ∙ ap (λ y. made x.jis0208 x.jis0212 y d) ec
-    ∙ ap (λ y. made x.jis0208 x.jis0212 x.katakana y) ed
+set_is x a b c d ea eb ec ed = rw (ea, eb, ec, ed) refl
 
 -- COMPARED BY WORDS
 
@@ -394,18 +368,11 @@ entry_is x area entry f h =
 
 zero_before : (x : IndexSet) (place : ℕ) → 18 ≤ place → place < 32 → area_byte x place ≡ 0
 unfolding area_byte
-zero_before x place g l =
-    let past : nat_lt place 18 ≡ false = grind (arith, nat_tests, g) in
-    let inside : nat_lt place 32 ≡ true = grind (arith, nat_tests, l) in
-    rw (area_byte, past, inside) refl
+zero_before x place g l = grind (arith, nat_tests)
 
 zero_after : (x : IndexSet) (place : ℕ) → 88428 ≤ place → area_byte x place ≡ 0
 unfolding area_byte
-zero_after x place g =
-    let past_flags : nat_lt place 18 ≡ false = grind (arith, nat_tests, g) in
-    let past_zeros : nat_lt place 32 ≡ false = grind (arith, nat_tests, g) in
-    let past : nat_lt place 88428 ≡ false = grind (arith, nat_tests, g) in
-    rw (area_byte, past_flags, past_zeros, past) refl
+zero_after x place g = grind (arith, nat_tests)
 
 entry_byte : (x : IndexSet) (area : List ℕ) (place : ℕ) → ((i : ℕ) → slice_index area i < 256) → HasFiles x area
     → 32 ≤ place → place < 88428 → slice_index area place ≡ area_byte x place

@@ -25,34 +25,18 @@ least : pointer ((0, 0x3000) ∷ (60, 0xFF0D) ∷ (61, 0xFF0D) ∷ []) 0xFF0D �
 unfolding pointer_where
 least = refl
 
-sixth_again : file_of Jis0208 (small ++ line (codes "60") (codes "3001")) ≡ Err (Twice 6)
+-- Refused are a pointer that was there, one out of range, a surrogate, a code point that is too great, a line without a
+-- tab, seven digits, and none.
+refused : (file_of Jis0208 (small ++ line (codes "60") (codes "3001")) ≡ Err (Twice 6))
+    × (file_of Jis0208 (line (codes "11280") (codes "3001")) ≡ Err (Range 1))
+    × (file_of Jis0208 (line (codes "0") (codes "D800")) ≡ Err (Range 1))
+    × (file_of Jis0208 (line (codes "0") (codes "110000")) ≡ Err (Range 1))
+    × (file_of Jis0208 (codes "x") ≡ Err (Line 1))
+    × (file_of Jis0208 (line (codes "0000001") (codes "3001")) ≡ Err (Line 1))
+    × (file_of Jis0208 (line (codes "0") (codes "0x")) ≡ Err (Line 1))
 unfolding line small before after pieces without_crs onward without_spaces pair_of code inserted with_line with_lines
     file_of
-sixth_again = refl
-
-out_of_range : file_of Jis0208 (line (codes "11280") (codes "3001")) ≡ Err (Range 1)
-unfolding line before after pieces without_crs onward without_spaces pair_of code inserted with_line with_lines file_of
-out_of_range = refl
-
-surrogate : file_of Jis0208 (line (codes "0") (codes "D800")) ≡ Err (Range 1)
-unfolding line before after pieces without_crs onward without_spaces pair_of code inserted with_line with_lines file_of
-surrogate = refl
-
-too_great : file_of Jis0208 (line (codes "0") (codes "110000")) ≡ Err (Range 1)
-unfolding line before after pieces without_crs onward without_spaces pair_of code inserted with_line with_lines file_of
-too_great = refl
-
-no_tab : file_of Jis0208 (codes "x") ≡ Err (Line 1)
-unfolding line before after pieces without_crs onward without_spaces pair_of code inserted with_line with_lines file_of
-no_tab = refl
-
-seven_digits : file_of Jis0208 (line (codes "0000001") (codes "3001")) ≡ Err (Line 1)
-unfolding line before after pieces without_crs onward without_spaces pair_of code inserted with_line with_lines file_of
-seven_digits = refl
-
-no_digit : file_of Jis0208 (line (codes "0") (codes "0x")) ≡ Err (Line 1)
-unfolding line before after pieces without_crs onward without_spaces pair_of code inserted with_line with_lines file_of
-no_digit = refl
+refused = (refl, refl, refl, refl, refl, refl, refl)
 
 -- CR LF, pointers out of order, and a third field
 crlf : file_of Katakana (codes "2" ++ 0x09 ∷ codes "30f2" ++ 0x09 ∷ codes "x" ++ 0x0D ∷ 0x0A ∷ 0x0D ∷ 0x0A ∷ codes
@@ -68,23 +52,12 @@ one_file = record no_indexes { jis0208 = Some ((0, 0x3000) ∷ (60, 0xFF0D) ∷ 
 bytes_at : List ℕ → List ℕ
 bytes_at places = map (area_byte one_file) places
 
-flags : bytes_at (0 ∷ 1 ∷ 17 ∷ 31 ∷ []) ≡ 1 ∷ 0 ∷ 0 ∷ 0 ∷ []
-unfolding bytes_at one_file area_byte
-flags = refl
-
-first_entry : bytes_at (32 ∷ 33 ∷ 34 ∷ 35 ∷ []) ≡ 0x00 ∷ 0x00 ∷ 0x30 ∷ 0x00 ∷ []
+-- the flags, the first entry, one without a code point, that of pointer 60, and the last byte of the last table with
+-- the zeros after it
+bytes : (bytes_at (0 ∷ 1 ∷ 17 ∷ 31 ∷ []) ≡ 1 ∷ 0 ∷ 0 ∷ 0 ∷ [])
+    × (bytes_at (32 ∷ 33 ∷ 34 ∷ 35 ∷ []) ≡ 0x00 ∷ 0x00 ∷ 0x30 ∷ 0x00 ∷ [])
+    × (bytes_at (36 ∷ 37 ∷ 38 ∷ 39 ∷ []) ≡ 0xFF ∷ 0xFF ∷ 0xFF ∷ 0xFF ∷ [])
+    × (bytes_at (272 ∷ 273 ∷ 274 ∷ 275 ∷ []) ≡ 0x00 ∷ 0x00 ∷ 0xFF ∷ 0x0D ∷ [])
+    × (bytes_at (88427 ∷ 88428 ∷ 90111 ∷ []) ≡ 0xFF ∷ 0x00 ∷ 0x00 ∷ [])
 unfolding bytes_at one_file area_byte entry_at code
-first_entry = refl
-
-no_entry : bytes_at (36 ∷ 37 ∷ 38 ∷ 39 ∷ []) ≡ 0xFF ∷ 0xFF ∷ 0xFF ∷ 0xFF ∷ []
-unfolding bytes_at one_file area_byte entry_at code
-no_entry = refl
-
-of_pointer_60 : bytes_at (272 ∷ 273 ∷ 274 ∷ 275 ∷ []) ≡ 0x00 ∷ 0x00 ∷ 0xFF ∷ 0x0D ∷ []
-unfolding bytes_at one_file area_byte entry_at code
-of_pointer_60 = refl
-
--- the last byte of the last table, and the zeros after it
-at_the_end : bytes_at (88427 ∷ 88428 ∷ 90111 ∷ []) ≡ 0xFF ∷ 0x00 ∷ 0x00 ∷ []
-unfolding bytes_at one_file area_byte entry_at code
-at_the_end = refl
+bytes = (refl, refl, refl, refl, refl)

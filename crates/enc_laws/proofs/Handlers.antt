@@ -1,6 +1,7 @@
 -- Each handler gives scalars alone.
 use Rattle.std.proofs.Common.{ℕ, ◌+◌, ◌-◌, ◌*◌, ◌<◌, ◌≤◌, ◌≡◌, ◌==◌, Bool, true, false, ◌&&◌, ◌||◌, List, [], ◌∷◌}
 use Rattle.std.proofs.Common.{Option, Some, None, refl, arith, if◌then◌else◌, nat_lt, lit≤, lit<}
+use Rattle.std.proofs.lemmas.Bool.{and_parts}
 use Rattle.std.proofs.lemmas.Bool.Decides.{nat_tests}
 use Rattle.enc_model.specs.declared.Answer.{Answer}
 use Rattle.enc_model.specs.declared.Answer.TheVariants.{Point, Error, Nothing, Finished}
@@ -19,7 +20,6 @@ use Rattle.enc_model.specs.Japanese.{iso2022_end}
 use Rattle.enc_index.specs.Scalars.{is_scalar}
 use Rattle.enc_laws.proofs.Scalars.{low_scalar, high_scalar, IsScalarOption, HasScalars, IsScalarAnswer, FewBytes}
 use Rattle.enc_laws.proofs.Scalars.{IsValid}
-use Rattle.enc_laws.proofs.Leads.{both}
 
 abbrev pub Always : {S : Type 0} → S → Type 0
 Always s = Unit {0}
@@ -179,7 +179,7 @@ euc_jp_reads i j p q s b g l =
     (λ e. branch (IsValid Always) ((s.lead == 0x8E) && within 0xA1 0xDF b) _ _
     (λ f. record {
       state = tt;
-      answer = half_width b 0xA1 0xDF (both (s.lead == 0x8E) (within 0xA1 0xDF b) f).1 (lit≤ tt);
+      answer = half_width b 0xA1 0xDF (and_parts (s.lead == 0x8E) (within 0xA1 0xDF b) f).1 (lit≤ tt);
       restored = tt;
     })
     (λ f. branch (IsValid Always) ((s.lead == 0x8F) && within 0xA1 0xFE b) _ _

@@ -2,7 +2,7 @@
 use Rattle.std.proofs.Common.{ℕ, suc, ◌+◌, ◌<◌, ◌≡◌, ◌↔◌, ◌⊎◌, inl, inr, ⊎_elim, Bool, true, false, ◌&&◌, ◌==◌, nat_lt}
 use Rattle.std.proofs.Common.{if◌then◌else◌, List, [], ◌∷◌, ◌++◌, Option, Some, None, Result, Ok, Err, Contains, length}
 use Rattle.std.proofs.Common.{length-append, append-nil, append_assoc, refl, sym, ◌∙◌, ap, subst, arith, true≢false}
-use Rattle.std.proofs.lemmas.Bool.{and_from}
+use Rattle.std.proofs.lemmas.Bool.{and_parts, and_from}
 use Rattle.std.proofs.lemmas.Bool.Decides.{nat_tests}
 use Rattle.std.proofs.lemmas.List.Elements.{Contains-append_left, Contains-append_right, Contains-push}
 use Rattle.std.proofs.lemmas.List.Elements.{Contains-push_cases, Contains-append_cases}
@@ -12,7 +12,6 @@ use Rattle.enc_index.specs.declared.kind.ReadError.TheVariants.{Line, Range, Twi
 use Rattle.enc_index.specs.Scalars.{is_scalar}
 use Rattle.enc_index.specs.Files.{is_dropped, pair_of, inserted, unless_given, with_pair, with_line, with_lines}
 use Rattle.enc_index.specs.Files.{and_then}
-use Rattle.enc_laws.proofs.Leads.{both}
 use Rattle.enc_laws.specs.IndexFiles.{Give, IsInRange, GivesNew, AreGoodAfter, AreGood, Breaks, IsFirstBad}
 
 -- MEMBERS
@@ -191,7 +190,7 @@ module _ (bound : ℕ) where
         LineReads prefix line n (if b then unless_given n pair index (code index pair.0) else Err (Range n))
     range_reads pair kept gives true test =
         let below : pair.0 < bound = grind (arith, nat_tests, test) in
-        let scalar : is_scalar pair.1 ≡ true = (both (nat_lt pair.0 bound) (is_scalar pair.1) test).1 in
+        let scalar : is_scalar pair.1 ≡ true = (and_parts (nat_lt pair.0 bound) (is_scalar pair.1) test).1 in
         code_reads pair kept gives (below, scalar) (code index pair.0) refl
     range_reads pair kept gives false test =
         (kept, (refl, pair, gives, λ range. let below = range.0 in let scalar = range.1 in out pair below scalar test))

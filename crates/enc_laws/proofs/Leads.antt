@@ -1,5 +1,5 @@
 -- What a lead byte leads to, in the table and in the decoder.
-use Rattle.std.proofs.Common.{ℕ, suc, ◌-◌, ◌<◌, ◌≤◌, ◌≡◌, ◌⊎◌, inl, inr, Bool, true, false, ◌&&◌, List, [], ◌∷◌, Some}
+use Rattle.std.proofs.Common.{ℕ, suc, ◌-◌, ◌<◌, ◌≤◌, ◌≡◌, ◌⊎◌, inl, inr, false, List, [], ◌∷◌, Some}
 use Rattle.std.proofs.Common.{length, refl, arith, lit≤}
 use Rattle.std.proofs.lemmas.Bool.{cases_lt, cases_order}
 use Rattle.std.proofs.lemmas.Bool.Decides.{nat_tests}
@@ -51,114 +51,18 @@ pub ascii_read : (b : ℕ) → b < 0x80 → utf8 utf8_start (Some b) ≡ record 
 unfolding utf8
 ascii_read b l = grind (arith, nat_tests)
 
-read_c2 : (b : ℕ) → 0xC2 ≤ b → b ≤ 0xDF → utf8 utf8_start (Some b) ≡ lead_of b 1 0x80 0xBF (b - 0xC0)
-unfolding utf8
-read_c2 b l h = grind (arith, nat_tests)
-
-pub two : (b : ℕ) → 0xC2 ≤ b → b ≤ 0xDF → Leading b ((0x80, 0xBF) ∷ []) (lead_state b 1 0x80 0xBF (b - 0xC0))
-two b l h = record {
-  leads = record { few = lit≤ tt; sequence = λ t. grind (arith, nat_tests); prefix = λ t. grind (arith, nat_tests) };
-  read = read_c2 b l h;
-  waits = (refl, refl, refl, tt);
-  point = refl;
-}
-
-read_e0 : (b : ℕ) → b ≡ 0xE0 → utf8 utf8_start (Some b) ≡ lead_of b 2 0xA0 0xBF (b - 0xE0)
-unfolding utf8
-read_e0 b e = grind (arith, nat_tests)
-
-pub three_e0 : (b : ℕ) → b ≡ 0xE0 → Leading b ((0xA0, 0xBF) ∷ (0x80, 0xBF) ∷ []) (lead_state b 2 0xA0 0xBF (b - 0xE0))
-three_e0 b e = record {
-  leads = record { few = lit≤ tt; sequence = λ t. grind (arith, nat_tests); prefix = λ t. grind (arith, nat_tests) };
-  read = read_e0 b e;
-  waits = (refl, refl, refl, (refl, refl, tt));
-  point = refl;
-}
-
--- E1 to EC, EE and EF
-read_e1 : (b : ℕ) → 0xE1 ≤ b → b ≤ 0xEF → (b ≡ 0xED → ⊥) → utf8 utf8_start (Some b) ≡ lead_of b 2 0x80 0xBF (b - 0xE0)
-unfolding utf8
-read_e1 b l h n = grind (arith, nat_tests)
-
-pub three_e1 : (b : ℕ) → 0xE1 ≤ b → b ≤ 0xEF → (b ≡ 0xED → ⊥) → Leading b ((0x80, 0xBF) ∷ (0x80, 0xBF) ∷ [])
-    (lead_state b 2 0x80 0xBF (b - 0xE0))
-three_e1 b l h n = record {
-  leads = record { few = lit≤ tt; sequence = λ t. grind (arith, nat_tests); prefix = λ t. grind (arith, nat_tests) };
-  read = read_e1 b l h n;
-  waits = (refl, refl, refl, (refl, refl, tt));
-  point = refl;
-}
-
-read_ed : (b : ℕ) → b ≡ 0xED → utf8 utf8_start (Some b) ≡ lead_of b 2 0x80 0x9F (b - 0xE0)
-unfolding utf8
-read_ed b e = grind (arith, nat_tests)
-
-pub three_ed : (b : ℕ) → b ≡ 0xED → Leading b ((0x80, 0x9F) ∷ (0x80, 0xBF) ∷ []) (lead_state b 2 0x80 0x9F (b - 0xE0))
-three_ed b e = record {
-  leads = record { few = lit≤ tt; sequence = λ t. grind (arith, nat_tests); prefix = λ t. grind (arith, nat_tests) };
-  read = read_ed b e;
-  waits = (refl, refl, refl, (refl, refl, tt));
-  point = refl;
-}
-
-read_f0 : (b : ℕ) → b ≡ 0xF0 → utf8 utf8_start (Some b) ≡ lead_of b 3 0x90 0xBF (b - 0xF0)
-unfolding utf8
-read_f0 b e = grind (arith, nat_tests)
-
-pub four_f0 : (b : ℕ) → b ≡ 0xF0 → Leading b ((0x90, 0xBF) ∷ (0x80, 0xBF) ∷ (0x80, 0xBF) ∷ [])
-    (lead_state b 3 0x90 0xBF (b - 0xF0))
-four_f0 b e = record {
-  leads = record { few = lit≤ tt; sequence = λ t. grind (arith, nat_tests); prefix = λ t. grind (arith, nat_tests) };
-  read = read_f0 b e;
-  waits = (refl, refl, refl, (refl, refl, (refl, refl, tt)));
-  point = refl;
-}
-
-read_f1 : (b : ℕ) → 0xF1 ≤ b → b ≤ 0xF3 → utf8 utf8_start (Some b) ≡ lead_of b 3 0x80 0xBF (b - 0xF0)
-unfolding utf8
-read_f1 b l h = grind (arith, nat_tests)
-
-pub four_f1 : (b : ℕ) → 0xF1 ≤ b → b ≤ 0xF3 → Leading b ((0x80, 0xBF) ∷ (0x80, 0xBF) ∷ (0x80, 0xBF) ∷ [])
-    (lead_state b 3 0x80 0xBF (b - 0xF0))
-four_f1 b l h = record {
-  leads = record { few = lit≤ tt; sequence = λ t. grind (arith, nat_tests); prefix = λ t. grind (arith, nat_tests) };
-  read = read_f1 b l h;
-  waits = (refl, refl, refl, (refl, refl, (refl, refl, tt)));
-  point = refl;
-}
-
-read_f4 : (b : ℕ) → b ≡ 0xF4 → utf8 utf8_start (Some b) ≡ lead_of b 3 0x80 0x8F (b - 0xF0)
-unfolding utf8
-read_f4 b e = grind (arith, nat_tests)
-
-pub four_f4 : (b : ℕ) → b ≡ 0xF4 → Leading b ((0x80, 0x8F) ∷ (0x80, 0xBF) ∷ (0x80, 0xBF) ∷ [])
-    (lead_state b 3 0x80 0x8F (b - 0xF0))
-four_f4 b e = record {
-  leads = record { few = lit≤ tt; sequence = λ t. grind (arith, nat_tests); prefix = λ t. grind (arith, nat_tests) };
-  read = read_f4 b e;
-  waits = (refl, refl, refl, (refl, refl, (refl, refl, tt)));
-  point = refl;
-}
-
 -- a byte that begins no sequence
 pub record LeadsNowhere (b : ℕ) : Type 0 where
   pub sequence : (t : List ℕ) → is_sequence (b ∷ t) ≡ false
   pub prefix : (t : List ℕ) → is_prefix (b ∷ t) ≡ false
   pub read : utf8 utf8_start (Some b) ≡ record { state = utf8_start; answer = Error; restored = [] }
 
-read_none : (b : ℕ) → 0x80 ≤ b → (0xC2 ≤ b → 0xF5 ≤ b) → utf8 utf8_start (Some b) ≡ record {
-  state = utf8_start;
-  answer = Error;
-  restored = [];
-}
-unfolding utf8
-read_none b l n = grind (arith, nat_tests)
-
 pub nowhere : (b : ℕ) → 0x80 ≤ b → (0xC2 ≤ b → 0xF5 ≤ b) → LeadsNowhere b
+unfolding utf8
 nowhere b l n = record {
   sequence = λ t. grind (arith, nat_tests);
   prefix = λ t. grind (arith, nat_tests);
-  read = read_none b l n;
+  read = grind (arith, nat_tests);
 }
 
 -- WHICHEVER BYTE IT IS
@@ -166,32 +70,62 @@ nowhere b l n = record {
 abbrev pub Kind : ℕ → Type 0
 Kind b = (b < 0x80) ⊎ (((ranges : Ranges) × (s : Utf8) × Leading b ranges s) ⊎ LeadsNowhere b)
 
+-- a lead that waits for this many bytes, of which the first is in a range of its own
+leading : (b : ℕ) (ranges : Ranges) (needed lower upper : ℕ) → length ranges ≤ 3
+    → ((t : List ℕ) → is_sequence (b ∷ t) ≡ fills ranges t) → ((t : List ℕ) → is_prefix (b ∷ t) ≡ begins_to_fill ranges t)
+    → utf8 utf8_start (Some b) ≡ lead_of b needed lower upper (b - mark_of ranges)
+    → Waits ranges (lead_state b needed lower upper (b - mark_of ranges)) → Kind b
+leading b ranges needed lower upper few sequence prefix read waits = inr (inl (
+  ranges,
+  _,
+  record {
+    leads = record { few = few; sequence = sequence; prefix = prefix };
+    read = read;
+    waits = waits;
+    point = refl;
+  },
+))
+
 kind_from_f1 : (b : ℕ) → 0xF1 ≤ b → Kind b
+unfolding utf8
 kind_from_f1 b l = elim (cases_order b 0xF4) [
-  | inl e ↦ inr (inl (_, _, four_f4 b e))
-  | inr (inl below) ↦ inr (inl (_, _, four_f1 b l (omega arith)))
+  | inl e ↦ leading b ((0x80, 0x8F) ∷ (0x80, 0xBF) ∷ (0x80, 0xBF) ∷ []) 3 0x80 0x8F (lit≤ tt)
+      (λ t. grind (arith, nat_tests)) (λ t. grind (arith, nat_tests)) (grind (arith, nat_tests))
+      (refl, refl, refl, (refl, refl, (refl, refl, tt)))
+  | inr (inl below) ↦ leading b ((0x80, 0xBF) ∷ (0x80, 0xBF) ∷ (0x80, 0xBF) ∷ []) 3 0x80 0xBF (lit≤ tt)
+      (λ t. grind (arith, nat_tests)) (λ t. grind (arith, nat_tests)) (grind (arith, nat_tests))
+      (refl, refl, refl, (refl, refl, (refl, refl, tt)))
   | inr (inr above) ↦ inr (inr (nowhere b (omega arith) (λ _. omega arith)))
 ]
 
+-- E1 to EC, EE and EF
+three : (b : ℕ) → 0xE1 ≤ b → b ≤ 0xEF → (b ≡ 0xED → ⊥) → Kind b
+unfolding utf8
+three b l h n =
+    leading b ((0x80, 0xBF) ∷ (0x80, 0xBF) ∷ []) 2 0x80 0xBF (lit≤ tt) (λ t. grind (arith, nat_tests))
+    (λ t. grind (arith, nat_tests)) (grind (arith, nat_tests)) (refl, refl, refl, (refl, refl, tt))
+
 kind_from_e1 : (b : ℕ) → 0xE1 ≤ b → Kind b
+unfolding utf8
 kind_from_e1 b l = elim (cases_order b 0xF0) [
-  | inl e ↦ inr (inl (_, _, four_f0 b e))
+  | inl e ↦ leading b ((0x90, 0xBF) ∷ (0x80, 0xBF) ∷ (0x80, 0xBF) ∷ []) 3 0x90 0xBF (lit≤ tt)
+      (λ t. grind (arith, nat_tests)) (λ t. grind (arith, nat_tests)) (grind (arith, nat_tests))
+      (refl, refl, refl, (refl, refl, (refl, refl, tt)))
   | inr (inl below) ↦ elim (cases_order b 0xED) [
-    | inl e ↦ inr (inl (_, _, three_ed b e))
-    | inr apart ↦ inr (inl (
-      _,
-      _,
-      three_e1 b l (omega arith)
-          (λ e. elim apart [ inl x ↦ omega arith | inr y ↦ omega arith ]),
-    ))
+    | inl e ↦ leading b ((0x80, 0x9F) ∷ (0x80, 0xBF) ∷ []) 2 0x80 0x9F (lit≤ tt) (λ t. grind (arith, nat_tests))
+        (λ t. grind (arith, nat_tests)) (grind (arith, nat_tests)) (refl, refl, refl, (refl, refl, tt))
+    | inr apart ↦ three b l (omega arith) (λ e. elim apart [ inl x ↦ omega arith | inr y ↦ omega arith ])
   ]
   | inr (inr above) ↦ kind_from_f1 b above
 ]
 
 kind_from_c2 : (b : ℕ) → 0xC2 ≤ b → Kind b
+unfolding utf8
 kind_from_c2 b l = elim (cases_order b 0xE0) [
-  | inl e ↦ inr (inl (_, _, three_e0 b e))
-  | inr (inl below) ↦ inr (inl (_, _, two b l (omega arith)))
+  | inl e ↦ leading b ((0xA0, 0xBF) ∷ (0x80, 0xBF) ∷ []) 2 0xA0 0xBF (lit≤ tt) (λ t. grind (arith, nat_tests))
+      (λ t. grind (arith, nat_tests)) (grind (arith, nat_tests)) (refl, refl, refl, (refl, refl, tt))
+  | inr (inl below) ↦ leading b ((0x80, 0xBF) ∷ []) 1 0x80 0xBF (lit≤ tt) (λ t. grind (arith, nat_tests))
+      (λ t. grind (arith, nat_tests)) (grind (arith, nat_tests)) (refl, refl, refl, tt)
   | inr (inr above) ↦ kind_from_e1 b above
 ]
 
@@ -201,7 +135,3 @@ kind_of b = elim (cases_lt b 0x80) [
   | inr high ↦ elim (cases_lt b 0xC2)
       [ inl below ↦ inr (inr (nowhere b high (λ h. absurd (omega arith)))) | inr lead ↦ kind_from_c2 b lead ]
 ]
-
-pub both : (a b : Bool) → (a && b) ≡ true → (a ≡ true) × (b ≡ true)
-both true b e = (refl, e)
-both false b e = absurd cc

@@ -29,19 +29,18 @@ read_last : (s : Utf8) (c : ℕ) → s.needed ≡ 1 → within s.lower s.upper c
 unfolding utf8
 read_last s c n w = grind (arith, nat_tests)
 
+-- the state after a byte, where more than one is needed
+abbrev next_of : Utf8 → ℕ → Utf8
+next_of s c = record {
+  needed = s.needed - 1;
+  lower = 0x80;
+  upper = 0xBF;
+  point = s.point * 64 + (c - 0x80);
+  kept = s.kept ++ c ∷ [];
+}
+
 read_more : (s : Utf8) (c k : ℕ) → s.needed ≡ suc (suc k) → within s.lower s.upper c ≡ true →
-    utf8 s (Some c)
-    ≡ record {
-      state = record {
-        needed = s.needed - 1;
-        lower = 0x80;
-        upper = 0xBF;
-        point = s.point * 64 + (c - 0x80);
-        kept = s.kept ++ c ∷ [];
-      };
-      answer = Nothing;
-      restored = [];
-    }
+    utf8 s (Some c) ≡ record { state = next_of s c; answer = Nothing; restored = [] }
 unfolding utf8
 read_more s c k n w = grind (arith, nat_tests)
 
@@ -92,23 +91,12 @@ module _ (r : ℕ × ℕ) (ranges : Ranges) (s : Utf8) (c : ℕ) (bytes : List �
   beyond_stops : within r.0 r.1 c ≡ false → beyond (r ∷ ranges) (c ∷ bytes) ≡ c ∷ bytes
   beyond_stops e = ap (λ t. drop (length t) (c ∷ bytes)) (taken_stops r ranges c bytes e)
 
-next_of : Utf8 → ℕ → Utf8
-next_of s c = record {
-  needed = s.needed - 1;
-  lower = 0x80;
-  upper = 0xBF;
-  point = s.point * 64 + (c - 0x80);
-  kept = s.kept ++ c ∷ [];
-}
-
 module _ (r q : ℕ × ℕ) (ranges : Ranges) (s : Utf8) (c : ℕ) (waits : Waits (r ∷ q ∷ ranges) s) where
   next_waits : Waits (q ∷ ranges) (next_of s c)
-  unfolding next_of
   next_waits = (omega arith, sym waits.3.0, sym waits.3.1, waits.3.2)
 
   next_read : (ended : Bool) (bytes : List ℕ) → within r.0 r.1 c ≡ true
       → steps utf8 ended s (c ∷ bytes) ≡ steps utf8 ended (next_of s c) bytes
-  unfolding next_of
   next_read ended bytes e =
       read_is ended s c bytes _ (read_more s c (length ranges) waits.0 (read_on r (q ∷ ranges) s c bytes waits e))
 
@@ -117,7 +105,6 @@ pub tail_whole : (ranges : Ranges) (s : Utf8) (ended : Bool) (bytes : List ℕ) 
     → fills ranges (taken ranges bytes) ≡ true →
     steps utf8 ended s bytes ≡ after (value s.point (taken ranges bytes) ∷ [])
     (steps utf8 ended utf8_start (beyond ranges bytes))
-unfolding next_of
 tail_whole [] s ended bytes w f = absurd w
 tail_whole (r ∷ ranges) s ended [] w f = absurd cc
 tail_whole (r ∷ []) s ended (c ∷ bytes) w f = go (within r.0 r.1 c) refl
@@ -153,7 +140,6 @@ pub tail_stopped : (ranges : Ranges) (s : Utf8) (ended : Bool) (bytes : List ℕ
     →
     fills ranges (taken ranges bytes) ≡ false → beyond ranges bytes ≡ d ∷ rest →
     steps utf8 ended s bytes ≡ after (0xFFFD ∷ []) (steps utf8 ended utf8_start (beyond ranges bytes))
-unfolding next_of
 tail_stopped [] s ended bytes d rest w f b = absurd w
 tail_stopped (r ∷ ranges) s ended [] d rest w f b = absurd cc
 tail_stopped (r ∷ []) s ended (c ∷ bytes) d rest w f b = go (within r.0 r.1 c) refl
@@ -191,7 +177,6 @@ open_text ended = if ended then 0xFFFD ∷ [] else []
 pub tail_open : (ranges : Ranges) (s : Utf8) (ended : Bool) (bytes : List ℕ) → Waits ranges s →
     fills ranges (taken ranges bytes) ≡ false → beyond ranges bytes ≡ []
     → (steps utf8 ended s bytes).text ≡ open_text ended
-unfolding next_of
 tail_open [] s ended bytes w f b = absurd w
 tail_open (r ∷ ranges) s true [] w f b = end_open s (length ranges) w.0
 tail_open (r ∷ ranges) s false [] w f b = ap (λ run. run.text) (steps_none utf8 s)

@@ -1,6 +1,7 @@
 -- What handlers give where their tables have scalar values.
 use Rattle.std.proofs.Common.{ℕ, zero, suc, ◌<◌, ◌≤◌, ◌≡◌, ◌==◌, Bool, true, false, ◌&&◌, List, [], ◌∷◌, ◌++◌, Option}
 use Rattle.std.proofs.Common.{Some, None, refl, arith, if◌then◌else◌, nat_le, nat_lt, IfSome, append-nil}
+use Rattle.std.proofs.lemmas.Bool.{and_parts}
 use Rattle.std.proofs.lemmas.Bool.Decides.{nat_tests}
 use Rattle.std.proofs.lemmas.List.Elements.{All-nil, All-cons, All-head, All-tail, All-append}
 use Rattle.enc_model.specs.declared.Answer.{Answer}
@@ -11,7 +12,6 @@ use Rattle.enc_model.specs.Stream.{Step, Handler, Run, said, after, steps, steps
 use Rattle.enc_index.specs.Entries.{ascends}
 use Rattle.enc_index.specs.Scalars.{is_scalar}
 use Rattle.enc_index.specs.Sets.{IsIndex, IsIndexSet}
-use Rattle.enc_laws.proofs.Leads.{both}
 use Rattle.enc_laws.specs.WellFormed.{AreBytes, AreScalars}
 
 pub low_scalar : (c : ℕ) → c < 0xD800 → is_scalar c ≡ true
@@ -34,9 +34,9 @@ index_scalars : (low bound : ℕ) (index : Index) → ascends low bound index �
 unfolding ascends code
 index_scalars low bound [] a p = tt
 index_scalars low bound (pair ∷ index) a p =
-    let outer = both (nat_le low pair.0 && nat_lt pair.0 bound && is_scalar pair.1) (ascends (suc pair.0) bound index)
+    let outer = and_parts (nat_le low pair.0 && nat_lt pair.0 bound && is_scalar pair.1) (ascends (suc pair.0) bound index)
     a in
-    let scalar = (both (nat_le low pair.0 && nat_lt pair.0 bound) (is_scalar pair.1) outer.0).1 in
+    let scalar = (and_parts (nat_le low pair.0 && nat_lt pair.0 bound) (is_scalar pair.1) outer.0).1 in
     elim (pair.0 == p) as (λ v. IsScalarOption (if v then Some pair.1 else code index p))
     [ true ↦ scalar | false ↦ index_scalars (suc pair.0) bound index outer.1 p ]
 

@@ -2,8 +2,9 @@
 use Rattle.std.proofs.Common.{ℕ, ◌≤◌, ◌≡◌, Bool, true, false, List, [], ◌∷◌, ◌++◌, refl, ◌∙◌, ap, arith, length, drop}
 use Rattle.std.proofs.Common.{if◌then◌else◌}
 use Rattle.enc_model.specs.Index.{within}
+use Rattle.std.proofs.lemmas.Bool.{and_parts}
 use Rattle.enc_laws.specs.Subparts.{Ranges, fills, begins_to_fill, segment}
-use Rattle.enc_laws.proofs.Leads.{Leads, both}
+use Rattle.enc_laws.proofs.Leads.{Leads}
 
 -- the bytes at the start that fill the first ranges
 abbrev pub taken : Ranges → List ℕ → List ℕ
@@ -120,7 +121,7 @@ taken_whole [] [] rest f = refl
 taken_whole [] (c ∷ t) rest f = absurd cc
 taken_whole (r ∷ ranges) [] rest f = absurd cc
 taken_whole (r ∷ ranges) (c ∷ t) rest f =
-    let p = both (within r.0 r.1 c) (fills ranges t) f in
+    let p = and_parts (within r.0 r.1 c) (fills ranges t) f in
     taken_on r ranges c (t ++ rest) p.0 ∙ ap (λ z. c ∷ z) (taken_whole ranges t rest p.1)
 
 pub taken_longest : (ranges : Ranges) (t rest : List ℕ) → begins_to_fill ranges t ≡ true
@@ -128,6 +129,6 @@ pub taken_longest : (ranges : Ranges) (t rest : List ℕ) → begins_to_fill ran
 taken_longest ranges [] rest f = omega arith
 taken_longest [] (c ∷ t) rest f = absurd cc
 taken_longest (r ∷ ranges) (c ∷ t) rest f =
-    let p = both (within r.0 r.1 c) (begins_to_fill ranges t) f in
+    let p = and_parts (within r.0 r.1 c) (begins_to_fill ranges t) f in
     let ih = taken_longest ranges t rest p.1 in
     rw (taken_on r ranges c (t ++ rest) p.0) (omega (arith, ih))

@@ -2,122 +2,48 @@
 use Rattle.std.proofs.Common.{ℕ, ◌+◌, ◌/◌, ◌%◌, ◌<◌, ◌≤◌, ◌≡◌, Bool, true, false, ◌&&◌, ◌||◌, ◌⊎◌, inl, inr, List, []}
 use Rattle.std.proofs.Common.{◌∷◌, refl, arith, nat_lt}
 use Rattle.std.specs.List.{AllByRecursion, list_any}
-use Rattle.std.proofs.lemmas.Bool.{cases_lt}
+use Rattle.std.proofs.lemmas.Bool.{and_parts, cases_lt}
+use Rattle.std.proofs.Math.Bool.{and-false, and-true, or-false}
 use Rattle.std.proofs.lemmas.Bool.Decides.{nat_tests}
 use Rattle.enc_model.specs.Index.{within}
 use Rattle.enc_model.specs.Encode.{utf8_bytes}
 use Rattle.enc_index.specs.Scalars.{is_scalar}
 use Rattle.enc_laws.specs.Subparts.{Ranges, table, fills, is_sequence, scalar_of}
-use Rattle.enc_laws.proofs.Leads.{both}
 
--- A SEQUENCE has one of the table's rows.
+-- A SEQUENCE is one of a scalar value.
 
-or_case : {P : Type 0} (x y : Bool) → (x || y) ≡ true → (x ≡ true → P) → (y ≡ true → P) → P
-or_case true y e f g = f refl
-or_case false y e f g = g e
+-- the bytes after the second are trails
+third_within : (a b c : ℕ) (x : Bool) → within 0x80 0xBF c ≡ x → is_sequence (a ∷ b ∷ c ∷ []) ≡ true → x ≡ true
+third_within a b c true h e = refl
+third_within a b c false h e = let f = simp (h, and-false) at e in absurd cc
 
-each_row : (P : List ℕ → Type 0) (bytes : List ℕ) (rows : List Ranges) → list_any (λ row. fills row bytes) rows ≡ true →
-    AllByRecursion (λ row. (bytes : List ℕ) → fills row bytes ≡ true → P bytes) rows → P bytes
-each_row P bytes [] e all = absurd cc
-each_row P bytes (row ∷ rows) e all =
-    or_case (fills row bytes) (list_any (λ row. fills row bytes) rows) e (all.0 bytes)
-    (λ f. each_row P bytes rows f all.1)
+later_within : (a b c d : ℕ) (x y : Bool) → within 0x80 0xBF c ≡ x → within 0x80 0xBF d ≡ y
+    → is_sequence (a ∷ b ∷ c ∷ d ∷ []) ≡ true → (x ≡ true) × (y ≡ true)
+later_within a b c d true true h k e = (refl, refl)
+later_within a b c d false y h k e = let f = simp (h, and-false) at e in absurd cc
+later_within a b c d true false h k e = let f = simp (k, and-false) at e in absurd cc
 
-abbrev IsScalarSequence : List ℕ → Type 0
-IsScalarSequence here = is_scalar (scalar_of here) ≡ true
+three_scalar : (a b c : ℕ) → 0xE0 ≤ a → a ≤ 0xEF → 0x80 ≤ b → b ≤ 0xBF → within 0x80 0xBF c ≡ true
+    → (a ≡ 0xED → b ≤ 0x9F) → is_scalar (scalar_of (a ∷ b ∷ c ∷ [])) ≡ true
+three_scalar a b c l h k m n d = grind (arith, nat_tests, n)
 
-row1 : (r : ℕ × ℕ) → ((a : ℕ) → within r.0 r.1 a ≡ true → IsScalarSequence (a ∷ [])) → (here : List ℕ)
-    → fills (r ∷ []) here ≡ true → IsScalarSequence here
-row1 r f [] e = absurd cc
-row1 r f (a ∷ []) e = f a (both (within r.0 r.1 a) true e).0
-row1 r f (a ∷ b ∷ here) e = let g = (both (within r.0 r.1 a) false e).1 in absurd cc
-
-row2 : (r s : ℕ × ℕ) → ((a b : ℕ) → within r.0 r.1 a ≡ true → within s.0 s.1 b ≡ true → IsScalarSequence (a ∷ b ∷ [])) →
-    (here : List ℕ) → fills (r ∷ s ∷ []) here ≡ true → IsScalarSequence here
-row2 r s f [] e = absurd cc
-row2 r s f (a ∷ here) e =
-    let p = both (within r.0 r.1 a) (fills (s ∷ []) here) e in
-    go here p.1 p.0
-  where
-    go : (here : List ℕ) → fills (s ∷ []) here ≡ true → within r.0 r.1 a ≡ true → IsScalarSequence (a ∷ here)
-    go [] e w = absurd cc
-    go (b ∷ []) e w = f a b w (both (within s.0 s.1 b) true e).0
-    go (b ∷ c ∷ here) e w = let g = (both (within s.0 s.1 b) false e).1 in absurd cc
-
-row3 : (r s t : ℕ × ℕ) → ((a b c : ℕ) → within r.0 r.1 a ≡ true → within s.0 s.1 b ≡ true → within t.0 t.1 c ≡ true
-    → IsScalarSequence (a ∷ b ∷ c ∷ [])) →
-    (here : List ℕ) → fills (r ∷ s ∷ t ∷ []) here ≡ true → IsScalarSequence here
-row3 r s t f [] e = absurd cc
-row3 r s t f (a ∷ []) e = let g = (both (within r.0 r.1 a) false e).1 in absurd cc
-row3 r s t f (a ∷ b ∷ []) e = let g =
-    (both (within s.0 s.1 b) false (both (within r.0 r.1 a) (within s.0 s.1 b && false) e).1).1 in absurd cc
-row3 r s t f (a ∷ b ∷ c ∷ here) e =
-    let p = both (within r.0 r.1 a) (within s.0 s.1 b && (within t.0 t.1 c && fills [] here)) e in
-    let q = both (within s.0 s.1 b) (within t.0 t.1 c && fills [] here) p.1 in
-    let v = both (within t.0 t.1 c) (fills [] here) q.1 in
-    go here v.1 (f a b c p.0 q.0 v.0)
-  where
-    go : (here : List ℕ) → fills [] here ≡ true → IsScalarSequence (a ∷ b ∷ c ∷ [])
-        → IsScalarSequence (a ∷ b ∷ c ∷ here)
-    go [] e z = z
-    go (d ∷ here) e z = absurd cc
-
-row4 : (r s t u : ℕ × ℕ) → ((a b c d : ℕ) → within r.0 r.1 a ≡ true → within s.0 s.1 b ≡ true → within t.0 t.1 c ≡ true
-    → within u.0 u.1 d ≡ true → IsScalarSequence (a ∷ b ∷ c ∷ d ∷ [])) →
-    (here : List ℕ) → fills (r ∷ s ∷ t ∷ u ∷ []) here ≡ true → IsScalarSequence here
-row4 r s t u f [] e = absurd cc
-row4 r s t u f (a ∷ here) e =
-    let p = both (within r.0 r.1 a) (fills (s ∷ t ∷ u ∷ []) here) e in
-    go here p.1 p.0
-  where
-    go : (here : List ℕ) → fills (s ∷ t ∷ u ∷ []) here ≡ true → within r.0 r.1 a ≡ true → IsScalarSequence (a ∷ here)
-    go [] e w = absurd cc
-    go (b ∷ []) e w = let g = (both (within s.0 s.1 b) false e).1 in absurd cc
-    go (b ∷ c ∷ []) e w = let g =
-        (both (within t.0 t.1 c) false (both (within s.0 s.1 b) (within t.0 t.1 c && false) e).1).1 in absurd cc
-    go (b ∷ c ∷ d ∷ here) e w =
-        let q = both (within s.0 s.1 b) (within t.0 t.1 c && (within u.0 u.1 d && fills [] here)) e in
-        let v = both (within t.0 t.1 c) (within u.0 u.1 d && fills [] here) q.1 in
-        let x = both (within u.0 u.1 d) (fills [] here) v.1 in
-        last here x.1 (f a b c d w q.0 v.0 x.0)
-      where
-        last : (here : List ℕ) → fills [] here ≡ true → IsScalarSequence (a ∷ b ∷ c ∷ d ∷ [])
-            → IsScalarSequence (a ∷ b ∷ c ∷ d ∷ here)
-        last [] e z = z
-        last (g ∷ here) e z = absurd cc
+four_scalar : (a b c d : ℕ) → within 0x80 0xBF c ≡ true → within 0x80 0xBF d ≡ true →
+    ((within 0xF0 0xF0 a && within 0x90 0xBF b)
+    || ((within 0xF1 0xF3 a && within 0x80 0xBF b) || (within 0xF4 0xF4 a && within 0x80 0x8F b))) ≡ true
+    → is_scalar (scalar_of (a ∷ b ∷ c ∷ d ∷ [])) ≡ true
+four_scalar a b c d h k e = grind (arith, nat_tests, h, k, e)
 
 pub sequence_scalar : (here : List ℕ) → is_sequence here ≡ true → is_scalar (scalar_of here) ≡ true
-sequence_scalar here e = each_row IsScalarSequence here table e (
-  row1 (0x00, 0x7F) (λ a p. grind (arith, nat_tests, p)),
-  (
-    row2 (0xC2, 0xDF) (0x80, 0xBF) (λ a b p q. grind (arith, nat_tests, p, q)),
-    (
-      row3 (0xE0, 0xE0) (0xA0, 0xBF) (0x80, 0xBF) (λ a b c p q r. grind (arith, nat_tests, p, q, r)),
-      (
-        row3 (0xE1, 0xEC) (0x80, 0xBF) (0x80, 0xBF) (λ a b c p q r. grind (arith, nat_tests, p, q, r)),
-        (
-          row3 (0xED, 0xED) (0x80, 0x9F) (0x80, 0xBF) (λ a b c p q r. grind (arith, nat_tests, p, q, r)),
-          (
-            row3 (0xEE, 0xEF) (0x80, 0xBF) (0x80, 0xBF) (λ a b c p q r. grind (arith, nat_tests, p, q, r)),
-            (
-              row4 (0xF0, 0xF0) (0x90, 0xBF) (0x80, 0xBF) (0x80, 0xBF)
-                  (λ a b c d p q r s. grind (arith, nat_tests, p, q, r, s)),
-              (
-                row4 (0xF1, 0xF3) (0x80, 0xBF) (0x80, 0xBF) (0x80, 0xBF)
-                    (λ a b c d p q r s. grind (arith, nat_tests, p, q, r, s)),
-                (
-                  row4 (0xF4, 0xF4) (0x80, 0x8F) (0x80, 0xBF) (0x80, 0xBF)
-                      (λ a b c d p q r s. grind (arith, nat_tests, p, q, r, s)),
-                  tt,
-                ),
-              ),
-            ),
-          ),
-        ),
-      ),
-    ),
-  ),
-)
+sequence_scalar [] e = absurd cc
+sequence_scalar (a ∷ []) e = grind (arith, nat_tests, e)
+sequence_scalar (a ∷ b ∷ []) e = grind (arith, nat_tests, e)
+sequence_scalar (a ∷ b ∷ c ∷ []) e =
+    three_scalar a b c (grind (arith, nat_tests, e)) (grind (arith, nat_tests, e)) (grind (arith, nat_tests, e))
+    (grind (arith, nat_tests, e)) (third_within a b c _ refl e) (λ z. grind (arith, nat_tests, e, z))
+sequence_scalar (a ∷ b ∷ c ∷ d ∷ []) e =
+    let w = later_within a b c d _ _ refl refl e in
+    four_scalar a b c d w.0 w.1 (simp (w.0, w.1, and-false, and-true, or-false) at e)
+sequence_scalar (a ∷ b ∷ c ∷ d ∷ g ∷ here) e = let f = simp and-false at e in absurd cc
 
 -- WHAT THE ENCODER WRITES
 
@@ -127,48 +53,17 @@ scalar_apart c s = elim (cases_lt c 0xD800) [ inl l ↦ inl l | inr g ↦ inr (g
 scalar_most : (c : ℕ) → is_scalar c ≡ true → c ≤ 0x10FFFF
 scalar_most c s = grind (arith, nat_tests, s)
 
-one_byte : (a : ℕ) → a < 0x80 → is_sequence (a ∷ []) ≡ true
-one_byte a l = grind (arith, nat_tests)
-
-two_bytes : (a b : ℕ) → 0xC2 ≤ a → a ≤ 0xDF → 0x80 ≤ b → b ≤ 0xBF → is_sequence (a ∷ b ∷ []) ≡ true
-two_bytes a b l h k m = grind (arith, nat_tests)
-
-three_bytes : (a b c : ℕ) → 0xE0 ≤ a → a ≤ 0xEF → 0x80 ≤ b → b ≤ 0xBF → 0x80 ≤ c → c ≤ 0xBF → (a ≡ 0xE0 → 0xA0 ≤ b)
-    → (a ≡ 0xED → b ≤ 0x9F) →
-    is_sequence (a ∷ b ∷ c ∷ []) ≡ true
-three_bytes a b c l h k m n o e d = grind (arith, nat_tests)
-
-four_bytes : (a b c d : ℕ) → 0xF0 ≤ a → a ≤ 0xF4 → 0x80 ≤ b → b ≤ 0xBF → 0x80 ≤ c → c ≤ 0xBF → 0x80 ≤ d → d ≤ 0xBF →
-    (a ≡ 0xF0 → 0x90 ≤ b) → (a ≡ 0xF4 → b ≤ 0x8F) → is_sequence (a ∷ b ∷ c ∷ d ∷ []) ≡ true
-four_bytes a b c d l h k m n o p q e f = grind (arith, nat_tests)
-
 sequence_low : (c : ℕ) → c < 0x80 → is_sequence (utf8_bytes c) ≡ true
-sequence_low c l = let e : nat_lt c 0x80 ≡ true = grind (arith, nat_tests) in rw e (one_byte c l)
+sequence_low c l = grind (arith, nat_tests)
 
 sequence_two : (c : ℕ) → 0x80 ≤ c → c < 0x800 → is_sequence (utf8_bytes c) ≡ true
-sequence_two c l h =
-    let e : nat_lt c 0x80 ≡ false = grind (arith, nat_tests) in
-    let f : nat_lt c 0x800 ≡ true = grind (arith, nat_tests) in
-    rw (e, f) (two_bytes (0xC0 + c / 64) (0x80 + c % 64) (omega arith) (omega arith) (omega arith) (omega arith))
+sequence_two c l h = grind (arith, nat_tests)
 
 sequence_three : (c : ℕ) → 0x800 ≤ c → c < 0x10000 → is_scalar c ≡ true → is_sequence (utf8_bytes c) ≡ true
-sequence_three c l h s =
-    let e : nat_lt c 0x80 ≡ false = grind (arith, nat_tests) in
-    let f : nat_lt c 0x800 ≡ false = grind (arith, nat_tests) in
-    let g : nat_lt c 0x10000 ≡ true = grind (arith, nat_tests) in
-    let apart : (c < 0xD800) ⊎ (0xE000 ≤ c) = scalar_apart c s in
-    rw (e, f, g) (three_bytes (0xE0 + c / 4096) (0x80 + c / 64 % 64) (0x80 + c % 64) (omega arith) (omega arith)
-    (omega arith) (omega arith) (omega arith) (omega arith) (λ z. omega arith)
-    (λ z. elim apart [ inl x ↦ omega arith | inr y ↦ omega arith ]))
+sequence_three c l h s = grind (arith, nat_tests, s)
 
 sequence_four : (c : ℕ) → 0x10000 ≤ c → c ≤ 0x10FFFF → is_sequence (utf8_bytes c) ≡ true
-sequence_four c l h =
-    let e : nat_lt c 0x80 ≡ false = grind (arith, nat_tests) in
-    let f : nat_lt c 0x800 ≡ false = grind (arith, nat_tests) in
-    let g : nat_lt c 0x10000 ≡ false = grind (arith, nat_tests) in
-    rw (e, f, g) (four_bytes (0xF0 + c / 262144) (0x80 + c / 4096 % 64) (0x80 + c / 64 % 64) (0x80 + c % 64)
-    (omega arith) (omega arith) (omega arith) (omega arith) (omega arith) (omega arith) (omega arith) (omega arith)
-    (λ z. omega arith) (λ z. omega arith))
+sequence_four c l h = grind (arith, nat_tests)
 
 pub written_sequence : (c : ℕ) → is_scalar c ≡ true → is_sequence (utf8_bytes c) ≡ true
 written_sequence c s = elim (cases_lt c 0x80) [

@@ -7,7 +7,7 @@ use Rattle.enc_legacy.specs.EucJpState.{IsRow, IsEucJpPair}
 use Rattle.enc_legacy.specs.Iso2022State.{IsIso2022Row, IsIso2022Pair}
 use Rattle.enc_legacy.specs.declared.pairs.TheConstants.{NO_PAIR, TRAILS}
 use Rattle.enc_legacy.specs.declared.euc_bytes.TheConstants.{PAIRS}
-use Rattle.enc_legacy.proofs.PairPointers.{rows_of, lead_at, trail_at, pointer_within}
+use Rattle.enc_legacy.proofs.PairPointers.{rows_of, pair_at, pointer_within}
 
 abbrev of_lead : ℕ → ℕ
 of_lead b = if within 0xA1 0xFE b then (b - 0xA1) * 94 else NO_PAIR
@@ -19,24 +19,17 @@ rows : PAIRS ≡ rows_of of_lead of_trail
 rows = refl
 
 pub sum_fits : (a b : ℕ) → a < 256 → b < 256 → get_or PAIRS a 0 + get_or PAIRS (TRAILS + b) 0 < 2 ^ 32
-sum_fits a b small below =
-    let e = lead_at PAIRS of_lead of_trail rows a small in
-    let f = trail_at PAIRS of_lead of_trail rows b below in
-    grind (arith, nat_tests, e, f)
+sum_fits a b small below = let e = pair_at PAIRS of_lead of_trail rows a b small below in grind (arith, nat_tests, e)
 
 pub are_rows : (a b : ℕ) → a < 256 → b < 256 → get_or PAIRS a 0 + get_or PAIRS (TRAILS + b) 0 < NO_PAIR
     → IsRow a × IsRow b
 are_rows a b small below few =
-    let e = lead_at PAIRS of_lead of_trail rows a small in
-    let f = trail_at PAIRS of_lead of_trail rows b below in
-    grind (arith, nat_tests, e, f, few)
+    let e = pair_at PAIRS of_lead of_trail rows a b small below in grind (arith, nat_tests, e, few)
 
 pub pointer_of : (a b : ℕ) → a < 256 → b < 256 → get_or PAIRS a 0 + get_or PAIRS (TRAILS + b) 0 < NO_PAIR
     → get_or PAIRS a 0 + get_or PAIRS (TRAILS + b) 0 ≡ (a - 0xA1) * 94 + (b - 0xA1)
 pointer_of a b small below few =
-    let e = lead_at PAIRS of_lead of_trail rows a small in
-    let f = trail_at PAIRS of_lead of_trail rows b below in
-    grind (arith, nat_tests, e, f, few)
+    let e = pair_at PAIRS of_lead of_trail rows a b small below in grind (arith, nat_tests, e, few)
 
 -- a character at a pair's pointer is what the pair stands for
 pub euc_read : (codes : List (Option ℕ)) (a b p c : ℕ) → (p < NO_PAIR → IsRow a × IsRow b)

@@ -23,10 +23,16 @@ pub lead_at : (table : List ℕ) (lead trail : ℕ → ℕ) → table ≡ rows_o
 lead_at table lead trail is b small =
     row_at table lead trail is b (omega (arith, small)) ∙ grind (arith, nat_tests, small)
 
-pub trail_at : (table : List ℕ) (lead trail : ℕ → ℕ) → table ≡ rows_of lead trail → (b : ℕ) → b < 256
+trail_at : (table : List ℕ) (lead trail : ℕ → ℕ) → table ≡ rows_of lead trail → (b : ℕ) → b < 256
     → get_or table (TRAILS + b) 0 ≡ trail b
 trail_at table lead trail is b small =
     row_at table lead trail is (TRAILS + b) (omega (arith, small)) ∙ grind (arith, nat_tests, small)
+
+-- both of a pair
+pub pair_at : (table : List ℕ) (lead trail : ℕ → ℕ) → table ≡ rows_of lead trail → (a b : ℕ) → a < 256 → b < 256
+    → (get_or table a 0 ≡ lead a) × (get_or table (TRAILS + b) 0 ≡ trail b)
+pair_at table lead trail is a b small below =
+    (lead_at table lead trail is a small, trail_at table lead trail is b below)
 
 -- a pointer that has a character is one of the table's
 pub pointer_within : (codes : List (Option ℕ)) (p c : ℕ) → slice_index_or codes p None ≡ Some c → p < length codes

@@ -1,16 +1,19 @@
 -- The steps of the single-byte decoders in one handler are those of each encoding's own.
 use Rattle.std.proofs.Common.{◌++◌, ◌-◌, ◌<◌, None, Option, All, map, slice_index, sym, nat_lt, if◌then◌else◌, ℕ, zero}
 use Rattle.std.proofs.Common.{suc, ◌≡◌, ◌+◌, ◌*◌, List, [], ◌∷◌, Bool, true, false, Some, Result, Ok, Err, OnOk, length}
-use Rattle.std.proofs.Common.{refl, ap, ◌∙◌, arith, subst, take}
+use Rattle.std.proofs.Common.{refl, ap, ◌∙◌, arith, subst, take, get_or, Fits, w8}
+use Rattle.std.proofs.lemmas.List.{length-take, get_or-take}
+use Rattle.std.specs.Str.{chars}
 use Rattle.std.proofs.lemmas.Bool.Decides.{nat_tests}
 use Rattle.enc_model.specs.declared.Encoding.{Encoding}
 use Rattle.enc_model.specs.Encode.{Tables}
 use Rattle.std.specs.Prelude.{unwrap_or}
-use Rattle.std.proofs.lemmas.List.Elements.{All-head, All-tail}
+use Rattle.std.proofs.lemmas.List.Elements.{All-head, All-tail, All-from_get_or}
 use Rattle.enc_model.specs.declared.Answer.TheVariants.{Point}
 use Rattle.enc_model.specs.Batches.{BatchTook}
 use Rattle.enc_model.specs.Index.{Index, code}
 use Rattle.enc_model.specs.Stream.{Run, said, after, steps, steps_within, all_bytes, byte_of}
+use Rattle.enc_model.proofs.Gathered.{from_nothing}
 use Rattle.enc_model.proofs.Steps.{steps_bytes}
 use Rattle.enc_index.specs.Bytes.{byte_char}
 use Rattle.enc_model.specs.Japanese.{single, answer_of}
@@ -86,10 +89,13 @@ pub own_chars : (index : Index) (chars : List ℕ) → ((b : ℕ) → b < 256 �
     → (b : ℕ) → b < 128 → slice_index chars b ≡ b
 own_chars index chars table b l = table b (omega (arith, l)) ∙ byte_own index b l
 
--- what was gathered of the first bytes
-pub singles_gathered : (t : Tables) (e : Encoding) (chars rest old new : List ℕ) (n : ℕ)
-    → ((b : ℕ) → b < 256 → slice_index chars b ≡ byte_char (t.single e) b) → All (λ b. b < 256) (take n rest)
-    → BatchTook old (map (λ b. slice_index chars b) (take n rest)) new
-    → BatchTook old (steps (single_in t) false e (take n rest)).text new
-singles_gathered t e chars rest old new n table all took =
-    subst (λ z. BatchTook old z new) (single_chars t e chars (take n rest) table all) took
+-- what a batch that was empty holds of the first bytes
+pub singles_gathered : (t : Tables) (e : Encoding) (table rest old new : List ℕ) (n : ℕ)
+    → ((b : ℕ) → b < 256 → slice_index table b ≡ byte_char (t.single e) b) → ((k : ℕ) → Fits w8 (get_or rest k 0))
+    → old ≡ [] → BatchTook old (map (λ b. slice_index table b) (take n rest)) new
+    → chars new ≡ (steps (single_in t) false e (take n rest)).text
+singles_gathered t e table rest old new n are fits none took =
+    let bytes : All (λ b. b < 256) (take n rest) = All-from_get_or (λ b. b < 256) (take n rest) 0 (λ k l.
+    let m : k < n = omega (arith, l, length-take n rest) in
+    subst (λ b. b < 256) (sym (get_or-take n rest k 0 m)) (fits k).fits) in
+    from_nothing old _ new none took ∙ single_chars t e table (take n rest) are bytes

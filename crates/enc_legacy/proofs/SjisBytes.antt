@@ -7,7 +7,7 @@ use Rattle.enc_model.specs.Japanese.{shift_jis_pair}
 use Rattle.enc_legacy.specs.ShiftJis.{IsShiftJisLead, IsShiftJisPair}
 use Rattle.enc_legacy.specs.declared.pairs.TheConstants.{NO_PAIR, TRAILS}
 use Rattle.enc_legacy.specs.declared.sjis_bytes.TheConstants.{PAIRS}
-use Rattle.enc_legacy.proofs.PairPointers.{rows_of, lead_at, trail_at, pointer_within}
+use Rattle.enc_legacy.proofs.PairPointers.{rows_of, lead_at, pair_at, pointer_within}
 
 abbrev of_lead : ℕ → ℕ
 of_lead b =
@@ -22,10 +22,7 @@ rows : PAIRS ≡ rows_of of_lead of_trail
 rows = refl
 
 pub sum_fits : (a b : ℕ) → a < 256 → b < 256 → get_or PAIRS a 0 + get_or PAIRS (TRAILS + b) 0 < 2 ^ 32
-sum_fits a b small below =
-    let e = lead_at PAIRS of_lead of_trail rows a small in
-    let f = trail_at PAIRS of_lead of_trail rows b below in
-    grind (arith, nat_tests, e, f)
+sum_fits a b small below = let e = pair_at PAIRS of_lead of_trail rows a b small below in grind (arith, nat_tests, e)
 
 pub lead_of : (a b : ℕ) → a < 256 → get_or PAIRS a 0 + get_or PAIRS (TRAILS + b) 0 < NO_PAIR → IsShiftJisLead a
 lead_of a b small few =
@@ -35,9 +32,7 @@ lead_of a b small few =
 pub pair_of : (a b : ℕ) → a < 256 → b < 256 → get_or PAIRS a 0 + get_or PAIRS (TRAILS + b) 0 < NO_PAIR →
     (i : Index) → shift_jis_pair i a b ≡ code i (get_or PAIRS a 0 + get_or PAIRS (TRAILS + b) 0)
 pair_of a b small below few i =
-    let e = lead_at PAIRS of_lead of_trail rows a small in
-    let f = trail_at PAIRS of_lead of_trail rows b below in
-    grind (arith, nat_tests, e, f, few)
+    let e = pair_at PAIRS of_lead of_trail rows a b small below in grind (arith, nat_tests, e, few)
 
 -- a character at a pair's pointer is what the pair stands for
 pub sjis_read : (codes : List (Option ℕ)) (a b p c : ℕ) → (p < NO_PAIR → IsShiftJisLead a)

@@ -10,6 +10,7 @@ use Rattle.lane_kernels.specs.Classes.{is_plain_2022}
 use Rattle.enc_model.specs.declared.Answer.TheVariants.{Point, Nothing}
 use Rattle.enc_model.specs.declared.Charset.{Charset}
 use Rattle.enc_model.specs.declared.Charset.TheVariants.{Ascii, Lead}
+use Rattle.enc_model.specs.declared.Place.{Place}
 use Rattle.enc_model.specs.declared.Place.TheVariants.{In, Trail}
 use Rattle.enc_model.specs.Index.{Index, code}
 use Rattle.enc_model.specs.Stream.{Handler, IsCalm, steps}
@@ -76,6 +77,13 @@ module _ {S : Type 0} (h : Handler S) (calm : IsCalm h) where
   pairs_read s P two bytes old new took =
       let is = pairs_run s P two bytes took.0 took.1 in
       (subst (λ z. BatchTook old z new) (ap (λ run. run.text) (sym is)) took.2, ap (λ run. run.state) (sym is))
+
+-- nothing is read
+pub text_begins : {S : Type 0} (h : Handler S) (s : S) (old : List ℕ) → BatchTook old (steps h false s []).text old
+text_begins h s old = rw (steps_none h s) ((batch_sink {E = ℕ}).none old)
+
+pub state_begins : {S : Type 0} (h : Handler S) (s : S) → s ≡ (steps h false s []).state
+state_begins h s = ap (λ run. run.state) (sym (steps_none h s))
 
 -- what follows where there is one
 pub some_then : {A : Type 0} (o : Option A) (P Q : A → Type 0) → ((x : A) → P x → Q x) → IfSome o P → IfSome o Q
@@ -272,6 +280,17 @@ plain_all bytes n e =
 
 plain_ascii : (b : ℕ) → is_plain_2022 b ≡ true → b < 128
 plain_ascii b p = grind (arith, nat_tests, p)
+
+-- a run that clears the flag is read from a place where it stays
+pub run_cleared : (i : Index) (at place : Place) (output : Charset) (flag : Bool) (s : Iso2022)
+    (bytes text old new : List ℕ) → record { place = place; output = output; flag = flag } ≡ s → s.place ≡ at →
+    steps (iso2022 i) false (record { place = at; output = output; flag = flag }) bytes
+    ≡ record { text = text; state = record { place = at; output = output; flag = false } } → BatchTook old text new →
+    BatchTook old (steps (iso2022 i) false s bytes).text new
+    × (record { place = place; output = output; flag = false } ≡ (steps (iso2022 i) false s bytes).state)
+run_cleared i at place output flag s bytes text old new own here is took =
+    let stays : place ≡ at = ap (λ z. z.place) own ∙ here in
+    rw (← own, stays, is) (took, refl)
 
 -- a run in ASCII, which clears the flag
 pub iso_front : (i : Index) (output : Charset) (flag : Bool) (rest : List ℕ) (n : ℕ) → n ≡ prefix_len is_plain_2022 rest

@@ -256,6 +256,7 @@ impl PairReader for Iso2022State {
 impl Iso2022State {
     /// Decodes leading ASCII, and returns its length.
     #[inline(always)]
+    #[tactic(auto, using(crate::proofs::Strides::text_begins, crate::proofs::Strides::state_begins))]
     fn read_ascii(&mut self, _indexes: &IndexSet, rest: &[u8], batch: &mut Batch) -> usize
         requires place { self.old.place ≡ In Ascii }
         requires room { length batch.old + 12 * length rest.now ≤ ROOM }
@@ -276,6 +277,7 @@ impl Iso2022State {
 
     /// Decodes leading pairs of jis0208 while they are ready, and returns how many bytes they are.
     #[inline(always)]
+    #[tactic(auto, using(crate::proofs::Strides::text_begins, crate::proofs::Strides::state_begins))]
     fn read_pairs(&mut self, indexes: &IndexSet, rest: &[u8], batch: &mut Batch) -> usize
         requires place { self.old.place ≡ In Lead }
         requires room { length batch.old + 12 * length rest.now ≤ ROOM }
@@ -298,6 +300,7 @@ impl Iso2022State {
 
     /// Decodes a run of ASCII or of pairs, and returns its length.
     #[inline(always)]
+    #[tactic(auto, using(crate::proofs::Strides::text_begins, crate::proofs::Strides::state_begins))]
     fn read_run(&mut self, indexes: &IndexSet, rest: &[u8], batch: &mut Batch) -> usize
         requires room { length batch.old + 12 * length rest.now ≤ ROOM }
         ensures within { result ≤ length rest.now }

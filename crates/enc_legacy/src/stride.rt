@@ -45,6 +45,7 @@ pub trait PairDecoder: Decoder + PairReader {
 
 /// Decodes leading pairs while they are ready, and returns how many bytes they are.
 #[inline(always)]
+#[tactic(auto, using(crate::proofs::Strides::text_begins, crate::proofs::Strides::state_begins))]
 fn read_pairs<D: PairDecoder>(
     state: &D,
     tables: &D::Tables,
@@ -134,6 +135,7 @@ pub fn read_run<D: PairDecoder>(
 
 /// Decodes a block, for which the batch has room.
 #[inline(always)]
+#[tactic(auto, using(crate::proofs::Strides::text_begins, crate::proofs::Strides::state_begins))]
 pub fn decode_strides<D: Strider>(
     state: &mut D,
     tables: &D::Tables,

@@ -1,11 +1,12 @@
 -- A piece that is read part by part.
-use Rattle.std.proofs.Common.{ℕ, ◌+◌, ◌-◌, ◌≡◌, List, Result, Ok, Err, false, sym, ◌∙◌, ap, subst, take, drop, length}
-use Rattle.std.proofs.Common.{take-append-drop, IfErr, OnOk, IsErrAnd}
+use Rattle.std.proofs.Common.{ℕ, ◌+◌, ◌-◌, ◌≡◌, ◌≤◌, List, Result, Ok, Err, false, sym, ◌∙◌, ap, subst, take, drop, length}
+use Rattle.std.proofs.Common.{take-append-drop, IfErr, OnOk, IsErrAnd, length-drop, arith}
 use Rattle.std.proofs.lemmas.List.{take_rest}
 use Rattle.std.proofs.Math.Seq.{take-add}
 use Rattle.enc_model.specs.Stream.{Handler, IsCalm, steps}
 use Rattle.enc_model.specs.Sink.{Given, IsSink}
-use Rattle.enc_model.proofs.Feeding.{feed_more, state_more}
+use Rattle.enc_model.proofs.Feeding.{feed_begins, feed_more, state_more}
+use Rattle.enc_model.proofs.Steps.{steps_none}
 
 pub if_err : {X E : Type 0} (r : Result X E) (e : E) (P : E → Type 0) → IsErrAnd r (λ y. y ≡ e) → P e → IfErr r P
 if_err (Ok v) e P i p = tt
@@ -63,3 +64,38 @@ module _ {S : Type 0} (h : Handler S) (calm : IsCalm h) where
       state_more h calm s next end (take i piece) (take n (drop i piece)) e
       (f ∙ ap (λ z. (steps h false next (take n z)).state) (is ∙ take_rest piece i))
       ∙ ap (λ p. (steps h false s p).state) (sym (take-add i n piece))
+
+-- how far a piece was read: what was taken of it, and the state there
+pub record ReadTo {A S : Type 0} (takes : A → List ℕ → A → Type 0) (h : Handler S) (piece : List ℕ) (a : A) (s : S)
+    (i : ℕ) (m : A) (next : S) : Type 0 where
+  pub taken : takes a (steps h false s (take i piece)).text m
+  pub state : next ≡ (steps h false s (take i piece)).state
+  pub at : i ≤ length piece
+
+module _ {A E S : Type 0} (takes : A → List ℕ → A → Type 0) (refuses : A → List ℕ → E → A → Type 0)
+    (sink : IsSink takes refuses) (h : Handler S) (calm : IsCalm h) where
+  pub read_begins : (piece : List ℕ) (a : A) (s : S) → ReadTo takes h piece a s 0 a s
+  read_begins piece a s = record {
+    taken = feed_begins takes refuses sink h calm s a;
+    state = ap (λ run. run.state) (sym (steps_none h s));
+    at = omega arith;
+  }
+
+  -- a part more
+  pub read_more : (piece rest : List ℕ) (a m c : A) (s next end : S) (i n : ℕ)
+      → rest ≡ take (length piece - i) (drop i piece) → ReadTo takes h piece a s i m next → n ≤ length rest
+      → takes m (steps h false next (take n rest)).text c → end ≡ (steps h false next (take n rest)).state
+      → ReadTo takes h piece a s (i + n) c end
+  read_more piece rest a m c s next end i n is to few t e = record {
+    taken = part_taken h calm takes refuses sink s next piece rest i n a m c is to.state to.taken t;
+    state = part_state h calm s next end piece rest i n is to.state e;
+    at = let long = ap length (is ∙ take_rest piece i) in let left = length-drop i piece in let before = to.at in
+        omega (arith, few, long, left, before);
+  }
+
+  -- or the rest is refused
+  pub read_refused : (piece rest : List ℕ) (a m c : A) (s next : S) (i : ℕ) (why : E)
+      → rest ≡ take (length piece - i) (drop i piece) → ReadTo takes h piece a s i m next
+      → refuses m (steps h false next rest).text why c → refuses a (steps h false s piece).text why c
+  read_refused piece rest a m c s next i why is to r =
+      part_refused h calm takes refuses sink s next piece rest i a m c why is to.state to.taken r

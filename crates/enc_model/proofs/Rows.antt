@@ -1,5 +1,5 @@
 -- Worked examples, by computation: the review of the definitions.
-use Rattle.std.proofs.Common.{◌≡◌, true, false, [], ◌∷◌, refl, Some}
+use Rattle.std.proofs.Common.{ℕ, ◌≡◌, Bool, true, false, List, [], ◌∷◌, refl, Some}
 use Rattle.enc_model.specs.declared.Encoding.{Encoding}
 use Rattle.enc_model.specs.declared.Encoding.TheVariants.{Utf8, Utf16Be, Utf16Le, ShiftJis, EucJp, Iso2022Jp}
 use Rattle.enc_model.specs.declared.Encoding.TheVariants.{Windows1252}
@@ -27,200 +27,88 @@ singles _ = []
 abbrev rows : Tables
 rows = record { jis0208 = jis0208; jis0212 = (1410, 0x4E02) ∷ []; katakana = (0, 0x3002) ∷ []; single = singles }
 
-bom_begun : (text rows Utf8 Utf8 Html (0xEF ∷ []) false).bytes ≡ []
+-- what some bytes give as HTML, with the end or without it
+abbrev Gives : Encoding → Encoding → List ℕ → Bool → List ℕ → Type 0
+Gives from to bytes ended given = (text rows from to Html bytes ended).bytes ≡ given
+
+-- A byte order mark is held until it is whole, by any cut, and decides before the label does.
+marks : Gives Utf8 Utf8 (0xEF ∷ []) false []
+    × Gives Utf8 Utf8 (0xEF ∷ 0xBB ∷ []) false []
+    × Gives Utf8 Utf8 (0xEF ∷ 0xBB ∷ 0xBF ∷ 0x41 ∷ []) true (0x41 ∷ [])
+    × Gives ShiftJis Utf8 (0xFE ∷ 0xFF ∷ 0x00 ∷ 0x41 ∷ []) true (0x41 ∷ [])
 unfolding steps steps_within code pointer_where utf8 utf16 single shift_jis euc_jp iso2022 coded coded_within
     single_encoder encode shift_jis_encoder euc_jp_encoder iso2022_encoder decoding decoded decode text
-bom_begun = refl
+marks = (refl, refl, refl, refl)
 
-bom_held : (text rows Utf8 Utf8 Html (0xEF ∷ 0xBB ∷ []) false).bytes ≡ []
+-- UTF-8: a character that is begun, one that is cut off, and an overlong form by its maximal subparts.
+utf8_cuts : Gives Utf8 Utf8 (0xF0 ∷ 0x90 ∷ []) false []
+    × Gives Utf8 Utf8 (0xF0 ∷ 0x90 ∷ 0x80 ∷ []) true (0xEF ∷ 0xBF ∷ 0xBD ∷ [])
+    × Gives Utf8 Utf8 (0xE0 ∷ 0x80 ∷ 0x41 ∷ []) true (0xEF ∷ 0xBF ∷ 0xBD ∷ 0xEF ∷ 0xBF ∷ 0xBD ∷ 0x41 ∷ [])
 unfolding steps steps_within code pointer_where utf8 utf16 single shift_jis euc_jp iso2022 coded coded_within
     single_encoder encode shift_jis_encoder euc_jp_encoder iso2022_encoder decoding decoded decode text
-bom_held = refl
+utf8_cuts = (refl, refl, refl)
 
-bom_split : (text rows Utf8 Utf8 Html (0xEF ∷ 0xBB ∷ 0xBF ∷ 0x41 ∷ []) true).bytes ≡ (0x41 ∷ [])
+-- UTF-16: a lead unit is held, and in the middle of a pair; a whole pair; a lead unit at the end, and one alone.
+utf16_cuts : Gives Utf16Le Utf8 (0x3D ∷ 0xD8 ∷ []) false []
+    × Gives Utf16Le Utf8 (0x3D ∷ 0xD8 ∷ 0x00 ∷ []) false []
+    × Gives Utf16Le Utf8 (0x3D ∷ 0xD8 ∷ 0x00 ∷ 0xDE ∷ []) true (0xF0 ∷ 0x9F ∷ 0x98 ∷ 0x80 ∷ [])
+    × Gives Utf16Be Utf8 (0xD8 ∷ 0x00 ∷ 0x41 ∷ []) true (0xEF ∷ 0xBF ∷ 0xBD ∷ [])
+    × Gives Utf16Le Utf8 (0x3D ∷ 0xD8 ∷ 0x41 ∷ 0x00 ∷ []) true (0xEF ∷ 0xBF ∷ 0xBD ∷ 0x41 ∷ [])
 unfolding steps steps_within code pointer_where utf8 utf16 single shift_jis euc_jp iso2022 coded coded_within
     single_encoder encode shift_jis_encoder euc_jp_encoder iso2022_encoder decoding decoded decode text
-bom_split = refl
+utf16_cuts = (refl, refl, refl, refl, refl)
 
-four_bytes_begun : (text rows Utf8 Utf8 Html (0xF0 ∷ 0x90 ∷ []) false).bytes ≡ []
+-- Shift_JIS: a lead is held, two bytes, ASCII after a bad lead, and a user-defined character.
+shift_jis_bytes : Gives ShiftJis Utf8 (0x82 ∷ []) false []
+    × Gives ShiftJis Utf8 (0x82 ∷ 0xA0 ∷ []) false (0xE3 ∷ 0x81 ∷ 0x82 ∷ [])
+    × Gives ShiftJis Utf8 (0x82 ∷ 0xA0 ∷ 0x82 ∷ 0x20 ∷ []) true (0xE3 ∷ 0x81 ∷ 0x82 ∷ 0xEF ∷ 0xBF ∷ 0xBD ∷ 0x20 ∷ [])
+    × Gives ShiftJis Utf8 (0xF0 ∷ 0x40 ∷ []) true (0xEE ∷ 0x80 ∷ 0x80 ∷ [])
 unfolding steps steps_within code pointer_where utf8 utf16 single shift_jis euc_jp iso2022 coded coded_within
     single_encoder encode shift_jis_encoder euc_jp_encoder iso2022_encoder decoding decoded decode text
-four_bytes_begun = refl
+shift_jis_bytes = (refl, refl, refl, refl)
 
-four_bytes_cut_off : (text rows Utf8 Utf8 Html (0xF0 ∷ 0x90 ∷ 0x80 ∷ []) true).bytes ≡ (0xEF ∷ 0xBF ∷ 0xBD ∷ [])
+-- EUC-JP: three bytes that are begun, three, two, and half-width katakana.
+euc_jp_bytes : Gives EucJp Utf8 (0x8F ∷ 0xB0 ∷ []) false []
+    × Gives EucJp Utf8 (0x8F ∷ 0xB0 ∷ 0xA1 ∷ []) true (0xE4 ∷ 0xB8 ∷ 0x82 ∷ [])
+    × Gives EucJp Utf8 (0xB0 ∷ 0xA1 ∷ []) true (0xE4 ∷ 0xBA ∷ 0x9C ∷ [])
+    × Gives EucJp Utf8 (0x8E ∷ 0xB1 ∷ []) true (0xEF ∷ 0xBD ∷ 0xB1 ∷ [])
 unfolding steps steps_within code pointer_where utf8 utf16 single shift_jis euc_jp iso2022 coded coded_within
     single_encoder encode shift_jis_encoder euc_jp_encoder iso2022_encoder decoding decoded decode text
-four_bytes_cut_off = refl
+euc_jp_bytes = (refl, refl, refl, refl)
 
-overlong_by_subparts : (text rows Utf8 Utf8 Html (0xE0 ∷ 0x80 ∷ 0x41 ∷ [])
-    true).bytes ≡ (0xEF ∷ 0xBF ∷ 0xBD ∷ 0xEF ∷ 0xBF ∷ 0xBD ∷ 0x41 ∷ [])
+-- ISO-2022-JP: an escape that is cut, one to jis0208, two in a row, and one that is cut off.
+escapes : Gives Iso2022Jp Utf8 (0x1B ∷ 0x24 ∷ []) false []
+    × Gives Iso2022Jp Utf8 (0x1B ∷ 0x24 ∷ 0x42 ∷ 0x24 ∷ 0x22 ∷ []) false (0xE3 ∷ 0x81 ∷ 0x82 ∷ [])
+    × Gives Iso2022Jp Utf8 (0x1B ∷ 0x24 ∷ 0x42 ∷ 0x24 ∷ 0x22 ∷ 0x1B ∷ 0x28 ∷ 0x42 ∷ 0x1B ∷ 0x28 ∷ 0x42 ∷ 0x41 ∷ []) true (0xE3 ∷ 0x81 ∷ 0x82 ∷ 0xEF ∷ 0xBF ∷ 0xBD ∷ 0x41 ∷ [])
+    × Gives Iso2022Jp Utf8 (0x1B ∷ 0x24 ∷ []) true (0xEF ∷ 0xBF ∷ 0xBD ∷ 0x24 ∷ [])
 unfolding steps steps_within code pointer_where utf8 utf16 single shift_jis euc_jp iso2022 coded coded_within
     single_encoder encode shift_jis_encoder euc_jp_encoder iso2022_encoder decoding decoded decode text
-overlong_by_subparts = refl
+escapes = (refl, refl, refl, refl)
 
-lead_unit_held : (text rows Utf16Le Utf8 Html (0x3D ∷ 0xD8 ∷ []) false).bytes ≡ []
-unfolding steps steps_within code pointer_where utf8 utf16 single shift_jis euc_jp iso2022 coded coded_within
-    single_encoder encode shift_jis_encoder euc_jp_encoder iso2022_encoder decoding decoded decode text
-lead_unit_held = refl
-
-pair_cut_inside : (text rows Utf16Le Utf8 Html (0x3D ∷ 0xD8 ∷ 0x00 ∷ []) false).bytes ≡ []
-unfolding steps steps_within code pointer_where utf8 utf16 single shift_jis euc_jp iso2022 coded coded_within
-    single_encoder encode shift_jis_encoder euc_jp_encoder iso2022_encoder decoding decoded decode text
-pair_cut_inside = refl
-
-pair_whole : (text rows Utf16Le Utf8 Html (0x3D ∷ 0xD8 ∷ 0x00 ∷ 0xDE ∷ [])
-    true).bytes ≡ (0xF0 ∷ 0x9F ∷ 0x98 ∷ 0x80 ∷ [])
-unfolding steps steps_within code pointer_where utf8 utf16 single shift_jis euc_jp iso2022 coded coded_within
-    single_encoder encode shift_jis_encoder euc_jp_encoder iso2022_encoder decoding decoded decode text
-pair_whole = refl
-
-lead_unit_at_the_end : (text rows Utf16Be Utf8 Html (0xD8 ∷ 0x00 ∷ 0x41 ∷ []) true).bytes ≡ (0xEF ∷ 0xBF ∷ 0xBD ∷ [])
-unfolding steps steps_within code pointer_where utf8 utf16 single shift_jis euc_jp iso2022 coded coded_within
-    single_encoder encode shift_jis_encoder euc_jp_encoder iso2022_encoder decoding decoded decode text
-lead_unit_at_the_end = refl
-
-lead_unit_alone : (text rows Utf16Le Utf8 Html (0x3D ∷ 0xD8 ∷ 0x41 ∷ 0x00 ∷ [])
-    true).bytes ≡ (0xEF ∷ 0xBF ∷ 0xBD ∷ 0x41 ∷ [])
-unfolding steps steps_within code pointer_where utf8 utf16 single shift_jis euc_jp iso2022 coded coded_within
-    single_encoder encode shift_jis_encoder euc_jp_encoder iso2022_encoder decoding decoded decode text
-lead_unit_alone = refl
-
-shift_jis_lead_held : (text rows ShiftJis Utf8 Html (0x82 ∷ []) false).bytes ≡ []
-unfolding steps steps_within code pointer_where utf8 utf16 single shift_jis euc_jp iso2022 coded coded_within
-    single_encoder encode shift_jis_encoder euc_jp_encoder iso2022_encoder decoding decoded decode text
-shift_jis_lead_held = refl
-
-shift_jis_two_bytes : (text rows ShiftJis Utf8 Html (0x82 ∷ 0xA0 ∷ []) false).bytes ≡ (0xE3 ∷ 0x81 ∷ 0x82 ∷ [])
-unfolding steps steps_within code pointer_where utf8 utf16 single shift_jis euc_jp iso2022 coded coded_within
-    single_encoder encode shift_jis_encoder euc_jp_encoder iso2022_encoder decoding decoded decode text
-shift_jis_two_bytes = refl
-
-ascii_after_a_bad_lead : (text rows ShiftJis Utf8 Html (0x82 ∷ 0xA0 ∷ 0x82 ∷ 0x20 ∷ [])
-    true).bytes ≡ (0xE3 ∷ 0x81 ∷ 0x82 ∷ 0xEF ∷ 0xBF ∷ 0xBD ∷ 0x20 ∷ [])
-unfolding steps steps_within code pointer_where utf8 utf16 single shift_jis euc_jp iso2022 coded coded_within
-    single_encoder encode shift_jis_encoder euc_jp_encoder iso2022_encoder decoding decoded decode text
-ascii_after_a_bad_lead = refl
-
-user_defined : (text rows ShiftJis Utf8 Html (0xF0 ∷ 0x40 ∷ []) true).bytes ≡ (0xEE ∷ 0x80 ∷ 0x80 ∷ [])
-unfolding steps steps_within code pointer_where utf8 utf16 single shift_jis euc_jp iso2022 coded coded_within
-    single_encoder encode shift_jis_encoder euc_jp_encoder iso2022_encoder decoding decoded decode text
-user_defined = refl
-
-euc_jp_three_begun : (text rows EucJp Utf8 Html (0x8F ∷ 0xB0 ∷ []) false).bytes ≡ []
-unfolding steps steps_within code pointer_where utf8 utf16 single shift_jis euc_jp iso2022 coded coded_within
-    single_encoder encode shift_jis_encoder euc_jp_encoder iso2022_encoder decoding decoded decode text
-euc_jp_three_begun = refl
-
-euc_jp_three_bytes : (text rows EucJp Utf8 Html (0x8F ∷ 0xB0 ∷ 0xA1 ∷ []) true).bytes ≡ (0xE4 ∷ 0xB8 ∷ 0x82 ∷ [])
-unfolding steps steps_within code pointer_where utf8 utf16 single shift_jis euc_jp iso2022 coded coded_within
-    single_encoder encode shift_jis_encoder euc_jp_encoder iso2022_encoder decoding decoded decode text
-euc_jp_three_bytes = refl
-
-euc_jp_two_bytes : (text rows EucJp Utf8 Html (0xB0 ∷ 0xA1 ∷ []) true).bytes ≡ (0xE4 ∷ 0xBA ∷ 0x9C ∷ [])
-unfolding steps steps_within code pointer_where utf8 utf16 single shift_jis euc_jp iso2022 coded coded_within
-    single_encoder encode shift_jis_encoder euc_jp_encoder iso2022_encoder decoding decoded decode text
-euc_jp_two_bytes = refl
-
-euc_jp_half_width : (text rows EucJp Utf8 Html (0x8E ∷ 0xB1 ∷ []) true).bytes ≡ (0xEF ∷ 0xBD ∷ 0xB1 ∷ [])
-unfolding steps steps_within code pointer_where utf8 utf16 single shift_jis euc_jp iso2022 coded coded_within
-    single_encoder encode shift_jis_encoder euc_jp_encoder iso2022_encoder decoding decoded decode text
-euc_jp_half_width = refl
-
-escape_cut : (text rows Iso2022Jp Utf8 Html (0x1B ∷ 0x24 ∷ []) false).bytes ≡ []
-unfolding steps steps_within code pointer_where utf8 utf16 single shift_jis euc_jp iso2022 coded coded_within
-    single_encoder encode shift_jis_encoder euc_jp_encoder iso2022_encoder decoding decoded decode text
-escape_cut = refl
-
-escape_to_jis : (text rows Iso2022Jp Utf8 Html (0x1B ∷ 0x24 ∷ 0x42 ∷ 0x24 ∷ 0x22 ∷ [])
-    false).bytes ≡ (0xE3 ∷ 0x81 ∷ 0x82 ∷ [])
-unfolding steps steps_within code pointer_where utf8 utf16 single shift_jis euc_jp iso2022 coded coded_within
-    single_encoder encode shift_jis_encoder euc_jp_encoder iso2022_encoder decoding decoded decode text
-escape_to_jis = refl
-
-two_escapes_in_a_row : (text rows Iso2022Jp Utf8 Html
-    (0x1B ∷ 0x24 ∷ 0x42 ∷ 0x24 ∷ 0x22 ∷ 0x1B ∷ 0x28 ∷ 0x42 ∷ 0x1B ∷ 0x28 ∷ 0x42 ∷ 0x41 ∷ [])
-    true).bytes ≡ (0xE3 ∷ 0x81 ∷ 0x82 ∷ 0xEF ∷ 0xBF ∷ 0xBD ∷ 0x41 ∷ [])
-unfolding steps steps_within code pointer_where utf8 utf16 single shift_jis euc_jp iso2022 coded coded_within
-    single_encoder encode shift_jis_encoder euc_jp_encoder iso2022_encoder decoding decoded decode text
-two_escapes_in_a_row = refl
-
-escape_cut_off : (text rows Iso2022Jp Utf8 Html (0x1B ∷ 0x24 ∷ []) true).bytes ≡ (0xEF ∷ 0xBF ∷ 0xBD ∷ 0x24 ∷ [])
-unfolding steps steps_within code pointer_where utf8 utf16 single shift_jis euc_jp iso2022 coded coded_within
-    single_encoder encode shift_jis_encoder euc_jp_encoder iso2022_encoder decoding decoded decode text
-escape_cut_off = refl
-
-to_jis_unclosed : (text rows Utf8 Iso2022Jp Html (0xE3 ∷ 0x81 ∷ 0x82 ∷ [])
-    false).bytes ≡ (0x1B ∷ 0x24 ∷ 0x42 ∷ 0x24 ∷ 0x22 ∷ [])
-unfolding steps steps_within code pointer_where utf8 utf16 single shift_jis euc_jp iso2022 coded coded_within
-    single_encoder encode shift_jis_encoder euc_jp_encoder iso2022_encoder decoding decoded decode text
-to_jis_unclosed = refl
-
-to_jis_with_a_reference : (text rows Utf8 Iso2022Jp Html (0xE3 ∷ 0x81 ∷ 0x82 ∷ 0xF0 ∷ 0x9F ∷ 0x98 ∷ 0x80 ∷ [])
-    true).bytes ≡ (0x1B ∷ 0x24 ∷ 0x42 ∷ 0x24 ∷ 0x22 ∷ 0x1B ∷ 0x28 ∷
-    0x42 ∷ 0x26 ∷ 0x23 ∷ 0x31 ∷ 0x32 ∷ 0x38 ∷ 0x35 ∷ 0x31 ∷ 0x32 ∷ 0x3B ∷ [])
+-- To ISO-2022-JP: jis0208 that stays open, that a reference leaves, and that the end closes.
+to_iso2022 : Gives Utf8 Iso2022Jp (0xE3 ∷ 0x81 ∷ 0x82 ∷ []) false (0x1B ∷ 0x24 ∷ 0x42 ∷ 0x24 ∷ 0x22 ∷ [])
+    × Gives Utf8 Iso2022Jp (0xE3 ∷ 0x81 ∷ 0x82 ∷ 0xF0 ∷ 0x9F ∷ 0x98 ∷ 0x80 ∷ []) true (0x1B ∷ 0x24 ∷ 0x42 ∷ 0x24 ∷ 0x22 ∷ 0x1B ∷ 0x28 ∷ 0x42 ∷ 0x26 ∷ 0x23 ∷ 0x31 ∷ 0x32 ∷ 0x38 ∷ 0x35 ∷ 0x31 ∷ 0x32 ∷ 0x3B ∷ [])
+    × Gives Utf8 Iso2022Jp (0xE3 ∷ 0x81 ∷ 0x82 ∷ []) true (0x1B ∷ 0x24 ∷ 0x42 ∷ 0x24 ∷ 0x22 ∷ 0x1B ∷ 0x28 ∷ 0x42 ∷ [])
 unfolding steps steps_within code pointer_where utf8 utf16 single shift_jis euc_jp iso2022 coded coded_within
     single_encoder encode shift_jis_encoder euc_jp_encoder iso2022_encoder decoding decoded decode text digits
-to_jis_with_a_reference = refl
+to_iso2022 = (refl, refl, refl)
 
-to_jis_closed : (text rows Utf8 Iso2022Jp Html (0xE3 ∷ 0x81 ∷ 0x82 ∷ [])
-    true).bytes ≡ (0x1B ∷ 0x24 ∷ 0x42 ∷ 0x24 ∷ 0x22 ∷ 0x1B ∷ 0x28 ∷ 0x42 ∷ [])
+-- The minus sign, a character with a pointer in the range that Shift_JIS leaves out, and half-width katakana, as each of
+-- the three Japanese encoders takes them.
+to_japanese : Gives Utf8 ShiftJis (0xE2 ∷ 0x88 ∷ 0x92 ∷ []) true (0x81 ∷ 0x7C ∷ [])
+    × Gives Utf8 ShiftJis (0xE7 ∷ 0xBA ∷ 0x8A ∷ []) true (0xFA ∷ 0x5C ∷ [])
+    × Gives Utf8 ShiftJis (0xEF ∷ 0xBD ∷ 0xA1 ∷ []) true (0xA1 ∷ [])
+    × Gives Utf8 EucJp (0xE2 ∷ 0x88 ∷ 0x92 ∷ []) true (0xA1 ∷ 0xDD ∷ [])
+    × Gives Utf8 EucJp (0xE7 ∷ 0xBA ∷ 0x8A ∷ []) true (0xF9 ∷ 0xA1 ∷ [])
+    × Gives Utf8 EucJp (0xEF ∷ 0xBD ∷ 0xA1 ∷ []) true (0x8E ∷ 0xA1 ∷ [])
+    × Gives Utf8 Iso2022Jp (0xE2 ∷ 0x88 ∷ 0x92 ∷ []) true (0x1B ∷ 0x24 ∷ 0x42 ∷ 0x21 ∷ 0x5D ∷ 0x1B ∷ 0x28 ∷ 0x42 ∷ [])
+    × Gives Utf8 Iso2022Jp (0xE7 ∷ 0xBA ∷ 0x8A ∷ []) true (0x1B ∷ 0x24 ∷ 0x42 ∷ 0x79 ∷ 0x21 ∷ 0x1B ∷ 0x28 ∷ 0x42 ∷ [])
+    × Gives Utf8 Iso2022Jp (0xEF ∷ 0xBD ∷ 0xA1 ∷ []) true (0x1B ∷ 0x24 ∷ 0x42 ∷ 0x21 ∷ 0x23 ∷ 0x1B ∷ 0x28 ∷ 0x42 ∷ [])
 unfolding steps steps_within code pointer_where utf8 utf16 single shift_jis euc_jp iso2022 coded coded_within
     single_encoder encode shift_jis_encoder euc_jp_encoder iso2022_encoder decoding decoded decode text
-to_jis_closed = refl
+to_japanese = (refl, refl, refl, refl, refl, refl, refl, refl, refl)
 
-minus_to_shift_jis : (text rows Utf8 ShiftJis Html (0xE2 ∷ 0x88 ∷ 0x92 ∷ []) true).bytes ≡ (0x81 ∷ 0x7C ∷ [])
-unfolding steps steps_within code pointer_where utf8 utf16 single shift_jis euc_jp iso2022 coded coded_within
-    single_encoder encode shift_jis_encoder euc_jp_encoder iso2022_encoder decoding decoded decode text
-minus_to_shift_jis = refl
-
-minus_to_euc_jp : (text rows Utf8 EucJp Html (0xE2 ∷ 0x88 ∷ 0x92 ∷ []) true).bytes ≡ (0xA1 ∷ 0xDD ∷ [])
-unfolding steps steps_within code pointer_where utf8 utf16 single shift_jis euc_jp iso2022 coded coded_within
-    single_encoder encode shift_jis_encoder euc_jp_encoder iso2022_encoder decoding decoded decode text
-minus_to_euc_jp = refl
-
-minus_to_iso2022 : (text rows Utf8 Iso2022Jp Html (0xE2 ∷ 0x88 ∷ 0x92 ∷ [])
-    true).bytes ≡ (0x1B ∷ 0x24 ∷ 0x42 ∷ 0x21 ∷ 0x5D ∷ 0x1B ∷ 0x28 ∷ 0x42 ∷ [])
-unfolding steps steps_within code pointer_where utf8 utf16 single shift_jis euc_jp iso2022 coded coded_within
-    single_encoder encode shift_jis_encoder euc_jp_encoder iso2022_encoder decoding decoded decode text
-minus_to_iso2022 = refl
-
-excluded_range_to_shift_jis : (text rows Utf8 ShiftJis Html (0xE7 ∷ 0xBA ∷ 0x8A ∷ []) true).bytes ≡ (0xFA ∷ 0x5C ∷ [])
-unfolding steps steps_within code pointer_where utf8 utf16 single shift_jis euc_jp iso2022 coded coded_within
-    single_encoder encode shift_jis_encoder euc_jp_encoder iso2022_encoder decoding decoded decode text
-excluded_range_to_shift_jis = refl
-
-excluded_range_to_euc_jp : (text rows Utf8 EucJp Html (0xE7 ∷ 0xBA ∷ 0x8A ∷ []) true).bytes ≡ (0xF9 ∷ 0xA1 ∷ [])
-unfolding steps steps_within code pointer_where utf8 utf16 single shift_jis euc_jp iso2022 coded coded_within
-    single_encoder encode shift_jis_encoder euc_jp_encoder iso2022_encoder decoding decoded decode text
-excluded_range_to_euc_jp = refl
-
-excluded_range_to_iso2022 : (text rows Utf8 Iso2022Jp Html (0xE7 ∷ 0xBA ∷ 0x8A ∷ [])
-    true).bytes ≡ (0x1B ∷ 0x24 ∷ 0x42 ∷ 0x79 ∷ 0x21 ∷ 0x1B ∷ 0x28 ∷ 0x42 ∷ [])
-unfolding steps steps_within code pointer_where utf8 utf16 single shift_jis euc_jp iso2022 coded coded_within
-    single_encoder encode shift_jis_encoder euc_jp_encoder iso2022_encoder decoding decoded decode text
-excluded_range_to_iso2022 = refl
-
-katakana_to_shift_jis : (text rows Utf8 ShiftJis Html (0xEF ∷ 0xBD ∷ 0xA1 ∷ []) true).bytes ≡ (0xA1 ∷ [])
-unfolding steps steps_within code pointer_where utf8 utf16 single shift_jis euc_jp iso2022 coded coded_within
-    single_encoder encode shift_jis_encoder euc_jp_encoder iso2022_encoder decoding decoded decode text
-katakana_to_shift_jis = refl
-
-katakana_to_euc_jp : (text rows Utf8 EucJp Html (0xEF ∷ 0xBD ∷ 0xA1 ∷ []) true).bytes ≡ (0x8E ∷ 0xA1 ∷ [])
-unfolding steps steps_within code pointer_where utf8 utf16 single shift_jis euc_jp iso2022 coded coded_within
-    single_encoder encode shift_jis_encoder euc_jp_encoder iso2022_encoder decoding decoded decode text
-katakana_to_euc_jp = refl
-
-katakana_to_iso2022 : (text rows Utf8 Iso2022Jp Html (0xEF ∷ 0xBD ∷ 0xA1 ∷ [])
-    true).bytes ≡ (0x1B ∷ 0x24 ∷ 0x42 ∷ 0x21 ∷ 0x23 ∷ 0x1B ∷ 0x28 ∷ 0x42 ∷ [])
-unfolding steps steps_within code pointer_where utf8 utf16 single shift_jis euc_jp iso2022 coded coded_within
-    single_encoder encode shift_jis_encoder euc_jp_encoder iso2022_encoder decoding decoded decode text
-katakana_to_iso2022 = refl
-
-bom_overrides_the_label : (text rows ShiftJis Utf8 Html (0xFE ∷ 0xFF ∷ 0x00 ∷ 0x41 ∷ []) true).bytes ≡ (0x41 ∷ [])
-unfolding steps steps_within code pointer_where utf8 utf16 single shift_jis euc_jp iso2022 coded coded_within
-    single_encoder encode shift_jis_encoder euc_jp_encoder iso2022_encoder decoding decoded decode text
-bom_overrides_the_label = refl
-
+-- A character without a code in an encoding that refuses it.
 fatal_refusal : (text rows Utf8 Windows1252 Fatal (0xE3 ∷ 0x81 ∷ 0x82 ∷ []) false).fault ≡ Some 0x3042
 unfolding steps steps_within code pointer_where utf8 utf16 single shift_jis euc_jp iso2022 coded coded_within
     single_encoder encode shift_jis_encoder euc_jp_encoder iso2022_encoder decoding decoded decode text

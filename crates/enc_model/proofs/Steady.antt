@@ -8,23 +8,17 @@ use Rattle.enc_model.specs.Encode.{Shift, InAscii, InRoman, InJis, settled, IsWr
 use Rattle.enc_model.specs.Encode.{shift_jis_encoder, euc_jp_encoder, iso2022_encoder, single_encoder, utf8_encoder}
 use Rattle.enc_model.specs.Encode.{encoder, Tables}
 
-sjis_once : (i : Index) (s : Shift) (c : ℕ) → IsNoRestore (settled (shift_jis_encoder i) c (shift_jis_encoder i s c))
+sjis_steady : (i : Index) → IsSteady (shift_jis_encoder i)
 unfolding shift_jis_encoder
-sjis_once i s c = grind (arith, nat_tests)
+sjis_steady i = record { once = λ s c. grind (arith, nat_tests); ascii = λ s c l h. grind (arith, nat_tests) }
 
-sjis_ascii : (i : Index) (s : Shift) (c : ℕ) → 0x20 ≤ c → c < 0x5C → IsWrote
-    (settled (shift_jis_encoder i) c (shift_jis_encoder i s c))
-unfolding shift_jis_encoder
-sjis_ascii i s c l h = grind (arith, nat_tests)
-
-euc_once : (i : Index) (s : Shift) (c : ℕ) → IsNoRestore (settled (euc_jp_encoder i) c (euc_jp_encoder i s c))
+euc_steady : (i : Index) → IsSteady (euc_jp_encoder i)
 unfolding euc_jp_encoder
-euc_once i s c = grind (arith, nat_tests)
+euc_steady i = record { once = λ s c. grind (arith, nat_tests); ascii = λ s c l h. grind (arith, nat_tests) }
 
-euc_ascii : (i : Index) (s : Shift) (c : ℕ) → 0x20 ≤ c → c < 0x5C → IsWrote
-    (settled (euc_jp_encoder i) c (euc_jp_encoder i s c))
-unfolding euc_jp_encoder
-euc_ascii i s c l h = grind (arith, nat_tests)
+single_steady : (i : Index) → IsSteady (single_encoder i)
+unfolding single_encoder
+single_steady i = record { once = λ s c. grind (arith, nat_tests); ascii = λ s c l h. grind (arith, nat_tests) }
 
 iso_ascii : (i k : Index) (s : Shift) (c : ℕ) → 0x20 ≤ c → c < 0x5C → IsWrote
     (settled (iso2022_encoder i k) c (iso2022_encoder i k s c))
@@ -39,15 +33,6 @@ iso_once i k InAscii c = grind (arith, nat_tests)
 iso_once i k InRoman c = grind (arith, nat_tests)
 iso_once i k InJis c = grind (arith, nat_tests)
 
-single_once : (i : Index) (s : Shift) (c : ℕ) → IsNoRestore (settled (single_encoder i) c (single_encoder i s c))
-unfolding single_encoder
-single_once i s c = grind (arith, nat_tests)
-
-single_ascii : (i : Index) (s : Shift) (c : ℕ) → 0x20 ≤ c → c < 0x5C → IsWrote
-    (settled (single_encoder i) c (single_encoder i s c))
-unfolding single_encoder
-single_ascii i s c l h = grind (arith, nat_tests)
-
 utf8_steady : IsSteady utf8_encoder
 utf8_steady = record { once = λ s c. tt; ascii = λ s c l h. tt }
 
@@ -55,10 +40,10 @@ pub encoder_steady : (t : Tables) (e : Encoding) → IsSteady (encoder t e)
 encoder_steady t encodings.Utf8 = utf8_steady
 encoder_steady t encodings.Utf16Be = utf8_steady
 encoder_steady t encodings.Utf16Le = utf8_steady
-encoder_steady t encodings.ShiftJis = record { once = sjis_once t.jis0208; ascii = sjis_ascii t.jis0208 }
-encoder_steady t encodings.EucJp = record { once = euc_once t.jis0208; ascii = euc_ascii t.jis0208 }
+encoder_steady t encodings.ShiftJis = sjis_steady t.jis0208
+encoder_steady t encodings.EucJp = euc_steady t.jis0208
 encoder_steady t encodings.Iso2022Jp = record {
   once = iso_once t.jis0208 t.katakana;
   ascii = iso_ascii t.jis0208 t.katakana;
 }
-encoder_steady t e = record { once = single_once (t.single e); ascii = single_ascii (t.single e) }
+encoder_steady t e = single_steady (t.single e)

@@ -1,7 +1,7 @@
 -- Bytes and characters that are stored after others.
 use Rattle.std.proofs.Common.{ℕ, ◌+◌, ◌-◌, ◌<◌, ◌≤◌, ◌≡◌, true, List, [], ◌∷◌, ◌++◌, refl, sym, ◌∙◌, ap, ap₂, subst}
-use Rattle.std.proofs.Common.{arith, length, take, drop, map, get_or, All, append_assoc, take-append-drop}
-use Rattle.std.proofs.lemmas.List.{map-append, take_more, take_rest, take-take, take_at, drop_at, length-take-le}
+use Rattle.std.proofs.Common.{arith, length, take, drop, map, get_or, slice_index, Fits, w8, All, append_assoc, take-append-drop}
+use Rattle.std.proofs.lemmas.List.{get_or_read_under, map-append, take_more, take_rest, take-take, take_at, drop_at, length-take-le}
 use Rattle.std.proofs.lemmas.List.Elements.{All-head, All-tail}
 use Rattle.std.proofs.Math.Seq.{take-add}
 use Rattle.std.specs.Str.{is_utf8}
@@ -39,6 +39,12 @@ own_map char [] own a = refl
 own_map char (b ∷ bytes) own a =
     ap₂ (λ x xs. x ∷ xs) (sym (own b (All-head (λ x. x < 128) b bytes a)))
     (own_map char bytes own (All-tail (λ x. x < 128) b bytes a))
+
+-- the character that a table of all bytes has at one
+pub char_read : (table : List ℕ) (b c : ℕ) → length table ≡ 256 → Fits w8 b → c ≡ get_or table b c
+    → c ≡ slice_index table b
+char_read table b c long small is =
+    get_or_read_under table b (length table) c 0 is (let fits = small.fits in omega (arith, fits, long)) refl
 
 -- what some bytes stand for, and the byte after them
 pub map_more : (char : ℕ → ℕ) (bytes : List ℕ) (i : ℕ) → i < length bytes

@@ -13,7 +13,7 @@ use Rattle.enc_model.proofs.Coding.{coded_append}
 use Rattle.enc_model.proofs.Steady.{encoder_steady}
 use Rattle.enc_model.proofs.Pieces.{advance_more}
 
-coded_none : (f : Encoder) (mode : Mode) (s : Shift) → coded f mode s [] ≡ record {
+pub coded_none : (f : Encoder) (mode : Mode) (s : Shift) → coded f mode s [] ≡ record {
   bytes = [];
   state = s;
   fault = None;

@@ -5,15 +5,8 @@ use Rattle.enc_model.specs.declared.Mode.{Mode}
 use Rattle.enc_model.specs.Encode.{Tables, Shift, InAscii, Encoder, Coded, coded, coded_within, encoder}
 use Rattle.enc_model.specs.Transcode.{IsAt, phase_of}
 use Rattle.enc_model.proofs.Pieces.{decoded_none}
+use Rattle.enc_model.proofs.Transcoding.{coded_none}
 use Rattle.enc_stream.specs.Standing.{start}
-
-coded_none : (f : Encoder) (mode : Mode) (s : Shift) → coded f mode s [] ≡ record {
-  bytes = [];
-  state = s;
-  fault = None;
-}
-unfolding coded coded_within
-coded_none f mode s = refl
 
 -- A transcoder that has read nothing stands where nothing was accepted.
 pub start_at : (t : Tables) (from to : Encoding) (mode : Mode) → IsAt t (start from to mode).transcoder []

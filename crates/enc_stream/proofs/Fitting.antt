@@ -93,7 +93,11 @@ leads t from to mode (During s) shift piece p q =
 leads t from to mode Over shift piece p q = (tt, coded_nothing (encoder t to) mode shift ∙ q)
 
 -- after a piece they fit as before
-pub stepped_fits : (t : Tables) (s : Transcoder) (piece : List ℕ) → IsFitting s → IsFitting (stepped t s piece)
+stepped_fits : (t : Tables) (s : Transcoder) (piece : List ℕ) → IsFitting s → IsFitting (stepped t s piece)
 stepped_fits t s piece h =
     let l = leads t s.from s.to s.mode s.phase s.shift piece h.phase h.shift in
     record { output = h.output; phase = l.0; shift = l.1 }
+
+pub fits_after : (t : Tables) (s next : Transcoder) (piece : List ℕ) → IsFitting s → next ≡ stepped t s piece
+    → IsFitting next
+fits_after t s next piece before is = rw is (stepped_fits t s piece before)

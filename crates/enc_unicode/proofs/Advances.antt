@@ -1,29 +1,25 @@
 -- What is read at the start of a piece: a text, or a byte.
-use Rattle.std.proofs.Common.{ℕ, ◌+◌, ◌-◌, ◌≤◌, ◌≡◌, List, Result, Ok, Err, OnOk, false, refl, sym, ◌∙◌, ap, subst}
-use Rattle.std.proofs.Common.{take, drop, take-append-drop, length, arith}
-use Rattle.std.proofs.lemmas.List.{length-take, take_rest}
+use Rattle.std.proofs.Common.{ℕ, ◌≤◌, ◌≡◌, List, false, refl, sym, ◌∙◌, ap, subst}
+use Rattle.std.proofs.Common.{take, length, arith}
+use Rattle.std.proofs.lemmas.List.{length-take}
 use Rattle.std.specs.Str.{IsUtf8, chars}
 use Rattle.enc_model.specs.Batches.{BatchTook}
 use Rattle.enc_model.specs.Stream.{Run, steps}
-use Rattle.enc_model.specs.Sink.{Given, IsSink}
+use Rattle.enc_model.specs.Sink.{IsSink}
 use Rattle.enc_model.specs.Utf8.{Utf8, utf8, utf8_start}
 use Rattle.enc_model.proofs.Texts.{utf8_text}
-use Rattle.enc_model.proofs.Calm.{utf8_calm}
-use Rattle.enc_model.proofs.Feeding.{feed_more, state_more}
 use Rattle.enc_unicode.specs.Utf8State.{IsUtf8State}
 
 -- where no byte is needed it stands at a character's start
-pub at_start : (needed lower upper point current : ℕ) (kept : List ℕ) → IsUtf8State needed lower upper point current
-    → needed ≡ 0 →
-    ◌≡◌ {A = Utf8} (record {
-      needed = needed;
-      lower = lower;
-      upper = upper;
-      point = point;
-      kept = take current kept;
-    }) utf8_start
-at_start needed lower upper point current kept is none =
-    let p = is.none none in rw (none, p.0, p.1, p.2, p.3) refl
+pub at_start : (needed lower upper point current : ℕ) (kept : List ℕ) (s : Utf8) → ◌≡◌ {A = Utf8} (record {
+  needed = needed;
+  lower = lower;
+  upper = upper;
+  point = point;
+  kept = take current kept;
+}) s → IsUtf8State needed lower upper point current → needed ≡ 0 → s ≡ utf8_start
+at_start needed lower upper point current kept s view is none =
+    let p = is.none none in sym view ∙ (rw (none, p.0, p.1, p.2, p.3) refl)
 
 -- the steps over a text that a piece begins with
 pub text_steps : (s : Utf8) (rest text : List ℕ) → s ≡ utf8_start → IsUtf8 text → text ≡ take (length text) rest →
@@ -56,35 +52,7 @@ pub text_state : (s : Utf8) (rest text : List ℕ) → s ≡ utf8_start → IsUt
     s ≡ (steps utf8 false s (take (length text) rest)).state
 text_state s rest text e u is = e ∙ sym (ap (λ (z : Run Utf8). z.state) (text_steps s rest text e u is))
 
--- a text at the start of what is left ends within all
-pub text_within_rest : (bytes text : List ℕ) (at : ℕ) → at ≤ length bytes
-    → text ≡ take (length text) (take (length bytes - at) (drop at bytes)) →
-    at + length text ≤ length bytes
-text_within_rest bytes text at inside is =
-    let rest = take (length bytes - at) (drop at bytes) in
-    let short = ap length is ∙ length-take (length text) rest in
-    let long = length-take (length bytes - at) (drop at bytes) in
-    omega (arith, inside, short, long)
-
--- what is after the texts at a piece's start, given or refused
-pub rest_given : {A X E : Type 0} (takes : A → List ℕ → A → Type 0) (refuses : A → List ℕ → E → A → Type 0)
-    (sink : IsSink takes refuses)
-    (s next : Utf8) (piece rest : List ℕ) (n : ℕ) (a m c : A) (res : Result X E)
-    → rest ≡ take (length piece - n) (drop n piece) →
-    next ≡ (steps utf8 false s (take n piece)).state → takes a (steps utf8 false s (take n piece)).text m →
-    Given takes refuses m (steps utf8 false next rest).text c res → Given takes refuses a
-    (steps utf8 false s piece).text c res
-rest_given takes refuses sink s next piece rest n a m c res is e t g =
-    subst (λ p. Given takes refuses a (steps utf8 false s p).text c res) (take-append-drop n piece)
-    (feed_more takes refuses sink utf8 utf8_calm s next (take n piece) (drop n piece) a m c res e t
-    (subst (λ z. Given takes refuses m (steps utf8 false next z).text c res) (is ∙ take_rest piece n) g))
-
-pub rest_state : {X E : Type 0} (s next end : Utf8) (piece rest : List ℕ) (n : ℕ) (res : Result X E)
-    → rest ≡ take (length piece - n) (drop n piece) →
-    next ≡ (steps utf8 false s (take n piece)).state → OnOk res (end ≡ (steps utf8 false next rest).state)
-    → OnOk res (end ≡ (steps utf8 false s piece).state)
-rest_state s next end piece rest n (Ok v) is e f =
-    state_more utf8 utf8_calm s next end (take n piece) (drop n piece) e
-    (f ∙ ap (λ z. (steps utf8 false next z).state) (is ∙ take_rest piece n))
-    ∙ ap (λ p. (steps utf8 false s p).state) (take-append-drop n piece)
-rest_state s next end piece rest n (Err v) is e f = tt
+-- a text at the start of what is left is within it
+pub text_within_rest : (rest text : List ℕ) → text ≡ take (length text) rest → length text ≤ length rest
+text_within_rest rest text is =
+    let short = ap length is ∙ length-take (length text) rest in omega (arith, short)

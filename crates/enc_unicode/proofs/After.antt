@@ -33,47 +33,25 @@ after_first b = after_more utf8_start b after_none (first_keeps b)
 pub after_lead : (b : ℕ) (s : Utf8) → s.kept ≡ b ∷ [] → s ≡ (utf8_first b).state → IsAfter s
 after_lead b s kept is = is ∙ after_first b ∙ ap utf8_after (sym kept)
 
+-- the state after a byte, where more than one is needed
+abbrev pub next_of : Utf8 → ℕ → List ℕ → Utf8
+next_of s b kept = record {
+  needed = s.needed - 1;
+  lower = 0x80;
+  upper = 0xBF;
+  point = s.point * 64 + (b - 0x80);
+  kept = kept;
+}
+
 goes_on : (s : Utf8) (b : ℕ) → (s.needed ≡ 0 → ⊥) → (s.needed ≡ 1 → ⊥) → s.lower ≤ b → b ≤ s.upper →
-    utf8 s (Some b)
-    ≡ record {
-      state = record {
-        needed = s.needed - 1;
-        lower = 0x80;
-        upper = 0xBF;
-        point = s.point * 64 + (b - 0x80);
-        kept = s.kept ++ b ∷ [];
-      };
-      answer = Nothing;
-      restored = [];
-    }
+    utf8 s (Some b) ≡ record { state = next_of s b (s.kept ++ b ∷ []); answer = Nothing; restored = [] }
 unfolding utf8
 goes_on s b some more low high = grind (arith, common_steps)
 
--- one byte more, where more than one is needed
 pub after_next : (s : Utf8) (b : ℕ) (kept : List ℕ) → IsAfter s → (s.needed ≡ 0 → ⊥) → (s.needed ≡ 1 → ⊥)
-    → s.lower ≤ b → b ≤ s.upper →
-    kept ≡ s.kept ++ b ∷ [] →
-    IsAfter (record {
-      needed = s.needed - 1;
-      lower = 0x80;
-      upper = 0xBF;
-      point = s.point * 64 + (b - 0x80);
-      kept = kept;
-    })
+    → s.lower ≤ b → b ≤ s.upper → kept ≡ s.kept ++ b ∷ [] → IsAfter (next_of s b kept)
 after_next s b kept is some more low high more_kept =
     let e = goes_on s b some more low high in
-    let next : Utf8 = record {
-      needed = s.needed - 1;
-      lower = 0x80;
-      upper = 0xBF;
-      point = s.point * 64 + (b - 0x80);
-      kept = s.kept ++ b ∷ [];
-    } in
-    let here : IsAfter next = sym (ap (λ t. t.state) e) ∙ after_more s b is (ap (λ t. t.restored) e) in
-    subst (λ z. IsAfter (record {
-      needed = s.needed - 1;
-      lower = 0x80;
-      upper = 0xBF;
-      point = s.point * 64 + (b - 0x80);
-      kept = z;
-    })) (sym more_kept) here
+    let here : IsAfter (next_of s b (s.kept ++ b ∷ [])) =
+    sym (ap (λ t. t.state) e) ∙ after_more s b is (ap (λ t. t.restored) e) in
+    subst (λ z. IsAfter (next_of s b z)) (sym more_kept) here

@@ -10,3 +10,4 @@ pub mod NarrowWords
 pub mod NarrowPlaces
 pub mod FaultRuns
 pub mod CutChars
+pub mod Written

@@ -1,13 +1,12 @@
 -- The bytes of words of units below 800 that a pack takes, and where they are written.
-use Rattle.std.proofs.Common.{ℕ, zero, suc, ◌+◌, ◌*◌, ◌-◌, ◌/◌, ◌%◌, ◌<◌, ◌≤◌, ◌≡◌, Bool, true, false, cond, ltb}
+use Rattle.std.proofs.Common.{ℕ, zero, suc, ◌+◌, ◌*◌, ◌-◌, ◌/◌, ◌%◌, ◌<◌, ◌≤◌, ◌≡◌, true, false, cond, ltb}
 use Rattle.std.proofs.Common.{List, [], ◌∷◌, ◌++◌, All, map, length, replicate, take, drop, get_or, refl, ap, ap₂}
 use Rattle.std.proofs.Common.{sym, ◌∙◌, subst, arith, inl, inr, w8}
 use Rattle.std.proofs.lemmas.Bool.{cases_lt}
 use Rattle.std.proofs.lemmas.Bool.Decides.{nat_tests}
-use Rattle.std.proofs.lemmas.List.{get_or-map, get_or-drop, drop-drop, map-append}
-use Rattle.std.proofs.lemmas.List.Elements.{All-from_get_or}
+use Rattle.std.proofs.lemmas.List.{get_or-drop, drop-drop, map-append}
 use Rattle.std.proofs.lemmas.List.FromFn.{get_or-map-range_with_len, get_or-range_with_len, length-range_with_len}
-use Rattle.std.proofs.lemmas.Simd.{Each1-get_or, get_or-replicate, get_or-zip2, swz_l}
+use Rattle.std.proofs.lemmas.Simd.{get_or-zip2, swz_l}
 use Rattle.std.specs.List.{range_with_len}
 use Rattle.std.specs.Prelude.{count_ones}
 use lib.Lanes.{Each1, all_below, mask_l, put_chunk, zip2}
@@ -15,7 +14,7 @@ use lib.Utf8.{encode, encodes}
 use Rattle.enc_model.proofs.Gathered.{one_byte, two_bytes}
 use Rattle.enc_unicode.specs.Packing.{narrow_word, narrow_word_bytes, narrow_places, narrow_row_of, size, sizes}
 use Rattle.enc_unicode.specs.declared.narrow_packs.TheConstants.{NARROW_PACKS}
-use Rattle.enc_unicode.proofs.Places.{each_below, picks_written}
+use Rattle.enc_unicode.proofs.Places.{all_small, at_row, bit, picks_written}
 
 -- how many bytes units below 800 take, by the bits of a mask
 abbrev sizes_in : ℕ → ℕ → List ℕ
@@ -51,22 +50,10 @@ row_at i inside =
     ∙ get_or-map-range_with_len wanted 0 256 i i [] inside (omega arith)
 
 pub small_at : (i : ℕ) → i < 256 → All (λ place. place < 16) (get_or NARROW_PACKS i [])
-small_at i inside =
-    let row = get_or NARROW_PACKS i [] in
-    let e : all_below 16 row ≡ true =
-    sym (get_or-map (all_below 16) NARROW_PACKS i [] false (omega (arith, many, inside)))
-    ∙ ap (λ l. get_or l i false) smalls ∙ get_or-replicate 256 i true false inside in
-    All-from_get_or (λ place. place < 16) row 0 (λ k l. Each1-get_or (λ place. place < 16) row k 0 l
-    (each_below 16 row e))
+small_at i inside = all_small _ (at_row (all_below 16) NARROW_PACKS 256 i true false [] smalls many inside)
 
 pub wide_at : (i : ℕ) → i < 256 → length (get_or NARROW_PACKS i []) ≡ 16
-wide_at i inside =
-    sym (get_or-map length NARROW_PACKS i [] 0 (omega (arith, many, inside)))
-    ∙ ap (λ l. get_or l i 0) wides ∙ get_or-replicate 256 i 16 0 inside
-
-bit : (b : Bool) (m : ℕ) → ((cond b 1 0 + 2 * m) % 2 ≡ cond b 1 0) × ((cond b 1 0 + 2 * m) / 2 ≡ m)
-bit true m = (omega arith, omega arith)
-bit false m = (omega arith, omega arith)
+wide_at i inside = at_row length NARROW_PACKS 256 i 16 0 [] wides many inside
 
 size_is : (u : ℕ) → u < 2048 → 2 - cond (ltb u 128) 1 0 ≡ size u
 size_is u small = grind (arith, nat_tests, small)

@@ -4,13 +4,12 @@ use Rattle.std.proofs.Common.{◌∷◌, map, length, replicate, refl, ap, ap₂
 use Rattle.std.proofs.lemmas.Bool.Decides.{nat_tests}
 use Rattle.std.proofs.lemmas.Nat.{and_mask}
 use Rattle.std.proofs.lemmas.Simd.{zip2_splat, zip2_of_maps, splat_is_map}
+use Rattle.std.proofs.lemmas.List.{map-id}
+use Rattle.lane_kernels.proofs.Made.{map_alike}
 use lib.Lanes.{Each1, zip2, sel_l, top, number_l, digits_l}
 use mir.Val.{bits, hbits}
 use Rattle.enc_unicode.specs.Packing.{narrow_word, narrow_word_bytes}
-use Rattle.enc_unicode.proofs.Words.{chosen, same}
-
-abbrev pub last : ℕ → ℕ
-last x = bit_and x 63
+use Rattle.enc_unicode.proofs.Words.{chosen, last, right}
 
 abbrev pub two : ℕ → ℕ
 two x = ((x / 2 ^ 6 + last x * 2 ^ 8 % 2 ^ 16) % 2 ^ 16 + 0x80C0) % 2 ^ 16
@@ -20,13 +19,6 @@ two_is x small = let a : bit_and x 63 ≡ x % 64 = and_mask x 6 in omega (arith,
 
 lane : (x : ℕ) → x < 2048 → cond (ltb x 128) x (two x) ≡ narrow_word x
 lane x small = ap (λ a. cond (ltb x 128) x a) (two_is x small)
-
-lanes : (v : List ℕ) → Each1 (λ x. x < 2048) v → map (λ x. cond (ltb x 128) x (two x)) v ≡ map narrow_word v
-lanes [] small = refl
-lanes (x ∷ v) small = ap₂ (λ y ys. y ∷ ys) (lane x small.0) (lanes v small.1)
-
-abbrev right : ℕ → ℕ → ℕ
-right x s = x / 2 ^ s
 
 abbrev left : ℕ → ℕ → ℕ
 left x s = x * 2 ^ s % 2 ^ 16
@@ -45,7 +37,8 @@ module _ (v : List ℕ) (long : length v ≡ 8) where
   pub words_are : {a : List ℕ} → a ≡ map two v → Each1 (λ x. x < 2048) v →
       sel_l (map (top (hbits w16)) (zip2 (λ a b. cond (ltb a b) (2 ^ bits w16 - 1) 0) v (replicate 8 128))) v a
       ≡ map narrow_word v
-  words_are p small = chosen w16 8 v 128 (λ x. x) two long (sym (same v)) p ∙ lanes v small
+  words_are p small = chosen w16 8 v 128 (λ x. x) two long (sym (map-id v)) p
+      ∙ map_alike 2048 (λ x. cond (ltb x 128) x (two x)) narrow_word lane v small
 
 -- their bytes
 abbrev pub pairs : ℕ → ℕ

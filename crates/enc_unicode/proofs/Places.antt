@@ -1,8 +1,8 @@
 -- The bytes of words that a pack takes, and where they are written.
 use Rattle.std.proofs.Common.{ℕ, zero, suc, ◌+◌, ◌*◌, ◌-◌, ◌/◌, ◌%◌, ◌<◌, ◌≤◌, ◌≡◌, Bool, true, false, cond, ltb, leb}
-use Rattle.std.proofs.Common.{List, [], ◌∷◌, ◌++◌, ◌&&◌, All, map, length, replicate, take, get_or, refl, ap, ap₂, sym}
+use Rattle.std.proofs.Common.{List, [], ◌∷◌, ◌++◌, All, map, length, replicate, take, get_or, refl, ap, ap₂, sym}
 use Rattle.std.proofs.Common.{◌∙◌, subst, arith, inl, inr, w8}
-use Rattle.std.proofs.lemmas.Bool.{cases_lt, true≢false}
+use Rattle.std.proofs.lemmas.Bool.{and_parts, cases_lt}
 use Rattle.std.proofs.lemmas.Bool.Decides.{nat_tests}
 use Rattle.std.proofs.lemmas.List.{get_or-map, take-map, map-append, length-take-le, take-take}
 use Rattle.std.proofs.lemmas.List.Elements.{All-from_get_or}
@@ -48,39 +48,36 @@ row_at i inside =
     ∙ ap (λ l. get_or l i []) rows
     ∙ get_or-map-range_with_len wanted 0 256 i i [] inside (omega arith)
 
-both : (a b : Bool) → a && b ≡ true → (a ≡ true) × (b ≡ true)
-both true b e = (refl, e)
-both false b e = absurd (true≢false (sym e))
-
 pub each_below : (n : ℕ) (ks : List ℕ) → all_below n ks ≡ true → Each1 (λ k. k < n) ks
 each_below n [] e = tt
 each_below n (k ∷ ks) e =
-    let p = both (ltb k n) (all_below n ks) e in
+    let p = and_parts (ltb k n) (all_below n ks) e in
     let l : k < n = grind (arith, nat_tests, p.0) in
     (l, each_below n ks p.1)
 
-pub small_at : (i : ℕ) → i < 256 → All (λ place. place < 16) (get_or PACKS i [])
-small_at i inside =
-    let row = get_or PACKS i [] in
-    let e : all_below 16 row ≡ true =
-    sym (get_or-map (all_below 16) PACKS i [] false (omega (arith, many, inside)))
-    ∙ ap (λ l. get_or l i false) smalls ∙ get_or-replicate 256 i true false inside in
-    All-from_get_or (λ place. place < 16) row 0 (λ k l. Each1-get_or (λ place. place < 16) row k 0 l
+-- what is the same at all rows
+pub at_row : {A B : Type 0} (f : A → B) (table : List A) (n i : ℕ) (x d : B) (none : A) → map f table ≡ replicate n x
+    → length table ≡ n → i < n → f (get_or table i none) ≡ x
+at_row f table n i x d none are many inside =
+    sym (get_or-map f table i none d (omega (arith, many, inside)))
+    ∙ ap (λ l. get_or l i d) are ∙ get_or-replicate n i x d inside
+
+pub all_small : (row : List ℕ) → all_below 16 row ≡ true → All (λ place. place < 16) row
+all_small row e = All-from_get_or (λ place. place < 16) row 0 (λ k l. Each1-get_or (λ place. place < 16) row k 0 l
     (each_below 16 row e))
+
+pub small_at : (i : ℕ) → i < 256 → All (λ place. place < 16) (get_or PACKS i [])
+small_at i inside = all_small _ (at_row (all_below 16) PACKS 256 i true false [] smalls many inside)
 
 pub few_at : (i : ℕ) → i < 256 → get_or (get_or PACKS i []) 15 0 ≤ 12
 few_at i inside =
-    let e : leb (get_or (get_or PACKS i []) 15 0) 12 ≡ true =
-    sym (get_or-map (λ row. leb (get_or row 15 0) 12) PACKS i [] false (omega (arith, many, inside)))
-    ∙ ap (λ l. get_or l i false) fews ∙ get_or-replicate 256 i true false inside in
+    let e = at_row (λ row. leb (get_or row 15 0) 12) PACKS 256 i true false [] fews many inside in
     grind (arith, nat_tests, e)
 
 pub wide_at : (i : ℕ) → i < 256 → length (get_or PACKS i []) ≡ 16
-wide_at i inside =
-    sym (get_or-map length PACKS i [] 0 (omega (arith, many, inside)))
-    ∙ ap (λ l. get_or l i 0) wides ∙ get_or-replicate 256 i 16 0 inside
+wide_at i inside = at_row length PACKS 256 i 16 0 [] wides many inside
 
-bit : (b : Bool) (m : ℕ) → ((cond b 1 0 + 2 * m) % 2 ≡ cond b 1 0) × ((cond b 1 0 + 2 * m) / 2 ≡ m)
+pub bit : (b : Bool) (m : ℕ) → ((cond b 1 0 + 2 * m) % 2 ≡ cond b 1 0) × ((cond b 1 0 + 2 * m) / 2 ≡ m)
 bit true m = (omega arith, omega arith)
 bit false m = (omega arith, omega arith)
 

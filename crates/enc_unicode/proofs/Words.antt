@@ -4,6 +4,8 @@ use Rattle.std.proofs.Common.{◌∷◌, map, length, replicate, refl, ap, ap₂
 use Rattle.std.proofs.lemmas.Bool.Decides.{nat_tests}
 use Rattle.std.proofs.lemmas.Nat.{and_mask}
 use Rattle.std.proofs.lemmas.Simd.{zip2_splat, zip2_of_maps, splat_is_map, tops_compared}
+use Rattle.std.proofs.lemmas.List.{map-id}
+use Rattle.lane_kernels.proofs.Made.{map_alike}
 use lib.Lanes.{Each1, zip2, sel_l, top, number_l, digits_l}
 use mir.Syntax.{Width}
 use mir.Val.{bits, hbits}
@@ -33,15 +35,6 @@ three_is x small =
 lane : (x : ℕ) → x < 65536 → cond (ltb x 128) x (cond (ltb x 2048) (two x) (three x)) ≡ word x
 lane x small = ap₂ (λ a b. cond (ltb x 128) x (cond (ltb x 2048) a b)) (two_is x small) (three_is x small)
 
-lanes : (v : List ℕ) → Each1 (λ x. x < 65536) v
-    → map (λ x. cond (ltb x 128) x (cond (ltb x 2048) (two x) (three x))) v ≡ map word v
-lanes [] small = refl
-lanes (x ∷ v) small = ap₂ (λ y ys. y ∷ ys) (lane x small.0) (lanes v small.1)
-
-pub same : (v : List ℕ) → map (λ x. x) v ≡ v
-same [] = refl
-same (x ∷ v) = ap (λ ys. x ∷ ys) (same v)
-
 selected : (t : ℕ → Bool) (f g : ℕ → ℕ) (v : List ℕ) → sel_l (map t v) (map f v) (map g v) ≡ map
     (λ x. cond (t x) (f x) (g x)) v
 selected t f g [] = refl
@@ -57,7 +50,7 @@ chosen w n v y f g {xs = xs} {ys = ys} long p q =
     ∙ ap₂ (sel_l (map (λ x. ltb x y) v)) p q
     ∙ selected (λ x. ltb x y) f g v
 
-abbrev right : ℕ → ℕ → ℕ
+abbrev pub right : ℕ → ℕ → ℕ
 right x s = x / 2 ^ s
 
 abbrev left : ℕ → ℕ → ℕ
@@ -96,9 +89,9 @@ module _ (v : List ℕ) (long : length v ≡ 4) where
       (sel_l (map (top (hbits w32)) (zip2 (λ a b. cond (ltb a b) (2 ^ bits w32 - 1) 0) v (replicate 4 2048))) a b)
       ≡ map word v
   words_are p q small =
-      chosen w32 4 v 128 (λ x. x) (λ x. cond (ltb x 2048) (two x) (three x)) long (sym (same v))
+      chosen w32 4 v 128 (λ x. x) (λ x. cond (ltb x 2048) (two x) (three x)) long (sym (map-id v))
       (chosen w32 4 v 2048 two three long p q)
-      ∙ lanes v small
+      ∙ map_alike 65536 (λ x. cond (ltb x 128) x (cond (ltb x 2048) (two x) (three x))) word lane v small
 
 -- their bytes
 abbrev pub fours : ℕ → ℕ

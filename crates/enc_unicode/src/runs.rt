@@ -15,7 +15,7 @@ ghost use Rattle.enc_unicode.specs.WroteUnits.{WroteUnits};
 
 use crate::narrow::write_narrow;
 use crate::packing::{BLOCK_CODE, write_units};
-use lane_kernels::Order;
+use lane_kernels::{Order, low_first, mask_within, turned_round};
 use std::simd::prelude::*;
 
 /// How many bytes are decoded at once.
@@ -23,22 +23,6 @@ const LANES: usize = 64;
 
 /// How many bytes of UTF-8 are gathered before the sink takes them.
 pub const CODE: usize = 2048;
-
-/// The units of 64 bytes in little-endian order.
-#[inline(always)]
-fn low_first(bytes: u8x64) -> u16x32
-    ensures { result ≡ units_of false bytes }
-{
-    u16x32::from_le_bytes(bytes)
-}
-
-/// The units with their bytes swapped.
-#[inline(always)]
-fn turned_round(units: u16x32) -> u16x32
-    ensures { result ≡ map (λ unit. unit % 256 * 256 + unit / 256) units }
-{
-    (units << 8) + (units >> 8)
-}
 
 /// The units of 64 bytes.
 #[inline(always)]
@@ -50,14 +34,6 @@ fn units_in(order: Order, bytes: &[u8; LANES]) -> u16x32
         Order::Big => turned_round(units),
         Order::Little => units,
     }
-}
-
-/// A bit for each unit from the lowest to the highest.
-#[inline(always)]
-fn mask_within(units: u16x32, lowest: u16, highest: u16) -> u64
-    ensures { result ≡ mask_l (map (within lowest highest) units) }
-{
-    (units.simd_ge(u16x32::splat(lowest)) & units.simd_le(u16x32::splat(highest))).to_bitmask()
 }
 
 /// Whether no unit is from the lowest to the highest.

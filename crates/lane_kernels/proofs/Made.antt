@@ -21,6 +21,12 @@ low_units (suc n) (a ∷ b ∷ xs) long below =
     let d = digit a b (number_l 256 xs) below.0 below.1.0 in
     ap₂ (λ unit rest. unit ∷ rest) d.0 (ap (digits_l 65536 n) d.1 ∙ low_units n xs (omega (arith, long)) below.1.1)
 
+-- lanes below a bound, of which two functions give the same
+pub map_alike : (n : ℕ) (f g : ℕ → ℕ) → ((x : ℕ) → x < n → f x ≡ g x) → (v : List ℕ) → Each1 (λ x. x < n) v
+    → map f v ≡ map g v
+map_alike n f g same [] small = refl
+map_alike n f g same (x ∷ v) small = ap₂ (λ y ys. y ∷ ys) (same x small.0) (map_alike n f g same v small.1)
+
 turned : (a b : ℕ) → a < 256 → b < 256 → (b * 256 + a) % 256 * 256 + (b * 256 + a) / 256 ≡ a * 256 + b
 turned a b ha hb = omega (arith, ha, hb)
 

@@ -12,8 +12,9 @@ use Rattle.std.specs.List.{prefix_len}
 use Rattle.std.proofs.Common.{◌%◌, ◌^◌, bit_or, replicate, w8}
 use Rattle.std.proofs.lemmas.List.{length-map}
 use lib.Lanes.{zip2, top}
+use Rattle.lane_kernels.specs.Classes.{first_set}
 use mir.Val.{hbits}
-use Rattle.lane_kernels.proofs.Hits.{hit, compared_with}
+use Rattle.lane_kernels.proofs.Hits.{hit, first_hit, compared_with}
 use Rattle.lane_kernels.proofs.Hits.{hits_of, joined, joined_hits, joined_long, none_joined, none_hit}
 use Rattle.std.specs.Bool.{OnTrue}
 use Rattle.std.specs.Char.{is_ascii}
@@ -23,6 +24,18 @@ use Rattle.std.specs.Simd.Lanes.{chunk, mask_l}
 pub same_prefix : (p q : ℕ → Bool) → ((x : ℕ) → p x ≡ q x) → (xs : List ℕ) → prefix_len p xs ≡ prefix_len q xs
 same_prefix p q e [] = refl
 same_prefix p q e (x ∷ xs) = ap₂ (λ b n. cond b (1 + n) 0) (e x) (same_prefix p q e xs)
+
+-- a prefix that passes up to a place, from which the rest is looked at
+abbrev pub PassedTo : (ℕ → Bool) → List ℕ → ℕ → Type 0
+PassedTo p xs at = record {
+  in_range : at ≤ length xs;
+  passed : prefix_len p xs ≡ at + prefix_len p (drop at xs);
+}
+
+-- what passes up to there and after it is within the list
+pub passes_within : (p : ℕ → Bool) (xs : List ℕ) (at n : ℕ) → prefix_len p xs ≡ at + prefix_len p (drop at xs)
+    → n ≡ prefix_len p (drop at xs) → at + n ≤ length xs
+passes_within p xs at n passed is = omega (arith, passed, is, prefix_len-le-length p xs)
 
 -- a chunk that passes whole
 pub chunk_passes : (p : ℕ → Bool) (i n : ℕ) (xs : List ℕ) → i + n ≤ length xs → prefix_len p (chunk i n xs) ≡ n →
@@ -108,6 +121,13 @@ on_true false P f = tt
 
 abbrev at_least : ℕ → ℕ → ℕ
 at_least x y = hit w8 (leb x y)
+
+-- the first lane that is high
+pub ascii_hit : (v : List ℕ) (n : ℕ) → length v ≡ n → n ≤ 64 →
+    first_set (mask_l (map (top (hbits w8)) (zip2 at_least (replicate n 128) v)) % 2 ^ 64) n ≡ prefix_len is_ascii v
+ascii_hit v n long few =
+    first_hit w8 (λ x. leb 128 x) v n long few (compared_with w8 leb v n 128 long)
+    ∙ same_prefix (λ x. not (leb 128 x)) is_ascii (λ x. grind (arith, nat_tests)) v
 
 -- four loads of which no lane is high
 pub four_low : (bytes : List ℕ) (at : ℕ) {a b c d : List ℕ} → at + 256 ≤ length bytes → a ≡ chunk at 64 bytes

@@ -19,4 +19,4 @@ pub use laws::paired_units_decode;
 pub use narrowing::narrow;
 pub use order::Order;
 pub use pairing::{Pairing, Step};
-pub use units::{lead_in, paired, scalar_front, unit_in};
+pub use units::{lead_in, low_first, mask_within, paired, scalar_front, turned_round, unit_in};

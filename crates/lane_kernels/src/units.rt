@@ -72,7 +72,7 @@ pub fn lead_in(unit: u16) -> Option<u16>
 
 /// The units of 64 bytes in little-endian order.
 #[inline(always)]
-fn low_first(bytes: u8x64) -> u16x32
+pub fn low_first(bytes: u8x64) -> u16x32
     ensures { result ≡ units_of false bytes }
 {
     u16x32::from_le_bytes(bytes)
@@ -80,7 +80,7 @@ fn low_first(bytes: u8x64) -> u16x32
 
 /// The units with their bytes swapped.
 #[inline(always)]
-fn turned_round(units: u16x32) -> u16x32
+pub fn turned_round(units: u16x32) -> u16x32
     ensures { result ≡ map (λ unit. unit % 256 * 256 + unit / 256) units }
 {
     (units << 8) + (units >> 8)
@@ -111,7 +111,7 @@ pub(crate) fn units_after(order: Order, odd: Option<u8>, bytes: &[u8; 64]) -> u1
 
 /// A bit for each unit from the lowest to the highest.
 #[inline(always)]
-fn mask_within(units: u16x32, lowest: u16, highest: u16) -> u64
+pub fn mask_within(units: u16x32, lowest: u16, highest: u16) -> u64
     ensures { result ≡ mask_l (map (within lowest highest) units) }
 {
     (units.simd_ge(u16x32::splat(lowest)) & units.simd_le(u16x32::splat(highest))).to_bitmask()

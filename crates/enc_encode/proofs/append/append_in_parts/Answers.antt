@@ -1,4 +1,4 @@
-use Rattle.std.proofs.Common.{◌≤◌, ◌+◌, ◌-◌, ◌⊎◌, inl, inr, arith, length, vec_capacity}
+use Rattle.std.proofs.Common.{◌≤◌, ◌+◌, ◌⊎◌, inl, inr, arith, length, vec_capacity}
 use Rattle.std.proofs.lemmas.Bool.{cases_lt}
 use Rattle.enc_encode.proofs.Growth.{some_of, some_full, all_of, more_of}
 use Rattle.enc_encode.proofs.append.append_in_parts.Goals as goal
@@ -24,23 +24,15 @@ loop-size-init c =
 
 pub loop-size-preserved-then-size-gt1 : goal.loop-size-preserved-then-size-gt1
 loop-size-preserved-then-size-gt1 c =
-    let p = c.loop-size.invariant in
     let e = c.append_exactly-done.ensures in
-    let within = p.within in
-    let part = c.min.ensures in
-    more_of c.args.out.now c.args.bytes.now c.loop-size.done (c.loop-size.done + c.min.result - c.loop-size.done)
-    c.append_exactly-done.result c.loop-size.out c.append_exactly-done.new.out p (omega (arith, within, part)) e.few
-    e.items e.capacity
+    more_of c.args.out.now c.args.bytes.now c.loop-size.done _ c.append_exactly-done.result c.loop-size.out
+    c.append_exactly-done.new.out c.loop-size.invariant e.few e.items e.capacity
 
 pub loop-size-preserved : goal.loop-size-preserved
 loop-size-preserved c =
-    let p = c.loop-size.invariant in
     let e = c.append_exactly-done.ensures in
-    let within = p.within in
-    let part = c.min.ensures in
-    more_of c.args.out.now c.args.bytes.now c.loop-size.done (c.loop-size.done + c.min.result - c.loop-size.done)
-    c.append_exactly-done.result c.loop-size.out c.append_exactly-done.new.out p (omega (arith, within, part)) e.few
-    e.items e.capacity
+    more_of c.args.out.now c.args.bytes.now c.loop-size.done _ c.append_exactly-done.result c.loop-size.out
+    c.append_exactly-done.new.out c.loop-size.invariant e.few e.items e.capacity
 
 pub returns-then-done-bytes-clause-grew : goal.returns-then-done-bytes-clause-grew
 returns-then-done-bytes-clause-grew c =

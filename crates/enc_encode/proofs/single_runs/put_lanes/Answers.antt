@@ -16,15 +16,13 @@ returns-then-count-lt-LANES-clause-put c =
 pub loop-at-preserved : goal.loop-at-preserved
 loop-at-preserved c =
     let v = c.loop-at.invariant in
-    let test = c.loop-at-test.true in
-    let most = c.min-most.ensures in
     let bytes = c.args.bytes.now in
     let at = c.loop-at.at in
     let n = c.ascii_in-count.result in
     let few = c.ascii_in-count.ensures.within in
     let full : n ≡ 32 = let all = c.if-count-lt-LANES.false in omega (arith, few, all) in (
-      omega (arith, test, most),
-      omega (arith, test, most),
+      omega (arith, c.loop-at-test.true, c.min-most.ensures),
+      omega (arith, c.loop-at-test.true, c.min-most.ensures),
       c.store_prefix.array_long,
       subst (λ k. All (λ b. b < 128) (take (at + k) bytes)) full
           (ascii_more bytes c.lanes_at-lanes.result at n v.3 c.lanes_at-lanes.ensures few

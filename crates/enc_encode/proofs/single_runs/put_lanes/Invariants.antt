@@ -1,10 +1,9 @@
-use Rattle.std.proofs.Common.{◌≡◌, ◌≤◌, ◌<◌, ◌+◌, ◌-◌, ◌++◌, All, length, take}
+use Rattle.std.proofs.Common.{◌-◌}
+use Rattle.enc_encode.proofs.Puts.{PutTo}
 use Rattle.enc_encode.proofs.single_runs.put_lanes.Given as goal
 
 abbrev pub invariant-loop-at : goal.invariant-loop-at
-invariant-loop-at l = (l.at ≤ length l.bytes) × (l.from + l.at ≤ 2048) × (length l.held ≡ 2048)
-    × All (λ b. b < 128) (take l.at l.bytes) × (take (l.from + l.at) l.held ≡ take l.from l.fn.held ++ take l.at
-    l.bytes)
+invariant-loop-at l = PutTo l.bytes l.fn.held l.held l.from l.at
 
 abbrev pub decreases-loop-at : goal.decreases-loop-at
 decreases-loop-at l = l.most - l.at

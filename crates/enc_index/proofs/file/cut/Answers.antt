@@ -5,26 +5,16 @@ use Rattle.enc_index.proofs.file.cut.Goals as goal
 
 pub returns-then-byte-mark-clause-before : goal.returns-then-byte-mark-clause-before
 returns-then-byte-mark-clause-before c =
-    rw (
-      c.loop-place.invariant.prefix,
-      before_here c.args.mark c.args.bytes.now c.loop-place.place c.loop-place-test.true
-          c.if-byte-mark.true,
-    ) (sym (append-nil _))
+    let here = before_here c.args.mark c.args.bytes.now c.loop-place.place c.loop-place-test.true c.if-byte-mark.true in
+    rw (c.loop-place.invariant.prefix, here) (sym (append-nil _))
 
 pub returns-then-byte-mark-clause-after : goal.returns-then-byte-mark-clause-after
 returns-then-byte-mark-clause-after c =
-    rw (
-      c.loop-place.invariant.back,
-      after_here c.args.mark c.args.bytes.now c.loop-place.place c.loop-place-test.true
-          c.if-byte-mark.true,
-    ) (ap Some (rest_of c.args.bytes.now (c.loop-place.place + 1)))
+    let here = after_here c.args.mark c.args.bytes.now c.loop-place.place c.loop-place-test.true c.if-byte-mark.true in
+    rw (c.loop-place.invariant.back, here) (ap Some (rest_of c.args.bytes.now (c.loop-place.place + 1)))
 
 pub returns-clause-before : goal.returns-clause-before
 returns-clause-before c =
-    rw (
-      c.loop-place.invariant.prefix,
-      before_end c.args.mark c.args.bytes.now c.loop-place.place
-          c.loop-place-test.false,
-      take_all c.loop-place.place c.args.bytes.now c.loop-place-test.false,
-    )
+    let end = before_end c.args.mark c.args.bytes.now c.loop-place.place c.loop-place-test.false in
+    rw (c.loop-place.invariant.prefix, end, take_all c.loop-place.place c.args.bytes.now c.loop-place-test.false)
     (sym (append-nil _))

@@ -1,9 +1,8 @@
-use Rattle.std.proofs.Common.{ℕ, ◌≡◌, ◌<◌, ◌+◌, refl, ◌++◌, ◌∷◌, [], ◌∙◌, ap, arith, length, take, map, get_or}
+use Rattle.std.proofs.Common.{ℕ, ◌+◌, ◌++◌, ◌∷◌, [], ◌∙◌, ap, arith, take, map, get_or}
 use Rattle.std.proofs.Common.{slice_index}
-use Rattle.std.proofs.lemmas.List.{get_or_read_under}
 use Rattle.enc_model.specs.BatchLaws.{batch_sink}
 use Rattle.enc_model.proofs.Gathered.{still_text, took_char}
-use Rattle.enc_model.proofs.Stored.{map_more, took_on}
+use Rattle.enc_model.proofs.Stored.{char_read, map_more, took_on}
 use Rattle.enc_model.proofs.batch.store_each.Goals as goal
 
 pub store_code-len-requires : goal.store_code-len-requires
@@ -23,13 +22,9 @@ loop-byte-preserved c =
     let bytes = c.args.bytes.now in
     let i = c.loop-byte.byte-index in
     let char : ℕ → ℕ = λ b. slice_index c.args.chars.now b in
-    let b = get_or bytes i 0 in
-    let fits = c.type_inv.bytes i in
-    let long = c.requires.long in
-    let inside : b < length c.args.chars.now = omega (arith, fits, long) in
     let code = c.index-chars-byte.result in
-    let is : code ≡ char b = get_or_read_under c.args.chars.now b (length c.args.chars.now) code 0 c.index-chars-byte.is
-    inside refl in
+    let is = char_read c.args.chars.now (get_or bytes i 0) code c.requires.long (c.type_inv.bytes i)
+    c.index-chars-byte.is in
     let old = take c.loop-byte.len c.loop-byte.room in
     let new = take c.store_code-len.result c.store_code-len.new.bytes in
     let e = c.store_code-len.ensures in

@@ -1,9 +1,9 @@
-use Rattle.std.proofs.Common.{ℕ, ◌≡◌, ◌<◌, ◌+◌, ◌++◌, ◌∷◌, [], refl, ◌∙◌, ap, ap₂, subst, arith, length, take, map}
+use Rattle.std.proofs.Common.{ℕ, ◌<◌, ◌+◌, ◌++◌, ◌∷◌, [], ◌∙◌, ap, ap₂, subst, arith, length, take, map}
 use Rattle.std.proofs.Common.{get_or, slice_index}
-use Rattle.std.proofs.lemmas.List.{get_or_read_under, length-take-le}
+use Rattle.std.proofs.lemmas.List.{length-take-le}
 use Rattle.enc_model.specs.Batches.{BatchTook}
 use Rattle.enc_model.proofs.Gathered.{still_text, took_char}
-use Rattle.enc_model.proofs.Stored.{map_more, own_map, took_on}
+use Rattle.enc_model.proofs.Stored.{char_read, map_more, own_map, took_on}
 use Rattle.enc_model.proofs.batch.store_some.Goals as goal
 
 pub store_each-requires-clause-room : goal.store_each-requires-clause-room
@@ -33,13 +33,9 @@ returns-clause-took g c =
     let bytes = c.args.bytes.now in
     let i = c.in-Some.prefix in
     let char : ℕ → ℕ = λ b. slice_index c.args.chars.now b in
-    let b = get_or bytes i 0 in
-    let fits = c.type_inv.bytes i in
-    let long = c.requires.long in
-    let below : b < length c.args.chars.now = omega (arith, fits, long) in
     let code = c.index-chars-bytes.result in
-    let is : code ≡ char b = get_or_read_under c.args.chars.now b (length c.args.chars.now) code 0
-    c.index-chars-bytes.is below refl in
+    let is = char_read c.args.chars.now (get_or bytes i 0) code c.requires.long (c.type_inv.bytes i)
+    c.index-chars-bytes.is in
     let inside : i < length bytes = let w = c.in-Some.ensures.within in let n = c.if-prefix-eq-LANES.false in let many =
     c.requires.many in omega (arith, w, n, many) in
     let own = own_map char (take i bytes) c.requires.own c.in-Some.ensures.ascii in

@@ -1,46 +1,24 @@
-use Rattle.std.proofs.Common.{ap, sym, refl, length, take, drop, ◌-◌, arith}
-use Rattle.std.proofs.lemmas.Grind.{common_steps}
-use Rattle.enc_model.proofs.Steps.{steps_none}
-use Rattle.enc_model.proofs.Feeding.{given_err, feed_begins}
-use Rattle.enc_model.proofs.Parts.{part_taken, part_refused, part_state}
+use Rattle.std.proofs.Common.{refl}
+use Rattle.enc_model.proofs.Feeding.{given_err}
+use Rattle.enc_model.proofs.Parts.{read_begins, read_more, read_refused}
 use Rattle.enc_model.proofs.decoder.feed_blocks.Goals as goal
 
 pub loop-at-init : goal.loop-at-init
 loop-at-init g c =
-    let h = g.D.Decoder.handler c.args.tables.now in (
-      feed_begins g.S.Sink.takes g.S.Sink.refuses g.met.S.Sink.is_sink h (g.met.D.Decoder.calm c.args.tables.now)
-          c.args.state.now c.args.sink.now,
-      ap (λ run. run.state) (sym (steps_none h c.args.state.now)),
-      omega arith,
-    )
+    read_begins g.S.Sink.takes g.S.Sink.refuses g.met.S.Sink.is_sink _ (g.met.D.Decoder.calm c.args.tables.now)
+    c.args.piece.now c.args.sink.now c.args.state.now
 
 pub returns-in_err-at-clause-given : goal.returns-in_err-at-clause-given
 returns-in_err-at-clause-given g c =
-    let h = g.D.Decoder.handler c.args.tables.now in
-    let calm = g.met.D.Decoder.calm c.args.tables.now in
-    let piece = c.args.piece.now in
-    let at = c.loop-at.at in
     given_err g.S.Sink.takes g.S.Sink.refuses c.args.sink.now c.advance.new.sink _ c.from_residual.result
     c.in_err-at.field-0.0 c.from_residual.ensures.1
-    (part_refused h calm g.S.Sink.takes g.S.Sink.refuses g.met.S.Sink.is_sink c.args.state.now c.loop-at.state piece
-    (take (length piece - at) (drop at piece)) at
-    c.args.sink.now c.loop-at.sink c.advance.new.sink c.in_err-at.field-0.0 refl c.loop-at.invariant.1
-    c.loop-at.invariant.0 c.in_err-at.ensures.refused)
+    (read_refused g.S.Sink.takes g.S.Sink.refuses g.met.S.Sink.is_sink _ (g.met.D.Decoder.calm c.args.tables.now)
+    c.args.piece.now _ c.args.sink.now c.loop-at.sink c.advance.new.sink c.args.state.now c.loop-at.state c.loop-at.at
+    c.in_err-at.field-0.0 refl c.loop-at.invariant c.in_err-at.ensures.refused)
 
 pub loop-at-preserved : goal.loop-at-preserved
 loop-at-preserved g c =
-    let h = g.D.Decoder.handler c.args.tables.now in
-    let calm = g.met.D.Decoder.calm c.args.tables.now in
-    let piece = c.args.piece.now in
-    let at = c.loop-at.at in
-    let rest = take (length piece - at) (drop at piece) in
-    let n = c.in_ok-at.field-0 in
-    let some = c.in_ok-at.ensures.some in (
-      part_taken h calm g.S.Sink.takes g.S.Sink.refuses g.met.S.Sink.is_sink c.args.state.now c.loop-at.state piece rest
-          at n
-          c.args.sink.now c.loop-at.sink c.advance.new.sink refl c.loop-at.invariant.1 c.loop-at.invariant.0
-          c.in_ok-at.ensures.taken,
-      part_state h calm c.args.state.now c.loop-at.state c.advance.new.state piece rest at n refl c.loop-at.invariant.1
-          c.in_ok-at.ensures.state,
-      grind (arith, common_steps),
-    )
+    let e = c.in_ok-at.ensures in
+    read_more g.S.Sink.takes g.S.Sink.refuses g.met.S.Sink.is_sink _ (g.met.D.Decoder.calm c.args.tables.now)
+    c.args.piece.now _ c.args.sink.now c.loop-at.sink c.advance.new.sink c.args.state.now c.loop-at.state
+    c.advance.new.state c.loop-at.at c.in_ok-at.field-0 refl c.loop-at.invariant e.some.1 e.taken e.state

@@ -1,11 +1,10 @@
-use Rattle.std.proofs.Common.{◌≡◌, ◌≤◌, ◌-◌, false, take, length}
-use Rattle.enc_model.specs.Stream.{steps}
+use Rattle.std.proofs.Common.{◌-◌, length}
+use Rattle.enc_model.proofs.Parts.{ReadTo}
 use Rattle.enc_model.proofs.decoder.feed_blocks.Given as goal
 
 abbrev pub invariant-loop-at : goal.invariant-loop-at
 invariant-loop-at g l =
-    let so_far = steps (g.D.Decoder.handler l.tables) false l.fn.state (take l.at l.piece) in
-    g.S.Sink.takes l.fn.sink so_far.text l.sink × (l.state ≡ so_far.state) × (l.at ≤ length l.piece)
+    ReadTo g.S.Sink.takes (g.D.Decoder.handler l.tables) l.piece l.fn.sink l.fn.state l.at l.sink l.state
 
 abbrev pub decreases-loop-at : goal.decreases-loop-at
 decreases-loop-at g l = length l.piece - l.at

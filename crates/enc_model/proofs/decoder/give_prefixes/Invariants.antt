@@ -1,14 +1,10 @@
-use Rattle.std.proofs.Common.{◌≡◌, ◌≤◌, ◌-◌, false, take, length}
-use Rattle.enc_model.specs.Stream.{steps}
+use Rattle.std.proofs.Common.{◌-◌, length}
+use Rattle.enc_model.proofs.Parts.{ReadTo}
 use Rattle.enc_model.proofs.decoder.give_prefixes.Given as goal
 
 abbrev pub invariant-loop-at : goal.invariant-loop-at
 invariant-loop-at g l =
-    let so_far = steps (g.D.Decoder.handler l.tables) false l.state (take l.at l.piece) in record {
-      taken : g.S.Sink.takes l.fn.sink so_far.text l.sink;
-      state : l.state ≡ so_far.state;
-      at : l.at ≤ length l.piece;
-    }
+    ReadTo g.S.Sink.takes (g.D.Decoder.handler l.tables) l.piece l.fn.sink l.state l.at l.sink l.state
 
 abbrev pub decreases-loop-at : goal.decreases-loop-at
 decreases-loop-at g l = length l.piece - l.at

@@ -1,46 +1,27 @@
-use Rattle.std.proofs.Common.{ap, sym, refl, length, take, drop, ◌-◌, arith}
-use Rattle.std.proofs.lemmas.Grind.{common_steps}
+use Rattle.std.proofs.Common.{refl}
 use Rattle.enc_model.specs.Batches.{BatchTook, BatchRefused}
 use Rattle.enc_model.specs.BatchLaws.{batch_sink}
-use Rattle.enc_model.specs.Stream.{Run}
-use Rattle.enc_model.specs.Utf16.{Utf16, utf16}
-use Rattle.lane_kernels.specs.Orders.{is_big}
 use Rattle.enc_model.specs.declared.batch.Full.{Full}
+use Rattle.lane_kernels.specs.Orders.{is_big}
 use Rattle.enc_model.proofs.Calm.{utf16_calm}
-use Rattle.enc_model.proofs.Steps.{steps_none}
-use Rattle.enc_model.proofs.Feeding.{feed_begins}
 use Rattle.enc_model.proofs.Gathered.{room_left}
-use Rattle.enc_model.proofs.Parts.{part_taken, part_state}
+use Rattle.enc_model.proofs.Parts.{read_begins, read_more}
 use Rattle.enc_unicode.proofs.blocks.decode_block.Goals as goal
 
 pub loop-at-init : goal.loop-at-init
-loop-at-init c = (
-  feed_begins {E = Full} BatchTook BatchRefused batch_sink (utf16 (is_big c.args.order))
-      (utf16_calm (is_big c.args.order)) c.args.pairing.now c.args.batch.now,
-  ap (λ (run : Run Utf16). run.state) (sym (steps_none (utf16 (is_big c.args.order)) c.args.pairing.now)),
-  omega arith,
-)
+loop-at-init c =
+    read_begins {E = Full} BatchTook BatchRefused batch_sink _ (utf16_calm (is_big c.args.order)) c.args.block.now c.args.batch.now
+    c.args.pairing.now
 
 pub decode_some-at-requires-clause-room : goal.decode_some-at-requires-clause-room
 decode_some-at-requires-clause-room c =
-    let block = c.args.block.now in
-    let at = c.loop-at.at in
-    room_left (utf16 (is_big c.args.order)) (utf16_calm (is_big c.args.order)) c.args.pairing.now block
-    (take (length block - at) (drop at block)) c.args.batch.now c.loop-at.batch at
-    c.loop-at.invariant.2 refl c.loop-at.invariant.0 c.requires
+    let to = c.loop-at.invariant in
+    room_left _ (utf16_calm (is_big c.args.order)) c.args.pairing.now c.args.block.now _ c.args.batch.now c.loop-at.batch c.loop-at.at to.at refl to.taken
+    c.requires
 
 pub loop-at-preserved : goal.loop-at-preserved
 loop-at-preserved c =
-    let block = c.args.block.now in
-    let at = c.loop-at.at in
-    let rest = take (length block - at) (drop at block) in
-    let n = c.decode_some-at.result in
-    let some = c.decode_some-at.ensures.some in (
-      part_taken (utf16 (is_big c.args.order)) (utf16_calm (is_big c.args.order)) {E = Full} BatchTook BatchRefused
-          batch_sink c.args.pairing.now c.loop-at.pairing block rest at n
-          c.args.batch.now c.loop-at.batch c.decode_some-at.new.batch refl c.loop-at.invariant.1 c.loop-at.invariant.0
-          c.decode_some-at.ensures.text,
-      part_state (utf16 (is_big c.args.order)) (utf16_calm (is_big c.args.order)) c.args.pairing.now c.loop-at.pairing
-          c.decode_some-at.new.pairing block rest at n refl c.loop-at.invariant.1 c.decode_some-at.ensures.state,
-      grind (arith, common_steps),
-    )
+    let e = c.decode_some-at.ensures in
+    read_more {E = Full} BatchTook BatchRefused batch_sink _ (utf16_calm (is_big c.args.order)) c.args.block.now _ c.args.batch.now
+    c.loop-at.batch c.decode_some-at.new.batch c.args.pairing.now c.loop-at.pairing c.decode_some-at.new.pairing c.loop-at.at
+    c.decode_some-at.result refl c.loop-at.invariant e.some.1 e.text e.state

@@ -1,36 +1,17 @@
-use Rattle.std.proofs.Common.{◌≤◌, ◌+◌, ◌++◌, take, drop, ap, sym, ◌∙◌, arith, append-nil, append_assoc}
+use Rattle.std.proofs.Common.{◌++◌, take, ap, ◌∙◌, arith}
 use Rattle.std.proofs.lemmas.List.{take_all}
-use Rattle.std.proofs.lemmas.Str.{encodes-append}
-use Rattle.std.proofs.Math.Seq.{take-add}
 use lib.Utf8.{encodes}
+use Rattle.enc_unicode.proofs.Written.{written_more}
 use Rattle.enc_unicode.proofs.packing.write_fours.Goals as goal
-
-pub loop-at-init : goal.loop-at-init
-loop-at-init c = record {
-  code = sym (append-nil (take c.args.from c.args.code.now));
-  few = omega arith;
-  within = omega arith;
-  fours = omega arith;
-}
 
 pub loop-at-preserved : goal.loop-at-preserved
 loop-at-preserved c =
-    let units = c.args.units.now in
-    let at = c.loop-at.at in
     let before = c.loop-at.invariant in
-    let first = take c.args.from c.args.code.now in
-    let four = take 4 (drop at units) in
-    let inside : at + 4 ≤ 32 = omega (arith, c.loop-at-test.true, before.fours) in
-    record {
-      code =
-          c.write_four-len.ensures.code
-          ∙ ap (λ z. z ++ encodes c.four_at.result) before.code
-          ∙ ap (λ z. (first ++ encodes (take at units)) ++ encodes z) c.four_at.ensures
-          ∙ append_assoc first (encodes (take at units)) (encodes four)
-          ∙ ap (λ z. first ++ z) (sym (ap encodes (take-add at 4 units) ∙ encodes-append (take at units) four));
-      few = omega (arith, before.few, c.write_four-len.ensures.few);
-      within = inside;
-      fours = omega (arith, before.fours);
+    let wrote = c.write_four-len.ensures in record {
+      code = written_more _ _ _ c.args.units.now _ c.loop-at.at 4 before.code c.four_at.ensures wrote.code;
+      few = omega (arith, before.few, wrote.few);
+      within = omega (arith, c.loop-at-test.true, before.steps);
+      steps = omega (arith, before.steps);
     }
 
 pub returns-clause-code : goal.returns-clause-code

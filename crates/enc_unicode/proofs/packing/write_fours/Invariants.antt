@@ -1,14 +1,9 @@
-use Rattle.std.proofs.Common.{◌≡◌, ◌≤◌, ◌+◌, ◌*◌, ◌-◌, ◌%◌, ◌++◌, take}
-use lib.Utf8.{encodes}
+use Rattle.std.proofs.Common.{◌-◌}
+use Rattle.enc_unicode.proofs.Written.{WrittenTo}
 use Rattle.enc_unicode.proofs.packing.write_fours.Given as goal
 
 abbrev pub invariant-loop-at : goal.invariant-loop-at
-invariant-loop-at l = record {
-  code : take l.len l.code ≡ take l.from l.initial.code ++ encodes (take l.at l.units);
-  few : l.len ≤ l.from + 3 * l.at;
-  within : l.at ≤ 32;
-  fours : l.at % 4 ≡ 0;
-}
+invariant-loop-at l = WrittenTo 4 3 l.units l.initial.code l.from l.at l.code l.len
 
 abbrev pub decreases-loop-at : goal.decreases-loop-at
 decreases-loop-at l = 32 - l.at

@@ -1,10 +1,10 @@
-use Rattle.std.proofs.Common.{◌≡◌, ◌+◌, ◌≤◌, length, drop, arith, rules}
+use Rattle.std.proofs.Common.{◌≡◌, ◌+◌, ◌≤◌, length, arith, rules}
 use Rattle.std.proofs.lemmas.Grind.{common_steps}
 use Rattle.std.proofs.lemmas.Simd.{length-chunk}
 use Rattle.std.specs.List.{prefix_len}
 use Rattle.std.specs.Simd.Lanes.{chunk}
 use Rattle.std.proofs.lemmas.List.Sums.{prefix_len-le-length}
-use Rattle.lane_kernels.proofs.Prefixes.{chunk_passes, chunk_stops}
+use Rattle.lane_kernels.proofs.Prefixes.{chunk_passes, chunk_stops, passes_within}
 use Rattle.lane_kernels.proofs.front.front.Goals as goal
 
 pub returns-then-run-lt-LANES : goal.returns-then-run-lt-LANES
@@ -27,10 +27,7 @@ by_lanes-preserved g c =
 
 pub overflow_add-result-2 : goal.overflow_add-result-2
 overflow_add-result-2 g c =
-    let p = g.C.Class.has c.args.class.now in
-    let few = prefix_len-le-length p c.args.bytes.now in
-    let is : c.front_by_bytes.result ≡ prefix_len p (drop c.by_lanes.at c.args.bytes.now) =
-    grind (arith, common_steps) in
     let total : c.by_lanes.at + c.front_by_bytes.result ≤ length c.args.bytes.now =
-    omega (arith, is, few, c.by_lanes.invariant.passed) in
+    passes_within (g.C.Class.has c.args.class.now) c.args.bytes.now _ _ c.by_lanes.invariant.passed
+    (grind (arith, common_steps)) in
     search (rules, total)

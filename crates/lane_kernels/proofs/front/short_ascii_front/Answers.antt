@@ -1,16 +1,11 @@
 use Rattle.std.proofs.Common.{◌+◌, ◌≤◌, length, arith, rules}
 use Rattle.std.proofs.lemmas.Grind.{common_steps}
-use Rattle.std.proofs.lemmas.List.Sums.{prefix_len-le-length}
-use Rattle.std.proofs.Common.{◌≡◌, drop}
 use Rattle.std.specs.Char.{is_ascii}
-use Rattle.std.specs.List.{prefix_len}
+use Rattle.lane_kernels.proofs.Prefixes.{passes_within}
 use Rattle.lane_kernels.proofs.front.short_ascii_front.Goals as goal
 
 pub overflow_add-result : goal.overflow_add-result
 overflow_add-result c =
-    let few = prefix_len-le-length is_ascii c.args.bytes.now in
-    let is : c.front.result ≡ prefix_len is_ascii (drop c.skip_ascii-skipped.result c.args.bytes.now) =
-    grind (arith, common_steps) in
     let total : c.skip_ascii-skipped.result + c.front.result ≤ length c.args.bytes.now =
-    omega (arith, is, few, c.skip_ascii-skipped.ensures.passed) in
+    passes_within is_ascii c.args.bytes.now _ _ c.skip_ascii-skipped.ensures.passed (grind (arith, common_steps)) in
     search (rules, total)

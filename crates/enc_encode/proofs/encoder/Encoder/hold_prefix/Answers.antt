@@ -38,14 +38,9 @@ range_from-requires g c = λ some. own_cut c.args.to (shift_of c.args.shift) c.a
 
 pub returns-in-Some-clause-ok : goal.returns-in-Some-clause-ok
 returns-in-Some-clause-ok g c =
-    let t = tables c.args.set.now in
-    let e = c.args.self.now in
-    let text = c.args.text.now in
-    let kept = c.push_front.new.self in
-    subst (λ z. HeldPrefix (code_from t (shifted e (shift_of c.args.shift))) text z c.args.out.now c.args.held.now
-    c.make_room.new.out kept (Ok c.args.shift)) (sym c.range_from.ensures.value)
-    (ascii_held t e c.args.to text c.in-Some.lanes.now c.in-Some.prefix c.args.shift c.args.out.now c.args.held.now
-    c.make_room.new.out c.make_room.new.self kept
+    rw c.range_from.ensures.value
+    (ascii_held (tables c.args.set.now) c.args.self.now c.args.to c.args.text.now c.in-Some.lanes.now c.in-Some.prefix
+    c.args.shift c.args.out.now c.args.held.now c.make_room.new.out c.make_room.new.self c.push_front.new.self
     c.requires.same c.in-Some.ensures c.in_ok-make_room.ensures.ok c.push_front.ensures)
 
 pub returns-in_err-hold-clause-err : goal.returns-in_err-hold-clause-err
@@ -64,22 +59,17 @@ returns-in_err-hold-clause-err g c =
 
 pub returns-in-Wrote-clause-ok : goal.returns-in-Wrote-clause-ok
 returns-in-Wrote-clause-ok g c =
-    let t = tables c.args.set.now in
     let e = c.args.self.now in
-    let text = c.args.text.now in
-    let next = c.in-Wrote.next in
     let x = c.in-Some-next.c in
-    let once = coded_once t e.to e.mode (shift_of c.args.shift) x (Wrote (bytes_of c.in-Wrote.bytes) (shift_of next))
-    (rw (c.requires.same, c.in-Wrote.is) at c.written.ensures) tt in
-    let kept : Kept (coded (encoder t e.to) e.mode (shift_of c.args.shift) (x ∷ [])) c.args.out.now c.args.held.now
-    c.hold.new.out c.hold.new.self (Ok next) =
-    subst (λ code. Kept code c.args.out.now c.args.held.now c.hold.new.out c.hold.new.self (Ok next)) (sym once)
-    (refl, refl, c.in_ok-hold.ensures.ok) in
-    subst (λ z. HeldPrefix (code_from t (shifted e (shift_of c.args.shift))) text z c.args.out.now c.args.held.now
-    c.hold.new.out c.hold.new.self (Ok next)) (sym c.as_str.ensures)
-    (char_held t e text (chars_rest c.next.new.self) x c.args.shift c.args.out.now c.args.held.now
-    c.hold.new.out c.hold.new.self (Ok next) c.utf8.text
-    (sym c.chars-chars.ensures.rest ∙ c.in-Some-next.ensures.steps.0) kept)
+    let next = c.in-Wrote.next in
+    let once = coded_once (tables c.args.set.now) e.to e.mode (shift_of c.args.shift) x
+    (Wrote (bytes_of c.in-Wrote.bytes) (shift_of next)) (rw (c.requires.same, c.in-Wrote.is) at c.written.ensures) tt in
+    rw c.as_str.ensures
+    (char_held (tables c.args.set.now) e c.args.text.now (chars_rest c.next.new.self) x c.args.shift c.args.out.now
+    c.args.held.now c.hold.new.out c.hold.new.self (Ok next) c.utf8.text
+    (sym c.chars-chars.ensures.rest ∙ c.in-Some-next.ensures.steps.0)
+    (subst (λ code. Kept code c.args.out.now c.args.held.now c.hold.new.out c.hold.new.self (Ok next)) (sym once)
+    (refl, refl, c.in_ok-hold.ensures.ok)))
 
 pub returns-in_err-next-clause-err : goal.returns-in_err-next-clause-err
 returns-in_err-next-clause-err g c =
@@ -95,15 +85,11 @@ returns-in_err-next-clause-err g c =
 
 pub returns-in_default-mode-clause-ok : goal.returns-in_default-mode-clause-ok
 returns-in_default-mode-clause-ok g c =
-    let t = tables c.args.set.now in
-    let e = c.args.self.now in
-    let text = c.args.text.now in
-    let next = c.in_ok-next.next in
-    subst (λ z. HeldPrefix (code_from t (shifted e (shift_of c.args.shift))) text z c.args.out.now c.args.held.now
-    c.hold_otherwise.new.out c.hold_otherwise.new.held (Ok next)) (sym c.as_str-rest.ensures)
-    (char_held t e text (chars_rest c.next.new.self) c.in-Some-next.c c.args.shift c.args.out.now c.args.held.now
-    c.hold_otherwise.new.out c.hold_otherwise.new.held (Ok next) c.utf8.text
-    (sym c.chars-chars.ensures.rest ∙ c.in-Some-next.ensures.steps.0) c.in_ok-next.ensures)
+    rw c.as_str-rest.ensures
+    (char_held (tables c.args.set.now) c.args.self.now c.args.text.now (chars_rest c.next.new.self) c.in-Some-next.c
+    c.args.shift c.args.out.now c.args.held.now c.hold_otherwise.new.out c.hold_otherwise.new.held
+    (Ok c.in_ok-next.next) c.utf8.text (sym c.chars-chars.ensures.rest ∙ c.in-Some-next.ensures.steps.0)
+    c.in_ok-next.ensures)
 
 pub returns-in-Html-clause-ok : goal.returns-in-Html-clause-ok
 returns-in-Html-clause-ok g c =

@@ -32,7 +32,6 @@ returns-clause-text c =
 pub returns-clause-state : goal.returns-clause-state
 returns-clause-state c =
     let none = c.if-run-gt0.false in
-    let h = iso2022 (tables c.args.indexes.now).jis0208 in
-    let same = state_none h c.args.self.now c.read_run-run.new.self c.args.rest.now c.read_run-run.result
-    (omega (arith, none)) c.read_run-run.ensures.state in
-    c.decode_each.ensures.state ∙ ap (λ s. (steps h false s (take 1 c.args.rest.now)).state) same
+    c.decode_each.ensures.state
+    ∙ ap (λ s. (steps (iso2022 (tables c.args.indexes.now).jis0208) false s (take 1 c.args.rest.now)).state)
+    (state_none _ _ _ c.args.rest.now _ (omega (arith, none)) c.read_run-run.ensures.state)

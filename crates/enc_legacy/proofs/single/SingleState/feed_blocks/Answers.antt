@@ -1,4 +1,4 @@
-use Rattle.std.proofs.Common.{refl, length, take, drop, ◌-◌, arith}
+use Rattle.std.proofs.Common.{refl, take, arith}
 use Rattle.std.proofs.lemmas.Grind.{common_steps}
 use Rattle.enc_model.specs.Indexes.{tables}
 use Rattle.enc_model.proofs.Feeding.{given_err, feed_begins}
@@ -19,27 +19,21 @@ loop-at-init g c =
 pub returns-in_err-at : goal.returns-in_err-at
 returns-in_err-at g c =
     let t = tables c.args.indexes.now in
-    let s = c.args.self.now in
-    let piece = c.args.piece.now in
-    let at = c.loop-at.at in
     let why = c.in_err-at.field-0.0 in
     given_err g.S.Sink.takes g.S.Sink.refuses c.args.sink.now c.advance.new.sink _ c.from_residual.result why
     c.from_residual.ensures.1
-    (part_refused (single_in t) (single_in_calm t) g.S.Sink.takes g.S.Sink.refuses g.met.S.Sink.is_sink s s piece
-    (take (length piece - at) (drop at piece)) at c.args.sink.now c.loop-at.sink c.advance.new.sink why refl
-    (single_state t s (take at piece)) c.loop-at.invariant.taken c.in_err-at.ensures.refused)
+    (part_refused (single_in t) (single_in_calm t) g.S.Sink.takes g.S.Sink.refuses g.met.S.Sink.is_sink c.args.self.now
+    c.args.self.now c.args.piece.now _ c.loop-at.at c.args.sink.now c.loop-at.sink c.advance.new.sink why refl
+    (single_state t c.args.self.now (take c.loop-at.at c.args.piece.now)) c.loop-at.invariant.taken
+    c.in_err-at.ensures.refused)
 
 pub loop-at-preserved : goal.loop-at-preserved
 loop-at-preserved g c =
     let t = tables c.args.indexes.now in
     let s = c.args.self.now in
-    let piece = c.args.piece.now in
-    let at = c.loop-at.at in
-    let rest = take (length piece - at) (drop at piece) in
-    let n = c.in_ok-at.field-0 in
     let some = c.in_ok-at.ensures.some in record {
-      taken = part_taken (single_in t) (single_in_calm t) g.S.Sink.takes g.S.Sink.refuses g.met.S.Sink.is_sink s s piece
-          rest at n c.args.sink.now c.loop-at.sink c.advance.new.sink refl (single_state t s (take at piece))
-          c.loop-at.invariant.taken c.in_ok-at.ensures.taken;
+      taken = part_taken (single_in t) (single_in_calm t) g.S.Sink.takes g.S.Sink.refuses g.met.S.Sink.is_sink s s
+          c.args.piece.now _ c.loop-at.at c.in_ok-at.field-0 c.args.sink.now c.loop-at.sink c.advance.new.sink refl
+          (single_state t s (take c.loop-at.at c.args.piece.now)) c.loop-at.invariant.taken c.in_ok-at.ensures.taken;
       at = grind (arith, common_steps);
     }

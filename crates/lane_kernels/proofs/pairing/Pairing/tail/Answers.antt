@@ -16,9 +16,12 @@ carried : (odd lead : Option ℕ) (byte : Option ℕ) (state : Utf16) → odd �
     ◌≡◌ {A = Utf16} (record { byte = byte; lead = lead }) state
 carried odd lead byte state same is = ap (λ b. record { byte = b; lead = lead }) (sym same) ∙ is
 
-stepped : (big : Bool) (s t : Utf16) (byte : ℕ) (r : Run Utf16) → s ≡ t → steps (utf16 big) false s (byte ∷ []) ≡ r
-    → r ≡ steps (utf16 big) false t (byte ∷ [])
-stepped big s t byte r same is = sym is ∙ ap (λ z. steps (utf16 big) false z (byte ∷ [])) same
+stepped : (big : Bool) (odd lead byte : Option ℕ) (state : Utf16) (next : ℕ) (r : Run Utf16) → odd ≡ byte
+    → ◌≡◌ {A = Utf16} (record { byte = odd; lead = lead }) state
+    → steps (utf16 big) false (record { byte = byte; lead = lead }) (next ∷ []) ≡ r
+    → r ≡ steps (utf16 big) false state (next ∷ [])
+stepped big odd lead byte state next r same is e =
+    sym e ∙ ap (λ z. steps (utf16 big) false z (next ∷ [])) (carried odd lead byte state same is)
 
 pub returns-in_default-clause-fault : goal.returns-in_default-clause-fault
 returns-in_default-clause-fault c =
@@ -31,17 +34,13 @@ returns-in_default-clause-fault c =
 
 pub returns-in_default-clause-text : goal.returns-in_default-clause-text
 returns-in_default-clause-text c =
-    let lead = c.self.inside.lead in
-    let before = carried c.self.inside.odd lead None c.args.self.now c.in_default.is c.self.view_is in
-    ap (λ r. r.text) (stepped (is_big c.args.order) _ _ c.args.byte _ before
-    (first_byte (is_big c.args.order) lead c.args.byte))
+    ap (λ r. r.text) (stepped (is_big c.args.order) _ _ None _ c.args.byte _ c.in_default.is c.self.view_is
+    (first_byte (is_big c.args.order) c.self.inside.lead c.args.byte))
 
 pub returns-in_default-clause-state : goal.returns-in_default-clause-state
 returns-in_default-clause-state c =
-    let lead = c.self.inside.lead in
-    let before = carried c.self.inside.odd lead None c.args.self.now c.in_default.is c.self.view_is in
-    ap (λ r. r.state) (stepped (is_big c.args.order) _ _ c.args.byte _ before
-    (first_byte (is_big c.args.order) lead c.args.byte))
+    ap (λ r. r.state) (stepped (is_big c.args.order) _ _ None _ c.args.byte _ c.in_default.is c.self.view_is
+    (first_byte (is_big c.args.order) c.self.inside.lead c.args.byte))
 
 pub returns-clause-fault : goal.returns-clause-fault
 returns-clause-fault c =
@@ -58,20 +57,15 @@ returns-clause-fault c =
 pub returns-clause-text : goal.returns-clause-text
 returns-clause-text c =
     let lead = c.self.inside.lead in
-    let first = c.in-Some.first in
-    let before = carried c.self.inside.odd lead (Some first) c.args.self.now c.in-Some.is c.self.view_is in
     ap₂ (λ fault scalar. fault_text fault ++ scalar_text scalar)
     (c.unit.ensures.fault ∙ ap (unit_fault lead) c.unit_in.ensures)
     (c.unit.ensures.scalar ∙ ap (unit_scalar lead) c.unit_in.ensures)
-    ∙ ap (λ r. r.text) (stepped (is_big c.args.order) _ _ c.args.byte _ before
-    (second_byte (is_big c.args.order) lead first c.args.byte))
+    ∙ ap (λ r. r.text) (stepped (is_big c.args.order) _ _ (Some c.in-Some.first) _ c.args.byte _ c.in-Some.is
+    c.self.view_is (second_byte (is_big c.args.order) lead c.in-Some.first c.args.byte))
 
 pub returns-clause-state : goal.returns-clause-state
 returns-clause-state c =
-    let lead = c.self.inside.lead in
-    let first = c.in-Some.first in
-    let before = carried c.self.inside.odd lead (Some first) c.args.self.now c.in-Some.is c.self.view_is in
     c.unit.ensures.state
     ∙ ap (λ unit. record { byte = None; lead = lead_of unit }) c.unit_in.ensures
-    ∙ ap (λ r. r.state) (stepped (is_big c.args.order) _ _ c.args.byte _ before
-    (second_byte (is_big c.args.order) lead first c.args.byte))
+    ∙ ap (λ r. r.state) (stepped (is_big c.args.order) _ _ (Some c.in-Some.first) _ c.args.byte _ c.in-Some.is
+    c.self.view_is (second_byte (is_big c.args.order) c.self.inside.lead c.in-Some.first c.args.byte))
