@@ -4,8 +4,6 @@ use Rattle.std.proofs.Common.{length, min, eqb, None, refl, sym, ◌∙◌, ap, 
 use Rattle.std.proofs.lemmas.Bool.{both_ways}
 use Rattle.enc_model.specs.Indexes.{IndexSet}
 use Rattle.spool_blocks.specs.Blocks.{Held}
-use Rattle.upload_rules.specs.declared.new_text.NewText.{NewText}
-use Rattle.upload_rules.specs.declared.new_text.NewText.TheVariants.{Growing, Unencodable, Complete}
 use Rattle.upload_rules.specs.Lengths.{is_too_large, known_or, longest}
 use Rattle.upload_rules.specs.Room.{need_of, wants, need}
 use Rattle.upload_rules.specs.Store.{text_of, text_with, is_complete}
@@ -15,6 +13,8 @@ use Rattle.spool_drafts.specs.Effect.{RunsShort}
 use Rattle.spool_drafts.specs.Fresh.{StandsAt, Adds}
 use Rattle.spool_drafts.specs.Growth.{HoldsLen, GrowsTo, list_on}
 use Rattle.spool_drafts.specs.declared.draft.SpoolDraft.{SpoolDraft}
+use Rattle.spool_drafts.specs.declared.fresh.Fresh.{Fresh}
+use Rattle.spool_drafts.specs.declared.fresh.Fresh.TheVariants.{Growing, Unencodable, Complete}
 use Rattle.spool_drafts.specs.declared.growth.Growth.{Growth}
 use Rattle.spool_drafts.proofs.Lengths.{is_open}
 use Rattle.spool_drafts.proofs.Patches.{no_fault, value_before, in_prefix, wants_is, need_roomy, need_short, need_fault}
@@ -27,7 +27,7 @@ some_of [] empty is not = absurd (both_ways empty not is)
 some_of (b ∷ piece) empty is not = omega arith
 
 -- the draft after a piece
-abbrev pub gone_on : SpoolDraft → Growth → NewText → ℕ → SpoolDraft
+abbrev pub gone_on : SpoolDraft → Growth → Fresh → ℕ → SpoolDraft
 gone_on d growth fresh count = record {
   number = d.number;
   offset = d.offset;
@@ -55,7 +55,7 @@ module _ (x : IndexSet) (p : Patch) (d : SpoolDraft) (held : Holds x p d) (piece
   incomplete some = is_open p.began p.declare p.count (omega (arith, some, fits)) held.within
 
   -- what stays
-  with_growth : (q : Patch) (growth : Growth) (fresh : NewText) → q ≡ record p
+  with_growth : (q : Patch) (growth : Growth) (fresh : Fresh) → q ≡ record p
       { body = p.body ++ piece; short = growth.short } → growth.text_len ≡ d.growth.text_len
       → StandsAt x p.began (p.body ++ piece) fresh → length (list_on growth.on) ≡ need x q false
       → (IsKept x q (gone_on d growth fresh (length piece)) → HoldsLen growth (length (open_text x q false)))
@@ -110,7 +110,7 @@ module _ (x : IndexSet) (p : Patch) (d : SpoolDraft) (held : Holds x p d) (piece
       (ap (λ o. length (list_on o)) none ∙ sym (need_fault x longer false there))
       (λ kept. absurd (both_ways (is_there (patch_text x longer false).fault) (no_fault _ kept.encodable) there))
 
-  module _ (fresh : NewText) (text : List ℕ) (some : 0 < length piece) (other : fresh ≡ Unencodable → ⊥)
+  module _ (fresh : Fresh) (text : List ℕ) (some : 0 < length piece) (other : fresh ≡ Unencodable → ⊥)
       (stands : StandsAt x p.began (p.body ++ piece) fresh) (adds : Adds x p.began p.body piece fresh text) where
     still : is_complete p.began ≡ false
     still = incomplete some
@@ -123,10 +123,10 @@ module _ (x : IndexSet) (p : Patch) (d : SpoolDraft) (held : Holds x p d) (piece
     encodable_before = ap (λ r. r.fault) (patch_is false) ∙ value_before x p.began p.body piece false
         (sym (ap (λ r. r.fault) (longer_text false)) ∙ encodable_after)
 
-    added_is : (f : NewText) → (f ≡ Unencodable → ⊥) → StandsAt x p.began (p.body ++ piece) f
+    added_is : (f : Fresh) → (f ≡ Unencodable → ⊥) → StandsAt x p.began (p.body ++ piece) f
         → Adds x p.began p.body piece f text
         → (text_with x p.began p.body false).bytes ++ text ≡ (text_with x p.began (p.body ++ piece) false).bytes
-    added_is (Growing t scratch) away here is = is
+    added_is (Growing t) away here is = is
     added_is Unencodable away here is = absurd (away refl)
     added_is Complete away here is = absurd (both_ways (is_complete p.began) still here)
 

@@ -4,10 +4,10 @@ ghost use Rattle.std.specs.Prelude.{false, None, length, IsOk, IsErrOf, OnOk, If
 ghost use Rattle.spool_disk.specs.Disk.{Counts, IsImage, Keeps};
 ghost use Rattle.spool_disk.specs.Views.{Lasts};
 ghost use Rattle.spool_journal.specs.Image.{journal_pages, all_pages, text_page};
-ghost use Rattle.spool_texts.specs.Drafts.{IsReserved, GivesBack, bytes_with, content_on};
+ghost use Rattle.spool_texts.specs.Drafts.{IsReserved, GivesBack, bytes_with, content_on, tail_list};
 ghost use Rattle.spool_texts.specs.TextOn.{AllBelow, text_on};
 ghost use Rattle.spool_drafts.specs.Effect.{Effect, Regrasps};
-ghost use Rattle.spool_drafts.specs.Growth.{list_on, tail_list, prefix_on, bytes_on, count_with, IsTailed, HoldsLen};
+ghost use Rattle.spool_drafts.specs.Growth.{list_on, bytes_on, count_with, IsTailed, HoldsLen};
 ghost use Rattle.spool_drafts.specs.Growth.{GrowsTo, ClosesAs};
 ghost use Rattle.upload_rules.specs.declared.errors.UploadRefusal.{UploadRefusal as Refusal};
 
@@ -228,8 +228,9 @@ impl Growth {
                 self.give_back(blocks);
                 Err(UploadError::Refused(UploadRefusal::Full))
             }
-            // `DraftText::end` makes no call of the disk and answers no `DiskFault`.
-            Err(DraftError::NoMemory | DraftError::DiskFault) => Err(UploadError::NoMemory),
+            Err(DraftError::NoMemory) => Err(UploadError::NoMemory),
+            // It makes no call of the disk.
+            Err(DraftError::DiskFault) => unreachable!(),
         }
     }
 
@@ -262,9 +263,17 @@ impl Growth {
         if self.on.is_some() {
             return Ok(());
         }
-        let text = begun(alloc, disk, layout, self.tail, self.text_len)?;
-        self.on = Some(text);
-        Ok(())
+        let len = (self.text_len % PAGE as u64) as usize;
+        match DraftText::begin(alloc, disk, layout, self.tail, len) {
+            Ok(text) => {
+                self.on = Some(text);
+                Ok(())
+            }
+            Err(DraftError::NoMemory) => Err(UploadError::NoMemory),
+            Err(DraftError::DiskFault) => Err(UploadError::DiskFault),
+            // No block is reserved here.
+            Err(DraftError::Full) => unreachable!(),
+        }
     }
 
     // Appends bytes to the begun text. If no block is free for them, the draft becomes short and gives all its blocks
@@ -310,44 +319,5 @@ impl Growth {
                 Ok(())
             }
         }
-    }
-}
-
-// The beginning of a new text: the bytes on the committed text's last block are read; without that block, zeros take
-// their place.
-fn begun<D: Disk>(
-    alloc: Global,
-    disk: &mut D,
-    layout: &Layout,
-    tail: Option<BlockNo>,
-    text_len: u64,
-) -> Result<DraftText, UploadError>
-    requires room { 4096 * all_pages layout.now ≤ D.size disk.old }
-    requires below { AllBelow layout.now (tail_list tail) }
-    ensures size { D.size disk.new ≡ D.size disk.old }
-    ensures honest { D.honest disk.old ↔ D.honest disk.new }
-    ensures counts { Counts (IsErrOf result UploadError.DiskFault) (D.failures disk.old) (D.failures disk.new) }
-    ensures no_refusal { (e : Refusal) → IsErrOf result (UploadError.Refused e) → ⊥ }
-    ensures unread { tail_list tail ≡ [] → disk.new ≡ disk.old }
-    ensures none { IfOk result (λ text. text.blocks ≡ []) }
-    ensures tail { D.honest disk.old
-        → IfOk result (λ text. text.unfinished
-        ≡ prefix_on (D.current disk.old) (text_page layout.now) tail (text_len % 4096)) }
-    ensures tail_size { IfOk result (λ text. length text.unfinished ≡ text_len % 4096) }
-    ensures keeps { D.honest disk.old
-        → Keeps (D.current disk.old) (D.current disk.new) (D.unsynced disk.old) (D.unsynced disk.new) }
-    ensures lasts { D.honest disk.old → Lasts D.Disk disk.old disk.new
-        (IsImage (D.current disk.old) (D.unsynced disk.old)) }
-{
-    let len = text_len % PAGE as u64;
-    let begun = match tail {
-        Some(block) => DraftText::begin(alloc, disk, layout, &[block], len),
-        None => DraftText::blank(alloc, len as usize).map_err(DraftError::from),
-    };
-    match begun {
-        Ok(text) => Ok(text),
-        Err(DraftError::DiskFault) => Err(UploadError::DiskFault),
-        // No block is reserved here, so `Full` doesn't occur.
-        Err(DraftError::NoMemory | DraftError::Full) => Err(UploadError::NoMemory),
     }
 }

@@ -9,23 +9,15 @@ use Rattle.spool_drafts.specs.declared.draft.SpoolDraft.{SpoolDraft}
 use Rattle.spool_drafts.specs.declared.growth.Growth.{Growth}
 use Rattle.spool_drafts.proofs.Appends.{some_of, gone_on, incomplete, no_value, longer_fault, longer_short, longer_put}
 use Rattle.spool_drafts.proofs.Appends.{open_longer, kept_before}
-use Rattle.spool_drafts.proofs.Effects.{only_none, grasp_none, grasp_gives}
+use Rattle.spool_drafts.proofs.Effects.{effect_none, only_none, grasp_gives}
 use Rattle.spool_texts.proofs.Reserves.{takes_none}
 use Rattle.spool_drafts.proofs.draft.SpoolDraft.append.Goals as goal
 
 pub returns-then-is_empty-clause-effect : goal.returns-then-is_empty-clause-effect
-returns-then-is_empty-clause-effect g c = record {
-  own = list_of c.args.self.now;
-  grasp = grasp_none _ _ _ refl c.requires.reserved;
-  writes = λ honest. only_none _ _;
-}
+returns-then-is_empty-clause-effect g c = effect_none _ c.requires.reserved
 
 pub returns-in_default-clause-effect : goal.returns-in_default-clause-effect
-returns-in_default-clause-effect g c = record {
-  own = list_of c.args.self.now;
-  grasp = grasp_none _ _ _ refl c.requires.reserved;
-  writes = λ honest. only_none _ _;
-}
+returns-in_default-clause-effect g c = effect_none _ c.requires.reserved
 
 pub returns-in-Unencodable-clause-effect : goal.returns-in-Unencodable-clause-effect
 returns-in-Unencodable-clause-effect g c =
@@ -105,13 +97,13 @@ returns-clause-answer g c p held fits =
     subst (λ (e : SpoolDraft). IsLonger x (with_piece p piece) d e c.args.blocks.now c.put.new.blocks)
     (sym c.go_on-2.ensures)
     (elim (cases_Bool d.growth.short) [
-      | inl short ↦ inl (longer_short x p d held piece fits c.in-Ok.fresh c.in-Ok.text.items some other stands adds
+      | inl short ↦ inl (longer_short x p d held piece fits c.in-Ok.fresh c.read_on.new.out.items some other stands adds
           c.put.new.self (c.put.ensures.nothing short).0 short)
       | inr roomy ↦
           let grows = c.in_ok-put.ensures.holds (length (open_text x p false))
-          (held.kept (kept_before x p d held piece fits c.in-Ok.fresh c.in-Ok.text.items some other stands adds
+          (held.kept (kept_before x p d held piece fits c.in-Ok.fresh c.read_on.new.out.items some other stands adds
           roomy)) in
-          longer_put x p d held piece fits c.in-Ok.fresh c.in-Ok.text.items some other stands adds c.put.new.self
+          longer_put x p d held piece fits c.in-Ok.fresh c.read_on.new.out.items some other stands adds c.put.new.self
           c.args.blocks.now c.put.new.blocks roomy c.put.ensures.same.0
           (subst (λ (text : List ℕ). GrowsTo (length (open_text x p false) + length text) d.growth c.put.new.self
           c.args.blocks.now c.put.new.blocks) c.deref.ensures.value grows)
@@ -137,10 +129,10 @@ returns-clause-content g c p honest held fits carries kept =
           (ap (λ (h : Growth). h.short) (c.put.ensures.nothing short).0 ∙ short))
       | inr apart ↦ apart
     ] in
-    let before = carries (kept_before x p d held piece fits c.in-Ok.fresh c.in-Ok.text.items some other stands adds
+    let before = carries (kept_before x p d held piece fits c.in-Ok.fresh c.read_on.new.out.items some other stands adds
     was_roomy) in
     ap (λ (e : SpoolDraft). bytes_on current' first e.growth e.growth.on) c.go_on-2.ensures
     ∙ c.in_ok-put.ensures.content honest roomy
     ∙ ap (λ (text : List ℕ). bytes_on current first d.growth d.growth.on ++ text) c.deref.ensures.value
-    ∙ ap (λ (bytes : List ℕ). bytes ++ c.in-Ok.text.items) before
-    ∙ sym (open_longer x p d held piece fits c.in-Ok.fresh c.in-Ok.text.items some other stands adds)
+    ∙ ap (λ (bytes : List ℕ). bytes ++ c.read_on.new.out.items) before
+    ∙ sym (open_longer x p d held piece fits c.in-Ok.fresh c.read_on.new.out.items some other stands adds)

@@ -18,7 +18,7 @@ returns-clause-begun c x n u keeps = (
   c.in_ok-admits.ensures.rules x n u keeps.tells,
   begins x u n c.args.count c.args.declare c.args.upload.now c.args.offset c.after-2.result c.in-Some.fresh keeps
       (c.in_ok-admits.ensures.room refl) (c.in_ok-admits.ensures.small refl)
-      (c.in-Some.ensures.holds x n u keeps.tells keeps.encodable keeps.valid) c.after-2.ensures.len
+      (c.in-Some.ensures.stands x n u keeps.tells keeps.encodable keeps.valid) c.after-2.ensures.len
       c.after-2.ensures.none c.after-2.ensures.roomy,
 )
 

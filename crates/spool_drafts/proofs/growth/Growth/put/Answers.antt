@@ -1,24 +1,15 @@
 use Rattle.std.proofs.Common.{[], refl, sym, subst, append-nil}
 use Rattle.spool_drafts.specs.Effect.{Regrasps}
 use Rattle.spool_drafts.specs.Growth.{list_on}
-use Rattle.spool_drafts.proofs.Effects.{only_none, only_read, only_on, grasp_none}
+use Rattle.spool_drafts.proofs.Effects.{effect_none, effect_read, only_read, only_on, grasp_none}
 use Rattle.spool_drafts.proofs.growth.Growth.put.Goals as goal
 
 pub returns-then-self-clause-effect : goal.returns-then-self-clause-effect
-returns-then-self-clause-effect g c = record {
-  own = list_on c.args.self.now.on;
-  grasp = grasp_none _ _ _ refl c.requires.reserved;
-  writes = λ honest. only_none _ _;
-}
+returns-then-self-clause-effect g c = effect_none _ c.requires.reserved
 
 pub returns-in_err-open-clause-effect : goal.returns-in_err-open-clause-effect
 returns-in_err-open-clause-effect g c =
-    let list = list_on c.args.self.now.on in
-    record {
-      own = list_on c.open.new.self.on;
-      grasp = grasp_none _ list _ c.open.ensures.list c.requires.reserved;
-      writes = λ honest. only_read _ (c.open.ensures.keeps honest) (c.open.ensures.lasts honest);
-    }
+    effect_read (grasp_none _ _ _ c.open.ensures.list c.requires.reserved) c.open.ensures.keeps c.open.ensures.lasts
 
 pub returns-clause-effect : goal.returns-clause-effect
 returns-clause-effect g c =
