@@ -20,15 +20,14 @@ use Rattle.spool_drafts.specs.Fresh.{StandsAt}
 use Rattle.spool_drafts.specs.Growth.{HoldsCount, list_on}
 use Rattle.spool_drafts.specs.declared.fresh.Fresh.{Fresh}
 use Rattle.spool_drafts.specs.declared.growth.Growth.{Growth}
-use Rattle.spool_drafts.proofs.Patches.{fault_cases, wants_is, need_roomy, need_fault}
+use Rattle.spool_drafts.proofs.Patches.{fault_cases, need_fault, need_roomy, patch_text_is, wants_is}
 
 module _ (x : IndexSet) (u : Upload) (n count : ℕ) (declare : Option ℕ) where
   abbrev first : Patch
   first = first_patch n count declare u
 
   first_text : patch_text x first false ≡ text_with x u [] false
-  unfolding patch_text
-  first_text = refl
+  first_text = patch_text_is x first false
 
   own_text : (b : Bool) → is_complete u ≡ b → length (text_of x u) ≡ length (text_with x u [] b).bytes
   unfolding text_of

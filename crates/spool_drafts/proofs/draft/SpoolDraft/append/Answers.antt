@@ -56,26 +56,6 @@ returns-in-Unencodable-clause-content g c p honest held fits carries kept =
     (c.in-Ok.ensures.stands p.began p.body (incomplete x p d held piece fits some) held.stands) in
     absurd (no_value x p d held piece fits stands kept.encodable)
 
-pub returns-in_err-put : goal.returns-in_err-put
-returns-in_err-put g c = record {
-  size = search rules;
-  honest = search rules;
-  counts = search rules;
-  no_refusal = search rules;
-  nothing = search rules;
-  same = search rules;
-  after = search rules;
-  placed = search rules;
-  rows = search rules;
-  reserved = search rules;
-  effect = search rules;
-  answer = search rules;
-  content = search rules;
-  memory = search rules;
-  holds_on = search rules;
-  content_on = search rules;
-}
-
 pub returns-clause-after : goal.returns-clause-after
 returns-clause-after g c len state is =
     subst (IsAfter len state) (sym c.go_on-2.ensures) record {
