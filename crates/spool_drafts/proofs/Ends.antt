@@ -8,7 +8,7 @@ use Rattle.enc_model.specs.Indexes.{IndexSet}
 use Rattle.spool_blocks.specs.Blocks.{Held}
 use Rattle.upload_rules.specs.declared.errors.UploadError.{UploadError}
 use Rattle.upload_rules.specs.declared.errors.UploadError.TheVariants.{NoMemory, DiskFault, Refused}
-use Rattle.upload_rules.specs.declared.errors.UploadRefusal.TheVariants as refusals
+use Rattle.upload_rules.specs.declared.errors.UploadRefusal.{UploadRefusal}
 use Rattle.upload_rules.specs.Room.{need_of, wants}
 use Rattle.upload_rules.specs.Store.{text_of, text_with, is_complete}
 use Rattle.upload_rules.specs.World.{Patch, is_there, patch_text}
@@ -43,14 +43,9 @@ module _ (x : IndexSet) (p : Patch) (d : SpoolDraft) (held : Holds x p d) (still
       → EndsAs x p done d new blocks blocks' (Err e)
   refused blocks blocks' new NoMemory ends = tt
   refused blocks blocks' new DiskFault ends = absurd ends
-  refused blocks blocks' new (Refused refusals.Unencodable) ends = ap (λ r. is_there r.fault) (patch_text_is x p done) ∙ ends
-  refused blocks blocks' new (Refused refusals.NoSuch) ends = absurd ends
-  refused blocks blocks' new (Refused refusals.Offset) ends = absurd ends
-  refused blocks blocks' new (Refused refusals.TooLong) ends = absurd ends
-  refused blocks blocks' new (Refused refusals.Slots) ends = absurd ends
-  refused blocks blocks' new (Refused refusals.TooLarge) ends = absurd ends
-  refused blocks blocks' new (Refused refusals.Full) ends = absurd ends
-  refused blocks blocks' new (Refused refusals.LengthSet) ends = absurd ends
+  refused blocks blocks' new (Refused e) ends =
+      subst (λ (r : UploadRefusal). EndsAs x p done d new blocks blocks' (Err (Refused r))) (sym ends.0)
+      (ap (λ r. is_there r.fault) (patch_text_is x p done) ∙ ends.1)
 
   module _ (state text : List ℕ) (finished : IsFinished x p.began p.body done state text) where
     encodable_end : (patch_text x p done).fault ≡ None
@@ -114,10 +109,9 @@ module _ (x : IndexSet) (p : Patch) (d : SpoolDraft) (held : Holds x p d) (still
         → EndsAs x p done d new blocks blocks' (Err e)
     not_closed growth new blocks blocks' NoMemory closes = tt
     not_closed growth new blocks blocks' DiskFault closes = tt
-    not_closed growth new blocks blocks' (Refused refusals.Full) closes = (
-      encodable_end,
-      by_room d.growth.short refl,
-    )
+    not_closed growth new blocks blocks' (Refused e) closes =
+        subst (λ (r : UploadRefusal). EndsAs x p done d new blocks blocks' (Err (Refused r))) (sym closes.0)
+        (encodable_end, by_room d.growth.short refl)
       where
         by_room : (b : Bool) → d.growth.short ≡ b → (p.short ≡ true) ⊎ RunsShort blocks blocks' (list_of d)
             (wants x p done)
@@ -126,11 +120,4 @@ module _ (x : IndexSet) (p : Patch) (d : SpoolDraft) (held : Holds x p d) (still
             (λ (short : d.growth.short ≡ true). inl (sym held.short ∙ short))
             (λ short. inr (subst (RunsShort blocks blocks' (list_of d)) wanted
             (short (length (open_text x p false)) (held.kept (kept_end roomy)))))
-            closes
-    not_closed growth new blocks blocks' (Refused refusals.Unencodable) closes = absurd closes
-    not_closed growth new blocks blocks' (Refused refusals.NoSuch) closes = absurd closes
-    not_closed growth new blocks blocks' (Refused refusals.Offset) closes = absurd closes
-    not_closed growth new blocks blocks' (Refused refusals.TooLong) closes = absurd closes
-    not_closed growth new blocks blocks' (Refused refusals.Slots) closes = absurd closes
-    not_closed growth new blocks blocks' (Refused refusals.TooLarge) closes = absurd closes
-    not_closed growth new blocks blocks' (Refused refusals.LengthSet) closes = absurd closes
+            closes.1

@@ -1,5 +1,5 @@
 -- The state of transcoding after an upload's bytes.
-use Rattle.std.proofs.Common.{◌≡◌, ℕ, Bool, true, false, List, [], ◌++◌, None, Ok, Err, Result, refl, sym, ◌∙◌}
+use Rattle.std.proofs.Common.{◌≡◌, ℕ, Bool, true, false, List, [], ◌++◌, None, Ok, Err, IsErrOf, Result, refl, sym, ◌∙◌}
 use Rattle.std.proofs.Common.{ap, subst, append_assoc, append-nil, Vec, Global}
 use Rattle.enc_model.specs.Indexes.{IndexSet, tables}
 use Rattle.enc_model.specs.Transcode.{IsAt, added}
@@ -7,6 +7,7 @@ use Rattle.enc_stream.specs.Standing.{Standing, stepped_on}
 use Rattle.enc_stream.specs.StateBytes.{IsValid, state_bytes}
 use Rattle.upload_rules.specs.declared.errors.UploadError.{UploadError}
 use Rattle.upload_rules.specs.declared.errors.UploadError.TheVariants.{NoMemory, DiskFault, Refused}
+use Rattle.upload_rules.specs.declared.errors.UploadRefusal.{UploadRefusal}
 use Rattle.upload_rules.specs.declared.errors.UploadRefusal.TheVariants as refusals
 use Rattle.upload_rules.specs.States.{transcoder_over, state_with}
 use Rattle.upload_rules.specs.Store.{Upload, text_with, is_complete}
@@ -70,25 +71,24 @@ module _ (x : IndexSet) (u : Upload) (bytes : List ℕ) where
       )
 
   pub finishes : (done : Bool) (result : Result (List ℕ × Vec ℕ Global) UploadError)
+      → ((e : UploadRefusal) → IsErrOf result (Refused e) → e ≡ refusals.Unencodable)
       → IsEnded x (after u bytes) [] done result → FinishesAs x u bytes done result
   unfolding state_with
-  finishes done (Ok parts) ended = record {
+  finishes done (Ok parts) only ended = record {
     state_is = ended.state_is ∙ ap (λ (b : List ℕ). state_bytes (transcoder_over (tables x) u.from u.to u.mode b done))
         at_nil;
     valid = subst (λ (b : List ℕ). IsValid (transcoder_over (tables x) u.from u.to u.mode b done)) at_nil ended.valid;
     encodable = ap (λ r. r.fault) (sym (same_text done)) ∙ ended.encodable;
     adds = ap (λ r. r.bytes ++ parts.1.items) (sym (same_text false)) ∙ ended.rest ∙ ap (λ r. r.bytes) (same_text done);
   }
-  finishes done (Err NoMemory) ended = tt
-  finishes done (Err DiskFault) ended = absurd ended
-  finishes done (Err (Refused refusals.Unencodable)) ended = ap (λ r. is_there r.fault) (sym (same_text done)) ∙ ended
-  finishes done (Err (Refused refusals.NoSuch)) ended = absurd ended
-  finishes done (Err (Refused refusals.Offset)) ended = absurd ended
-  finishes done (Err (Refused refusals.TooLong)) ended = absurd ended
-  finishes done (Err (Refused refusals.Slots)) ended = absurd ended
-  finishes done (Err (Refused refusals.TooLarge)) ended = absurd ended
-  finishes done (Err (Refused refusals.Full)) ended = absurd ended
-  finishes done (Err (Refused refusals.LengthSet)) ended = absurd ended
+  finishes done (Err NoMemory) only ended = tt
+  finishes done (Err DiskFault) only ended = absurd ended
+  finishes done (Err (Refused e)) only ended =
+      let is = only e refl in (
+        is,
+        ap (λ r. is_there r.fault) (sym (same_text done))
+            ∙ subst (λ (r : UploadRefusal). IsEnded x (after u bytes) [] done (Err (Refused r))) is ended,
+      )
 
 -- a text without an unmappable character has no fault
 pub value_of : (x : IndexSet) (u : Upload) (bytes : List ℕ) (f : Fresh) → is_complete u ≡ false

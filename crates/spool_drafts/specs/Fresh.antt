@@ -4,7 +4,7 @@ use Rattle.std.specs.declared.alloc.Global.{Global}
 use Rattle.enc_stream.specs.StateBytes.{IsValid}
 use Rattle.upload_rules.specs.States.{IsStateLike, state_with, transcoder_with}
 use Rattle.upload_rules.specs.declared.errors.UploadError.{UploadError}
-use Rattle.upload_rules.specs.declared.errors.UploadError.TheVariants.{NoMemory, Refused}
+use Rattle.upload_rules.specs.declared.errors.UploadError.TheVariants.{NoMemory, DiskFault, Refused}
 use Rattle.upload_rules.specs.declared.errors.UploadRefusal.TheVariants as refusals
 use Rattle.enc_model.specs.Indexes.{IndexSet}
 use Rattle.upload_rules.specs.Store.{Upload, text_with, is_complete}
@@ -48,5 +48,6 @@ pub record IsFinished (x : IndexSet) (u : Upload) (bytes : List ℕ) (done : Boo
 abbrev pub FinishesAs : IndexSet → Upload → List ℕ → Bool → Result (List ℕ × Vec ℕ Global) UploadError → Type 0
 FinishesAs x u bytes done (Ok parts) = IsFinished x u bytes done parts.0 parts.1.items
 FinishesAs x u bytes done (Err NoMemory) = Unit {0}
-FinishesAs x u bytes done (Err (Refused refusals.Unencodable)) = is_there (text_with x u bytes done).fault ≡ true
-FinishesAs x u bytes done (Err e) = ⊥
+FinishesAs x u bytes done (Err DiskFault) = ⊥
+FinishesAs x u bytes done (Err (Refused e)) =
+    (e ≡ refusals.Unencodable) × (is_there (text_with x u bytes done).fault ≡ true)

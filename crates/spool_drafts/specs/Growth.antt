@@ -60,11 +60,10 @@ abbrev pub ClosesAs : {T : Type 0} → Growth → Growth → ℕ → Held → He
 ClosesAs old new more blocks blocks' (Ok last) =
     (old.short ≡ false) × ((n : ℕ) → HoldsLen old n → length (list_on new.on) ≡ need_of old.text_len
     ((n + more) - old.text_len % 4096))
-ClosesAs old new more blocks blocks' (Err (Refused refusals.Full)) =
-    (old.short ≡ true) ⊎ ((n : ℕ) → HoldsLen old n → RunsShort blocks blocks' (list_on old.on)
-    (need_of old.text_len ((n + more) - old.text_len % 4096)))
-ClosesAs old new more blocks blocks' (Err (Refused e)) = ⊥
-ClosesAs old new more blocks blocks' (Err e) = Unit {0}
+ClosesAs old new more blocks blocks' (Err (Refused e)) =
+    (e ≡ refusals.Full) × ((old.short ≡ true) ⊎ ((n : ℕ) → HoldsLen old n → RunsShort blocks blocks' (list_on old.on)
+    (need_of old.text_len ((n + more) - old.text_len % 4096))))
+ClosesAs old new more blocks blocks' (Err _) = Unit {0}
 
 -- How many bytes are on the listed blocks, with the last ones, which have yet to be written.
 abbrev pub count_with : List ℕ → List ℕ → ℕ

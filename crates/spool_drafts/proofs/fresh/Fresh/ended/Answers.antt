@@ -20,14 +20,16 @@ no_text x u bytes done Unencodable other still here = unencodable_ended x u byte
 no_text x u bytes done Complete other still here = absurd cc
 
 pub returns-in_default-clause-finished : goal.returns-in_default-clause-finished
-returns-in_default-clause-finished c u bytes still here =
-    no_text c.args.indexes.now u bytes c.args.completes c.args.self.now c.in_default.not-Growing still here
+returns-in_default-clause-finished c u bytes still here = (
+  refl,
+  no_text c.args.indexes.now u bytes c.args.completes c.args.self.now c.in_default.not-Growing still here,
+)
 
 pub returns-clause-finished : goal.returns-clause-finished
 returns-clause-finished c u bytes still here =
     let x = c.args.indexes.now in
     let reads = subst (IsReading x u bytes) (sym c.copy.ensures)
     (subst (StandsAt x u bytes) c.in-Growing.is here) in
-    finishes x u bytes c.args.completes _
+    finishes x u bytes c.args.completes _ c.ended.ensures.refusal
     (c.ended.ensures.ended (after u bytes) []
     (reads_after x u bytes c.copy.result reads, nothing_yet x u bytes _ c.new.ensures.items) (after_open u bytes))

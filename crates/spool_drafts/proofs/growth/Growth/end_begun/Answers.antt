@@ -1,4 +1,4 @@
-use Rattle.std.proofs.Common.{arith, ◌≡◌, ◌+◌, ℕ, length, inr, ap, sym, ◌∙◌, subst, Option, Err}
+use Rattle.std.proofs.Common.{arith, ◌≡◌, ◌+◌, ℕ, length, inr, refl, ap, sym, ◌∙◌, subst, Option, Err}
 use Rattle.spool_texts.specs.declared.error.DraftError.{DraftError}
 use Rattle.spool_texts.specs.Drafts.{Draft, held_count, Takes}
 use Rattle.spool_drafts.specs.Growth.{HoldsCount, list_on}
@@ -7,7 +7,7 @@ use Rattle.spool_drafts.proofs.Lengths.{need_some}
 use Rattle.spool_drafts.proofs.growth.Growth.end_begun.Goals as goal
 
 pub returns-in-Err-Full-clause-answer : goal.returns-in-Err-Full-clause-answer
-returns-in-Err-Full-clause-answer c = inr (λ n holds.
+returns-in-Err-Full-clause-answer c = (refl, inr (λ n holds.
     let is = c.in-Err-Full.is ∙ ap (λ (e : DraftError). Err e) c.in-Err-Full.field-0-is in
     let count : held_count c.in-Some.text ≡ n =
     subst (λ (on : Option Draft). HoldsCount on n) c.in-Some.is holds.count in
@@ -29,7 +29,7 @@ returns-in-Err-Full-clause-answer c = inr (λ n holds.
             (n + length c.args.bytes.now) (omega (arith, some, holds.some)),
       );
       gives = c.give_back.ensures.gives;
-    })
+    }))
 
 pub returns-in-Ok-clause-len : goal.returns-in-Ok-clause-len
 returns-in-Ok-clause-len c n holds there =
