@@ -1,5 +1,5 @@
 -- What calls leave, one after another.
-use Rattle.std.proofs.Common.{◌≡◌, inl, inr, ℕ, ◌+◌, ◌*◌, ◌++◌, List, [], length, refl, sym, ◌∙◌, ap, subst, arith}
+use Rattle.std.proofs.Common.{◌≡◌, ◌↔◌, inl, inr, ℕ, ◌+◌, ◌*◌, ◌++◌, List, [], length, refl, sym, ◌∙◌, ap, subst, arith}
 use Rattle.std.proofs.Common.{append-nil, ⊎_elim}
 use Rattle.spool_blocks.specs.Blocks.{Held}
 use Rattle.spool_disk.specs.Disk.{IsImage, Keeps}
@@ -137,4 +137,16 @@ module _ {D : Type 0} {disk : Ghosts D} {j : ℕ} where
     own = own;
     grasp = grasp;
     writes = λ honest. only_read own (keeps honest) (lasts honest);
+  }
+
+  -- the disk is read, and then written on these blocks
+  pub effect_put : {blocks blocks' : Held} {list list' own : List ℕ} {old mid new : D}
+      → Regrasps blocks blocks' list list' own → (disk.honest old ↔ disk.honest mid)
+      → (disk.honest old → Keeps (disk.current old) (disk.current mid) (disk.unsynced old) (disk.unsynced mid))
+      → (disk.honest old → Lasts disk old mid (IsImage (disk.current old) (disk.unsynced old)))
+      → (disk.honest mid → OnlyWrites disk j own mid new) → Effect disk j list list' old new blocks blocks'
+  effect_put {own = own} grasp honest keeps lasts writes = record {
+    own = own;
+    grasp = grasp;
+    writes = λ is. only_on [] (sym (append-nil own)) (only_read own (keeps is) (lasts is)) (writes (honest.0 is));
   }
