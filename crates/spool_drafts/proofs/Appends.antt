@@ -10,7 +10,7 @@ use Rattle.upload_rules.specs.Store.{text_of, text_with, is_complete}
 use Rattle.upload_rules.specs.World.{Patch, is_there, patch_text}
 use Rattle.spool_drafts.specs.Drafts.{Holds, IsKept, IsLonger, open_text, with_piece, shortened}
 use Rattle.spool_drafts.specs.Effect.{RunsShort}
-use Rattle.spool_drafts.specs.Fresh.{StandsAt, Adds}
+use Rattle.spool_drafts.specs.Fresh.{StandsAt, Adds, Reads}
 use Rattle.spool_drafts.specs.Growth.{HoldsLen, GrowsTo, list_on}
 use Rattle.spool_drafts.specs.declared.draft.SpoolDraft.{SpoolDraft}
 use Rattle.spool_drafts.specs.declared.fresh.Fresh.{Fresh}
@@ -85,13 +85,13 @@ module _ (x : IndexSet) (p : Patch) (d : SpoolDraft) (held : Holds x p d) (piece
       (λ kept. absurd (both_ways (is_there (patch_text x longer false).fault) (no_fault _ kept.encodable) there))
 
   module _ (fresh : Fresh) (text : List ℕ) (some : 0 < length piece) (other : fresh ≡ Unencodable → ⊥)
-      (stands : StandsAt x p.began (p.body ++ piece) fresh) (adds : Adds x p.began p.body piece fresh text) where
+      (reads : Reads x p.began p.body piece fresh text) where
     still : is_complete p.began ≡ false
     still = incomplete some
 
     pub encodable_after : (patch_text x longer false).fault ≡ None
     encodable_after = ap (λ r. r.fault) (patch_text_is x longer false)
-        ∙ value_of x p.began (p.body ++ piece) fresh still other stands
+        ∙ value_of x p.began (p.body ++ piece) fresh still other reads.stands
 
     pub encodable_before : (patch_text x p false).fault ≡ None
     encodable_before = fine_before x p piece false encodable_after
@@ -105,7 +105,7 @@ module _ (x : IndexSet) (p : Patch) (d : SpoolDraft) (held : Holds x p d) (piece
 
     pub open_longer : open_text x longer false ≡ open_text x p false ++ text
     open_longer = open_grows x p piece text false false (committed_first x p false still encodable_before)
-        (added_is fresh other stands adds)
+        (added_is fresh other reads.stands reads.adds)
 
     pub kept_before : d.growth.short ≡ false → IsKept x p d
     kept_before roomy = record { roomy = roomy; encodable = encodable_before; incomplete = still }
@@ -115,7 +115,7 @@ module _ (x : IndexSet) (p : Patch) (d : SpoolDraft) (held : Holds x p d) (piece
     longer_short growth same short =
         let is_short : p.short ≡ true = sym held.short ∙ short in
         with_growth p.short growth fresh (ap (λ (g : Growth). g.short) same ∙ held.short)
-        (ap (λ (g : Growth). g.text_len) same) stands
+        (ap (λ (g : Growth). g.text_len) same) reads.stands
         (ap (λ (g : Growth). length (list_on g.on)) same ∙ held.needs ∙ need_short x p false is_short
         ∙ sym (need_short x longer false is_short))
         (λ kept. absurd (both_ways growth.short kept.roomy (ap (λ (g : Growth). g.short) same ∙ short)))
@@ -133,12 +133,12 @@ module _ (x : IndexSet) (p : Patch) (d : SpoolDraft) (held : Holds x p d) (piece
         wants_of x longer false d.growth.text_len (length (open_text x p false) + length text) held.committed size
         encodable_after in
         ⊎_elim
-        (λ holds. inl (with_growth p.short growth fresh (holds.roomy ∙ sym p_roomy) len stands
+        (λ holds. inl (with_growth p.short growth fresh (holds.roomy ∙ sym p_roomy) len reads.stands
         (holds.listed ∙ ap (λ (t : ℕ). need_of t ((length (open_text x p false) + length text) - t % 4096)) len ∙ wanted
         ∙ sym (need_roomy x longer false p_roomy))
         (λ kept. subst (HoldsLen growth) size holds)))
         (λ ran. inr (
-          with_growth true growth fresh ran.0.short len stands
+          with_growth true growth fresh ran.0.short len reads.stands
               (ap (λ o. length (list_on o)) ran.0.none ∙ sym (need_short x (shortened longer) false refl))
               (λ kept. absurd (both_ways growth.short kept.roomy ran.0.short)),
           subst (RunsShort blocks blocks' (list_on d.growth.on)) wanted ran.1,

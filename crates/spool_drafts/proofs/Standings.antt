@@ -14,7 +14,7 @@ use Rattle.upload_rules.specs.Store.{Upload, text_with, is_complete}
 use Rattle.upload_rules.specs.Texts.{IsEnded, IsReading, IsRest}
 use Rattle.upload_rules.specs.World.{is_there}
 use Rattle.upload_rules.proofs.Transcoders.{further, without_fault}
-use Rattle.spool_drafts.specs.Fresh.{StandsAt, Adds, FinishesAs}
+use Rattle.spool_drafts.specs.Fresh.{StandsAt, Reads, FinishesAs}
 use Rattle.spool_drafts.specs.declared.fresh.Fresh.{Fresh}
 use Rattle.spool_drafts.specs.declared.fresh.Fresh.TheVariants.{Growing, Unencodable, Complete}
 
@@ -56,19 +56,21 @@ module _ (x : IndexSet) (u : Upload) (bytes : List ℕ) where
   pub fed : (piece old text : List ℕ) (t next : Standing) → IsReading x u bytes t → old ≡ []
       → (added (tables x) t.transcoder piece).fault ≡ None → next ≡ stepped_on (tables x) t piece
       → text ≡ old ++ (added (tables x) t.transcoder piece).bytes
-      → IsReading x u (bytes ++ piece) next × Adds x u bytes piece (Growing next) text
+      → Reads x u bytes piece (Growing next) text
   fed piece old text t next here none ok is grown =
       let both : IsReading x (after u bytes) piece next × IsRest x (after u bytes) piece false text =
-      further x (after u bytes) [] t (reads_after t here) piece old text next (nothing_yet old none) ok is grown in (
-        record {
-          unspent = both.0.unspent;
-          from = both.0.from;
-          to = both.0.to;
-          mode = both.0.mode;
-          at = subst (IsAt (tables x) next.transcoder) (assoc piece) both.0.at;
-        },
-        ap (λ r. r.bytes ++ text) (sym (same_text false)) ∙ both.1 ∙ ap (λ r. r.bytes) (longer_text piece false),
-      )
+      further x (after u bytes) [] t (reads_after t here) piece old text next (nothing_yet old none) ok is grown in
+      record {
+        stands =
+            record {
+              unspent = both.0.unspent;
+              from = both.0.from;
+              to = both.0.to;
+              mode = both.0.mode;
+              at = subst (IsAt (tables x) next.transcoder) (assoc piece) both.0.at;
+            };
+        adds = ap (λ r. r.bytes ++ text) (sym (same_text false)) ∙ both.1 ∙ ap (λ r. r.bytes) (longer_text piece false);
+      }
 
   pub finishes : (done : Bool) (result : Result (List ℕ × Vec ℕ Global) UploadError)
       → ((e : UploadRefusal) → IsErrOf result (Refused e) → e ≡ refusals.Unencodable)

@@ -25,6 +25,11 @@ Adds x u bytes piece (Growing t) text =
     (text_with x u bytes false).bytes ++ text ≡ (text_with x u (bytes ++ piece) false).bytes
 Adds x u bytes piece _ text = Unit {0}
 
+-- The state after a piece behind these bytes, and what the piece adds.
+pub record Reads (x : IndexSet) (u : Upload) (bytes piece : List ℕ) (next : Fresh) (text : List ℕ) : Type 0 where
+  pub stands : StandsAt x u (bytes ++ piece) next
+  pub adds : Adds x u bytes piece next text
+
 -- If bytes may come, the encodings and the mode are those of these state bytes.
 abbrev pub GoesOn : List ℕ → Fresh → Type 0
 GoesOn state (Growing t) = IsStateLike state t.transcoder

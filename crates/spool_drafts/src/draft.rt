@@ -315,43 +315,20 @@ impl SpoolDraft {
     }
 
     /// Gives the reserved blocks back. It uses neither memory nor the disk.
-    pub fn give_back(self, blocks: &mut Blocks)
+    pub fn give_back(mut self, blocks: &mut Blocks)
         requires { IsReserved blocks.old (list_of self) }
         ensures { GivesBack blocks.old blocks.new (list_of self) }
     {
-        if let Some(text) = self.into_text() {
-            text.give_back(blocks);
-        }
+        self.growth.give_back(blocks);
     }
 
     /// The reserved blocks, which the caller has to own or give back.
-    pub fn into_list(self, alloc: Global) -> Vec<BlockNo>
+    pub fn into_list(mut self, alloc: Global) -> Vec<BlockNo>
         ensures { result.items ≡ list_of self }
     {
-        match self.into_text() {
+        match self.growth.on.take() {
             Some(text) => text.into_list(),
             None => Vec::new(alloc),
         }
-    }
-
-    // The new text alone.
-    fn into_text(self) -> Option<DraftText>
-        ensures { list_on result ≡ list_of self }
-    {
-        let SpoolDraft {
-            number: _,
-            offset: _,
-            came: _,
-            declare: _,
-            fresh: _,
-            growth: Growth {
-                text_len: _,
-                tail: _,
-                on,
-                short: _,
-            },
-            spare: _,
-        } = self;
-        on
     }
 }

@@ -7,7 +7,7 @@ ghost use Rattle.upload_rules.specs.Records.{Tells};
 ghost use Rattle.upload_rules.specs.Store.{Upload, text_with, is_complete};
 ghost use Rattle.upload_rules.specs.States.{IsState, SameEncodings, transcoder_with};
 ghost use Rattle.upload_rules.specs.declared.errors.UploadRefusal.{UploadRefusal as Refusal};
-ghost use Rattle.spool_drafts.specs.Fresh.{StandsAt, Adds, GoesOn, IsGrowing, FinishesAs};
+ghost use Rattle.spool_drafts.specs.Fresh.{StandsAt, Reads, GoesOn, IsGrowing, FinishesAs};
 
 use enc_index::IndexSet;
 use enc_stream::{TranscodeError, Transcoder};
@@ -53,10 +53,8 @@ impl Fresh {
         out: &mut Vec<u8>,
     ) -> Result<Self, AllocError>
         requires { out.old.items ≡ [] }
-        ensures stands { (u : Upload) (bytes : List ℕ) → is_complete u ≡ false → StandsAt indexes.now u bytes self.now
-            → IfOk result (StandsAt indexes.now u (bytes ++ piece.now)) }
-        ensures adds { (u : Upload) (bytes : List ℕ) → is_complete u ≡ false → StandsAt indexes.now u bytes self.now
-            → IfOk result (λ next. Adds indexes.now u bytes piece.now next out.new.items) }
+        ensures reads { (u : Upload) (bytes : List ℕ) → is_complete u ≡ false → StandsAt indexes.now u bytes self.now
+            → IfOk result (λ next. Reads indexes.now u bytes piece.now next out.new.items) }
         ensures goes_on { (state : List ℕ) → GoesOn state self.now → IfOk result (GoesOn state) }
         ensures growing { IfOk result (λ next. IsGrowing next → IsGrowing self.now) }
     {

@@ -7,33 +7,32 @@ use Rattle.spool_drafts.specs.Fresh.{StandsAt}
 use Rattle.spool_drafts.proofs.Standings.{fed}
 use Rattle.spool_drafts.proofs.fresh.Fresh.read_on.Goals as goal
 
-pub returns-in-Unencodable-clause-stands : goal.returns-in-Unencodable-clause-stands
-returns-in-Unencodable-clause-stands c u bytes still here =
+pub returns-in-Unencodable-clause-reads : goal.returns-in-Unencodable-clause-reads
+returns-in-Unencodable-clause-reads c u bytes still here =
     let x = c.args.indexes.now in
-    stays_unencodable x u bytes c.args.piece.now false (subst (StandsAt x u bytes) c.in-Unencodable.is here)
+    record {
+      stands = stays_unencodable x u bytes c.args.piece.now false (subst (StandsAt x u bytes) c.in-Unencodable.is here);
+      adds = tt;
+    }
 
-pub returns-in-Ok-clause-stands : goal.returns-in-Ok-clause-stands
-returns-in-Ok-clause-stands c u bytes still here =
+pub returns-in-Ok-clause-reads : goal.returns-in-Ok-clause-reads
+returns-in-Ok-clause-reads c u bytes still here =
     let x = c.args.indexes.now in
     let reads = subst (IsReading x u bytes) (sym c.copy-next.ensures)
     (subst (StandsAt x u bytes) c.in-Growing.is here) in
-    (fed x u bytes c.args.piece.now c.args.out.now.items c.feed.new.out.items c.copy-next.result c.feed.new.self reads
-    c.requires c.in-Ok.ensures.no_fault c.in-Ok.ensures.next c.in-Ok.ensures.added).0
+    fed x u bytes c.args.piece.now c.args.out.now.items c.feed.new.out.items c.copy-next.result c.feed.new.self reads
+    c.requires c.in-Ok.ensures.no_fault c.in-Ok.ensures.next c.in-Ok.ensures.added
 
-pub returns-in-Ok-clause-adds : goal.returns-in-Ok-clause-adds
-returns-in-Ok-clause-adds c u bytes still here =
+pub returns-in-Err-Unencodable-clause-reads : goal.returns-in-Err-Unencodable-clause-reads
+returns-in-Err-Unencodable-clause-reads c u bytes still here =
     let x = c.args.indexes.now in
     let reads = subst (IsReading x u bytes) (sym c.copy-next.ensures)
     (subst (StandsAt x u bytes) c.in-Growing.is here) in
-    (fed x u bytes c.args.piece.now c.args.out.now.items c.feed.new.out.items c.copy-next.result c.feed.new.self reads
-    c.requires c.in-Ok.ensures.no_fault c.in-Ok.ensures.next c.in-Ok.ensures.added).1
-
-pub returns-in-Err-Unencodable-clause-stands : goal.returns-in-Err-Unencodable-clause-stands
-returns-in-Err-Unencodable-clause-stands c u bytes still here =
-    let x = c.args.indexes.now in
-    let reads = subst (IsReading x u bytes) (sym c.copy-next.ensures)
-    (subst (StandsAt x u bytes) c.in-Growing.is here) in
-    piece_fault x u bytes c.copy-next.result reads c.args.piece.now c.in-Err-Unencodable.field-0-0
-    (code_fault c.in-Err-Unencodable.field-0 c.in-Err-Unencodable.field-0-0
-    (added (tables x) c.copy-next.result.transcoder c.args.piece.now) _ _ _ _ c.in-Err-Unencodable.field-0-is
-    c.in-Err-Unencodable.ensures.refused)
+    record {
+      stands =
+          piece_fault x u bytes c.copy-next.result reads c.args.piece.now c.in-Err-Unencodable.field-0-0
+          (code_fault c.in-Err-Unencodable.field-0 c.in-Err-Unencodable.field-0-0
+          (added (tables x) c.copy-next.result.transcoder c.args.piece.now) _ _ _ _ c.in-Err-Unencodable.field-0-is
+          c.in-Err-Unencodable.ensures.refused);
+      adds = tt;
+    }
