@@ -4,9 +4,8 @@ use Rattle.std.proofs.Common.{length, min, eqb, None, refl, sym, ◌∙◌, ap, 
 use Rattle.std.proofs.lemmas.Bool.{both_ways}
 use Rattle.enc_model.specs.Indexes.{IndexSet}
 use Rattle.spool_blocks.specs.Blocks.{Held}
-use Rattle.upload_rules.specs.Lengths.{is_too_large, known_or, longest}
 use Rattle.upload_rules.specs.Room.{need_of, wants, need}
-use Rattle.upload_rules.specs.Store.{text_of, text_with, is_complete}
+use Rattle.upload_rules.specs.Store.{text_with, is_complete}
 use Rattle.upload_rules.specs.World.{Patch, is_there, patch_text}
 use Rattle.spool_drafts.specs.Drafts.{Holds, IsKept, IsLonger, open_text, with_piece, shortened}
 use Rattle.spool_drafts.specs.Effect.{RunsShort}

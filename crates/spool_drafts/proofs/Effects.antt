@@ -1,5 +1,5 @@
 -- What calls leave, one after another.
-use Rattle.std.proofs.Common.{◌≡◌, ◌↔◌, inl, inr, ℕ, ◌+◌, ◌*◌, ◌++◌, List, [], length, refl, sym, ◌∙◌, ap, subst, arith}
+use Rattle.std.proofs.Common.{◌≡◌, ◌↔◌, inl, inr, ℕ, ◌++◌, List, [], refl, sym, ◌∙◌, subst, arith}
 use Rattle.std.proofs.Common.{append-nil, ⊎_elim}
 use Rattle.spool_blocks.specs.Blocks.{Held}
 use Rattle.spool_disk.specs.Disk.{IsImage, Keeps}
@@ -48,26 +48,6 @@ grasp_gives {held = held} list' takes reserved gives none = record {
   reserved = reserved;
   holds = inr (gives, none);
 }
-
-pub rows_of : {old new : Held} {list list' own : List ℕ} → Regrasps old new list list' own → new.rows ≡ old.rows
-rows_of grasp = ⊎_elim (λ here. ap (λ (h : Held). h.rows) (sym here.0) ∙ grasp.takes.rows)
-    (λ given. given.0.rows ∙ grasp.takes.rows) grasp.holds
-
-pub reserved_none : (h : Held) (list : List ℕ) → list ≡ [] → IsReserved h list
-reserved_none h list none =
-    let nothing : length list ≡ 0 = ap length none in
-    record {
-      below = λ i lt. absurd (omega (arith, lt, nothing));
-      reserved = λ i lt. absurd (omega (arith, lt, nothing));
-      no_owner = λ i lt. absurd (omega (arith, lt, nothing));
-      distinct = λ i k lt lt'. absurd (omega (arith, lt', nothing));
-    }
-
-pub reserved_of : {old new : Held} {list list' own : List ℕ} → Regrasps old new list list' own → IsReserved new list'
-reserved_of {new = new} {list' = list'} grasp =
-    ⊎_elim (λ here. subst (λ (h : Held). IsReserved h list') here.0
-    (subst (IsReserved grasp.held) (sym here.1) grasp.reserved)) (λ given. reserved_none new list'
-    given.1) grasp.holds
 
 -- THE DISK
 

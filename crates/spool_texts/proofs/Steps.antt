@@ -1,5 +1,5 @@
 -- Steps of a draft's text.
-use Rattle.std.proofs.Common.{◌≡◌, ℕ, ◌-◌, ◌%◌, ◌++◌, List, length, take, drop, ◌∙◌, ap, arith, length-drop}
+use Rattle.std.proofs.Common.{◌≡◌, ℕ, ◌++◌, List, length, take, ◌∙◌, ap, arith}
 use Rattle.std.proofs.lemmas.List.{take_at, take_all, append-nil, drop_all}
 use Rattle.spool_disk.specs.Disk.{Counts}
 use Rattle.spool_texts.specs.Reading.{IsRead}

@@ -1,4 +1,4 @@
-use Rattle.std.proofs.Common.{ℕ, [], ◌∷◌, Option, take, drop, length-take, sym, ap, arith, ◌*◌, ◌+◌, ◌∙◌}
+use Rattle.std.proofs.Common.{ℕ, [], ◌∷◌, Option, take, drop, length-take, sym, ap, arith, ◌∙◌}
 use Rattle.spool_journal.specs.Image.{text_page}
 use Rattle.spool_texts.specs.Drafts.{prefix_on}
 use Rattle.spool_texts.specs.TextOn.{blocks_on}

@@ -3,7 +3,7 @@ use Rattle.std.proofs.Common.{subst}
 use Rattle.std.proofs.lemmas.Result.{err_from_is_err_and}
 use Rattle.std.specs.declared.alloc.Global.{Global}
 use Rattle.spool_journal.specs.Image.{text_page}
-use Rattle.spool_drafts.specs.Drafts.{EndsAs, list_of}
+use Rattle.spool_drafts.specs.Drafts.{EndsAs}
 use Rattle.spool_drafts.specs.Growth.{ClosesAs, HoldsLen, bytes_on, count_with, list_on}
 use Rattle.spool_drafts.proofs.Effects.{effect_none, effect_read}
 use Rattle.spool_drafts.proofs.Ends.{whole, refused, not_closed, kept_end, open_ended}

@@ -1,4 +1,4 @@
-use Rattle.std.proofs.Common.{rules, ◌≡◌, ◌+◌, ◌*◌, None, Some, refl}
+use Rattle.std.proofs.Common.{rules, ◌≡◌, None, Some, refl}
 use Rattle.spool_journal.specs.Image.{text_page}
 use Rattle.spool_drafts.proofs.Contents.{begun_bytes}
 use Rattle.spool_drafts.proofs.growth.Growth.open.Goals as goal
