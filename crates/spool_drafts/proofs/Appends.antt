@@ -21,7 +21,7 @@ use Rattle.spool_drafts.proofs.Patches.{open_grows, patch_text_is, wants_of}
 use Rattle.spool_drafts.proofs.Standings.{value_of}
 
 -- a list that isn't empty
-pub some_of : (piece : List ℕ) (empty : Bool) → empty ≡ eqb (length piece) 0 → empty ≡ false → 0 < length piece
+some_of : (piece : List ℕ) (empty : Bool) → empty ≡ eqb (length piece) 0 → empty ≡ false → 0 < length piece
 some_of [] empty is not = absurd (both_ways empty not is)
 some_of (b ∷ piece) empty is not = omega arith
 
@@ -42,8 +42,10 @@ module _ (x : IndexSet) (p : Patch) (d : SpoolDraft) (held : Holds x p d) (piece
   abbrev longer : Patch
   longer = with_piece p piece
 
-  pub incomplete : 0 < length piece → is_complete p.began ≡ false
-  incomplete some = is_open p.began p.declare p.count (omega (arith, some, fits)) held.within
+  -- more bytes may come, since the piece has some
+  pub incomplete : (empty : Bool) → empty ≡ eqb (length piece) 0 → empty ≡ false → is_complete p.began ≡ false
+  incomplete empty is not =
+      is_open p.began p.declare p.count (omega (arith, some_of piece empty is not, fits)) held.within
 
   -- what stays
   with_growth : (short : Bool) (growth : Growth) (fresh : Fresh) → growth.short ≡ short
@@ -83,11 +85,8 @@ module _ (x : IndexSet) (p : Patch) (d : SpoolDraft) (held : Holds x p d) (piece
       (ap (λ o. length (list_on o)) none ∙ sym (need_fault x longer false there))
       (λ kept. absurd (both_ways (is_there (patch_text x longer false).fault) (no_fault _ kept.encodable) there))
 
-  module _ (fresh : Fresh) (text : List ℕ) (some : 0 < length piece) (other : fresh ≡ Unencodable → ⊥)
-      (reads : Reads x p.began p.body piece fresh text) where
-    still : is_complete p.began ≡ false
-    still = incomplete some
-
+  module _ (fresh : Fresh) (text : List ℕ) (still : is_complete p.began ≡ false)
+      (other : fresh ≡ Unencodable → ⊥) (reads : Reads x p.began p.body piece fresh text) where
     pub encodable_after : (patch_text x longer false).fault ≡ None
     encodable_after = ap (λ r. r.fault) (patch_text_is x longer false)
         ∙ value_of x p.began (p.body ++ piece) fresh still other reads.stands

@@ -1,5 +1,5 @@
 -- What calls leave, one after another.
-use Rattle.std.proofs.Common.{◌≡◌, ◌↔◌, inl, inr, ℕ, ◌++◌, List, [], refl, sym, ◌∙◌, subst, arith}
+use Rattle.std.proofs.Common.{◌≡◌, ◌⊎◌, ◌↔◌, inl, inr, ℕ, ◌++◌, List, [], refl, sym, ◌∙◌, subst, arith}
 use Rattle.std.proofs.Common.{append-nil, ⊎_elim}
 use Rattle.spool_blocks.specs.Blocks.{Held}
 use Rattle.spool_disk.specs.Disk.{IsImage, Keeps}
@@ -119,14 +119,23 @@ module _ {D : Type 0} {disk : Ghosts D} {j : ℕ} where
     writes = λ honest. only_read own (keeps honest) (lasts honest);
   }
 
-  -- the disk is read, and then written on these blocks
-  pub effect_put : {blocks blocks' : Held} {list list' own : List ℕ} {old mid new : D}
-      → Regrasps blocks blocks' list list' own → (disk.honest old ↔ disk.honest mid)
+  -- the disk is read; then free blocks are reserved, and these are written; at last they may all be given back
+  pub effect_put : {blocks held blocks' : Held} {list list' own : List ℕ} {old mid new : D} (begun : List ℕ)
+      → begun ≡ list → Takes blocks held begun own → IsReserved held own
+      → ((held ≡ blocks') × (list' ≡ own)) ⊎ (GivesBack held blocks' own × (list' ≡ []))
+      → (disk.honest old ↔ disk.honest mid)
       → (disk.honest old → Keeps (disk.current old) (disk.current mid) (disk.unsynced old) (disk.unsynced mid))
       → (disk.honest old → Lasts disk old mid (IsImage (disk.current old) (disk.unsynced old)))
       → (disk.honest mid → OnlyWrites disk j own mid new) → Effect disk j list list' old new blocks blocks'
-  effect_put {own = own} grasp honest keeps lasts writes = record {
-    own = own;
-    grasp = grasp;
-    writes = λ is. only_on [] (sym (append-nil own)) (only_read own (keeps is) (lasts is)) (writes (honest.0 is));
-  }
+  effect_put {blocks = blocks} {held = held} {own = own} begun same takes reserved holds honest keeps lasts writes =
+      record {
+        own = own;
+        grasp =
+            record {
+              held = held;
+              takes = subst (λ (list : List ℕ). Takes blocks held list own) same takes;
+              reserved = reserved;
+              holds = holds;
+            };
+        writes = λ is. only_on [] (sym (append-nil own)) (only_read own (keeps is) (lasts is)) (writes (honest.0 is));
+      }
