@@ -1,18 +1,15 @@
 -- The draft that `begin` makes.
 use Rattle.std.proofs.Common.{◌≡◌, inl, inr, ◌≤◌, ◌<◌, ◌+◌, ◌-◌, ◌*◌, ◌/◌, ◌%◌, ◌^◌, ◌++◌, ℕ, Bool, true, false, List}
-use Rattle.std.proofs.Common.{[], ◌∷◌, length, drop, Option, None, refl, sym, ◌∙◌, ap, subst, arith, append-nil}
+use Rattle.std.proofs.Common.{[], length, drop, Option, None, refl, sym, ◌∙◌, ap, subst, arith, append-nil}
 use Rattle.std.proofs.Common.{length-append, length-drop, length-take}
 use Rattle.std.proofs.lemmas.Bool.{cases_Bool}
 use Rattle.std.proofs.Math.Seq.{drop-append_seam}
 use Rattle.enc_model.specs.Indexes.{IndexSet, tables}
-use Rattle.upload_rules.specs.declared.new_text.NewText.{NewText}
-use Rattle.upload_rules.specs.declared.new_text.NewText.TheVariants.{Growing, Unencodable, Complete}
 use Rattle.upload_rules.specs.Calls.{first_patch}
 use Rattle.upload_rules.specs.Lengths.{is_too_large, known_or, longest}
 use Rattle.upload_rules.specs.Records.{Keeps}
 use Rattle.upload_rules.specs.Room.{need_of, need}
 use Rattle.upload_rules.specs.Store.{Upload, text_of, text_with, is_complete}
-use Rattle.upload_rules.specs.Texts.{HoldsText}
 use Rattle.upload_rules.specs.World.{Patch, patch_text}
 use Rattle.upload_rules.specs.declared.records.Record.{Record}
 use Rattle.upload_rules.proofs.TextGrows.{text_after}
@@ -21,29 +18,16 @@ use Rattle.spool_texts.proofs.Shown.{length-blocks_on}
 use Rattle.spool_drafts.specs.Drafts.{Holds, open_text}
 use Rattle.spool_drafts.specs.Fresh.{StandsAt}
 use Rattle.spool_drafts.specs.Growth.{HoldsCount, list_on}
+use Rattle.spool_drafts.specs.declared.fresh.Fresh.{Fresh}
 use Rattle.spool_drafts.specs.declared.growth.Growth.{Growth}
-use Rattle.spool_drafts.proofs.Patches.{fault_cases, wants_is, need_roomy, need_fault}
-
-nil_of : (l : List ℕ) → length l ≡ 0 → l ≡ []
-nil_of [] none = refl
-nil_of (b ∷ l) none = absurd (omega (arith, none))
-
-stands_first : (x : IndexSet) (u : Upload) (f : NewText) → HoldsText x u [] f → StandsAt x u [] f
-stands_first x u (Growing t text) held = (
-  held.0,
-  nil_of text.items
-      (omega (arith, ap length held.1, length-append (text_with x u [] false).bytes text.items)),
-)
-stands_first x u Unencodable held = held
-stands_first x u Complete held = held
+use Rattle.spool_drafts.proofs.Patches.{fault_cases, need_fault, need_roomy, patch_text_is, wants_is}
 
 module _ (x : IndexSet) (u : Upload) (n count : ℕ) (declare : Option ℕ) where
   abbrev first : Patch
   first = first_patch n count declare u
 
   first_text : patch_text x first false ≡ text_with x u [] false
-  unfolding patch_text
-  first_text = refl
+  first_text = patch_text_is x first false
 
   own_text : (b : Bool) → is_complete u ≡ b → length (text_of x u) ≡ length (text_with x u [] b).bytes
   unfolding text_of
@@ -92,9 +76,9 @@ module _ (x : IndexSet) (u : Upload) (n count : ℕ) (declare : Option ℕ) wher
         (patch_text x first false).bytes,
   )
 
-  pub begins : (r : Record) (offset : ℕ) (growth : Growth) (fresh : NewText) → Keeps x n r u
+  pub begins : (r : Record) (offset : ℕ) (growth : Growth) (fresh : Fresh) → Keeps x n r u
       → (r.accepted ≡ offset) × (offset + count ≤ longest (known_or r.declared declare))
-      × (longest (known_or r.declared declare) < 2 ^ 64) → is_too_large declare ≡ false → HoldsText x u [] fresh
+      × (longest (known_or r.declared declare) < 2 ^ 64) → is_too_large declare ≡ false → StandsAt x u [] fresh
       → growth.text_len ≡ r.text_len → growth.on ≡ None → growth.short ≡ false → Holds x first (record {
         number = r.number;
         offset = offset;
@@ -104,7 +88,7 @@ module _ (x : IndexSet) (u : Upload) (n count : ℕ) (declare : Option ℕ) wher
         growth = growth;
         spare = tt;
       })
-  begins r offset growth fresh keeps room small held len none roomy =
+  begins r offset growth fresh keeps room small stands len none roomy =
       let committed : growth.text_len ≡ length (text_of x u) = len ∙ keeps.tells.text_len in
       let same_longest = ap (λ (known : Option ℕ). longest (known_or known declare)) keeps.tells.declared in
       record {
@@ -118,7 +102,7 @@ module _ (x : IndexSet) (u : Upload) (n count : ℕ) (declare : Option ℕ) wher
         fits = omega (arith, room.2, same_longest);
         committed = committed;
         short = roomy;
-        stands = stands_first x u fresh held;
+        stands = stands;
         needs = ap (λ o. length (list_on o)) none ∙ sym first_need;
         kept = λ kept.
             let size = first_len kept.incomplete in

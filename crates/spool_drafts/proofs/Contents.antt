@@ -6,9 +6,9 @@ use Rattle.std.proofs.lemmas.List.{take-append-le, take-append-drop}
 use Rattle.spool_disk.specs.Disk.{span}
 use Rattle.spool_disk.proofs.Span.{length-span}
 use Rattle.spool_texts.proofs.Shown.{length-blocks_on, text_joined}
-use Rattle.spool_texts.specs.Drafts.{Draft, bytes_with, content_on, full_count, held_count}
+use Rattle.spool_texts.specs.Drafts.{Draft, bytes_with, content_on, full_count, held_count, prefix_on}
 use Rattle.spool_texts.specs.TextOn.{blocks_on, text_on}
-use Rattle.spool_drafts.specs.Growth.{prefix_on, bytes_on, count_with}
+use Rattle.spool_drafts.specs.Growth.{bytes_on, count_with}
 use Rattle.spool_drafts.specs.declared.growth.Growth.{Growth}
 
 -- a draft that reserved no block holds what is unfinished

@@ -1,5 +1,5 @@
 -- What calls leave, one after another.
-use Rattle.std.proofs.Common.{◌≡◌, inl, inr, ℕ, ◌+◌, ◌*◌, ◌++◌, List, [], length, refl, sym, ◌∙◌, ap, subst, arith}
+use Rattle.std.proofs.Common.{◌≡◌, ◌⊎◌, ◌↔◌, inl, inr, ℕ, ◌++◌, List, [], refl, sym, ◌∙◌, subst, arith}
 use Rattle.std.proofs.Common.{append-nil, ⊎_elim}
 use Rattle.spool_blocks.specs.Blocks.{Held}
 use Rattle.spool_disk.specs.Disk.{IsImage, Keeps}
@@ -11,7 +11,7 @@ use Rattle.spool_texts.specs.Written.{WritesIn, IsImageBut, aside_blocks}
 use Rattle.spool_texts.proofs.Asides.{aside_blocks_else, image_aside}
 use Rattle.spool_texts.proofs.Prefixes.{writes_none, writes_on, idle_in, image_in, but_more, but_on}
 use Rattle.spool_texts.proofs.Reserves.{takes_none}
-use Rattle.spool_drafts.specs.Effect.{Regrasps, OnlyWrites}
+use Rattle.spool_drafts.specs.Effect.{Effect, Regrasps, OnlyWrites}
 use Rattle.spool_journal.specs.Image.{area_end}
 
 -- an image that is one from before with the blocks as they were is one but for them
@@ -24,6 +24,32 @@ but_aside {current = current} {image = image} {first = first} {own = own} is = r
 writes_keeps : {current current' : ℕ → ℕ} {unsynced unsynced' : ℕ → Type 0} (first : ℕ) (own : List ℕ)
     → Keeps current current' unsynced unsynced' → WritesIn first own current current' unsynced unsynced'
 writes_keeps first own keeps = record { outside = λ p away. keeps.same p; unsyncs = λ p l. inl (keeps.unsyncs p l) }
+
+-- BLOCKS
+
+pub grasp_takes : {old new : Held} {list list' : List ℕ} → Takes old new list list' → IsReserved new list'
+    → Regrasps old new list list' list'
+grasp_takes {new = new} takes reserved = record {
+  held = new;
+  takes = takes;
+  reserved = reserved;
+  holds = inl (refl, refl);
+}
+
+pub grasp_none : (h : Held) (list list' : List ℕ) → list' ≡ list → IsReserved h list → Regrasps h h list list' list'
+grasp_none h list list' same reserved =
+    grasp_takes (takes_none h list list' same) (subst (IsReserved h) (sym same) reserved)
+
+pub grasp_gives : {old held new : Held} {list own : List ℕ} (list' : List ℕ) → Takes old held list own
+    → IsReserved held own → GivesBack held new own → list' ≡ [] → Regrasps old new list list' own
+grasp_gives {held = held} list' takes reserved gives none = record {
+  held = held;
+  takes = takes;
+  reserved = reserved;
+  holds = inr (gives, none);
+}
+
+-- THE DISK
 
 module _ {D : Type 0} {disk : Ghosts D} {j : ℕ} where
   pub only : {own : List ℕ} {old new : D} → WritesIn (area_end j) own (disk.current old) (disk.current new)
@@ -73,46 +99,43 @@ module _ {D : Type 0} {disk : Ghosts D} {j : ℕ} where
       (λ given. only_wide own refl (subst (λ (list : List ℕ). OnlyWrites disk j list mid new) given.1 b))
       grasp.holds)
 
--- BLOCKS
+  -- neither blocks nor the disk
+  pub effect_none : {list : List ℕ} {h : Held} (d : D) → IsReserved h list → Effect disk j list list d d h h
+  effect_none {list = list} {h = h} d reserved = record {
+    own = list;
+    grasp = grasp_none h list list refl reserved;
+    writes = λ honest. only_none list d;
+  }
 
-pub grasp_takes : {old new : Held} {list list' : List ℕ} → Takes old new list list' → IsReserved new list'
-    → Regrasps old new list list' list'
-grasp_takes {new = new} takes reserved = record {
-  held = new;
-  takes = takes;
-  reserved = reserved;
-  holds = inl (refl, refl);
-}
+  -- blocks, and the disk is only read
+  pub effect_read : {blocks blocks' : Held} {list list' own : List ℕ} {old new : D}
+      → Regrasps blocks blocks' list list' own
+      → (disk.honest old → Keeps (disk.current old) (disk.current new) (disk.unsynced old) (disk.unsynced new))
+      → (disk.honest old → Lasts disk old new (IsImage (disk.current old) (disk.unsynced old)))
+      → Effect disk j list list' old new blocks blocks'
+  effect_read {own = own} grasp keeps lasts = record {
+    own = own;
+    grasp = grasp;
+    writes = λ honest. only_read own (keeps honest) (lasts honest);
+  }
 
-pub grasp_none : (h : Held) (list list' : List ℕ) → list' ≡ list → IsReserved h list → Regrasps h h list list' list'
-grasp_none h list list' same reserved =
-    grasp_takes (takes_none h list list' same) (subst (IsReserved h) (sym same) reserved)
-
-pub grasp_gives : {old held new : Held} {list own : List ℕ} (list' : List ℕ) → Takes old held list own
-    → IsReserved held own → GivesBack held new own → list' ≡ [] → Regrasps old new list list' own
-grasp_gives {held = held} list' takes reserved gives none = record {
-  held = held;
-  takes = takes;
-  reserved = reserved;
-  holds = inr (gives, none);
-}
-
-pub rows_of : {old new : Held} {list list' own : List ℕ} → Regrasps old new list list' own → new.rows ≡ old.rows
-rows_of grasp = ⊎_elim (λ here. ap (λ (h : Held). h.rows) (sym here.0) ∙ grasp.takes.rows)
-    (λ given. given.0.rows ∙ grasp.takes.rows) grasp.holds
-
-pub reserved_none : (h : Held) (list : List ℕ) → list ≡ [] → IsReserved h list
-reserved_none h list none =
-    let nothing : length list ≡ 0 = ap length none in
-    record {
-      below = λ i lt. absurd (omega (arith, lt, nothing));
-      reserved = λ i lt. absurd (omega (arith, lt, nothing));
-      no_owner = λ i lt. absurd (omega (arith, lt, nothing));
-      distinct = λ i k lt lt'. absurd (omega (arith, lt', nothing));
-    }
-
-pub reserved_of : {old new : Held} {list list' own : List ℕ} → Regrasps old new list list' own → IsReserved new list'
-reserved_of {new = new} {list' = list'} grasp =
-    ⊎_elim (λ here. subst (λ (h : Held). IsReserved h list') here.0
-    (subst (IsReserved grasp.held) (sym here.1) grasp.reserved)) (λ given. reserved_none new list'
-    given.1) grasp.holds
+  -- the disk is read; then free blocks are reserved, and these are written; at last they may all be given back
+  pub effect_put : {blocks held blocks' : Held} {list list' own : List ℕ} {old mid new : D} (begun : List ℕ)
+      → begun ≡ list → Takes blocks held begun own → IsReserved held own
+      → ((held ≡ blocks') × (list' ≡ own)) ⊎ (GivesBack held blocks' own × (list' ≡ []))
+      → (disk.honest old ↔ disk.honest mid)
+      → (disk.honest old → Keeps (disk.current old) (disk.current mid) (disk.unsynced old) (disk.unsynced mid))
+      → (disk.honest old → Lasts disk old mid (IsImage (disk.current old) (disk.unsynced old)))
+      → (disk.honest mid → OnlyWrites disk j own mid new) → Effect disk j list list' old new blocks blocks'
+  effect_put {blocks = blocks} {held = held} {own = own} begun same takes reserved holds honest keeps lasts writes =
+      record {
+        own = own;
+        grasp =
+            record {
+              held = held;
+              takes = subst (λ (list : List ℕ). Takes blocks held list own) same takes;
+              reserved = reserved;
+              holds = holds;
+            };
+        writes = λ is. only_on [] (sym (append-nil own)) (only_read own (keeps is) (lasts is)) (writes (honest.0 is));
+      }

@@ -8,7 +8,7 @@ use Rattle.enc_model.specs.Indexes.{IndexSet}
 use Rattle.spool_blocks.specs.Blocks.{Held}
 use Rattle.upload_rules.specs.declared.errors.UploadError.{UploadError}
 use Rattle.upload_rules.specs.declared.errors.UploadError.TheVariants.{NoMemory, DiskFault, Refused}
-use Rattle.upload_rules.specs.declared.errors.UploadRefusal.TheVariants as refusals
+use Rattle.upload_rules.specs.declared.errors.UploadRefusal.{UploadRefusal}
 use Rattle.upload_rules.specs.Room.{need_of, wants}
 use Rattle.upload_rules.specs.Store.{text_of, text_with, is_complete}
 use Rattle.upload_rules.specs.World.{Patch, is_there, patch_text}
@@ -20,7 +20,7 @@ use Rattle.spool_drafts.specs.declared.draft.DraftEnd.{DraftEnd}
 use Rattle.spool_drafts.specs.declared.draft.SpoolDraft.{SpoolDraft}
 use Rattle.spool_drafts.specs.declared.growth.Growth.{Growth}
 use Rattle.spool_drafts.proofs.Lengths.{need_some}
-use Rattle.spool_drafts.proofs.Patches.{value_before, in_prefix, wants_is, open_grows}
+use Rattle.spool_drafts.proofs.Patches.{committed_first, fine_before, open_grows, patch_text_is, wants_of}
 
 -- where no block is needed nothing was added
 need_none : (t n : ℕ) → need_of t (n - t % 4096) ≡ 0 → n ≤ t % 4096
@@ -39,54 +39,29 @@ whole_is t n list last whole some listed nothing more count = elim (cases_eq (le
 
 module _ (x : IndexSet) (p : Patch) (d : SpoolDraft) (held : Holds x p d) (still : is_complete p.began ≡ false)
     (done : Bool) where
-  patch_is : (b : Bool) → patch_text x p b ≡ text_with x p.began p.body b
-  unfolding patch_text
-  patch_is b = refl
-
   pub refused : (blocks blocks' : Held) (new : SpoolDraft) (e : UploadError) → FinishesAs x p.began p.body done (Err e)
       → EndsAs x p done d new blocks blocks' (Err e)
   refused blocks blocks' new NoMemory ends = tt
   refused blocks blocks' new DiskFault ends = absurd ends
-  refused blocks blocks' new (Refused refusals.Unencodable) ends = ap (λ r. is_there r.fault) (patch_is done) ∙ ends
-  refused blocks blocks' new (Refused refusals.NoSuch) ends = absurd ends
-  refused blocks blocks' new (Refused refusals.Offset) ends = absurd ends
-  refused blocks blocks' new (Refused refusals.TooLong) ends = absurd ends
-  refused blocks blocks' new (Refused refusals.Slots) ends = absurd ends
-  refused blocks blocks' new (Refused refusals.TooLarge) ends = absurd ends
-  refused blocks blocks' new (Refused refusals.Full) ends = absurd ends
-  refused blocks blocks' new (Refused refusals.LengthSet) ends = absurd ends
+  refused blocks blocks' new (Refused e) ends =
+      subst (λ (r : UploadRefusal). EndsAs x p done d new blocks blocks' (Err (Refused r))) (sym ends.0)
+      (ap (λ r. is_there r.fault) (patch_text_is x p done) ∙ ends.1)
 
   module _ (state text : List ℕ) (finished : IsFinished x p.began p.body done state text) where
     encodable_end : (patch_text x p done).fault ≡ None
-    encodable_end = ap (λ r. r.fault) (patch_is done) ∙ finished.encodable
+    encodable_end = ap (λ r. r.fault) (patch_text_is x p done) ∙ finished.encodable
 
     at_nil : p.body ++ [] ≡ p.body
     at_nil = append-nil p.body
 
     encodable_open : (patch_text x p false).fault ≡ None
-    encodable_open = ap (λ r. r.fault) (patch_is false) ∙ value_before x p.began p.body [] done
-        (ap (λ (b : List ℕ). (text_with x p.began b done).fault) at_nil ∙ finished.encodable)
-
-    prefix : length (text_of x p.began) ≤ length (patch_text x p false).bytes
-    prefix = omega (
-      arith,
-      ap (λ r. length r.bytes) (patch_is false),
-      in_prefix x p.began p.body false still
-          (sym (ap (λ r. r.fault) (patch_is false)) ∙ encodable_open),
-    )
-
-    end_prefix : length (text_of x p.began) ≤ length (patch_text x p done).bytes
-    end_prefix = omega (
-      arith,
-      ap (λ r. length r.bytes) (patch_is done),
-      in_prefix x p.began p.body done still
-          finished.encodable,
-    )
+    encodable_open = fine_before x p [] done
+        (ap (λ (b : List ℕ). (patch_text x (record p { body = b }) done).fault) at_nil ∙ encodable_end)
 
     pub open_ended : open_text x p done ≡ open_text x p false ++ text
     open_ended =
         ap (λ (b : List ℕ). open_text x (record p { body = b }) done) (sym at_nil)
-        ∙ open_grows x p [] text false done prefix
+        ∙ open_grows x p [] text false done (committed_first x p false still encodable_open)
         (finished.adds ∙ ap (λ (b : List ℕ). (text_with x p.began b done).bytes) (sym at_nil))
 
     pub kept_end : d.growth.short ≡ false → IsKept x p d
@@ -98,9 +73,8 @@ module _ (x : IndexSet) (p : Patch) (d : SpoolDraft) (held : Holds x p d) (still
     wanted : need_of d.growth.text_len ((length (open_text x p false) + length text) - d.growth.text_len % 4096) ≡ wants
         x p done
     wanted =
-        ap (λ (t : ℕ). need_of t ((length (open_text x p false) + length text) - t % 4096)) held.committed
-        ∙ ap (λ (n : ℕ). need_of (length (text_of x p.began)) (n - length (text_of x p.began) % 4096)) size
-        ∙ sym (wants_is x p done encodable_end)
+        wants_of x p done d.growth.text_len (length (open_text x p false) + length text) held.committed size
+        encodable_end
 
     pub whole : (new : SpoolDraft) (e : DraftEnd) (last : List ℕ) → e.state ≡ state → d.growth.short ≡ false
         → ((n : ℕ) → HoldsLen d.growth n → length (list_of new) ≡ need_of d.growth.text_len
@@ -126,7 +100,7 @@ module _ (x : IndexSet) (p : Patch) (d : SpoolDraft) (held : Holds x p d) (still
                 (listed n holds) nothing more (count n holds),
             ap (λ (k : ℕ). 4096 * (k / 4096)) held.committed,
             length-drop (4096 * (t / 4096)) (patch_text x p done).bytes,
-            end_prefix,
+            committed_first x p done still encodable_end,
           );
         }
 
@@ -135,10 +109,9 @@ module _ (x : IndexSet) (p : Patch) (d : SpoolDraft) (held : Holds x p d) (still
         → EndsAs x p done d new blocks blocks' (Err e)
     not_closed growth new blocks blocks' NoMemory closes = tt
     not_closed growth new blocks blocks' DiskFault closes = tt
-    not_closed growth new blocks blocks' (Refused refusals.Full) closes = (
-      encodable_end,
-      by_room d.growth.short refl,
-    )
+    not_closed growth new blocks blocks' (Refused e) closes =
+        subst (λ (r : UploadRefusal). EndsAs x p done d new blocks blocks' (Err (Refused r))) (sym closes.0)
+        (encodable_end, by_room d.growth.short refl)
       where
         by_room : (b : Bool) → d.growth.short ≡ b → (p.short ≡ true) ⊎ RunsShort blocks blocks' (list_of d)
             (wants x p done)
@@ -147,11 +120,4 @@ module _ (x : IndexSet) (p : Patch) (d : SpoolDraft) (held : Holds x p d) (still
             (λ (short : d.growth.short ≡ true). inl (sym held.short ∙ short))
             (λ short. inr (subst (RunsShort blocks blocks' (list_of d)) wanted
             (short (length (open_text x p false)) (held.kept (kept_end roomy)))))
-            closes
-    not_closed growth new blocks blocks' (Refused refusals.Unencodable) closes = absurd closes
-    not_closed growth new blocks blocks' (Refused refusals.NoSuch) closes = absurd closes
-    not_closed growth new blocks blocks' (Refused refusals.Offset) closes = absurd closes
-    not_closed growth new blocks blocks' (Refused refusals.TooLong) closes = absurd closes
-    not_closed growth new blocks blocks' (Refused refusals.Slots) closes = absurd closes
-    not_closed growth new blocks blocks' (Refused refusals.TooLarge) closes = absurd closes
-    not_closed growth new blocks blocks' (Refused refusals.LengthSet) closes = absurd closes
+            closes.1

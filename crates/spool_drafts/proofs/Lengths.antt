@@ -1,8 +1,7 @@
 -- How many blocks a text needs after the committed one's full blocks, and what the lengths of an upload say.
-use Rattle.std.proofs.Common.{◌≡◌, ℕ, ◌+◌, ◌-◌, ◌/◌, ◌%◌, ◌^◌, ◌<◌, ◌≤◌, false, length, Option, Some, None, refl, arith}
-use Rattle.std.proofs.Common.{⊎_elim}
-use Rattle.std.proofs.lemmas.Bool.{ne_eqb, eqb-false, ltb-false, cases_lt}
-use Rattle.upload_rules.specs.Lengths.{is_length, is_too_large, known_or, longest}
+use Rattle.std.proofs.Common.{◌≡◌, ℕ, ◌+◌, ◌-◌, ◌/◌, ◌%◌, ◌<◌, ◌≤◌, false, length, Option, Some, None, refl, arith}
+use Rattle.std.proofs.lemmas.Bool.{ne_eqb}
+use Rattle.upload_rules.specs.Lengths.{is_length, known_or, longest}
 use Rattle.upload_rules.specs.Store.{Upload, is_complete}
 use Rattle.upload_rules.specs.Room.{need_of}
 
@@ -18,14 +17,3 @@ is_open u declare count some fits = by_length u.declared fits
         → is_length known (length u.accepted) ≡ false
     by_length None fits = refl
     by_length (Some n) fits = ne_eqb (length u.accepted) n (λ e. omega (arith, e, some, fits))
-
--- where a byte more may come there is a greater offset
-pub room_after : (known declare : Option ℕ) (offset count : ℕ) → is_length known offset ≡ false
-    → is_too_large declare ≡ false → offset + count ≤ longest (known_or known declare)
-    → longest (known_or known declare) < 2 ^ 64 → offset + 1 < 2 ^ 64
-room_after None None offset count still small fits narrow = omega (arith, fits)
-room_after None (Some l) offset count still small fits narrow = omega (arith, fits, ltb-false 1073741824 l small)
-room_after (Some n) declare offset count still small fits narrow =
-    let away : offset ≡ n → ⊥ = eqb-false offset n still in
-    ⊎_elim (λ (lt : offset < n). omega (arith, lt, narrow))
-    (λ (le : n ≤ offset). absurd (away (omega (arith, le, fits)))) (cases_lt offset n)

@@ -20,7 +20,7 @@ fault_cases (Some c) = inr refl
 pub no_fault : (fault : Option ℕ) → fault ≡ None → is_there fault ≡ false
 no_fault fault none = ap is_there none
 
-patch_text_is : (x : IndexSet) (p : Patch) (done : Bool) → patch_text x p done ≡ text_with x p.began p.body done
+pub patch_text_is : (x : IndexSet) (p : Patch) (done : Bool) → patch_text x p done ≡ text_with x p.began p.body done
 unfolding patch_text
 patch_text_is x p done = refl
 
@@ -46,6 +46,25 @@ in_prefix x u bytes done still none =
     let own = ap (λ (b : Bool). length (text_with x u [] b).bytes) still in
     omega (arith, grown, own, length-append (text_with x u [] false).bytes both.0)
 
+-- a patch whose longer text has a value has one too
+pub fine_before : (x : IndexSet) (p : Patch) (piece : List ℕ) (done : Bool)
+    → (patch_text x (with_piece p piece) done).fault ≡ None → (patch_text x p false).fault ≡ None
+fine_before x p piece done none =
+    ap (λ r. r.fault) (patch_text_is x p false)
+    ∙ value_before x p.began p.body piece done
+    (ap (λ r. r.fault) (sym (patch_text_is x (with_piece p piece) done)) ∙ none)
+
+-- the committed text is a prefix of the patch's
+pub committed_first : (x : IndexSet) (p : Patch) (done : Bool) → is_complete p.began ≡ false
+    → (patch_text x p done).fault ≡ None → length (text_of x p.began) ≤ length (patch_text x p done).bytes
+committed_first x p done still none =
+    let is = patch_text_is x p done in
+    omega (
+      arith,
+      ap (λ r. length r.bytes) is,
+      in_prefix x p.began p.body done still (ap (λ r. r.fault) (sym is) ∙ none),
+    )
+
 -- what a patch wants, by its text after the full blocks of the committed one
 pub wants_is : (x : IndexSet) (p : Patch) (done : Bool) → (patch_text x p done).fault ≡ None
     → wants x p done ≡ need_of (length (text_of x p.began))
@@ -58,7 +77,16 @@ wants_is x p done none =
     omega (arith, length-drop (4096 * (t / 4096)) bytes) in
     rw (no_fault (patch_text x p done).fault none) (ap (need_of t) e)
 
-pub wants_nothing : (x : IndexSet) (p : Patch) (done : Bool) → is_there (patch_text x p done).fault ≡ true
+-- the same by two numbers
+pub wants_of : (x : IndexSet) (p : Patch) (done : Bool) (t n : ℕ) → t ≡ length (text_of x p.began)
+    → n ≡ length (open_text x p done) → (patch_text x p done).fault ≡ None
+    → need_of t (n - t % 4096) ≡ wants x p done
+wants_of x p done t n committed size none =
+    ap (λ (t : ℕ). need_of t (n - t % 4096)) committed
+    ∙ ap (λ (n : ℕ). need_of (length (text_of x p.began)) (n - length (text_of x p.began) % 4096)) size
+    ∙ sym (wants_is x p done none)
+
+wants_nothing : (x : IndexSet) (p : Patch) (done : Bool) → is_there (patch_text x p done).fault ≡ true
     → wants x p done ≡ 0
 unfolding wants
 wants_nothing x p done there = rw there refl

@@ -2,10 +2,10 @@
 use Rattle.std.proofs.Common.{◌≡◌, ◌≤◌, ◌*◌, ◌%◌, ◌++◌, ℕ, List, [], ◌∷◌, Option, None, Some, take, refl, sym, ◌∙◌, ap}
 use Rattle.std.proofs.Common.{arith, length-take}
 use Rattle.std.proofs.lemmas.List.{get_or-take}
-use Rattle.spool_texts.specs.Drafts.{Draft, full_count}
+use Rattle.spool_texts.specs.Drafts.{Draft, full_count, prefix_on, tail_list}
 use Rattle.spool_texts.specs.Written.{NoneOf, SameOutside}
 use Rattle.spool_texts.proofs.Prefixes.{blocks_kept, blocks_same}
-use Rattle.spool_drafts.specs.Growth.{list_on, tail_list, prefix_on, bytes_on}
+use Rattle.spool_drafts.specs.Growth.{list_on, bytes_on}
 use Rattle.spool_drafts.specs.declared.growth.Growth.{Growth}
 
 -- the committed text's last bytes

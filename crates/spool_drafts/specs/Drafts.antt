@@ -13,14 +13,14 @@ use Rattle.upload_rules.specs.Lengths.{is_too_large, known_or, longest}
 use Rattle.upload_rules.specs.Room.{blocks_of, wants, need}
 use Rattle.upload_rules.specs.States.{SameEncodings, state_with, transcoder_with}
 use Rattle.upload_rules.specs.Store.{Upload, text_of, is_complete}
-use Rattle.upload_rules.specs.Texts.{GoesOn, IsGrowing}
 use Rattle.upload_rules.specs.World.{Patch, is_there, patch_text}
-use Rattle.upload_rules.specs.declared.new_text.NewText.{NewText}
 use Rattle.spool_drafts.specs.Effect.{RunsShort}
-use Rattle.spool_drafts.specs.Fresh.{StandsAt}
-use Rattle.spool_drafts.specs.Growth.{list_on, tail_list, bytes_on, IsTailed, HoldsLen}
+use Rattle.spool_drafts.specs.Fresh.{StandsAt, GoesOn, IsGrowing}
+use Rattle.spool_texts.specs.Drafts.{tail_list}
+use Rattle.spool_drafts.specs.Growth.{list_on, bytes_on, IsTailed, HoldsLen}
 use Rattle.spool_drafts.specs.declared.draft.DraftEnd.{DraftEnd}
 use Rattle.spool_drafts.specs.declared.draft.SpoolDraft.{SpoolDraft}
+use Rattle.spool_drafts.specs.declared.fresh.Fresh.{Fresh}
 
 -- The upload's number.
 abbrev pub number_of : SpoolDraft → ℕ
@@ -51,7 +51,7 @@ abbrev pub committed_len_of : SpoolDraft → ℕ
 committed_len_of d = d.growth.text_len
 
 -- The state of transcoding.
-abbrev pub fresh_of : SpoolDraft → NewText
+abbrev pub fresh_of : SpoolDraft → Fresh
 fresh_of d = d.fresh
 
 -- Properties that hold whatever the disk answers.

@@ -1,42 +1,46 @@
 -- The state of transcoding over an upload's bytes, and what a piece adds.
-use Rattle.std.specs.Prelude.{◌≡◌, ℕ, Bool, true, false, List, [], ◌++◌, None, Result, Ok, Err, Vec}
+use Rattle.std.specs.Prelude.{◌≡◌, ℕ, Bool, true, false, List, ◌++◌, None, Result, Ok, Err, Vec}
 use Rattle.std.specs.declared.alloc.Global.{Global}
 use Rattle.enc_stream.specs.StateBytes.{IsValid}
-use Rattle.upload_rules.specs.States.{state_with, transcoder_with}
+use Rattle.upload_rules.specs.States.{IsStateLike, state_with, transcoder_with}
 use Rattle.upload_rules.specs.declared.errors.UploadError.{UploadError}
-use Rattle.upload_rules.specs.declared.errors.UploadError.TheVariants.{NoMemory, Refused}
+use Rattle.upload_rules.specs.declared.errors.UploadError.TheVariants.{NoMemory, DiskFault, Refused}
 use Rattle.upload_rules.specs.declared.errors.UploadRefusal.TheVariants as refusals
 use Rattle.enc_model.specs.Indexes.{IndexSet}
 use Rattle.upload_rules.specs.Store.{Upload, text_with, is_complete}
 use Rattle.upload_rules.specs.Texts.{IsReading}
 use Rattle.upload_rules.specs.World.{is_there}
-use Rattle.upload_rules.specs.declared.new_text.NewText.{NewText}
-use Rattle.upload_rules.specs.declared.new_text.NewText.TheVariants.{Growing, Unencodable, Complete}
+use Rattle.spool_drafts.specs.declared.fresh.Fresh.{Fresh}
+use Rattle.spool_drafts.specs.declared.fresh.Fresh.TheVariants.{Growing, Unencodable, Complete}
 
--- The state after the accepted bytes and these, without text.
-abbrev pub StandsAt : IndexSet → Upload → List ℕ → NewText → Type 0
-StandsAt x u bytes (Growing t text) = IsReading x u bytes t × (text.items ≡ [])
+-- The state after the accepted bytes and these.
+abbrev pub StandsAt : IndexSet → Upload → List ℕ → Fresh → Type 0
+StandsAt x u bytes (Growing t) = IsReading x u bytes t
 StandsAt x u bytes Unencodable = is_there (text_with x u bytes false).fault ≡ true
 StandsAt x u bytes Complete = is_complete u ≡ true
 
 -- The text that a piece after these bytes adds, unless a character is unmappable.
-abbrev pub Adds : IndexSet → Upload → List ℕ → List ℕ → NewText → List ℕ → Type 0
-Adds x u bytes piece (Growing t scratch) text =
+abbrev pub Adds : IndexSet → Upload → List ℕ → List ℕ → Fresh → List ℕ → Type 0
+Adds x u bytes piece (Growing t) text =
     (text_with x u bytes false).bytes ++ text ≡ (text_with x u (bytes ++ piece) false).bytes
 Adds x u bytes piece _ text = Unit {0}
 
--- The text beside a state.
-abbrev pub text_in : NewText → List ℕ
-text_in (Growing t text) = text.items
-text_in Unencodable = []
-text_in Complete = []
+-- The state after a piece behind these bytes, and what the piece adds.
+pub record Reads (x : IndexSet) (u : Upload) (bytes piece : List ℕ) (next : Fresh) (text : List ℕ) : Type 0 where
+  pub stands : StandsAt x u (bytes ++ piece) next
+  pub adds : Adds x u bytes piece next text
 
--- The same state without text.
-abbrev pub IsEmptied : NewText → NewText → Type 0
-IsEmptied (Growing t text) (Growing t' text') = (t' ≡ t) × (text'.items ≡ [])
-IsEmptied Unencodable Unencodable = Unit {0}
-IsEmptied Complete Complete = Unit {0}
-IsEmptied _ _ = ⊥
+-- If bytes may come, the encodings and the mode are those of these state bytes.
+abbrev pub GoesOn : List ℕ → Fresh → Type 0
+GoesOn state (Growing t) = IsStateLike state t.transcoder
+GoesOn state Unencodable = Unit {0}
+GoesOn state Complete = Unit {0}
+
+-- Bytes may come.
+abbrev pub IsGrowing : Fresh → Type 0
+IsGrowing (Growing t) = Unit {0}
+IsGrowing Unencodable = ⊥
+IsGrowing Complete = ⊥
 
 -- The end of the text over these bytes: its state, and what the end adds.
 pub record IsFinished (x : IndexSet) (u : Upload) (bytes : List ℕ) (done : Bool) (state text : List ℕ) : Type 0 where
@@ -49,5 +53,6 @@ pub record IsFinished (x : IndexSet) (u : Upload) (bytes : List ℕ) (done : Boo
 abbrev pub FinishesAs : IndexSet → Upload → List ℕ → Bool → Result (List ℕ × Vec ℕ Global) UploadError → Type 0
 FinishesAs x u bytes done (Ok parts) = IsFinished x u bytes done parts.0 parts.1.items
 FinishesAs x u bytes done (Err NoMemory) = Unit {0}
-FinishesAs x u bytes done (Err (Refused refusals.Unencodable)) = is_there (text_with x u bytes done).fault ≡ true
-FinishesAs x u bytes done (Err e) = ⊥
+FinishesAs x u bytes done (Err DiskFault) = ⊥
+FinishesAs x u bytes done (Err (Refused e)) =
+    (e ≡ refusals.Unencodable) × (is_there (text_with x u bytes done).fault ≡ true)

@@ -1,12 +1,12 @@
 -- The new text of a draft. It begins with the committed text's bytes after its last full block.
-use Rattle.std.specs.Prelude.{◌≡◌, ◌⊎◌, ◌≤◌, ◌<◌, ◌*◌, ◌+◌, ◌-◌, ◌/◌, ◌%◌, ℕ, List, [], ◌∷◌, Option, None, Some, true}
-use Rattle.std.specs.Prelude.{false, length, get_or, replicate, Result, Ok, Err}
+use Rattle.std.specs.Prelude.{◌≡◌, ◌⊎◌, ◌≤◌, ◌<◌, ◌*◌, ◌+◌, ◌-◌, ◌/◌, ◌%◌, ℕ, List, [], Option, None, Some, true}
+use Rattle.std.specs.Prelude.{false, length, get_or, Result, Ok, Err}
 use Rattle.upload_rules.specs.declared.errors.UploadError.{UploadError}
 use Rattle.upload_rules.specs.declared.errors.UploadError.TheVariants.{Refused}
 use Rattle.upload_rules.specs.declared.errors.UploadRefusal.TheVariants as refusals
 use Rattle.spool_blocks.specs.Blocks.{Held}
-use Rattle.spool_texts.specs.Drafts.{Draft, held_count, content_on}
-use Rattle.spool_texts.specs.TextOn.{text_on, AllBelow}
+use Rattle.spool_texts.specs.Drafts.{Draft, held_count, content_on, prefix_on, tail_list}
+use Rattle.spool_texts.specs.TextOn.{AllBelow}
 use Rattle.spool_drafts.specs.Effect.{RunsShort}
 use Rattle.upload_rules.specs.Room.{need_of}
 use Rattle.spool_drafts.specs.declared.growth.Growth.{Growth}
@@ -15,11 +15,6 @@ use Rattle.spool_drafts.specs.declared.growth.Growth.{Growth}
 abbrev pub list_on : Option Draft → List ℕ
 list_on None = []
 list_on (Some text) = text.blocks
-
--- The block with the committed text's last bytes, if it isn't full and the upload isn't deleted.
-abbrev pub tail_list : Option ℕ → List ℕ
-tail_list None = []
-tail_list (Some block) = block ∷ []
 
 -- The block is listed.
 pub record IsIn (list : List ℕ) (b : ℕ) : Type 0 where
@@ -44,11 +39,6 @@ pub record HoldsLen (g : Growth) (n : ℕ) : Type 0 where
   pub listed : length (list_on g.on) ≡ need_of g.text_len (n - g.text_len % 4096)
   pub count : HoldsCount g.on n
 
--- The committed text's last n bytes: those on the block, or zeros without one.
-abbrev pub prefix_on : (ℕ → ℕ) → ℕ → Option ℕ → ℕ → List ℕ
-prefix_on current first None n = replicate n 0
-prefix_on current first (Some block) n = text_on current first (block ∷ []) n
-
 -- The bytes of the draft: before the first new one, the committed text's last.
 abbrev pub bytes_on : (ℕ → ℕ) → ℕ → Growth → Option Draft → List ℕ
 bytes_on current first g None = prefix_on current first g.tail (g.text_len % 4096)
@@ -70,11 +60,10 @@ abbrev pub ClosesAs : {T : Type 0} → Growth → Growth → ℕ → Held → He
 ClosesAs old new more blocks blocks' (Ok last) =
     (old.short ≡ false) × ((n : ℕ) → HoldsLen old n → length (list_on new.on) ≡ need_of old.text_len
     ((n + more) - old.text_len % 4096))
-ClosesAs old new more blocks blocks' (Err (Refused refusals.Full)) =
-    (old.short ≡ true) ⊎ ((n : ℕ) → HoldsLen old n → RunsShort blocks blocks' (list_on old.on)
-    (need_of old.text_len ((n + more) - old.text_len % 4096)))
-ClosesAs old new more blocks blocks' (Err (Refused e)) = ⊥
-ClosesAs old new more blocks blocks' (Err e) = Unit {0}
+ClosesAs old new more blocks blocks' (Err (Refused e)) =
+    (e ≡ refusals.Full) × ((old.short ≡ true) ⊎ ((n : ℕ) → HoldsLen old n → RunsShort blocks blocks' (list_on old.on)
+    (need_of old.text_len ((n + more) - old.text_len % 4096))))
+ClosesAs old new more blocks blocks' (Err _) = Unit {0}
 
 -- How many bytes are on the listed blocks, with the last ones, which have yet to be written.
 abbrev pub count_with : List ℕ → List ℕ → ℕ

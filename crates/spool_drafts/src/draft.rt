@@ -19,7 +19,7 @@ ghost use Rattle.spool_drafts.specs.Drafts.{Holds, Carries, EndsAs, EndsAfter, I
 ghost use Rattle.spool_drafts.specs.Drafts.{with_piece, open_text, number_of, offset_of, came_of, list_of};
 ghost use Rattle.spool_drafts.specs.Drafts.{declare_of, committed_len_of, fresh_of, tail_of};
 
-use crate::fresh::{finished, read_on};
+use crate::fresh::Fresh;
 use crate::growth::Growth;
 use crate::spare::Spare;
 use enc_index::IndexSet;
@@ -28,7 +28,7 @@ use spool_disk::Disk;
 use spool_journal::Layout;
 use spool_texts::DraftText;
 use std::alloc::Global;
-use upload_rules::{NewText, Record, UploadError, UploadRefusal};
+use upload_rules::{Record, UploadError, UploadRefusal};
 
 /// A draft: what an append adds to its upload's text, on blocks that it reserved. If it is dropped without `give_back`
 /// or `into_list`, its blocks stay reserved.
@@ -38,8 +38,8 @@ pub struct SpoolDraft {
     offset: u64,
     came: u64,
     declare: Option<u64>,
-    // The state of transcoding, without text.
-    fresh: NewText,
+    // The state of transcoding.
+    fresh: Fresh,
     growth: Growth,
     spare: Spare,
 }
@@ -88,7 +88,7 @@ impl SpoolDraft {
         ensures after { IfOk result (IsAfter upload.now.text_len upload.now.state) }
     {
         upload.admits(offset, count, declare)?;
-        let Some(fresh) = NewText::after(alloc, upload) else {
+        let Some(fresh) = Fresh::after(alloc, upload) else {
             return Err(UploadRefusal::NoSuch);
         };
         Ok(SpoolDraft {
@@ -202,13 +202,13 @@ impl SpoolDraft {
         if piece.is_empty() {
             return Ok(());
         }
-        let room = self.spare.take(alloc);
-        let Ok((fresh, text)) = read_on(alloc, room, &self.fresh, indexes, piece) else {
+        let mut text = self.spare.take(alloc);
+        let Ok(fresh) = self.fresh.read_on(indexes, piece, &mut text) else {
             return Err(UploadError::NoMemory);
         };
-        if let NewText::Unencodable = fresh {
+        if let Fresh::Unencodable = fresh {
             self.growth.give_back(blocks);
-            self.go_on(NewText::Unencodable, piece.len());
+            self.go_on(Fresh::Unencodable, piece.len());
             return Ok(());
         }
         self.growth.put(alloc, disk, layout, blocks, &text)?;
@@ -276,7 +276,7 @@ impl SpoolDraft {
             → bytes_with (D.current disk.new) (text_page layout.now) (list_of self.new) end.last.items
             ≡ open_text indexes.now p completes) }
     {
-        let (state, text) = finished(alloc, &self.fresh, indexes, completes)?;
+        let (state, text) = self.fresh.ended(alloc, indexes, completes)?;
         let last = self.growth.end(alloc, disk, layout, blocks, &text)?;
         let text_len = self.growth.len_with(&last);
         Ok(DraftEnd {
@@ -287,7 +287,7 @@ impl SpoolDraft {
     }
 
     // Counts the bytes of a piece.
-    fn go_on(&mut self, fresh: NewText, count: usize)
+    fn go_on(&mut self, fresh: Fresh, count: usize)
         ensures { self.new ≡ record self.old { fresh = fresh; came = min (self.old.came + count) (2 ^ 64 - 1) } }
     {
         self.fresh = fresh;
@@ -315,43 +315,20 @@ impl SpoolDraft {
     }
 
     /// Gives the reserved blocks back. It uses neither memory nor the disk.
-    pub fn give_back(self, blocks: &mut Blocks)
+    pub fn give_back(mut self, blocks: &mut Blocks)
         requires { IsReserved blocks.old (list_of self) }
         ensures { GivesBack blocks.old blocks.new (list_of self) }
     {
-        if let Some(text) = self.into_text() {
-            text.give_back(blocks);
-        }
+        self.growth.give_back(blocks);
     }
 
     /// The reserved blocks, which the caller has to own or give back.
-    pub fn into_list(self, alloc: Global) -> Vec<BlockNo>
+    pub fn into_list(mut self, alloc: Global) -> Vec<BlockNo>
         ensures { result.items ≡ list_of self }
     {
-        match self.into_text() {
+        match self.growth.on.take() {
             Some(text) => text.into_list(),
             None => Vec::new(alloc),
         }
-    }
-
-    // The new text alone.
-    fn into_text(self) -> Option<DraftText>
-        ensures { list_on result ≡ list_of self }
-    {
-        let SpoolDraft {
-            number: _,
-            offset: _,
-            came: _,
-            declare: _,
-            fresh: _,
-            growth: Growth {
-                text_len: _,
-                tail: _,
-                on,
-                short: _,
-            },
-            spare: _,
-        } = self;
-        on
     }
 }

@@ -4,10 +4,10 @@ ghost use Rattle.std.specs.Prelude.{false, None, length, IsOk, IsErrOf, OnOk, If
 ghost use Rattle.spool_disk.specs.Disk.{Counts, IsImage, Keeps};
 ghost use Rattle.spool_disk.specs.Views.{Lasts};
 ghost use Rattle.spool_journal.specs.Image.{journal_pages, all_pages, text_page};
-ghost use Rattle.spool_texts.specs.Drafts.{IsReserved, GivesBack, bytes_with, content_on};
+ghost use Rattle.spool_texts.specs.Drafts.{IsReserved, GivesBack, bytes_with, content_on, tail_list};
 ghost use Rattle.spool_texts.specs.TextOn.{AllBelow, text_on};
 ghost use Rattle.spool_drafts.specs.Effect.{Effect, Regrasps};
-ghost use Rattle.spool_drafts.specs.Growth.{list_on, tail_list, prefix_on, bytes_on, count_with, IsTailed, HoldsLen};
+ghost use Rattle.spool_drafts.specs.Growth.{list_on, bytes_on, count_with, IsTailed, HoldsLen};
 ghost use Rattle.spool_drafts.specs.Growth.{GrowsTo, ClosesAs};
 ghost use Rattle.upload_rules.specs.declared.errors.UploadRefusal.{UploadRefusal as Refusal};
 
@@ -142,7 +142,19 @@ impl Growth {
             return Ok(());
         }
         self.open(alloc, disk, layout)?;
-        self.put_more(disk, layout, blocks, bytes)
+        let Some(text) = &mut self.on else {
+            unreachable!();
+        };
+        match text.put(disk, layout, blocks, bytes) {
+            Ok(()) => Ok(()),
+            Err(DraftError::NoMemory) => Err(UploadError::NoMemory),
+            Err(DraftError::DiskFault) => Err(UploadError::DiskFault),
+            Err(DraftError::Full) => {
+                self.short = true;
+                self.give_back(blocks);
+                Ok(())
+            }
+        }
     }
 
     /// Ends the text with these bytes, in memory. Returns the bytes that have yet to be written to its last blocks.
@@ -187,49 +199,23 @@ impl Growth {
         if self.short {
             return Err(UploadError::Refused(UploadRefusal::Full));
         }
-        if bytes.is_empty() {
-            return self.end_begun(alloc, blocks, bytes);
+        if self.on.is_none() && bytes.is_empty() {
+            return Ok(Vec::new(alloc));
         }
         self.open(alloc, disk, layout)?;
-        self.end_begun(alloc, blocks, bytes)
-    }
-
-    // Ends the text. It has begun if there are bytes.
-    fn end_begun(
-        &mut self,
-        alloc: Global,
-        blocks: &mut Blocks,
-        bytes: &[u8],
-    ) -> Result<Vec<u8>, UploadError>
-        requires reserved { IsReserved blocks.old (list_on self.old.on) }
-        requires roomy { self.old.short ≡ false }
-        requires begun { self.old.on ≡ None → length bytes.now ≡ 0 }
-        ensures no_disk_fault { IsErrOf result UploadError.DiskFault → ⊥ }
-        ensures same { (self.new.text_len ≡ self.old.text_len) × (self.new.tail ≡ self.old.tail) }
-        ensures grasps { (own : List ℕ)
-            × Regrasps blocks.old blocks.new (list_on self.old.on) (list_on self.new.on) own }
-        ensures answer { ClosesAs self.old self.new (length bytes.now) blocks.old blocks.new result }
-        ensures fits { IfOk result
-            (λ last. 1 ≤ length (list_on self.new.on)
-            → (length last.items + 4095) / 4096 ≤ length (list_on self.new.on)) }
-        ensures len { (n : ℕ) → HoldsLen self.old n → IfOk result (λ last. 1 ≤ length (list_on self.new.on)
-            → count_with (list_on self.new.on) last.items ≡ n + length bytes.now) }
-        ensures content { (current : ℕ → ℕ) (first : ℕ) → IfOk result (λ last. 1 ≤ length (list_on self.new.on)
-            → bytes_with current first (list_on self.new.on) last.items
-            ≡ bytes_on current first self.old self.old.on ++ bytes.now) }
-    {
         let Some(text) = &mut self.on else {
-            return Ok(Vec::new(alloc));
+            unreachable!();
         };
         match text.end(alloc, blocks, bytes) {
             Ok(last) => Ok(last),
+            Err(DraftError::NoMemory) => Err(UploadError::NoMemory),
             Err(DraftError::Full) => {
                 self.short = true;
                 self.give_back(blocks);
                 Err(UploadError::Refused(UploadRefusal::Full))
             }
-            // `DraftText::end` makes no call of the disk and answers no `DiskFault`.
-            Err(DraftError::NoMemory | DraftError::DiskFault) => Err(UploadError::NoMemory),
+            // It makes no call of the disk.
+            Err(DraftError::DiskFault) => unreachable!(),
         }
     }
 
@@ -262,92 +248,16 @@ impl Growth {
         if self.on.is_some() {
             return Ok(());
         }
-        let text = begun(alloc, disk, layout, self.tail, self.text_len)?;
-        self.on = Some(text);
-        Ok(())
-    }
-
-    // Appends bytes to the begun text. If no block is free for them, the draft becomes short and gives all its blocks
-    // back.
-    fn put_more<D: Disk>(
-        &mut self,
-        disk: &mut D,
-        layout: &Layout,
-        blocks: &mut Blocks,
-        bytes: &[u8],
-    ) -> Result<(), UploadError>
-        requires room { 4096 * all_pages layout.now ≤ D.size disk.old }
-        requires blocks { length blocks.old.rows ≡ layout.now }
-        requires reserved { IsReserved blocks.old (list_on self.old.on) }
-        requires begun { self.old.on ≡ None → ⊥ }
-        requires some { 1 ≤ length bytes.now }
-        ensures size { D.size disk.new ≡ D.size disk.old }
-        ensures honest { D.honest disk.old ↔ D.honest disk.new }
-        ensures counts { Counts (IsErrOf result UploadError.DiskFault) (D.failures disk.old) (D.failures disk.new) }
-        ensures no_refusal { (e : Refusal) → IsErrOf result (UploadError.Refused e) → ⊥ }
-        ensures same { (self.new.text_len ≡ self.old.text_len) × (self.new.tail ≡ self.old.tail) }
-        ensures effect { Effect D.Disk (journal_pages layout.now) (list_on self.old.on) (list_on self.new.on) disk.old
-            disk.new blocks.old blocks.new }
-        ensures holds { (n : ℕ) → HoldsLen self.old n
-            → OnOk result (GrowsTo (n + length bytes.now) self.old self.new blocks.old blocks.new) }
-        ensures content { D.honest disk.old
-            → OnOk result (self.new.short ≡ false
-            → bytes_on (D.current disk.new) (text_page layout.now) self.new self.new.on
-            ≡ bytes_on (D.current disk.old) (text_page layout.now) self.old self.old.on ++ bytes.now) }
-        ensures memory { IsErrOf result UploadError.NoMemory
-            → (self.new ≡ self.old) × (disk.new ≡ disk.old) × (blocks.new ≡ blocks.old) }
-    {
-        let Some(text) = &mut self.on else {
-            return Ok(());
-        };
-        match text.put(disk, layout, blocks, bytes) {
-            Ok(()) => Ok(()),
-            Err(DraftError::NoMemory) => Err(UploadError::NoMemory),
-            Err(DraftError::DiskFault) => Err(UploadError::DiskFault),
-            Err(DraftError::Full) => {
-                self.short = true;
-                self.give_back(blocks);
+        let len = (self.text_len % PAGE as u64) as usize;
+        match DraftText::begin(alloc, disk, layout, self.tail, len) {
+            Ok(text) => {
+                self.on = Some(text);
                 Ok(())
             }
+            Err(DraftError::NoMemory) => Err(UploadError::NoMemory),
+            Err(DraftError::DiskFault) => Err(UploadError::DiskFault),
+            // No block is reserved here.
+            Err(DraftError::Full) => unreachable!(),
         }
-    }
-}
-
-// The beginning of a new text: the bytes on the committed text's last block are read; without that block, zeros take
-// their place.
-fn begun<D: Disk>(
-    alloc: Global,
-    disk: &mut D,
-    layout: &Layout,
-    tail: Option<BlockNo>,
-    text_len: u64,
-) -> Result<DraftText, UploadError>
-    requires room { 4096 * all_pages layout.now ≤ D.size disk.old }
-    requires below { AllBelow layout.now (tail_list tail) }
-    ensures size { D.size disk.new ≡ D.size disk.old }
-    ensures honest { D.honest disk.old ↔ D.honest disk.new }
-    ensures counts { Counts (IsErrOf result UploadError.DiskFault) (D.failures disk.old) (D.failures disk.new) }
-    ensures no_refusal { (e : Refusal) → IsErrOf result (UploadError.Refused e) → ⊥ }
-    ensures unread { tail_list tail ≡ [] → disk.new ≡ disk.old }
-    ensures none { IfOk result (λ text. text.blocks ≡ []) }
-    ensures tail { D.honest disk.old
-        → IfOk result (λ text. text.unfinished
-        ≡ prefix_on (D.current disk.old) (text_page layout.now) tail (text_len % 4096)) }
-    ensures tail_size { IfOk result (λ text. length text.unfinished ≡ text_len % 4096) }
-    ensures keeps { D.honest disk.old
-        → Keeps (D.current disk.old) (D.current disk.new) (D.unsynced disk.old) (D.unsynced disk.new) }
-    ensures lasts { D.honest disk.old → Lasts D.Disk disk.old disk.new
-        (IsImage (D.current disk.old) (D.unsynced disk.old)) }
-{
-    let len = text_len % PAGE as u64;
-    let begun = match tail {
-        Some(block) => DraftText::begin(alloc, disk, layout, &[block], len),
-        None => DraftText::blank(alloc, len as usize).map_err(DraftError::from),
-    };
-    match begun {
-        Ok(text) => Ok(text),
-        Err(DraftError::DiskFault) => Err(UploadError::DiskFault),
-        // No block is reserved here, so `Full` doesn't occur.
-        Err(DraftError::NoMemory | DraftError::Full) => Err(UploadError::NoMemory),
     }
 }

@@ -8,9 +8,9 @@ use Rattle.enc_model.specs.declared.Mode.{Mode}
 use Rattle.enc_model.specs.declared.Mode.TheVariants.{Html, Fatal}
 use Rattle.enc_stream.specs.StateBytes.{encoding_number, mode_number}
 use Rattle.spool_drafts.specs.declared.draft.SpoolDraft.{SpoolDraft}
-use Rattle.upload_rules.specs.Texts.{GoesOn}
-use Rattle.upload_rules.specs.declared.new_text.NewText.{NewText}
-use Rattle.upload_rules.specs.declared.new_text.NewText.TheVariants.{Growing, Unencodable, Complete}
+use Rattle.spool_drafts.specs.Fresh.{GoesOn}
+use Rattle.spool_drafts.specs.declared.fresh.Fresh.{Fresh}
+use Rattle.spool_drafts.specs.declared.fresh.Fresh.TheVariants.{Growing, Unencodable, Complete}
 use Rattle.spool_kept.specs.Drafting.{DraftsFit}
 use Rattle.spool_kept.specs.Holding.{Holding}
 use Rattle.spool_kept.proofs.Told.{back, encoding_at}
@@ -29,8 +29,8 @@ mode_back Fatal = refl
 modes_set : IsSet Mode
 modes_set = retract_set mode_number mode_at mode_back ℕ_set
 
-goes_on_prop : (state : List ℕ) (text : NewText) → IsProp (GoesOn state text)
-goes_on_prop state (Growing t text) = hlevel (encodings_set, modes_set)
+goes_on_prop : (state : List ℕ) (text : Fresh) → IsProp (GoesOn state text)
+goes_on_prop state (Growing t) = hlevel (encodings_set, modes_set)
 goes_on_prop state Unencodable = hlevel
 goes_on_prop state Complete = hlevel
 

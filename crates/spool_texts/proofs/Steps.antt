@@ -1,5 +1,5 @@
 -- Steps of a draft's text.
-use Rattle.std.proofs.Common.{◌≡◌, ℕ, ◌-◌, ◌%◌, ◌++◌, List, length, take, drop, ◌∙◌, ap, arith, length-drop}
+use Rattle.std.proofs.Common.{◌≡◌, ℕ, ◌++◌, List, length, take, ◌∙◌, ap, arith}
 use Rattle.std.proofs.lemmas.List.{take_at, take_all, append-nil, drop_all}
 use Rattle.spool_disk.specs.Disk.{Counts}
 use Rattle.spool_texts.specs.Reading.{IsRead}
@@ -12,19 +12,13 @@ counts_same counts to from = record {
   nothing_else = λ lt. to (counts.nothing_else lt);
 }
 
--- the bytes after the last full block were read
-pub tail_is : (text old given rest : List ℕ) (len n : ℕ) → length text ≡ len → length old ≡ len % 4096
-    → IsRead text (len - len % 4096) n old given → take (len % 4096) (given ++ rest) ≡ drop (len - len % 4096) text
-tail_is text old given rest len n size old_size read =
-    take_at given rest (len % 4096) (ap length is ∙ tail) ∙ is
+-- the first bytes were read
+pub prefix_read : (text old given rest : List ℕ) (len n : ℕ) → length text ≡ len → length old ≡ len
+    → IsRead text 0 n old given → take len (given ++ rest) ≡ text
+prefix_read text old given rest len n size old_size read = take_at given rest len (ap length is ∙ size) ∙ is
   where
-    tail : length (drop (len - len % 4096) text) ≡ len % 4096
-    tail = omega (arith, length-drop (len - len % 4096) text, size)
-
-    is : given ≡ drop (len - len % 4096) text
+    is : given ≡ text
     is =
-        let count : n ≡ len % 4096 = omega (arith, read.count, size, old_size) in
-        read.bytes ∙ ap (λ (xs : List ℕ). take n (drop (len - len % 4096) text) ++ xs)
-        (drop_all n old (omega (arith, count, old_size))) ∙ append-nil (take n (drop (len - len % 4096) text))
-        ∙ take_all n (drop (len - len % 4096) text)
-        (omega (arith, count, length-drop (len - len % 4096) text, size))
+        let count : n ≡ len = omega (arith, read.count, size, old_size) in
+        read.bytes ∙ ap (λ (xs : List ℕ). take n text ++ xs) (drop_all n old (omega (arith, count, old_size)))
+        ∙ append-nil (take n text) ∙ take_all n text (omega (arith, count, size))

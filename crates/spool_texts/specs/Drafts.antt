@@ -1,7 +1,8 @@
 -- The new text of a draft: its reserved blocks, and the bytes of its unfinished block in memory.
-use Rattle.std.specs.Prelude.{◌≡◌, ◌≢◌, ℕ, ◌+◌, ◌*◌, ◌-◌, ◌/◌, ◌<◌, ◌++◌, List, None, true, false, length, get_or, take}
+use Rattle.std.specs.Prelude.{◌≡◌, ◌≢◌, ℕ, ◌+◌, ◌*◌, ◌-◌, ◌/◌, ◌<◌, ◌++◌, List, [], ◌∷◌}
+use Rattle.std.specs.Prelude.{Option, None, Some, true, false, length, get_or, replicate, take}
 use Rattle.spool_blocks.specs.Blocks.{Held, IsFree}
-use Rattle.spool_texts.specs.TextOn.{blocks_on}
+use Rattle.spool_texts.specs.TextOn.{blocks_on, text_on}
 
 -- The blocks by ordinal, from the committed text's unfinished block on; the bytes that aren't on a full block; and how
 -- many blocks fit the list before it grows.
@@ -21,6 +22,16 @@ held_count d = 4096 * full_count d + length d.unfinished
 -- The bytes of the draft. The text blocks begin at page `first`.
 abbrev pub content_on : (ℕ → ℕ) → ℕ → Draft → List ℕ
 content_on current first d = blocks_on current first (take (full_count d) d.blocks) ++ d.unfinished
+
+-- The block with the committed text's last bytes, if it isn't full and the upload isn't deleted.
+abbrev pub tail_list : Option ℕ → List ℕ
+tail_list None = []
+tail_list (Some block) = block ∷ []
+
+-- The committed text's last n bytes: those on the block, or zeros without one.
+abbrev pub prefix_on : (ℕ → ℕ) → ℕ → Option ℕ → ℕ → List ℕ
+prefix_on current first None n = replicate n 0
+prefix_on current first (Some block) n = text_on current first (block ∷ []) n
 
 -- The bytes on the listed blocks, followed by the last ones, which have yet to be written to the last of these blocks.
 abbrev pub bytes_with : (ℕ → ℕ) → ℕ → List ℕ → List ℕ → List ℕ

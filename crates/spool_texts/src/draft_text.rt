@@ -8,7 +8,7 @@ ghost use Rattle.spool_disk.specs.Views.{Lasts};
 ghost use Rattle.spool_journal.specs.Image.{journal_pages, all_pages, text_page};
 ghost use Rattle.spool_journal.specs.Phases.{Idle};
 ghost use Rattle.spool_texts.specs.Drafts.{Draft, full_count, held_count, content_on, bytes_with, IsReserved, Takes};
-ghost use Rattle.spool_texts.specs.Drafts.{GivesBack};
+ghost use Rattle.spool_texts.specs.Drafts.{GivesBack, prefix_on, tail_list};
 ghost use Rattle.spool_texts.specs.TextOn.{text_on, AllBelow};
 ghost use Rattle.spool_texts.specs.Written.{WritesIn, IsImageBut, aside_blocks};
 
@@ -39,8 +39,9 @@ impl Model for DraftText {
 }
 
 impl DraftText {
-    /// An empty draft of a text of `len` bytes on the listed blocks. The bytes after its last full block are read into
-    /// memory; with the first new byte they move to a block that the draft reserves.
+    /// The new text of a draft before its first byte. It begins with the first `len` bytes of a block, which are read
+    /// into memory: those of the committed text's unfinished block. With the first new byte they move to a block that
+    /// the draft reserves. Without a block, zeros take their place, and nothing is read.
     ///
     /// # Errors
     ///
@@ -49,47 +50,28 @@ impl DraftText {
         alloc: Global,
         disk: &mut D,
         layout: &Layout,
-        list: &[BlockNo],
-        len: u64,
+        tail: Option<BlockNo>,
+        len: usize,
     ) -> Result<Self, DraftError>
         requires room { 4096 * all_pages layout.now ≤ D.size disk.old }
-        requires blocks { AllBelow layout.now list.now }
-        requires long { len ≤ 4096 * length list.now }
+        requires below { AllBelow layout.now (tail_list tail) }
+        requires few { len < 4096 }
         ensures size { D.size disk.new ≡ D.size disk.old }
         ensures honest { D.honest disk.old ↔ D.honest disk.new }
         ensures counts { Counts (IsErrOf result DraftError.DiskFault) (D.failures disk.old) (D.failures disk.new) }
         ensures enough { IsErrOf result DraftError.Full → ⊥ }
-        ensures none { IfOk result (λ draft. draft.blocks ≡ []) }
-        ensures tail { D.honest disk.old → IfOk result
-            (λ draft. draft.unfinished ≡ drop (len - len % 4096)
-            (text_on (D.current disk.old) (text_page layout.now) list.now len)) }
-        ensures tail_size { IfOk result (λ draft. length draft.unfinished ≡ len % 4096) }
+        ensures unread { tail_list tail ≡ [] → disk.new ≡ disk.old }
+        ensures none { IfOk result (λ text. text.blocks ≡ []) }
+        ensures tail { D.honest disk.old
+            → IfOk result (λ text. text.unfinished ≡ prefix_on (D.current disk.old) (text_page layout.now) tail len) }
+        ensures tail_size { IfOk result (λ text. length text.unfinished ≡ len) }
         ensures keeps { D.honest disk.old → Keeps (D.current disk.old) (D.current disk.new) (D.unsynced disk.old)
             (D.unsynced disk.new) }
         ensures lasts { D.honest disk.old → Lasts D.Disk disk.old disk.new
             (IsImage (D.current disk.old) (D.unsynced disk.old)) }
     {
         let mut page = vec![in alloc; 0; PAGE]?;
-        let filled = read_tail(disk, layout, list, len, &mut page)?;
-        Ok(DraftText {
-            blocks: Vec::new(alloc),
-            page,
-            filled,
-        })
-    }
-
-    /// An empty draft of a deleted upload: the bytes after its last full block are gone, and zeros take their place.
-    /// Nothing is read.
-    ///
-    /// # Errors
-    ///
-    /// `AllocError`.
-    pub fn blank(alloc: Global, len: usize) -> Result<Self, AllocError>
-        requires { len < 4096 }
-        ensures none { IfOk result (λ draft. draft.blocks ≡ []) }
-        ensures zeros { IfOk result (λ draft. draft.unfinished ≡ replicate len 0) }
-    {
-        let page = vec![in alloc; 0; PAGE]?;
+        read_tail(disk, layout, tail, len, &mut page)?;
         Ok(DraftText {
             blocks: Vec::new(alloc),
             page,
@@ -334,40 +316,35 @@ impl DraftText {
     }
 }
 
-// Reads the bytes after the text's last full block, and returns their count.
+// Reads the first bytes of the block, if there is one.
 fn read_tail<D: Disk>(
     disk: &mut D,
     layout: &Layout,
-    list: &[BlockNo],
-    len: u64,
+    tail: Option<BlockNo>,
+    len: usize,
     page: &mut [u8],
-) -> Result<usize, DiskFault>
+) -> Result<(), DiskFault>
     requires room { 4096 * all_pages layout.now ≤ D.size disk.old }
-    requires blocks { AllBelow layout.now list.now }
-    requires long { len ≤ 4096 * length list.now }
+    requires below { AllBelow layout.now (tail_list tail) }
+    requires few { len < 4096 }
     requires page { length page.old ≡ 4096 }
+    requires zeros { take len page.old ≡ replicate len 0 }
     ensures size { D.size disk.new ≡ D.size disk.old }
     ensures honest { D.honest disk.old ↔ D.honest disk.new }
     ensures counts { Counts (IsErr result) (D.failures disk.old) (D.failures disk.new) }
-    ensures count { IfOk result (λ n. n ≡ len % 4096) }
+    ensures unread { tail_list tail ≡ [] → disk.new ≡ disk.old }
     ensures tail { D.honest disk.old → OnOk result
-        (take (len % 4096) page.new ≡ drop (len - len % 4096)
-        (text_on (D.current disk.old) (text_page layout.now) list.now len)) }
+        (take len page.new ≡ prefix_on (D.current disk.old) (text_page layout.now) tail len) }
     ensures keeps { D.honest disk.old
         → Keeps (D.current disk.old) (D.current disk.new) (D.unsynced disk.old) (D.unsynced disk.new) }
     ensures lasts { D.honest disk.old → Lasts D.Disk disk.old disk.new
         (IsImage (D.current disk.old) (D.unsynced disk.old)) }
 {
-    let tail = (len % PAGE as u64) as usize;
-    read_text(
-        disk,
-        layout,
-        list,
-        len,
-        len - tail as u64,
-        &mut page[..tail],
-    )?;
-    Ok(tail)
+    let Some(block) = tail else {
+        return Ok(());
+    };
+    read_text(disk, layout, &[block], len as u64, 0, &mut page[..len])?;
+    Ok(())
 }
 
 // Writes bytes to the start of the last listed block.

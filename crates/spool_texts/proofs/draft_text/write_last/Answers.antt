@@ -1,4 +1,4 @@
-use Rattle.std.proofs.Common.{arith, ◌+◌, ◌-◌, ◌*◌, inl, take, drop, refl, ◌∙◌}
+use Rattle.std.proofs.Common.{arith, ◌-◌, ◌*◌, inl, take, drop, refl, ◌∙◌}
 use Rattle.spool_disk.proofs.Firm.{lasts_on, lasts_more}
 use Rattle.spool_journal.specs.Image.{text_page}
 use Rattle.spool_journal.proofs.Steps.{no_failure}

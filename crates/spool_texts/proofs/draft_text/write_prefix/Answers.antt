@@ -1,4 +1,4 @@
-use Rattle.std.proofs.Common.{arith, ◌<◌, ◌*◌, ◌+◌, ◌-◌, length}
+use Rattle.std.proofs.Common.{arith, ◌<◌, ◌-◌, length}
 use Rattle.spool_disk.proofs.Firm.{on_ok, lasts_more}
 use Rattle.spool_journal.specs.Image.{text_page}
 use Rattle.spool_texts.proofs.Prefixes.{prefix_text, image_but}

@@ -1,4 +1,4 @@
-use Rattle.std.proofs.Common.{◌≤◌, ◌*◌, ◌+◌, length, ◌-◌, arith, ◌∙◌, take, drop, length-take}
+use Rattle.std.proofs.Common.{◌≤◌, length, ◌-◌, arith, ◌∙◌, take, drop, length-take}
 use Rattle.spool_disk.proofs.Firm.{lasts_on, lasts_more, not_err}
 use Rattle.spool_journal.specs.Image.{text_page}
 use Rattle.spool_journal.proofs.Steps.{no_failure}

@@ -1,4 +1,4 @@
-use Rattle.std.proofs.Common.{◌-◌, ◌≡◌, ◌≤◌, ◌*◌, ◌+◌, get_or, ℕ, ◌<◌}
+use Rattle.std.proofs.Common.{◌-◌, ◌≡◌, ◌≤◌, ◌+◌, get_or, ℕ, ◌<◌}
 use Rattle.spool_disk.specs.Disk.{IsImage, Keeps}
 use Rattle.spool_disk.specs.Views.{Lasts}
 use Rattle.spool_journal.specs.Image.{text_page}

@@ -1,10 +1,8 @@
 use Rattle.std.proofs.Common.{Err, refl, sym, ap, subst, ◌∙◌}
 use Rattle.std.proofs.lemmas.Result.{err_from_is_err_and}
-use Rattle.upload_rules.specs.Lengths.{is_length}
 use Rattle.spool_drafts.specs.Drafts.{IsBegun}
 use Rattle.spool_drafts.specs.Growth.{bytes_on}
 use Rattle.spool_drafts.proofs.Begins.{begins, begins_bytes}
-use Rattle.spool_drafts.proofs.Lengths.{room_after}
 use Rattle.spool_drafts.proofs.draft.SpoolDraft.begin.Goals as goal
 
 pub returns-in_err-admits-clause-begun : goal.returns-in_err-admits-clause-begun
@@ -18,7 +16,7 @@ returns-clause-begun c x n u keeps = (
   c.in_ok-admits.ensures.rules x n u keeps.tells,
   begins x u n c.args.count c.args.declare c.args.upload.now c.args.offset c.after-2.result c.in-Some.fresh keeps
       (c.in_ok-admits.ensures.room refl) (c.in_ok-admits.ensures.small refl)
-      (c.in-Some.ensures.holds x n u keeps.tells keeps.encodable keeps.valid) c.after-2.ensures.len
+      (c.in-Some.ensures.stands x n u keeps.tells keeps.encodable keeps.valid) c.after-2.ensures.len
       c.after-2.ensures.none c.after-2.ensures.roomy,
 )
 
@@ -27,14 +25,3 @@ returns-clause-content c x n u current first keeps same kept =
     ap (bytes_on current first c.after-2.result) c.after-2.ensures.none
     ∙ begins_bytes x u n c.args.count c.args.declare current first c.args.upload.now.text_len c.args.list.now _
     c.requires.long (c.after-2.ensures.bytes current first) same keeps.tells.text_len kept.incomplete
-
-pub returns-clause-after : goal.returns-clause-after
-returns-clause-after c = record {
-  committed = c.after-2.ensures.len;
-  goes_on = c.in-Some.ensures.goes_on;
-  room = λ growing. room_after c.args.upload.now.declared c.args.declare c.args.offset c.args.count
-      (ap (is_length c.args.upload.now.declared) (sym (c.in_ok-admits.ensures.room refl).0)
-      ∙ c.in-Some.ensures.room growing)
-      (c.in_ok-admits.ensures.small refl) (c.in_ok-admits.ensures.room refl).1
-      (c.in_ok-admits.ensures.room refl).2;
-}

@@ -3,32 +3,20 @@ use Rattle.std.proofs.Common.{subst}
 use Rattle.std.proofs.lemmas.Result.{err_from_is_err_and}
 use Rattle.std.specs.declared.alloc.Global.{Global}
 use Rattle.spool_journal.specs.Image.{text_page}
-use Rattle.spool_drafts.specs.Drafts.{EndsAs, list_of}
+use Rattle.spool_drafts.specs.Drafts.{EndsAs}
 use Rattle.spool_drafts.specs.Growth.{ClosesAs, HoldsLen, bytes_on, count_with, list_on}
-use Rattle.spool_drafts.proofs.Effects.{only_none, only_read, grasp_none}
+use Rattle.spool_drafts.proofs.Effects.{effect_none, effect_read}
 use Rattle.spool_drafts.proofs.Ends.{whole, refused, not_closed, kept_end, open_ended}
 use Rattle.spool_drafts.proofs.draft.SpoolDraft.end.Goals as goal
 
 pub returns-in_err-state-clause-effect : goal.returns-in_err-state-clause-effect
-returns-in_err-state-clause-effect g c = record {
-  own = list_of c.args.self.now;
-  grasp = grasp_none _ _ _ refl c.requires.reserved;
-  writes = λ honest. only_none _ _;
-}
+returns-in_err-state-clause-effect g c = effect_none _ c.requires.reserved
 
 pub returns-in_err-last-clause-effect : goal.returns-in_err-last-clause-effect
-returns-in_err-last-clause-effect g c = record {
-  own = c.end.ensures.grasps.0;
-  grasp = c.end.ensures.grasps.1;
-  writes = λ honest. only_read _ (c.end.ensures.keeps honest) (c.end.ensures.lasts honest);
-}
+returns-in_err-last-clause-effect g c = effect_read c.end.ensures.grasps.1 c.end.ensures.keeps c.end.ensures.lasts
 
 pub returns-clause-effect : goal.returns-clause-effect
-returns-clause-effect g c = record {
-  own = c.end.ensures.grasps.0;
-  grasp = c.end.ensures.grasps.1;
-  writes = λ honest. only_read _ (c.end.ensures.keeps honest) (c.end.ensures.lasts honest);
-}
+returns-clause-effect g c = effect_read c.end.ensures.grasps.1 c.end.ensures.keeps c.end.ensures.lasts
 
 pub returns-in_err-state-clause-answer : goal.returns-in_err-state-clause-answer
 returns-in_err-state-clause-answer g c p held open_still =

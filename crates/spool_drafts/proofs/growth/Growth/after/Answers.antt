@@ -1,6 +1,6 @@
 use Rattle.std.proofs.Common.{◌≡◌, ◌*◌, ◌/◌, ◌%◌, ◌++◌, ℕ, arith, subst, sym, Option}
 use Rattle.spool_texts.specs.TextOn.{text_on}
-use Rattle.spool_drafts.specs.Growth.{prefix_on}
+use Rattle.spool_texts.specs.Drafts.{prefix_on}
 use Rattle.spool_drafts.proofs.Contents.{tail_on, no_tail_on}
 use Rattle.spool_drafts.proofs.growth.Growth.after.Goals as goal
 use Rattle.spool_drafts.proofs.growth.Growth.after.Goals.{then-text_len-eq0, else-text_len-eq0}

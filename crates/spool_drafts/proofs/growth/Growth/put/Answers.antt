@@ -1,34 +1,36 @@
-use Rattle.std.proofs.Common.{[], refl, sym, subst, append-nil}
-use Rattle.spool_drafts.specs.Effect.{Regrasps}
+use Rattle.std.proofs.Common.{rules, ap, inl, inr, refl, sym, ◌∙◌}
 use Rattle.spool_drafts.specs.Growth.{list_on}
-use Rattle.spool_drafts.proofs.Effects.{only_none, only_read, only_on, grasp_none}
+use Rattle.spool_drafts.specs.declared.growth.Growth.{Growth}
+use Rattle.spool_drafts.proofs.Effects.{effect_none, effect_put, effect_read, grasp_none}
 use Rattle.spool_drafts.proofs.growth.Growth.put.Goals as goal
 
 pub returns-then-self-clause-effect : goal.returns-then-self-clause-effect
-returns-then-self-clause-effect g c = record {
-  own = list_on c.args.self.now.on;
-  grasp = grasp_none _ _ _ refl c.requires.reserved;
-  writes = λ honest. only_none _ _;
-}
+returns-then-self-clause-effect g c = effect_none _ c.requires.reserved
 
 pub returns-in_err-open-clause-effect : goal.returns-in_err-open-clause-effect
 returns-in_err-open-clause-effect g c =
-    let list = list_on c.args.self.now.on in
-    record {
-      own = list_on c.open.new.self.on;
-      grasp = grasp_none _ list _ c.open.ensures.list c.requires.reserved;
-      writes = λ honest. only_read _ (c.open.ensures.keeps honest) (c.open.ensures.lasts honest);
-    }
+    effect_read (grasp_none _ _ _ c.open.ensures.list c.requires.reserved) c.open.ensures.keeps c.open.ensures.lasts
 
-pub returns-clause-effect : goal.returns-clause-effect
-returns-clause-effect g c =
-    let effect = c.put_more.ensures.effect in
-    record {
-      own = effect.own;
-      grasp = subst (λ list. Regrasps c.args.blocks.now c.put_more.new.blocks list (list_on c.put_more.new.self.on)
-          effect.own) c.open.ensures.list
-          effect.grasp;
-      writes = λ honest. only_on [] (sym (append-nil effect.own))
-          (only_read _ (c.open.ensures.keeps honest) (c.open.ensures.lasts honest))
-          (effect.writes (c.open.ensures.honest.0 honest));
-    }
+pub returns-in-Ok-clause-effect : goal.returns-in-Ok-clause-effect
+returns-in-Ok-clause-effect g c =
+    effect_put c.in-Some.text.blocks (ap list_on (sym c.in-Some.is) ∙ c.open.ensures.list) c.put.ensures.takes
+    c.put.ensures.reserved (inl (refl, refl))
+    c.open.ensures.honest c.open.ensures.keeps c.open.ensures.lasts (search rules)
+
+pub returns-in-Err-NoMemory-clause-effect : goal.returns-in-Err-NoMemory-clause-effect
+returns-in-Err-NoMemory-clause-effect g c =
+    effect_put c.in-Some.text.blocks (ap list_on (sym c.in-Some.is) ∙ c.open.ensures.list) c.put.ensures.takes
+    c.put.ensures.reserved (inl (refl, refl))
+    c.open.ensures.honest c.open.ensures.keeps c.open.ensures.lasts (search rules)
+
+pub returns-in-Err-DiskFault-clause-effect : goal.returns-in-Err-DiskFault-clause-effect
+returns-in-Err-DiskFault-clause-effect g c =
+    effect_put c.in-Some.text.blocks (ap list_on (sym c.in-Some.is) ∙ c.open.ensures.list) c.put.ensures.takes
+    c.put.ensures.reserved (inl (refl, refl))
+    c.open.ensures.honest c.open.ensures.keeps c.open.ensures.lasts (search rules)
+
+pub returns-in-Err-Full-clause-effect : goal.returns-in-Err-Full-clause-effect
+returns-in-Err-Full-clause-effect g c =
+    effect_put c.in-Some.text.blocks (ap list_on (sym c.in-Some.is) ∙ c.open.ensures.list) c.put.ensures.takes
+    c.put.ensures.reserved (inr (c.give_back.ensures.gives, ap (λ (h : Growth). list_on h.on) c.give_back.ensures.none))
+    c.open.ensures.honest c.open.ensures.keeps c.open.ensures.lasts (search rules)

@@ -1,4 +1,4 @@
-use Rattle.std.proofs.Common.{arith, rules, ℕ, List, ◌≡◌, ◌*◌, ◌+◌, ◌++◌, [], length, take, ap, refl, ◌∙◌}
+use Rattle.std.proofs.Common.{arith, rules, ℕ, List, ◌≡◌, ◌+◌, ◌++◌, [], length, take, ap, refl, ◌∙◌}
 use Rattle.spool_journal.specs.Image.{text_page}
 use Rattle.spool_texts.specs.Drafts.{Draft}
 use Rattle.spool_texts.proofs.Contents.{full_written, page_filled}
