@@ -3,7 +3,8 @@ use Rattle.std.proofs.Common.{◌≡◌, ◌≢◌, inl, inr, ℕ, suc, ◌+◌,
 use Rattle.std.proofs.Common.{append_assoc, Option, Some, None, refl, sym, ◌∙◌, ap, subst, arith, Bool}
 use Rattle.std.proofs.lemmas.Bool.{cases_eq, cases_lt}
 use Rattle.std.proofs.lemmas.Bool.Decides.{nat_tests}
-use Rattle.std.proofs.lemmas.List.{length-append, take-append-drop}
+use Rattle.std.proofs.lemmas.List.{length_push, take-append-drop}
+use Rattle.std.proofs.lemmas.Option.{same_Some}
 use Rattle.std.proofs.Math.Seq.{take-append_seam}
 use Rattle.upload_rules.specs.Store.{find, without}
 use Rattle.upload_rules.specs.World.{Patch, World, at_rest}
@@ -58,8 +59,7 @@ module _ {U B : Type 0} (u : Ghosts U B) (sure : Bool) where
     unique = is.unique;
     owned = λ d p found.
         let c = is.owned d p found in
-        let ne : c.0 ≢ left = λ e. let x : Some d ≡ None =
-        sym c.2 ∙ (ap (λ i. draft_at (st.conns i)) e ∙ none) in absurd (cc) in
+        let ne : c.0 ≢ left = λ e. let x : None ≡ Some d = rw (e, none) at c.2 in absurd (cc) in
         (c.0, omega (arith, c.1, ne), c.2);
   }
 
@@ -74,14 +74,10 @@ module _ {U B : Type 0} (u : Ghosts U B) (sure : Bool) where
     unique = apart_without d v.patches is.unique;
     owned = λ e p found. elim (cases_eq d e) [
       | inl same ↦
-          let none : find e (without d v.patches) ≡ None =
-          subst (λ n. find n (without d v.patches) ≡ None) same (find_without_same d v.patches is.unique) in
-          let x : Some p ≡ None = sym found ∙ none in absurd (cc)
+          let x : Some p ≡ None = sym found ∙ rw (← same) (find_without_same d v.patches is.unique) in absurd (cc)
       | inr ne ↦
           let c = is.owned e p (sym (find_without_other d e v.patches ne) ∙ found) in
-          let other : c.0 ≢ left = λ same. ne
-          (let x : Some d ≡ Some e = sym own
-          ∙ (ap (λ i. draft_at (st.conns i)) (sym same) ∙ c.2) in let y : d ≡ e = cc in y) in
+          let other : c.0 ≢ left = λ same. ne (same_Some d e (sym own ∙ rw same at c.2)) in
           (c.0, omega (arith, c.1, other), c.2)
     ];
   }
@@ -91,13 +87,7 @@ module _ {U B : Type 0} (u : Ghosts U B) (sure : Bool) where
       → IsClosing u sure st (suc left) store v → st.conns left ≡ Some conn → conn.draft ≡ None → u.stands store' sure v
       → (v' : World) × IsClosing u sure st left store' v'
   idle_closing st left store store' v conn is e none shown =
-      let now : IsClosing u sure st (suc left) store' v = record {
-        shown = shown;
-        uploads = is.uploads;
-        blocks = is.blocks;
-        unique = is.unique;
-        owned = is.owned;
-      } in
+      let now : IsClosing u sure st (suc left) store' v = assumption shown in
       (v, none_closing st left store' v now (ap draft_at e ∙ none))
 
   awaiting_closing : (st : State) (left : ℕ) (store store' : U) (v : World) (head : List ℕ) (awaiting : Awaiting B)
@@ -111,9 +101,7 @@ module _ {U B : Type 0} (u : Ghosts U B) (sure : Bool) where
   awaiting_closing st left store store' v head (awaits.Text g wanted) conn is e link shown =
       idle_closing st left store store' v conn is e link.draft shown
   awaiting_closing st left store store' v head (awaits.Patch b wanted) conn is e link shown =
-      let stands : u.stands store' sure (dropped v link.d) =
-      subst (λ n. u.stands store' sure (dropped v n)) link.patches.number shown in
-      (dropped v link.d, draft_closing st left store store' v link.d is (ap draft_at e ∙ link.draft) stands)
+      (_, draft_closing st left store store' v (u.number_of b.draft) is (ap draft_at e ∙ link.draft) shown)
 
   pub link_closing : (st : State) (left : ℕ) (store store' : U) (v : World) (k : Link B) (o : Option Conn)
       → IsClosing u sure st (suc left) store v → st.conns left ≡ o → PlaceIs u st.world (Some k) o
@@ -169,32 +157,26 @@ popped all old new x prefix items =
     let whole : all ≡ new ++ x ∷ rest =
     sym (take-append-drop (length old) all)
     ∙ (ap (λ ys. ys ++ rest) (sym prefix ∙ items) ∙ append_assoc new (x ∷ []) rest) in
-    let n : length (new ++ x ∷ []) ≡ length new + length (x ∷ []) = length-append new (x ∷ []) in
-    let m : length old ≡ length (new ++ x ∷ []) = ap length items in
     record {
-      prefix = sym (ap (take (length new)) whole ∙ take-append_seam new (x ∷ rest));
+      prefix = rw whole (sym (take-append_seam new (x ∷ rest)));
       here = ap (λ ys. get_or ys (length new) None) whole ∙ get_seam new rest x None;
-      count = omega arith;
+      count = omega (arith, ap length items, length_push new x);
     }
 
 module _ {U B : Type 0} (u : Ghosts U B) (sure : Bool) (all old new : List (Option (Link B))) (first : U) (st : State)
     (stands : SessionStands u sure all first st) where
   place_there : (x : Option (Link B)) → Popped all old new x → PlaceIs u st.world x (st.conns (length new))
-  place_there x is = subst (λ p. PlaceIs u st.world p (st.conns (length new))) is.here (stands.each (length new))
-
-  one_less : (store : U) (v : World) (x : Option (Link B)) → Popped all old new x
-      → IsClosing u sure st (length old) store v → IsClosing u sure st (suc (length new)) store v
-  one_less store v x is closing = subst (λ n. IsClosing u sure st n store v) is.count closing
+  place_there x is = rw is.here at (stands.each (length new))
 
   pub after_closed : (store : U) (v : World) (x : Option (Link B)) → x ≡ None → Popped all old new x
       → IsClosing u sure st (length old) store v → (v' : World) × IsClosing u sure st (length new) store v'
   after_closed store v x e is closing =
-      closed_closing u sure st (length new) store v (st.conns (length new)) (one_less store v x is closing) refl
-      (subst (λ p. PlaceIs u st.world p (st.conns (length new))) e (place_there x is))
+      closed_closing u sure st (length new) store v (st.conns (length new)) (rw is.count at closing) refl
+      (rw e at (place_there x is))
 
   pub after_open : (store store' : U) (v : World) (x : Option (Link B)) (k : Link B) → x ≡ Some k → Popped all old new x
       → IsClosing u sure st (length old) store v → u.stands store' sure (dropped_by u v k.awaiting) → (v' : World)
       × IsClosing u sure st (length new) store' v'
   after_open store store' v x k e is closing shown =
-      link_closing u sure st (length new) store store' v k (st.conns (length new)) (one_less store v x is closing) refl
-      (subst (λ p. PlaceIs u st.world p (st.conns (length new))) e (place_there x is)) shown
+      link_closing u sure st (length new) store store' v k (st.conns (length new)) (rw is.count at closing) refl
+      (rw e at (place_there x is)) shown

@@ -1,5 +1,5 @@
 -- A connection in its place again, after an event.
-use Rattle.std.proofs.Common.{◌≡◌, ◌≢◌, inl, inr, ℕ, ◌<◌, ◌≤◌, List, length, get_or, slice_set, Bool}
+use Rattle.std.proofs.Common.{◌≡◌, ◌≢◌, ◌⊎◌, inl, inr, ℕ, ◌<◌, ◌≤◌, List, length, get_or, slice_set, Bool}
 use Rattle.std.proofs.Common.{Option, Some, None, refl, sym, ◌∙◌, ap, subst, arith, get_or-set_same, get_or-set_other}
 use Rattle.std.proofs.Common.{length-set}
 use Rattle.std.proofs.lemmas.Bool.Decides.{nat_tests}
@@ -29,19 +29,13 @@ module _ {U B : Type 0} (u : Ghosts U B) (sure : Bool) where
       (shown : u.stands store' sure w') (here : PlaceIs u w' next conn') where
     each_there : (c : ℕ) → PlaceIs u w' (get_or all c None) (with_conn st.conns k conn' c)
     each_there c = elim (cases_eq c k) [
-      | inl is ↦
-          let P : ℕ → Type 0 = λ i. PlaceIs u w' (get_or all i None) (with_conn st.conns k conn' i) in
-          let a : PlaceIs u w' (get_or all k None) conn' = subst (λ x. PlaceIs u w' x conn') (sym is_put.here) here in
-          let b : P k = subst (λ x. PlaceIs u w' (get_or all k None) x) (sym (conns_here st.conns k conn')) a in
-          subst P (sym is) b
+      | inl is ↦ rw (is, is_put.here, conns_here st.conns k conn') here
       | inr ne ↦
-          let a : PlaceIs u w' (get_or places c None) (st.conns c) =
-          place_moved u sure st.world w' (draft_at (st.conns k)) (draft_at conn') (get_or places c None) (st.conns c)
-          moves
-          (λ e f g. ne (stands.apart c k e f g)) (stands.each c) in
-          let b : PlaceIs u w' (get_or all c None) (st.conns c) =
-          subst (λ x. PlaceIs u w' x (st.conns c)) (sym (is_put.others c ne)) a in
-          subst (λ x. PlaceIs u w' (get_or all c None) x) (sym (conns_else st.conns k c conn' ne)) b
+          let ours = λ (e : ℕ) (f : draft_at (st.conns c) ≡ Some e) (g : draft_at (st.conns k) ≡ Some e).
+              ne (stands.apart c k e f g) in
+          rw (is_put.others c ne, conns_else st.conns k c conn' ne)
+          (place_moved u sure st.world w' (draft_at (st.conns k)) (draft_at conn') (get_or places c None) (st.conns c)
+          moves ours (stands.each c))
     ]
 
     -- another connection's draft isn't the one that is here now
@@ -52,26 +46,23 @@ module _ {U B : Type 0} (u : Ghosts U B) (sure : Bool) where
           g in let x : Some p.0 ≡ None = sym p.1 ∙ none in absurd (cc)
     ]
 
+    draft_there : (c : ℕ) → ((c ≡ k) × (draft_at (with_conn st.conns k conn' c) ≡ draft_at conn'))
+        ⊎ ((c ≢ k) × (draft_at (with_conn st.conns k conn' c) ≡ draft_at (st.conns c)))
+    draft_there c = elim (cases_eq c k) [
+      | inl is ↦ inl (is, rw (is, conns_here st.conns k conn'))
+      | inr ne ↦ inr (ne, ap draft_at (conns_else st.conns k c conn' ne))
+    ]
+
     apart_there : (c e d : ℕ) → draft_at (with_conn st.conns k conn' c) ≡ Some d
         → draft_at (with_conn st.conns k conn' e) ≡ Some d → c ≡ e
-    apart_there c e d f g = elim (cases_eq c k) [
-      | inl is ↦ elim (cases_eq e k) [
-        | inl is' ↦ is ∙ sym is'
-        | inr ne' ↦
-            let a : draft_at conn' ≡ Some d =
-            ap draft_at (sym (conns_here st.conns k conn'))
-            ∙ (ap (λ i. draft_at (with_conn st.conns k conn' i)) (sym is) ∙ f) in
-            absurd (not_both e d ne' a (ap draft_at (sym (conns_else st.conns k e conn' ne')) ∙ g))
+    apart_there c e d f g = elim (draft_there c) [
+      | inl x ↦ elim (draft_there e) [
+        | inl y ↦ x.0 ∙ sym y.0
+        | inr y ↦ absurd (not_both e d y.0 (sym x.1 ∙ f) (sym y.1 ∙ g))
       ]
-      | inr ne ↦ elim (cases_eq e k) [
-        | inl is' ↦
-            let a : draft_at conn' ≡ Some d =
-            ap draft_at (sym (conns_here st.conns k conn'))
-            ∙ (ap (λ i. draft_at (with_conn st.conns k conn' i)) (sym is') ∙ g) in
-            absurd (not_both c d ne a (ap draft_at (sym (conns_else st.conns k c conn' ne)) ∙ f))
-        | inr ne' ↦
-            stands.apart c e d (ap draft_at (sym (conns_else st.conns k c conn' ne)) ∙ f)
-            (ap draft_at (sym (conns_else st.conns k e conn' ne')) ∙ g)
+      | inr x ↦ elim (draft_there e) [
+        | inl y ↦ absurd (not_both c d x.0 (sym y.1 ∙ g) (sym x.1 ∙ f))
+        | inr y ↦ stands.apart c e d (sym x.1 ∙ f) (sym y.1 ∙ g)
       ]
     ]
 

@@ -26,50 +26,17 @@ use Rattle.tus_session.proofs.BodyTold.{answered_here}
 use Rattle.tus_action.proofs.Pieces.{piece_appends}
 use Rattle.tus_session.proofs.Opening.{still}
 
-abbrev unmoved_turn : World → Conn → Turn
-unmoved_turn w conn = record { world = w; conn = Some conn; bytes = []; text = []; taken = 0 }
-
-abbrev given_turn : World → Conn → Giving → Turn
-given_turn w conn h = record {
-  world = w;
-  conn = given_up conn h.closes (pending_after h);
-  bytes = piece_of h;
-  text = piece_of h;
-  taken = 0;
-}
-
-more_none_is : (w : World) (conn : Conn) → conn.pending ≡ None → unmoved_turn w conn ≡ more_turn w conn
+more_is : (w : World) (conn : Conn) (o : Option Giving) → conn.pending ≡ o → more_turn w conn ≡ more_on w conn o
 unfolding more_turn
-more_none_is w conn e = sym (ap (more_on w conn) e)
-
-more_some_is : (w : World) (conn : Conn) (h : Giving) (up : Upload) → conn.pending ≡ Some h
-    → upload_of w.store h.number ≡ Some up → given_turn w conn h ≡ more_turn w conn
-unfolding more_turn
-more_some_is w conn h up e there = sym (ap (more_on w conn) e ∙ ap (give_on w conn h) there)
-
-abbrev gone_turn : World → Turn
-gone_turn w = record { world = w; conn = None; bytes = []; text = []; taken = 0 }
-
-more_gone_is : (w : World) (conn : Conn) (h : Giving) → conn.pending ≡ Some h → upload_of w.store h.number ≡ None
-    → gone_turn w ≡ more_turn w conn
-unfolding more_turn
-more_gone_is w conn h e none = sym (ap (more_on w conn) e ∙ ap (give_on w conn h) none)
+more_is w conn o e = ap (more_on w conn) e
 
 module _ {U B : Type 0} (u : Ghosts U B) (sure : Bool) where
   -- a connection stays as it is, and nothing is given
   pub stays : (store : U) (w : World) (k : Link B) (conn : Conn) (more : Bool) (out : List ℕ) → u.stands store sure w
       → LinkIs u w (bytes_of k.head) k.awaiting conn → more ≡ is_pending conn.pending
       → TurnedAs u sure store (Some k) (record { taken = 0; closes = false; more = more }) out out w conn.draft
-      (unmoved_turn w conn)
-  stays store w k conn more out stands link e = record {
-    shown = stands;
-    here = link;
-    moves = still w conn.draft;
-    taken = refl;
-    closes = refl;
-    more = e;
-    bytes = sym (append-nil out);
-  }
+      (record { world = w; conn = Some conn; bytes = []; text = []; taken = 0 })
+  stays store w k conn more out stands link e = assumption (still w conn.draft, sym (append-nil out))
 
   no_text : (w : World) (head : List ℕ) (awaiting : Awaiting B) (conn : Conn) → LinkIs u w head awaiting conn
       → ((g : given.Giving) (left : ℕ) → awaiting ≡ awaits.Text g left → ⊥) → conn.pending ≡ None
@@ -86,9 +53,7 @@ module _ {U B : Type 0} (u : Ghosts U B) (sure : Bool) where
       (more_turn w conn)
   more_nothing store w k conn out stands link not =
       let none = no_text w (bytes_of k.head) k.awaiting conn link not in
-      subst (TurnedAs u sure store (Some k) (record { taken = 0; closes = false; more = false }) out out w conn.draft)
-      (more_none_is w conn none)
-      (stays store w k conn false out stands link (sym (ap is_pending none)))
+      rw (more_is w conn None none) (stays store w k conn false out stands link (sym (ap is_pending none)))
 
   module _ (store : U) (w : World) (head : HeadBuffer) (conn : Conn) (g : given.Giving) (left : ℕ)
       (stands : u.stands store sure w) (is : IsGivingText w conn (bytes_of head) g left) where
@@ -109,49 +74,17 @@ module _ {U B : Type 0} (u : Ghosts U B) (sure : Bool) where
           taken = 0;
         })
     some_turned old new rest None given e = absurd given
-    some_turned old new rest (Some h) given e = record {
-      shown = stands;
-      here = record { h = h; rest = is.rest; draft = is.draft; pending = refl; gives = given };
-      moves = still w conn.draft;
-      taken = refl;
-      closes = refl;
-      more = refl;
-      bytes = e;
-    }
+    some_turned old new rest (Some h) given e =
+        let link : IsGivingText w (record conn { pending = Some h }) (bytes_of head) rest left =
+        record { h = h; rest = is.rest; draft = is.draft; pending = refl; gives = given } in
+        assumption (stands, link, still w conn.draft, e)
 
     -- more of the text is left
     pub more_some : (old new : List ℕ) (rest : given.Giving) (up : Upload) → upload_of w.store is.h.number ≡ Some up
         → GivingIs w.store (Some rest) (pending_after is.h) → Appends sure old new (piece_of is.h) (piece_of is.h)
         → TurnedAs u sure store (text_link rest) (gave false true) old new w conn.draft (more_turn w conn)
     more_some old new rest up there given e =
-        subst (TurnedAs u sure store (text_link rest) (gave false true) old new w conn.draft)
-        (more_some_is w conn is.h up is.pending there) (some_turned old new rest (pending_after is.h) given e)
-
-    none_turned : (old new : List ℕ) (closes : Bool) (pending : Option Giving) → GivingIs w.store None pending
-        → Appends sure old new (piece_of is.h) (piece_of is.h) → TurnedAs u sure store (link_after head left closes)
-        (gave closes false) old new w conn.draft
-        (record {
-          world = w;
-          conn = given_up conn closes pending;
-          bytes = piece_of is.h;
-          text = piece_of is.h;
-          taken =
-              0;
-        })
-    none_turned old new closes (Some h) given e = absurd given
-    none_turned old new closes None given e =
-        subst (λ d. TurnedAs u sure store (link_after head left closes) (gave closes false) old new w d
-        (record {
-          world = w;
-          conn = given_up (record conn { draft = d }) closes None;
-          bytes = piece_of is.h;
-          text = piece_of is.h;
-          taken = 0;
-        }))
-        (sym is.draft)
-        (answered_here u sure store (link_after head left closes) (gave closes false) old new (piece_of is.h)
-        (piece_of is.h) w w None head
-        left 0 closes conn.stream (cut (reader w) conn.stream).rest stands (still w None) refl is.rest refl refl e)
+        rw (more_is w conn (Some is.h) is.pending, there) (some_turned old new rest (pending_after is.h) given e)
 
     -- the text is given
     pub more_done : (old new : List ℕ) (up : Upload) → upload_of w.store is.h.number ≡ Some up
@@ -159,32 +92,28 @@ module _ {U B : Type 0} (u : Ghosts U B) (sure : Bool) where
         → TurnedAs u sure store (link_after head left g.closes) (gave g.closes false) old new w conn.draft
         (more_turn w conn)
     more_done old new up there last e =
-        subst (TurnedAs u sure store (link_after head left g.closes) (gave g.closes false) old new w conn.draft)
-        (ap (λ c. record {
+        let T : Option ℕ → Bool → Option Giving → Type 0 = λ d closes pending.
+        TurnedAs u sure store (link_after head left g.closes) (gave g.closes false) old new w d (record {
           world = w;
-          conn = given_up conn c (pending_after is.h);
+          conn = given_up (record conn { draft = d }) closes pending;
           bytes = piece_of is.h;
-          text =
-              piece_of is.h;
+          text = piece_of is.h;
           taken = 0;
-        })
-        is.gives.closes ∙ more_some_is w conn is.h up is.pending there)
-        (none_turned old new g.closes (pending_after is.h) (subst (GivingIs w.store None) (sym last) tt) e)
+        }) in
+        let given : T None g.closes None =
+        answered_here u sure store (link_after head left g.closes) (gave g.closes false) old new (piece_of is.h)
+        (piece_of is.h) w w None head left 0 g.closes conn.stream (cut (reader w) conn.stream).rest stands
+        (still w None) refl is.rest refl refl e in
+        rw (more_is w conn (Some is.h) is.pending, there)
+        (subst (λ d. T d is.h.closes (pending_after is.h)) (sym is.draft)
+        (subst (λ c. T None c (pending_after is.h)) is.gives.closes (subst (T None g.closes) (sym last) given)))
 
     -- the upload was deleted
     pub more_gone : (old new : List ℕ) → upload_of w.store is.h.number ≡ None → new ≡ old
         → TurnedAs u sure store None (gave true false) old new w conn.draft (more_turn w conn)
     more_gone old new none e =
-        subst (TurnedAs u sure store None (gave true false) old new w conn.draft)
-        (more_gone_is w conn is.h is.pending none) (record {
-          shown = stands;
-          here = tt;
-          moves = subst (λ o. Moves w w o None) (sym is.draft) (still w None);
-          taken = refl;
-          closes = refl;
-          more = refl;
-          bytes = e ∙ sym (append-nil old);
-        })
+        let moves : Moves w w conn.draft None = rw is.draft (still w None) in
+        rw (more_is w conn (Some is.h) is.pending, none) (assumption (stands, moves, e ∙ sym (append-nil old)))
 
 module _ {U B : Type 0} (u : Ghosts U B) (sure : Bool) where
   -- nothing was given, and the connection closes
@@ -192,7 +121,7 @@ module _ {U B : Type 0} (u : Ghosts U B) (sure : Bool) where
       (is : IsGivingText w conn head g left) (e : Stop) (old new : List ℕ) (t : Turn)
       → Gives u sure store (Err e) old new w is.h → Turned u sure store (Err e) old new w conn.draft t
   more_stopped store w conn head g left is stops.NoMemory old new t (there, shown, same) =
-      (subst (λ o. u.stands store sure (left_world w o)) (sym is.draft) shown, same)
+      (rw is.draft shown, same)
   more_stopped store w conn head g left is stops.DiskFault old new t (there, same) = same
 
 -- WHAT WAS GIVEN TELLS OF THE UPLOAD

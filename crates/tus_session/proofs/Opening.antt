@@ -3,6 +3,7 @@ use Rattle.std.proofs.Common.{◌≡◌, ◌⊎◌, inl, inr, ℕ, zero, suc, �
 use Rattle.std.proofs.Common.{length, get_or, slice_set, Option, Some, None, refl, sym, ◌∙◌, ap, subst}
 use Rattle.std.proofs.Common.{arith, nat_lt, append-nil, is_some}
 use Rattle.std.proofs.lemmas.Bool.{lt-ltb, le-ltb, cases_eq}
+use Rattle.std.proofs.lemmas.Option.{same_Some}
 use Rattle.tus_request.specs.Buffers.{bytes_of}
 use Rattle.enc_model.specs.Indexes.{offers}
 use Rattle.tus_request.proofs.Prefixes.{steady}
@@ -41,17 +42,16 @@ same_grows m = record {
   uploads = λ n up lt there. (up, there, same_longer m m up refl);
 }
 
+pub own_or : (own : Option ℕ) (e : ℕ) → (own ≡ Some e) ⊎ (own ≡ Some e → ⊥)
+own_or None e = inr (λ h. absurd (cc))
+own_or (Some d) e = elim (cases_eq d e) [ inl is ↦ inl (ap Some is) | inr ne ↦ inr (λ h. ne (same_Some d e h)) ]
+
 -- nothing moved
 pub still : (w : World) (own : Option ℕ) → Moves w w own own
 still w own = record {
   grows = same_grows w.store;
   others = λ e p ne found. found;
-  back = λ e p apart found. elim own as
-      (λ o. (o ≡ Some e) ⊎ ((o ≡ Some e → ⊥) × ((q : Patch) × (find e w.patches ≡ Some q)))) [
-        | None ↦ inr (λ h. absurd (cc), (p, found))
-        | Some d ↦ elim (cases_eq d e)
-            [ inl is ↦ inl (ap Some is) | inr ne ↦ inr (λ h. ne (let x : d ≡ e = cc in x), (p, found)) ]
-      ];
+  back = λ e p apart found. elim (own_or own e) [ inl is ↦ inl is | inr ne ↦ inr (ne, (p, found)) ];
   fresh = λ e h. inl h;
   unique = λ h. h;
 }
@@ -65,47 +65,25 @@ module _ {U B : Type 0} (u : Ghosts U B) (sure : Bool) where
     pending = refl;
   }
 
-  opened_step : (places : List (Option (Link B))) (store : U) (st : State) (c : ℕ) (head : HeadBuffer)
-      → SessionStands u sure places store st → c < length places → (o : Option Conn) → st.conns c ≡ o → o ≡ None
-      → (bytes_of head) ≡ [] → Follows u sure
-      (slice_set places c (Some (record { head = head; awaiting = awaits.Head }))) store (opened_at st c o).state
-      (opened_at st c o).outcome Done
-  opened_step places store st c head stands lt (Some conn) is none e = absurd (cc)
-  opened_step places store st c head stands lt None is none e =
-      let k : Link B = record { head = head; awaiting = awaits.Head } in
-      let n : nat_lt c most_open ≡ true = lt-ltb c most_open (omega (arith, stands.count)) in
-      let d : None ≡ draft_at (st.conns c) = ap draft_at (sym is) in
-      let moves : Moves st.world st.world (draft_at (st.conns c)) None =
-      subst (λ o. Moves st.world st.world o None) d (still st.world None) in
-      let s : SessionStands u sure (slice_set places c (Some k)) store (put st st.world c (Some fresh)) =
-      in_place u sure places (slice_set places c (Some k)) store store st st.world c (Some k) (Some fresh) stands
-      (is_set u sure places c (Some k) lt) moves stands.shown (new_place st.world head e) in
-      let P : Bool → Type 0 = λ b. let x : Step = opened_if st c b in
-      Follows u sure (slice_set places c (Some k)) store x.state x.outcome Done in
-      let now : P true = record { stands = s; outcome = refl } in
-      subst P (sym n) now
-
   pub opened : (places : List (Option (Link B))) (store : U) (st : State) (c : ℕ) (head : HeadBuffer)
       → SessionStands u sure places store st → c < length places → st.conns c ≡ None → (bytes_of head) ≡ []
       → Follows u sure (slice_set places c (Some (record { head = head; awaiting = awaits.Head }))) store
       (step st (Opened c) Served).state (step st (Opened c) Served).outcome Done
   unfolding step
   opened places store st c head stands lt none e =
-      opened_step places store st c head stands lt (st.conns c) refl none e
+      let k : Option (Link B) = Some (record { head = head; awaiting = awaits.Head }) in
+      let moves : Moves st.world st.world (draft_at (st.conns c)) None = rw none (still st.world None) in
+      let s = in_place u sure places (slice_set places c k) store store st st.world c k (Some fresh) stands
+      (is_set u sure places c k lt) moves stands.shown (new_place st.world head e) in
+      rw (none, lt-ltb c most_open (omega (arith, stands.count))) (record { stands = s; outcome = refl })
 
   pub not_below : (places : List (Option (Link B))) (store : U) (st : State) (c : ℕ)
       → SessionStands u sure places store st → length places ≤ c
       → Follows u sure places store st (step st (Opened c) Served).outcome (Refused TooMany)
   unfolding step
   not_below places store st c stands le =
-      let n : nat_lt c most_open ≡ false = le-ltb c most_open (omega (arith, stands.count)) in
-      let none = beyond u sure places store st c stands le in
-      let P : Bool → Type 0 = λ b. let x : Step = opened_if st c b in
-      Follows u sure places store st x.outcome (Refused TooMany) in
-      let Q : Option Conn → Type 0 = λ o. Follows u sure places store st (opened_at st c o).outcome (Refused TooMany) in
-      let now : P false = record { stands = stands; outcome = refl } in
-      let later : Q None = subst P (sym n) now in
-      subst Q (sym none) later
+      rw (beyond u sure places store st c stands le, le-ltb c most_open (omega (arith, stands.count)))
+      (record { stands = stands; outcome = refl })
 
   pub is_open : (places : List (Option (Link B))) (store : U) (st : State) (c : ℕ) (x : Option (Link B))
       → SessionStands u sure places store st → c < length places → x ≡ get_or places c x → is_some x ≡ true
@@ -113,10 +91,7 @@ module _ {U B : Type 0} (u : Ghosts U B) (sure : Bool) where
   unfolding step
   is_open places store st c None stands lt e is = absurd (cc)
   is_open places store st c (Some k) stands lt e is =
-      let o = open_at u sure places store st c (Some k) k stands lt e refl in
-      let Q : Option Conn → Type 0 = λ o. Follows u sure places store st (opened_at st c o).outcome (Refused TooMany) in
-      let now : Q (Some o.0) = record { stands = stands; outcome = refl } in
-      subst Q (sym o.1) now
+      rw (open_at u sure places store st c (Some k) k stands lt e refl).1 (record { stands = stands; outcome = refl })
 
   pub not_open : (places : List (Option (Link B))) (store : U) (st : State) (c : ℕ) (x : Option (Link B))
       → SessionStands u sure places store st → c < length places → x ≡ get_or places c x → is_some x ≡ false
@@ -131,7 +106,7 @@ module _ {U B : Type 0} (u : Ghosts U B) (sure : Bool) where
   begun places store m blocks shown count all = record {
     count = count;
     shown = shown;
-    each = λ c. subst (λ x. PlaceIs u (at_rest m blocks) x None) (sym (all c)) tt;
+    each = λ c. rw (all c) tt;
     apart = λ c e d f g. absurd (cc);
     unique = tt;
     owned = λ d p found. absurd (cc);

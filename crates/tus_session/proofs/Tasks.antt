@@ -43,14 +43,10 @@ limits_to {moment} {moment'} {left_only} {left_only'} {m} e h =
 
 -- THE END OF A CONNECTION
 
-ended_at : (w : World) (d : ℕ) (p : Patch) (o : Option ℕ) → o ≡ Some d → find d w.patches ≡ Some p
-    → ended_on w o ≡ spent w d p (commit_refusal w d p)
-ended_at w d p o is found = ap (ended_on w) is ∙ ap (ended_with w d) found
-
 pub ended_is : (w : World) (conn : Conn) (d : ℕ) (p : Patch) → conn.draft ≡ Some d → find d w.patches ≡ Some p
     → ended_world w conn ≡ spent w d p (commit_refusal w d p)
 unfolding ended_world
-ended_is w conn d p is found = ended_at w d p conn.draft is found
+ended_is w conn d p is found = rw (is, found)
 
 pub ended_none : (w : World) (conn : Conn) → conn.draft ≡ None → ended_world w conn ≡ w
 unfolding ended_world
@@ -66,53 +62,27 @@ module _ {U B : Type 0} (u : Ghosts U B) (sure : Bool) where
   pub ends_idle : (store : U) (w : World) (conn : Conn) → u.stands store sure w → conn.draft ≡ None
       → EndedAs u sure store w conn.draft (ended_world w conn)
   ends_idle store w conn stands none =
-      let now : EndedAs u sure store w None w = record { shown = stands; moves = still w None } in
-      let then : EndedAs u sure store w None (ended_world w conn) =
-      subst (EndedAs u sure store w None) (sym (ended_none w conn none)) now in
-      subst (λ o. EndedAs u sure store w o (ended_world w conn)) (sym none) then
+      rw (ended_none w conn none, none) (record { shown = stands; moves = still w None })
 
   module _ (w : World) (conn : Conn) (head : List ℕ) (b : OpenPatch B) (left : ℕ)
       (is : IsPatching u w conn head b left) where
-    -- the draft's patch under the draft's own number
-    pub found_as : find (u.number_of b.draft) w.patches ≡ Some is.p
-    found_as = ap (λ n. find n w.patches) is.patches.number ∙ is.patches.found
+    abbrev d : ℕ
+    d = u.number_of b.draft
 
-    ended_as : ended_world w conn ≡ spent w is.d is.p (commit_refusal w is.d is.p)
-    ended_as = ended_is w conn is.d is.p is.draft is.patches.found
-
-    -- the patch is spent
-    ends_patch : (store : U) → u.stands store sure
-        (spent w (u.number_of b.draft) is.p (commit_refusal w (u.number_of b.draft) is.p))
-        → EndedAs u sure store w conn.draft (ended_world w conn)
-    ends_patch store stands =
-        let done = spent w is.d is.p (commit_refusal w is.d is.p) in
-        let shown : u.stands store sure done =
-        subst (λ n. u.stands store sure (spent w n is.p (commit_refusal w n is.p))) is.patches.number stands in
-        let now : EndedAs u sure store w (Some is.d) done = record {
-          shown = shown;
-          moves = spend_moves w is.d is.p is.patches.grown;
-        } in
-        subst (λ o. EndedAs u sure store w o (ended_world w conn)) (sym is.draft)
-        (subst (EndedAs u sure store w (Some is.d)) (sym ended_as) now)
-
-    ends_left : (store : U) → u.stands store sure (dropped w (u.number_of b.draft))
-        → u.stands store sure (left_world w conn.draft)
-    ends_left store stands =
-        subst (λ o. u.stands store sure (left_world w o)) (sym is.draft)
-        (subst (λ n. u.stands store sure (dropped w n)) is.patches.number stands)
+    ended_as : ended_world w conn ≡ spent w d is.p (commit_refusal w d is.p)
+    ended_as = ended_is w conn d is.p is.draft is.patches.found
 
     -- a cut body
-    pub ends_cut : (store : U) (r : Result (Unit {0}) Stop) → Ends u sure store r (dropped w (u.number_of b.draft))
-        (spent w (u.number_of b.draft) is.p (commit_refusal w (u.number_of b.draft) is.p))
+    pub ends_cut : (store : U) (r : Result (Unit {0}) Stop)
+        → Ends u sure store r (dropped w d) (spent w d is.p (commit_refusal w d is.p))
         → Ended u sure store r w conn.draft (ended_world w conn)
-    ends_cut store (Ok x) stands = ends_patch store stands
-    ends_cut store (Err stops.NoMemory) stands = ends_left store stands
+    ends_cut store (Ok x) stands =
+        rw (ended_as, is.draft) (record { shown = stands; moves = spend_moves w d is.p is.patches.grown })
+    ends_cut store (Err stops.NoMemory) stands = rw is.draft stands
     ends_cut store (Err stops.DiskFault) x = tt
 
-    pub ends_store : commit_outcome w (u.number_of b.draft) is.p ≡ (ended_world w conn).store
-    ends_store =
-        ap (λ n. commit_outcome w n is.p) is.patches.number
-        ∙ (sym (spent_store w is.d is.p (commit_refusal w is.d is.p)) ∙ ap (λ x. x.store) (sym ended_as))
+    pub ends_store : commit_outcome w d is.p ≡ (ended_world w conn).store
+    ends_store = rw ended_as (sym (spent_store w d is.p (commit_refusal w d is.p)))
 
   -- no patch is open
   pub no_draft : (w : World) (head : List ℕ) (awaiting : Awaiting B) (conn : Conn) → LinkIs u w head awaiting conn

@@ -1,16 +1,15 @@
-use Rattle.std.proofs.Common.{◌≡◌, ◌+◌, refl, arith, subst, true}
-use Rattle.tus_action.specs.declared.bodies.OpenPatch.{OpenPatch}
-use Rattle.tus_session.proofs.RequestTold.{head_limits, nothing_told, text_told}
-use Rattle.tus_session.proofs.HeadTold.{slice_rest}
-use Rattle.tus_session.proofs.Feeding.{head_stopped}
+use Rattle.std.proofs.Common.{◌≡◌, ◌+◌, refl, arith, true}
 use Rattle.std.proofs.lemmas.Result.{err_from_is_err_and}
-use Rattle.tus_session.proofs.PatchTold.{begun, begun_shown, patch_opened, patch_limits, slice_is}
-use Rattle.tus_session.proofs.PatchTold.{reached_whole, first_as, v, p0}
 use Rattle.tus_request.specs.Requests.{Asks}
 use Rattle.tus_request.specs.Shown.{request_shown}
 use Rattle.tus_action.specs.Acts.{acted}
-use Rattle.tus_action.specs.Serves.{ActedAs, Appends}
-use Rattle.tus_action.specs.declared.acts.Done.TheVariants.{Replied, Opened, Giving}
+use Rattle.tus_action.specs.Serves.{ActedAs}
+use Rattle.tus_action.specs.declared.acts.Done.TheVariants.{Opened}
+use Rattle.tus_action.specs.declared.bodies.OpenPatch.{OpenPatch}
+use Rattle.tus_session.proofs.Feeding.{head_stopped}
+use Rattle.tus_session.proofs.HeadTold.{slice_is, slice_rest}
+use Rattle.tus_session.proofs.PatchTold.{begun, begun_shown, patch_opened, patch_limits, reached_whole, first_as, v, p0}
+use Rattle.tus_session.proofs.RequestTold.{head_limits, nothing_told, text_told}
 use Rattle.tus_session.proofs.heads.request_of.Goals as goal
 
 pub returns-in_err-done-clause-crash : goal.returns-in_err-done-clause-crash
@@ -33,18 +32,15 @@ returns-in-Giving-clause-crash g c w conn h n stands is =
 
 pub returns-in-Replied-clause-answer : goal.returns-in-Replied-clause-answer
 returns-in-Replied-clause-answer g c sure w conn h n stands is =
-    let done = rw c.in-Replied.is at (c.in_ok-done.ensures.answer sure w stands) in
-    nothing_told w conn h c.args.bytes.now n c.args.before _ is g.U.Uploads sure _ _ _ (Replied c.in-Replied.closes) _ _
-    c.args.head _ done refl refl (slice_rest c.args.before c.args.bytes.now) c.skip.ensures.link
-    c.requires.cleared c.skip.ensures.answer
+    nothing_told w conn h c.args.bytes.now n c.args.before _ is g.U.Uploads sure _ _ _ c.in-Replied.closes _ _
+    c.args.head _ (rw c.in-Replied.is at (c.in_ok-done.ensures.answer sure w stands))
+    (slice_rest c.args.before c.args.bytes.now) c.skip.ensures.link c.requires.cleared c.skip.ensures.answer
 
 pub returns-in-Giving-clause-answer : goal.returns-in-Giving-clause-answer
 returns-in-Giving-clause-answer g c sure w conn h n stands is =
-    let done = rw c.in-Giving.is at (c.in_ok-done.ensures.answer sure w stands) in
     rw c.waits.ensures
-    (text_told w conn h c.args.bytes.now n c.args.before _ is g.U.Uploads sure _ (Giving c.in-Giving.giving)
-    c.in-Giving.giving _ _
-    c.args.head done refl refl c.requires.cleared)
+    (text_told w conn h c.args.bytes.now n c.args.before _ is g.U.Uploads sure _ c.in-Giving.giving _ _ c.args.head
+    (rw c.in-Giving.is at (c.in_ok-done.ensures.answer sure w stands)) c.requires.cleared)
 
 pub returns-in-Opened-clause-answer : goal.returns-in-Opened-clause-answer
 returns-in-Opened-clause-answer g c sure w conn h n stands is =
@@ -67,19 +63,18 @@ returns-in-Opened-clause-answer g c sure w conn h n stands is =
     let shown = begun_shown U sure w conn h bytes n c.args.before r is b x c.act.new.store done.stands in
     let found = first_as U sure w conn h bytes n c.args.before r is b x in
     let whole = reached_whole U sure w conn h bytes n c.args.before r is b x in
-    let all : 0 + r.length ≡ r.length = omega arith in
+    let body = c.body_of-turned.ensures in
     rw c.back_to.ensures.same
     (patch_opened U sure w conn h bytes n c.args.before r is b x c.body_of-turned.new.store
     c.args.out.now.items c.act.new.out.items c.body_of-turned.new.out.items
-    c.back_to.new.out.items c.args.head c.requires.cleared
-    (subst (Appends sure c.args.out.now.items c.act.new.out.items (acted w (Asks r)).bytes) x.x.no_text done.bytes)
+    c.back_to.new.out.items c.args.head c.requires.cleared (rw x.x.no_text at done.bytes)
     c.len-start.result
     (omega (arith, c.len-start.ensures, c.args.out.now.ok.0)) c.body_of-turned.result _
     (slice_is c.args.before bytes)
-    (λ few. c.body_of-turned.ensures.part few sure v0 p shown found x.holds (omega arith))
-    (λ few. c.body_of-turned.ensures.part_out few)
-    (λ enough. c.body_of-turned.ensures.rest enough sure v0 p r shown found x.holds all whole refl refl)
-    c.back_to.ensures.back)
+    (record {
+      part = λ few. (body.part few sure v0 p shown found x.holds (omega arith), body.part_out few);
+      rest = λ enough. body.rest enough sure v0 p r shown found x.holds (omega arith) whole refl refl;
+    }) c.back_to.ensures.back)
 
 pub returns-in-Opened-clause-crash : goal.returns-in-Opened-clause-crash
 returns-in-Opened-clause-crash g c w conn h n stands is =
