@@ -6,7 +6,6 @@ use Rattle.std.proofs.lemmas.Bool.{cases_lt}
 use Rattle.std.proofs.lemmas.List.{length-take-le, take_all, length-append}
 use Rattle.tus_request.specs.Buffers.{bytes_of}
 use Rattle.tus_request.specs.Requests.{Request, body_length}
-use Rattle.upload_rules.specs.Lengths.{known_or, longest}
 use Rattle.upload_rules.specs.Store.{Upload, upload_of, patched, find}
 use Rattle.upload_rules.specs.World.{Patch, World}
 use Rattle.upload_rules.specs.Grown.{GrewFrom}
@@ -18,7 +17,7 @@ use Rattle.tus_action.specs.Acts.{Giving, Acted, fed, fed_patch}
 use Rattle.tus_action.specs.Serves.{Appends}
 use Rattle.tus_session.specs.Streams.{Asked, InHead, InBody, Rest, cut}
 use Rattle.tus_session.specs.Turns.{Conn, Turn, reader, at_head, body_step, turn_of, came_on, came_turn}
-use Rattle.tus_session.specs.Stands.{PatchesAs, IsPatching, IsSkipping, RestIs, LinkIs, PlaceIs}
+use Rattle.tus_session.specs.Stands.{PatchesAs, IsPatching, IsSkipping, RestIs, LinkIs}
 use Rattle.tus_session.specs.Moves.{Moves}
 use Rattle.tus_session.specs.Turned.{TurnedAs, Turned}
 use Rattle.tus_session.specs.Bodies.{took, dropping, link_after, GoesOn, Parts, Replies, ended_by}
@@ -206,8 +205,13 @@ module _ {U B : Type 0} (u : Ghosts U B) (sure : Bool) (w : World) (conn : Conn)
   }
   rest_is bytes enough =
       let wanted = is.inside.wanted in
-      rw (rest_turn w conn is.asked is.inside.rest bytes is.pending (omega arith) wants, ← is.inside.wanted, is.draft,
-      is.patches.asks, fed_found w own is.p (take left bytes) is.patches.found)
+      rw (
+        rest_turn w conn is.asked is.inside.rest bytes is.pending (omega arith) wants,
+        ← is.inside.wanted,
+        is.draft,
+        is.patches.asks,
+        fed_found w own is.p (take left bytes) is.patches.found,
+      )
 
   part_told : (store' : U) (old new bytes : List ℕ) (a : Result (Option (Link B) × Answer) Stop) → length bytes < left
       → Parts u sure store' a head b (left - length bytes) (0 + length bytes) (fed w own bytes)

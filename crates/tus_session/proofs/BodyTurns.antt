@@ -7,7 +7,7 @@ use Rattle.tus_request.specs.Requests.{body_length}
 use Rattle.upload_rules.specs.World.{World}
 use Rattle.tus_session.specs.Streams.{Asked, Rest, InHead, InBody, cut, Moments, moments, taken}
 use Rattle.tus_session.specs.Stands.{RestIs}
-use Rattle.tus_session.specs.Turns.{Conn, Turn, at_head, body_step, turn_of, came_at, came_on, reader, came_turn}
+use Rattle.tus_session.specs.Turns.{Conn, Turn, at_head, body_step, turn_of, came_at, reader, came_turn}
 use Rattle.tus_session.proofs.Cuts.{left, left_alone, moments_alone, taken_alone}
 use Rattle.tus_session.proofs.NewRests.{is_steady, body_part_rest, body_whole_rest}
 use Rattle.tus_session.proofs.Unfinished.{IsBody, only_body, longer, bytes_came, body_ended, left_body, part_came}
@@ -39,8 +39,13 @@ module _ (w : World) (k : Conn) (asked : Asked) (rest : (cut (reader w) k.stream
       → moments (reader w) (left (reader w) k.stream) (take n piece) ≡ m → came_turn w k piece ≡ came_at w k piece n m
   unfolding came_turn
   by_moments piece n m idle e f =
-      rw (idle, taken_alone (reader w) (is_steady w) k.stream piece, e,
-      moments_alone (reader w) (is_steady w) k.stream (take n piece), f)
+      rw (
+        idle,
+        taken_alone (reader w) (is_steady w) k.stream piece,
+        e,
+        moments_alone (reader w) (is_steady w) k.stream (take n piece),
+        f,
+      )
 
   -- fewer bytes than the body wants: all are taken
   pub part_turn : (piece : List ℕ) → k.pending ≡ None → length asked.body + length piece < body_length asked.verdict

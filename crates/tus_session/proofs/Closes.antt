@@ -1,12 +1,12 @@
 -- The end of a session: its drafts are dropped, one place after another.
-use Rattle.std.proofs.Common.{◌≡◌, ◌≢◌, inl, inr, ℕ, suc, ◌+◌, ◌<◌, List, [], ◌∷◌, ◌++◌, length, take, drop, get_or}
+use Rattle.std.proofs.Common.{◌≡◌, ◌≢◌, inl, inr, ℕ, suc, ◌<◌, List, [], ◌∷◌, ◌++◌, length, take, drop, get_or}
 use Rattle.std.proofs.Common.{append_assoc, Option, Some, None, refl, sym, ◌∙◌, ap, subst, arith, Bool}
 use Rattle.std.proofs.lemmas.Bool.{cases_eq, cases_lt}
 use Rattle.std.proofs.lemmas.Bool.Decides.{nat_tests}
 use Rattle.std.proofs.lemmas.List.{length_push, take-append-drop}
 use Rattle.std.proofs.lemmas.Option.{same_Some}
 use Rattle.std.proofs.Math.Seq.{take-append_seam}
-use Rattle.upload_rules.specs.Store.{find, without}
+use Rattle.upload_rules.specs.Store.{find}
 use Rattle.upload_rules.specs.World.{Patch, World, at_rest}
 use Rattle.upload_rules.specs.Apart.{IsApart}
 use Rattle.upload_rules.specs.Calls.{dropped}

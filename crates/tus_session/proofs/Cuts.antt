@@ -1,6 +1,6 @@
 -- A stream's cut goes on from its unfinished part.
-use Rattle.std.proofs.Common.{ℕ, zero, suc, ◌+◌, ◌-◌, ◌<◌, ◌≤◌, ◌≡◌, Bool, true, false, List, [], ◌∷◌, ◌++◌, Option}
-use Rattle.std.proofs.Common.{Some, None, length, take, drop, subst, refl, sym, ◌∙◌, ap, arith, append_assoc}
+use Rattle.std.proofs.Common.{ℕ, zero, suc, ◌+◌, ◌<◌, ◌≤◌, ◌≡◌, Bool, true, false, List, [], ◌∷◌, ◌++◌, Option}
+use Rattle.std.proofs.Common.{Some, None, length, take, drop, refl, sym, ◌∙◌, ap, arith, append_assoc}
 use Rattle.std.proofs.Common.{append-nil, nat_lt, slice_get}
 use Rattle.std.proofs.lemmas.List.{length-append, length-drop, take-append-le, drop-append-le, take-append-drop, append_cancel_left}
 use Rattle.std.proofs.lemmas.Bool.{ltb-false, le-ltb}
@@ -9,8 +9,8 @@ use Rattle.tus_request.specs.Requests.{Verdict, body_length}
 use Rattle.tus_request.specs.Steady.{IsSteady}
 use Rattle.tus_request.specs.Answers.{Answer, More, Judged}
 use Rattle.tus_session.specs.Streams.{Asked, Rest, Cut, Reader, onto, after_head, by_answer, cut_within, cut}
-use Rattle.tus_session.specs.Streams.{rest_bytes, span, headed, heads_of, taken_to, taken_of, taken, Moments}
-use Rattle.tus_session.specs.Streams.{moments_of, moments, rest_body, body_of}
+use Rattle.tus_session.specs.Streams.{rest_bytes, span, headed, heads_of, taken_to, taken_of, taken}
+use Rattle.tus_session.specs.Streams.{moments_of, moments}
 
 -- the whole requests of a stream before another cut
 abbrev pub after_whole : List Asked → Cut → Cut
@@ -58,8 +58,11 @@ body_there : (f : List ℕ → Cut) (head : List ℕ) (v : Verdict) (rest p : Li
     → after_head f head v (rest ++ p) (nat_lt (length (rest ++ p)) (body_length v))
     ≡ onto (record { head = head; verdict = v; body = take (body_length v) rest }) (f (drop (body_length v) rest ++ p))
 body_there f head v rest p fits =
-    rw (le-ltb (length (rest ++ p)) (body_length v) (simp length-append (omega arith)),
-    take-append-le (body_length v) rest p fits, drop-append-le (body_length v) rest p fits)
+    rw (
+      le-ltb (length (rest ++ p)) (body_length v) (simp length-append (omega arith)),
+      take-append-le (body_length v) rest p fits,
+      drop-append-le (body_length v) rest p fits,
+    )
 
 pub head_there : (f : List ℕ → Cut) (n : ℕ) (v : Verdict) (s p : List ℕ) → n ≤ length s
     → by_answer f (s ++ p) (Judged n v) ≡ after_head f (take n s) v (drop n s ++ p)
@@ -73,9 +76,13 @@ on_body : (answer : Reader) → IsSteady answer → (s p : List ℕ) (n : ℕ) (
 on_body answer steady s p n v e goes true under = ap (λ x. cut answer (x ++ p)) (sym (take-append-drop n s))
 on_body answer steady s p n v e goes false there =
     let within = steady.within s n v e in
-    rw (cut_steps answer steady (s ++ p), steady.keeps s p n v e, head_there (cut answer) n v s p within,
-    body_there (cut answer) (take n s) v (drop n s) p (ltb-false (length (drop n s)) (body_length v) there),
-    goes (drop (body_length v) (drop n s)) (shorter s n (body_length v) (steady.some s n v e) within))
+    rw (
+      cut_steps answer steady (s ++ p),
+      steady.keeps s p n v e,
+      head_there (cut answer) n v s p within,
+      body_there (cut answer) (take n s) v (drop n s) p (ltb-false (length (drop n s)) (body_length v) there),
+      goes (drop (body_length v) (drop n s)) (shorter s n (body_length v) (steady.some s n v e) within),
+    )
 
 on_answer : (answer : Reader) → IsSteady answer → (s p : List ℕ) (a : Answer) → answer s ≡ a
     → ((t : List ℕ) → length t < length s → GoesOn answer p t (cut answer t))
@@ -105,9 +112,12 @@ cover_body : (answer : Reader) → IsSteady answer → (s : List ℕ) (n : ℕ) 
 cover_body answer steady s n v within some covers true under = omega (arith, ap length (take-append-drop n s))
 cover_body answer steady s n v within some covers false there =
     let m = body_length v in
-    omega (arith, covers (drop m (drop n s)) (shorter s n m some within),
-    simp length-append at (ap length (take-append-drop n s)),
-    simp length-append at (ap length (take-append-drop m (drop n s))))
+    omega (
+      arith,
+      covers (drop m (drop n s)) (shorter s n m some within),
+      simp length-append at (ap length (take-append-drop n s)),
+      simp length-append at (ap length (take-append-drop m (drop n s))),
+    )
 
 cover_answer : (answer : Reader) → IsSteady answer → (s : List ℕ) (a : Answer) → answer s ≡ a
     → ((t : List ℕ) → length t < length s → Covers t (cut answer t)) → Covers s (by_answer (cut answer) s a)
@@ -125,11 +135,9 @@ covers_within answer steady (suc n) s short =
 pub covers : (answer : Reader) → IsSteady answer → (s : List ℕ) → Covers s (cut answer s)
 covers answer steady s = covers_within answer steady (suc (length s)) s (omega arith)
 
-
 -- A cut without its whole requests: that of what is left
 abbrev pub IsLeft : Reader → Cut → Type 0
 IsLeft answer c = cut answer (rest_bytes c.rest) ≡ record { whole = []; rest = c.rest }
-
 
 pub left_alone : (answer : Reader) → IsSteady answer → (s : List ℕ) → IsLeft answer (cut answer s)
 left_alone answer steady s =
@@ -154,13 +162,17 @@ get_after (x ∷ xs) ys i =
 get_first_after : {A : Type 0} (xs ys : List A) → slice_get (xs ++ ys) (length xs) ≡ slice_get ys 0
 get_first_after xs ys = ap (slice_get (xs ++ ys)) (omega arith) ∙ get_after xs ys 0
 
-
 -- after whole requests, the moments are those without them
 moments_after : (ws : List Asked) (r : Rest) (d : Cut)
     → moments_of (record { whole = ws; rest = r }) (after_whole ws d) ≡ moments_of (record { whole = []; rest = r }) d
 moments_after ws r d =
-    rw (append_assoc ws d.whole (headed d.rest), length-append ws (headed r),
-    get_after ws (heads_of d) (length (headed r)), get_first_after ws d.whole, get_first_after ws (heads_of d))
+    rw (
+      append_assoc ws d.whole (headed d.rest),
+      length-append ws (headed r),
+      get_after ws (heads_of d) (length (headed r)),
+      get_first_after ws d.whole,
+      get_first_after ws (heads_of d),
+    )
 
 -- the unfinished part of a stream
 abbrev pub left : Reader → List ℕ → List ℕ

@@ -1,5 +1,5 @@
 -- A turn on one connection leaves the others as they were.
-use Rattle.std.proofs.Common.{◌≡◌, ◌<◌, ◌≤◌, ℕ, ◌+◌, List, ◌++◌, length, take, drop, Option, Some, None, refl, sym, ◌∙◌, ap}
+use Rattle.std.proofs.Common.{◌≡◌, ◌<◌, ◌≤◌, ℕ, List, ◌++◌, length, take, drop, Option, Some, None, refl, sym, ◌∙◌, ap}
 use Rattle.std.proofs.Common.{subst, arith, Bool}
 use Rattle.std.proofs.lemmas.List.{length-append, take-append-le}
 use Rattle.tus_request.specs.Buffers.{bytes_of}
@@ -16,7 +16,7 @@ use Rattle.tus_action.specs.declared.acts.Giving as given
 use Rattle.tus_request.specs.Requests.{Request}
 use Rattle.tus_session.specs.Streams.{Asked, cut}
 use Rattle.tus_session.specs.Turns.{Conn, reader}
-use Rattle.tus_session.specs.Stands.{PatchesAs, InsideBody, RestIs, LinkIs, PlaceIs, draft_at}
+use Rattle.tus_session.specs.Stands.{PatchesAs, InsideBody, LinkIs, PlaceIs, draft_at}
 use Rattle.tus_session.specs.Moves.{Longer, Grows, Moves}
 use Rattle.tus_action.specs.declared.bodies.OpenPatch.{OpenPatch}
 use Rattle.tus_session.specs.declared.conns.Awaiting.{Awaiting}

@@ -4,8 +4,6 @@ use Rattle.std.proofs.Common.{length, take, drop, min, refl, sym, ◌∙◌, ap,
 use Rattle.std.proofs.lemmas.List.{take_all, length-append, length-drop}
 use Rattle.tus_request.specs.Buffers.{bytes_of}
 use Rattle.enc_model.specs.Indexes.{IndexSet, offers}
-use Rattle.tus_request.specs.Shown.{answer_shown}
-use Rattle.tus_request.specs.declared.requests.Parsed.{Parsed}
 use Rattle.tus_request.proofs.Prefixes.{steady}
 use Rattle.tus_request.specs.Answers.{Answer, More, Judged, answer_of}
 use Rattle.tus_request.specs.Requests.{Verdict, body_length}

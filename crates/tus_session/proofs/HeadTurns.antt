@@ -38,8 +38,15 @@ module _ (w : World) (conn : Conn) (h : List ℕ) (inside : InsideHead w conn h)
       let answer = reader w in
       let s = conn.stream in
       let l = head_left answer (is_steady w) s h inside.rest in
-      rw (inside.pending, taken_alone answer (is_steady w) s piece, l, e,
-      moments_alone answer (is_steady w) s (take n piece), l, f)
+      rw (
+        inside.pending,
+        taken_alone answer (is_steady w) s piece,
+        l,
+        e,
+        moments_alone answer (is_steady w) s (take n piece),
+        l,
+        f,
+      )
 
   -- the head isn't whole yet
   pub more_turn_is : (piece : List ℕ) → reader w (h ++ piece) ≡ More
@@ -66,8 +73,11 @@ module _ (w : World) (conn : Conn) (h : List ℕ) (inside : InsideHead w conn h)
     prefix_judged m =
         let q = take (before + m) bytes in
         let a = rw (take_after h bytes before n head_within.0) at ((is_steady w).own (h ++ bytes) n v judged) in
-        rw (← (take-append-drop before q), take-take before (before + m) bytes (omega arith),
-        ← (append_assoc h (take before bytes) (drop before q)))
+        rw (
+          ← (take-append-drop before q),
+          take-take before (before + m) bytes (omega arith),
+          ← (append_assoc h (take before bytes) (drop before q)),
+        )
         ((is_steady w).keeps (h ++ take before bytes) (drop before q) n v a)
 
     pub prefix_body : (m : ℕ) → drop n (h ++ take (before + m) bytes) ≡ take m (drop before bytes)

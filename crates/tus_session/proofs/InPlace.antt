@@ -32,7 +32,7 @@ module _ {U B : Type 0} (u : Ghosts U B) (sure : Bool) where
       | inl is ↦ rw (is, is_put.here, conns_here st.conns k conn') here
       | inr ne ↦
           let ours = λ (e : ℕ) (f : draft_at (st.conns c) ≡ Some e) (g : draft_at (st.conns k) ≡ Some e).
-              ne (stands.apart c k e f g) in
+          ne (stands.apart c k e f g) in
           rw (is_put.others c ne, conns_else st.conns k c conn' ne)
           (place_moved u sure st.world w' (draft_at (st.conns k)) (draft_at conn') (get_or places c None) (st.conns c)
           moves ours (stands.each c))

@@ -10,7 +10,7 @@ use Rattle.tus_action.specs.Serves.{GivingIs, IsGiven, Gives, Appends}
 use Rattle.tus_action.specs.declared.acts.Giving as given
 use Rattle.tus_action.specs.declared.acts.Given.TheVariants.{Piece, Last, Gone}
 use Rattle.tus_session.specs.Streams.{cut}
-use Rattle.tus_session.specs.Turns.{Conn, Turn, reader, left_world, given_up, give_on, more_on, more_turn}
+use Rattle.tus_session.specs.Turns.{Conn, Turn, reader, given_up, more_on, more_turn}
 use Rattle.tus_session.specs.Stands.{IsGivingText, LinkIs}
 use Rattle.tus_session.specs.Moves.{Moves}
 use Rattle.tus_session.specs.Turned.{TurnedAs, Turned}

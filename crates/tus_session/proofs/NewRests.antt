@@ -1,8 +1,6 @@
 -- What is left of a stream after an event.
-use Rattle.std.proofs.Common.{ℕ, zero, suc, ◌+◌, ◌<◌, ◌≡◌, List, [], ◌∷◌, ◌++◌, length, take, drop, subst, ◌∙◌, ap}
-use Rattle.std.proofs.Common.{arith, nat_lt}
-use Rattle.std.proofs.lemmas.List.{drop_all, length-append}
-use Rattle.std.proofs.lemmas.Bool.{le-ltb, lt-ltb}
+use Rattle.std.proofs.Common.{ℕ, zero, suc, ◌+◌, ◌<◌, ◌≡◌, List, [], ◌∷◌, ◌++◌, length, take, drop, ◌∙◌, ap}
+use Rattle.std.proofs.Common.{arith}
 use Rattle.enc_model.specs.Indexes.{offers}
 use Rattle.tus_request.proofs.Prefixes.{steady}
 use Rattle.tus_request.specs.Requests.{Verdict, body_length}
@@ -10,8 +8,8 @@ use Rattle.upload_rules.specs.World.{World}
 use Rattle.tus_session.specs.Turns.{reader}
 use Rattle.tus_request.specs.Steady.{IsSteady}
 use Rattle.tus_request.specs.Answers.{More, Judged}
-use Rattle.tus_session.specs.Streams.{Asked, InHead, InBody, Reader, after_head, by_answer, cut}
-use Rattle.tus_session.proofs.Cuts.{cut_steps, goes_on, left, left_alone}
+use Rattle.tus_session.specs.Streams.{Asked, InHead, InBody, Reader, cut}
+use Rattle.tus_session.proofs.Cuts.{goes_on, left, left_alone}
 use Rattle.tus_session.proofs.Unfinished.{left_body, longer, judged_as, only_head, part_cut, rest_cut, more_cut, begun_cut}
 use Rattle.tus_session.proofs.Unfinished.{whole_cut}
 

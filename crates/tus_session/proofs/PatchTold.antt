@@ -103,8 +103,11 @@ module _ (w : World) (conn : Conn) (h bytes : List ℕ) (n before : ℕ) (r : Re
 
   rest_is : r.length ≤ length (drop before bytes) → came_turn w conn bytes ≡ rest_opened
   rest_is enough =
-      rw (whole_turn_is w conn h bytes n before (Asks r) is enough, opened_is,
-      fed_found w1 x.d first (take r.length (drop before bytes)) first_found)
+      rw (
+        whole_turn_is w conn h bytes n before (Asks r) is enough,
+        opened_is,
+        fed_found w1 x.d first (take r.length (drop before bytes)) first_found,
+      )
 
   pub rest_store : r.length ≤ length (drop before bytes) → ended.world.store ≡ (came_turn w conn bytes).world.store
   rest_store enough = ap (λ t. t.world.store) (sym (rest_is enough))

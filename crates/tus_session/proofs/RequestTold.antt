@@ -29,7 +29,7 @@ use Rattle.tus_session.proofs.NewRests.{is_steady, head_part_rest, head_whole_re
 use Rattle.tus_session.proofs.Frames.{rest_same}
 use Rattle.tus_session.proofs.Opening.{still}
 use Rattle.tus_session.proofs.Limiting.{still_limits}
-use Rattle.tus_session.proofs.RequestLeaves.{Leaves, Nothing, Text, Patching, leaves}
+use Rattle.tus_session.proofs.RequestLeaves.{Nothing, Text, Patching, leaves}
 use Rattle.tus_session.proofs.Unfinished.{judged_as}
 
 -- the turn of a text that is left: the call stops at the head's end

@@ -1,5 +1,5 @@
 -- What an open patch comes to at its connection's end.
-use Rattle.std.proofs.Common.{◌≡◌, ◌⊎◌, inl, inr, ℕ, ◌<◌, List, length, Option, Some, None, refl, sym, ◌∙◌, ap, subst}
+use Rattle.std.proofs.Common.{◌≡◌, ◌⊎◌, inl, inr, ℕ, ◌<◌, List, length, Option, Some, None, refl, sym, ap, subst}
 use Rattle.std.proofs.Common.{arith, Result, Ok, Err, Bool}
 use Rattle.enc_model.specs.Indexes.{offers}
 use Rattle.tus_request.specs.Requests.{body_length}
@@ -13,7 +13,7 @@ use Rattle.upload_rules.specs.Calls.{dropped, committed_store, spent, commit_ref
 use Rattle.tus_action.specs.Serves.{Ends}
 use Rattle.tus_action.specs.declared.acts.Giving.{Giving}
 use Rattle.tus_session.specs.Streams.{Asked, InBody, cut}
-use Rattle.tus_session.specs.Turns.{Conn, reader, left_world, ended_on, ended_with, ended_world}
+use Rattle.tus_session.specs.Turns.{Conn, reader, ended_on, ended_world}
 use Rattle.tus_session.specs.Stands.{IsPatching, LinkIs}
 use Rattle.tus_session.specs.Turned.{EndedAs, Ended}
 use Rattle.tus_action.specs.declared.acts.Stop.{Stop}

@@ -7,8 +7,8 @@ use Rattle.std.proofs.Math.Seq.{drop-append_seam}
 use Rattle.tus_request.specs.Requests.{Verdict, body_length}
 use Rattle.tus_request.specs.Steady.{IsSteady}
 use Rattle.tus_request.specs.Answers.{Answer, More, Judged}
-use Rattle.tus_session.specs.Streams.{Asked, InHead, InBody, Cut, Reader, onto, after_head, by_answer, cut, size}
-use Rattle.tus_session.specs.Streams.{Moments, moments_of, moments, taken_of, taken}
+use Rattle.tus_session.specs.Streams.{Asked, InHead, InBody, Cut, Reader, after_head, by_answer, cut}
+use Rattle.tus_session.specs.Streams.{Moments, moments, taken}
 use Rattle.tus_session.proofs.Cuts.{cut_steps, left, left_alone, head_there}
 
 -- the bytes are a head and part of its body, and nothing else
@@ -53,8 +53,13 @@ pub cut_more : (answer : Reader) → IsSteady answer → (u q : List ℕ) (n : �
     (nat_lt (length (r.body ++ q)) (body_length r.verdict))
 cut_more answer steady u q n r is =
     let v = r.verdict in
-    rw (cut_steps answer steady (u ++ q), steady.keeps u q n v is.judged,
-    head_there (cut answer) n v u q (steady.within u n v is.judged), is.head, is.body)
+    rw (
+      cut_steps answer steady (u ++ q),
+      steady.keeps u q n v is.judged,
+      head_there (cut answer) n v u q (steady.within u n v is.judged),
+      is.head,
+      is.body,
+    )
 
 abbrev pub longer : Asked → List ℕ → Asked
 longer r q = record r { body = r.body ++ q }
@@ -77,8 +82,10 @@ empty_cut answer steady = rw (cut_steps answer steady [], empty_answer answer st
 pub part_cut : (answer : Reader) → IsSteady answer → (u q : List ℕ) (n : ℕ) (r : Asked) → IsBody answer u n r
     → length r.body + length q < body_length r.verdict → cut answer (u ++ q) ≡ only_body (longer r q)
 part_cut answer steady u q n r is few =
-    rw (cut_more answer steady u q n r is,
-    lt-ltb (length (r.body ++ q)) (body_length r.verdict) (simp length-append few))
+    rw (
+      cut_more answer steady u q n r is,
+      lt-ltb (length (r.body ++ q)) (body_length r.verdict) (simp length-append few),
+    )
 
 pub part_came : (answer : Reader) → IsSteady answer → (u q : List ℕ) (n : ℕ) (r : Asked) → IsBody answer u n r
     → cut answer u ≡ only_body r
@@ -94,8 +101,13 @@ pub rest_cut : (answer : Reader) → IsSteady answer → (u q : List ℕ) (n : �
 rest_cut answer steady u q n r is all =
     let m = body_length r.verdict in
     let l : length (r.body ++ q) ≡ m = simp length-append all in
-    rw (cut_more answer steady u q n r is, le-ltb (length (r.body ++ q)) m (omega arith),
-    take_all m (r.body ++ q) (omega arith), drop_all m (r.body ++ q) (omega arith), empty_cut answer steady)
+    rw (
+      cut_more answer steady u q n r is,
+      le-ltb (length (r.body ++ q)) m (omega arith),
+      take_all m (r.body ++ q) (omega arith),
+      drop_all m (r.body ++ q) (omega arith),
+      empty_cut answer steady,
+    )
 
 pub rest_came : (answer : Reader) → IsSteady answer → (u q : List ℕ) (n : ℕ) (r : Asked) → IsBody answer u n r
     → cut answer u ≡ only_body r
@@ -164,8 +176,14 @@ pub whole_cut : (answer : Reader) → IsSteady answer → (s : List ℕ) (n : �
 whole_cut answer steady s n v e all =
     let m = body_length v in
     let rest = drop n s in
-    rw (cut_steps answer steady s, e, le-ltb (length rest) m (omega arith), take_all m rest (omega arith),
-    drop_all m rest (omega arith), empty_cut answer steady)
+    rw (
+      cut_steps answer steady s,
+      e,
+      le-ltb (length rest) m (omega arith),
+      take_all m rest (omega arith),
+      drop_all m rest (omega arith),
+      empty_cut answer steady,
+    )
 
 pub both_whole : (answer : Reader) → IsSteady answer → (h q : List ℕ) (n : ℕ) (v : Verdict) → cut answer h ≡ only_head h
     → answer (h ++ q) ≡ Judged n v
