@@ -6,20 +6,19 @@ use Rattle.std.proofs.lemmas.Bool.Decides.{nat_tests}
 use Rattle.std.proofs.lemmas.List.{length_push, take-append-drop}
 use Rattle.std.proofs.lemmas.Option.{same_Some}
 use Rattle.std.proofs.Math.Seq.{take-append_seam}
-use Rattle.upload_rules.specs.Store.{find}
+use Rattle.upload_rules.specs.Store.{Store, find}
 use Rattle.upload_rules.specs.World.{Patch, World, at_rest}
 use Rattle.upload_rules.specs.Apart.{IsApart}
-use Rattle.upload_rules.specs.Calls.{dropped}
 use Rattle.upload_rules.specs.declared.uploads.Uploads.{Ghosts}
 use Rattle.upload_rules.proofs.Finds.{find_without_same, find_without_other}
 use Rattle.tus_request.specs.Buffers.{bytes_of}
-use Rattle.tus_session.specs.Turns.{Conn}
+use Rattle.tus_session.specs.Turns.{Conn, left_world}
 use Rattle.tus_session.specs.History.{State}
 use Rattle.tus_session.specs.Stands.{LinkIs, PlaceIs, draft_at, SessionStands, dropped_by}
 use Rattle.tus_session.specs.declared.conns.Link.{Link}
 use Rattle.tus_session.specs.declared.conns.Awaiting.{Awaiting}
 use Rattle.tus_session.specs.declared.conns.Awaiting.TheVariants as awaits
-use Rattle.tus_session.proofs.InPlace.{beyond}
+use Rattle.tus_session.proofs.InPlace.{beyond, closed_none}
 use Rattle.tus_session.proofs.Moved.{apart_without}
 
 -- a world with the uploads of the history, in which only the drafts of the first places are open
@@ -49,11 +48,12 @@ module _ {U B : Type 0} (u : Ghosts U B) (sure : Bool) where
     owned = λ d p found. let c = stands.owned d p found in (c.0, conn_below places store st c.0 d stands c.1, c.1);
   }
 
-  -- a place that has no draft
-  pub none_closing : (st : State) (left : ℕ) (store : U) (v : World) → IsClosing u sure st (suc left) store v
-      → draft_at (st.conns left) ≡ None → IsClosing u sure st left store v
-  none_closing st left store v is none = record {
-    shown = is.shown;
+  -- the draft of the last place is dropped, if it has one
+  pub closing : (st : State) (left : ℕ) (store store' : U) (v : World) (own : Option ℕ)
+      → IsClosing u sure st (suc left) store v → draft_at (st.conns left) ≡ own
+      → u.stands store' sure (left_world v own) → IsClosing u sure st left store' (left_world v own)
+  closing st left store store' v None is none shown = record {
+    shown = shown;
     uploads = is.uploads;
     blocks = is.blocks;
     unique = is.unique;
@@ -62,12 +62,7 @@ module _ {U B : Type 0} (u : Ghosts U B) (sure : Bool) where
         let ne : c.0 ≢ left = λ e. let x : None ≡ Some d = rw (e, none) at c.2 in absurd (cc) in
         (c.0, omega (arith, c.1, ne), c.2);
   }
-
-  -- a place whose draft is dropped
-  pub draft_closing : (st : State) (left : ℕ) (store store' : U) (v : World) (d : ℕ)
-      → IsClosing u sure st (suc left) store v → draft_at (st.conns left) ≡ Some d → u.stands store' sure (dropped v d)
-      → IsClosing u sure st left store' (dropped v d)
-  draft_closing st left store store' v d is own shown = record {
+  closing st left store store' v (Some d) is own shown = record {
     shown = shown;
     uploads = is.uploads;
     blocks = is.blocks;
@@ -82,39 +77,17 @@ module _ {U B : Type 0} (u : Ghosts U B) (sure : Bool) where
     ];
   }
 
-  -- a connection without a patch
-  idle_closing : (st : State) (left : ℕ) (store store' : U) (v : World) (conn : Conn)
-      → IsClosing u sure st (suc left) store v → st.conns left ≡ Some conn → conn.draft ≡ None → u.stands store' sure v
-      → (v' : World) × IsClosing u sure st left store' v'
-  idle_closing st left store store' v conn is e none shown =
-      let now : IsClosing u sure st (suc left) store' v = assumption shown in
-      (v, none_closing st left store' v now (ap draft_at e ∙ none))
+  left_by : (w v : World) (head : List ℕ) (awaiting : Awaiting B) (conn : Conn) → LinkIs u w head awaiting conn
+      → dropped_by u v awaiting ≡ left_world v conn.draft
+  left_by w v head awaits.Head conn is = rw is.draft
+  left_by w v head (awaits.Patch b left) conn is = rw is.draft
+  left_by w v head (awaits.Skip left) conn is = rw is.draft
+  left_by w v head (awaits.Text g left) conn is = rw is.draft
 
-  awaiting_closing : (st : State) (left : ℕ) (store store' : U) (v : World) (head : List ℕ) (awaiting : Awaiting B)
-      (conn : Conn) → IsClosing u sure st (suc left) store v → st.conns left ≡ Some conn
-      → LinkIs u st.world head awaiting conn → u.stands store' sure (dropped_by u v awaiting) → (v' : World)
-      × IsClosing u sure st left store' v'
-  awaiting_closing st left store store' v head awaits.Head conn is e link shown =
-      idle_closing st left store store' v conn is e link.draft shown
-  awaiting_closing st left store store' v head (awaits.Skip wanted) conn is e link shown =
-      idle_closing st left store store' v conn is e link.draft shown
-  awaiting_closing st left store store' v head (awaits.Text g wanted) conn is e link shown =
-      idle_closing st left store store' v conn is e link.draft shown
-  awaiting_closing st left store store' v head (awaits.Patch b wanted) conn is e link shown =
-      (_, draft_closing st left store store' v (u.number_of b.draft) is (ap draft_at e ∙ link.draft) shown)
-
-  pub link_closing : (st : State) (left : ℕ) (store store' : U) (v : World) (k : Link B) (o : Option Conn)
-      → IsClosing u sure st (suc left) store v → st.conns left ≡ o → PlaceIs u st.world (Some k) o
-      → u.stands store' sure (dropped_by u v k.awaiting) → (v' : World) × IsClosing u sure st left store' v'
-  link_closing st left store store' v k None is e place shown = absurd place
-  link_closing st left store store' v k (Some conn) is e place shown =
-      awaiting_closing st left store store' v (bytes_of k.head) k.awaiting conn is e place shown
-
-  pub closed_closing : (st : State) (left : ℕ) (store : U) (v : World) (o : Option Conn)
-      → IsClosing u sure st (suc left) store v → st.conns left ≡ o → PlaceIs u st.world None o → (v' : World)
-      × IsClosing u sure st left store v'
-  closed_closing st left store v None is e place = (v, none_closing st left store v is (ap draft_at e))
-  closed_closing st left store v (Some conn) is e place = absurd place
+  place_left : (w v : World) (k : Link B) (o : Option Conn) → PlaceIs u w (Some k) o
+      → dropped_by u v k.awaiting ≡ left_world v (draft_at o)
+  place_left w v k None is = absurd is
+  place_left w v k (Some conn) is = left_by w v (bytes_of k.head) k.awaiting conn is
 
   no_patches : (patches : List (ℕ × Patch)) → ((d : ℕ) (p : Patch) → find d patches ≡ Some p → ⊥) → patches ≡ []
   no_patches [] none = refl
@@ -127,18 +100,10 @@ module _ {U B : Type 0} (u : Ghosts U B) (sure : Bool) where
       let none : v.patches ≡ [] =
       no_patches v.patches (λ d p found. let c = is.owned d p found in let l : c.0 < 0 = c.1 in absurd
       (omega arith)) in
-      let a : u.stands store sure (record {
-        store = v.store;
-        patches = [];
-        blocks = v.blocks;
-      }) = subst (λ ps. u.stands store sure (record { store = v.store; patches = ps; blocks = v.blocks })) none
-      is.shown in
-      let b : u.stands store sure (record {
-        store = st.world.store;
-        patches = [];
-        blocks = v.blocks;
-      }) = subst (λ m. u.stands store sure (record { store = m; patches = []; blocks = v.blocks })) is.uploads a in
-      subst (λ n. u.stands store sure (record { store = st.world.store; patches = []; blocks = n })) is.blocks b
+      let at : Store → List (ℕ × Patch) → Option ℕ → World = λ m ps n. record { store = m; patches = ps; blocks = n } in
+      let e : at v.store v.patches v.blocks ≡ at st.world.store [] st.world.blocks =
+      rw (none, is.uploads, is.blocks) in
+      rw e at is.shown
 
 get_seam : {A : Type 0} (prefix after : List A) (x other : A) → get_or (prefix ++ x ∷ after) (length prefix) other ≡ x
 get_seam [] after x other = refl
@@ -170,13 +135,15 @@ module _ {U B : Type 0} (u : Ghosts U B) (sure : Bool) (all old new : List (Opti
 
   pub after_closed : (store : U) (v : World) (x : Option (Link B)) → x ≡ None → Popped all old new x
       → IsClosing u sure st (length old) store v → (v' : World) × IsClosing u sure st (length new) store v'
-  after_closed store v x e is closing =
-      closed_closing u sure st (length new) store v (st.conns (length new)) (rw is.count at closing) refl
-      (rw e at (place_there x is))
+  after_closed store v x e is closes =
+      let none = closed_none u sure st.world (st.conns (length new)) (rw e at (place_there x is)) in
+      (v, closing u sure st (length new) store store v None (rw is.count at closes) (ap draft_at none) closes.shown)
 
   pub after_open : (store store' : U) (v : World) (x : Option (Link B)) (k : Link B) → x ≡ Some k → Popped all old new x
       → IsClosing u sure st (length old) store v → u.stands store' sure (dropped_by u v k.awaiting) → (v' : World)
       × IsClosing u sure st (length new) store' v'
-  after_open store store' v x k e is closing shown =
-      link_closing u sure st (length new) store store' v k (st.conns (length new)) (rw is.count at closing) refl
-      (rw e at (place_there x is)) shown
+  after_open store store' v x k e is closes shown =
+      let conn = st.conns (length new) in
+      let left = place_left u sure st.world v k conn (rw e at (place_there x is)) in
+      (left_world v (draft_at conn), closing u sure st (length new) store store' v (draft_at conn)
+          (rw is.count at closes) refl (rw left at shown))

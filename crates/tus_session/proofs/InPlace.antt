@@ -114,7 +114,7 @@ module _ {U B : Type 0} (u : Ghosts U B) (sure : Bool) where
           get_or xs i b
       get_or-any xs i a b lt = grind (arith, common_steps)
 
-  closed_none : (w : World) (conn : Option Conn) → PlaceIs u w None conn → conn ≡ None
+  pub closed_none : (w : World) (conn : Option Conn) → PlaceIs u w None conn → conn ≡ None
   closed_none w None is = refl
   closed_none w (Some k) is = absurd is
 

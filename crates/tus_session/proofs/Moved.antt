@@ -142,9 +142,6 @@ free_none w = none_least (length w.patches) 0 w.patches (λ k lt. absurd (omega 
 abbrev pub with_patch : World → ℕ → Patch → World
 with_patch w d p = record w { patches = (d, p) ∷ w.patches }
 
-find_first : (d : ℕ) (p : Patch) (patches : Patches) → find d ((d, p) ∷ patches) ≡ Some p
-find_first d p patches = grind (arith, nat_tests)
-
 find_after : (d e : ℕ) (p : Patch) (patches : Patches) → (d ≡ e → ⊥) → find e ((d, p) ∷ patches) ≡ find e patches
 find_after d e p patches ne = grind (arith, nat_tests)
 
