@@ -49,7 +49,7 @@ pub fed_store : (w : World) (d : ℕ) (piece : List ℕ) → (fed w d piece).sto
 fed_store w d [] = refl
 fed_store w d (b ∷ piece) = appended_store_is w d (b ∷ piece) (find d w.patches)
 
-without_first : (d : ℕ) (q : Patch) (xs : List (ℕ × Patch)) → without d ((d, q) ∷ xs) ≡ xs
+pub without_first : (d : ℕ) (q : Patch) (xs : List (ℕ × Patch)) → without d ((d, q) ∷ xs) ≡ xs
 without_first d q xs = grind (arith, nat_tests)
 
 without_case : (d : ℕ) (q : Patch) (x : ℕ × Patch) (xs : List (ℕ × Patch)) → without d (replaced d q xs) ≡ without d xs
