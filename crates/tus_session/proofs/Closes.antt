@@ -144,6 +144,8 @@ module _ {U B : Type 0} (u : Ghosts U B) (sure : Bool) (all old new : List (Opti
       × IsClosing u sure st (length new) store' v'
   after_open store store' v x k e is closes shown =
       let conn = st.conns (length new) in
-      let left = place_left u sure st.world v k conn (rw e at (place_there x is)) in
-      (left_world v (draft_at conn), closing u sure st (length new) store store' v (draft_at conn)
-          (rw is.count at closes) refl (rw left at shown))
+      let left = place_left u sure st.world v k conn (rw e at (place_there x is)) in (
+        left_world v (draft_at conn),
+        closing u sure st (length new) store store' v (draft_at conn)
+            (rw is.count at closes) refl (rw left at shown),
+      )

@@ -26,30 +26,6 @@ head_same f g head v rest false e = ap (onto (record { head = head; verdict = v;
 shorter : (s : List ℕ) (n m : ℕ) → 0 < n → n ≤ length s → length (drop m (drop n s)) < length s
 shorter s n m some within = simp length-drop (omega arith)
 
-answer_same : (answer : Reader) → IsSteady answer → (f g : List ℕ → Cut) (s : List ℕ) (a : Answer) → answer s ≡ a
-    → ((t : List ℕ) → length t < length s → f t ≡ g t) → by_answer f s a ≡ by_answer g s a
-answer_same answer steady f g s More e same = refl
-answer_same answer steady f g s (Judged n v) e same =
-    head_same f g (take n s) v (drop n s) (nat_lt (length (drop n s)) (body_length v))
-    (same (drop (body_length v) (drop n s)) (shorter s n (body_length v) (steady.some s n v e) (steady.within s n v e)))
-
--- enough requests are enough
-enough : (answer : Reader) → IsSteady answer → (n m : ℕ) (s : List ℕ) → length s < n → length s < m
-    → cut_within answer n s ≡ cut_within answer m s
-enough answer steady zero m s p q = absurd (omega arith)
-enough answer steady (suc n) zero s p q = absurd (omega arith)
-enough answer steady (suc n) (suc m) s p q =
-    answer_same answer steady (cut_within answer n) (cut_within answer m) s (answer s) refl
-    (λ t shorter. enough answer steady n m t (omega arith) (omega arith))
-
--- the cut, request by request
-pub cut_steps : (answer : Reader) → IsSteady answer → (s : List ℕ) → cut answer s ≡ by_answer (cut answer) s (answer s)
-unfolding cut
-cut_steps answer steady s =
-    answer_same answer steady (cut_within answer (length s)) (λ t. cut_within answer (suc (length t)) t) s (answer s)
-    refl
-    (λ t shorter. enough answer steady (length s) (suc (length t)) t shorter (omega arith))
-
 -- THE CUT GOES ON: the whole requests so far, and then the cut of what is left with what comes
 abbrev pub GoesOn : Reader → List ℕ → List ℕ → Cut → Type 0
 GoesOn answer p s c = cut answer (s ++ p) ≡ after_whole c.whole (cut answer (rest_bytes c.rest ++ p))
@@ -69,87 +45,13 @@ pub head_there : (f : List ℕ → Cut) (n : ℕ) (v : Verdict) (s p : List ℕ)
     (nat_lt (length (drop n s ++ p)) (body_length v))
 head_there f n v s p within = rw (take-append-le n s p within, drop-append-le n s p within)
 
-on_body : (answer : Reader) → IsSteady answer → (s p : List ℕ) (n : ℕ) (v : Verdict) → answer s ≡ Judged n v
-    → ((t : List ℕ) → length t < length s → GoesOn answer p t (cut answer t))
-    → (b : Bool) → nat_lt (length (drop n s)) (body_length v) ≡ b → GoesOn answer p s
-    (after_head (cut answer) (take n s) v (drop n s) b)
-on_body answer steady s p n v e goes true under = ap (λ x. cut answer (x ++ p)) (sym (take-append-drop n s))
-on_body answer steady s p n v e goes false there =
-    let within = steady.within s n v e in
-    rw (
-      cut_steps answer steady (s ++ p),
-      steady.keeps s p n v e,
-      head_there (cut answer) n v s p within,
-      body_there (cut answer) (take n s) v (drop n s) p (ltb-false (length (drop n s)) (body_length v) there),
-      goes (drop (body_length v) (drop n s)) (shorter s n (body_length v) (steady.some s n v e) within),
-    )
-
-on_answer : (answer : Reader) → IsSteady answer → (s p : List ℕ) (a : Answer) → answer s ≡ a
-    → ((t : List ℕ) → length t < length s → GoesOn answer p t (cut answer t))
-    → GoesOn answer p s (by_answer (cut answer) s a)
-on_answer answer steady s p More e goes = refl
-on_answer answer steady s p (Judged n v) e goes =
-    on_body answer steady s p n v e goes (nat_lt (length (drop n s)) (body_length v)) refl
-
-goes_within : (answer : Reader) → IsSteady answer → (n : ℕ) (s p : List ℕ) → length s < n
-    → GoesOn answer p s (cut answer s)
-goes_within answer steady zero s p short = absurd (omega arith)
-goes_within answer steady (suc n) s p short =
-    rw (cut_steps answer steady s)
-    (on_answer answer steady s p (answer s) refl (λ t shorter. goes_within answer steady n t p (omega arith)))
-
-pub goes_on : (answer : Reader) → IsSteady answer → (s p : List ℕ) → GoesOn answer p s (cut answer s)
-goes_on answer steady s p = goes_within answer steady (suc (length s)) s p (omega arith)
-
 -- THE CUT COVERS THE STREAM
 abbrev pub Covers : List ℕ → Cut → Type 0
 Covers s c = span c.whole + length (rest_bytes c.rest) ≡ length s
 
-cover_body : (answer : Reader) → IsSteady answer → (s : List ℕ) (n : ℕ) (v : Verdict) → n ≤ length s → 0 < n
-    → ((t : List ℕ) → length t < length s → Covers t (cut answer t))
-    → (b : Bool) → nat_lt (length (drop n s)) (body_length v) ≡ b → Covers s
-    (after_head (cut answer) (take n s) v (drop n s) b)
-cover_body answer steady s n v within some covers true under = omega (arith, ap length (take-append-drop n s))
-cover_body answer steady s n v within some covers false there =
-    let m = body_length v in
-    omega (
-      arith,
-      covers (drop m (drop n s)) (shorter s n m some within),
-      simp length-append at (ap length (take-append-drop n s)),
-      simp length-append at (ap length (take-append-drop m (drop n s))),
-    )
-
-cover_answer : (answer : Reader) → IsSteady answer → (s : List ℕ) (a : Answer) → answer s ≡ a
-    → ((t : List ℕ) → length t < length s → Covers t (cut answer t)) → Covers s (by_answer (cut answer) s a)
-cover_answer answer steady s More e covers = omega arith
-cover_answer answer steady s (Judged n v) e covers =
-    cover_body answer steady s n v (steady.within s n v e) (steady.some s n v e) covers
-    (nat_lt (length (drop n s)) (body_length v)) refl
-
-covers_within : (answer : Reader) → IsSteady answer → (n : ℕ) (s : List ℕ) → length s < n → Covers s (cut answer s)
-covers_within answer steady zero s short = absurd (omega arith)
-covers_within answer steady (suc n) s short =
-    rw (cut_steps answer steady s)
-    (cover_answer answer steady s (answer s) refl (λ t shorter. covers_within answer steady n t (omega arith)))
-
-pub covers : (answer : Reader) → IsSteady answer → (s : List ℕ) → Covers s (cut answer s)
-covers answer steady s = covers_within answer steady (suc (length s)) s (omega arith)
-
 -- A cut without its whole requests: that of what is left
 abbrev pub IsLeft : Reader → Cut → Type 0
 IsLeft answer c = cut answer (rest_bytes c.rest) ≡ record { whole = []; rest = c.rest }
-
-pub left_alone : (answer : Reader) → IsSteady answer → (s : List ℕ) → IsLeft answer (cut answer s)
-left_alone answer steady s =
-    let c = cut answer s in
-    let u = rest_bytes c.rest in
-    let e : c ≡ after_whole c.whole (cut answer u) =
-    ap (cut answer) (sym (append-nil s))
-    ∙ (goes_on answer steady s [] ∙ ap (λ x. after_whole c.whole (cut answer x)) (append-nil u)) in
-    let w : (cut answer u).whole ≡ [] =
-    append_cancel_left c.whole (cut answer u).whole [] (sym (ap (λ x. x.whole) e) ∙ sym (append-nil c.whole)) in
-    let at : List Asked → Rest → Cut = λ ws r. record { whole = ws; rest = r } in
-    ap (λ x. at x (cut answer u).rest) w ∙ ap (at []) (sym (ap (λ x. x.rest) e))
 
 -- MOMENTS FROM WHAT IS LEFT ALONE
 
@@ -178,16 +80,6 @@ moments_after ws r d =
 abbrev pub left : Reader → List ℕ → List ℕ
 left answer s = rest_bytes (cut answer s).rest
 
-pub moments_alone : (answer : Reader) → IsSteady answer → (s q : List ℕ)
-    → moments answer s q ≡ moments answer (left answer s) q
-unfolding moments
-moments_alone answer steady s q =
-    let c = cut answer s in
-    let u = left answer s in
-    ap (moments_of c) (goes_on answer steady s q)
-    ∙ (moments_after c.whole c.rest (cut answer (u ++ q))
-    ∙ ap (λ x. moments_of x (cut answer (u ++ q))) (sym (left_alone answer steady s)))
-
 -- how much is taken, by what is left alone
 by_end : (ws : List Asked) (s u p : List ℕ) (d : Cut) → span ws + length u ≡ length s → (r : Option Asked)
     → taken_to s p (after_whole ws d) (length ws) r ≡ taken_to u p d 0 r
@@ -203,12 +95,107 @@ taken_after ws r s u p d covers =
     ap (taken_to s p (after_whole ws d) (length ws)) (get_first_after ws d.whole)
     ∙ by_end ws s u p d covers (slice_get d.whole 0)
 
-pub taken_alone : (answer : Reader) → IsSteady answer → (s p : List ℕ) → taken answer s p ≡ taken answer (left answer s)
-    p
-unfolding taken
-taken_alone answer steady s p =
-    let c = cut answer s in
-    let u = left answer s in
-    ap (taken_of s p c) (goes_on answer steady s p)
-    ∙ (taken_after c.whole c.rest s u p (cut answer (u ++ p)) (covers answer steady s)
-    ∙ ap (λ x. taken_of u p x (cut answer (u ++ p))) (sym (left_alone answer steady s)))
+module _ (answer : Reader) (steady : IsSteady answer) where
+  answer_same : (f g : List ℕ → Cut) (s : List ℕ) (a : Answer) → answer s ≡ a → ((t : List ℕ) → length t < length s → f t ≡ g t) → by_answer f s a ≡ by_answer g s a
+  answer_same f g s More e same = refl
+  answer_same f g s (Judged n v) e same =
+      head_same f g (take n s) v (drop n s) (nat_lt (length (drop n s)) (body_length v))
+      (same (drop (body_length v) (drop n s)) (shorter s n (body_length v) (steady.some s n v e) (steady.within s n v e)))
+
+  -- enough requests are enough
+  enough : (n m : ℕ) (s : List ℕ) → length s < n → length s < m → cut_within answer n s ≡ cut_within answer m s
+  enough zero m s p q = absurd (omega arith)
+  enough (suc n) zero s p q = absurd (omega arith)
+  enough (suc n) (suc m) s p q =
+      answer_same (cut_within answer n) (cut_within answer m) s (answer s) refl
+      (λ t shorter. enough n m t (omega arith) (omega arith))
+
+  -- the cut, request by request
+  pub cut_steps : (s : List ℕ) → cut answer s ≡ by_answer (cut answer) s (answer s)
+  unfolding cut
+  cut_steps s =
+      answer_same (cut_within answer (length s)) (λ t. cut_within answer (suc (length t)) t) s (answer s)
+      refl
+      (λ t shorter. enough (length s) (suc (length t)) t shorter (omega arith))
+
+  on_body : (s p : List ℕ) (n : ℕ) (v : Verdict) → answer s ≡ Judged n v → ((t : List ℕ) → length t < length s → GoesOn answer p t (cut answer t)) → (b : Bool) → nat_lt (length (drop n s)) (body_length v) ≡ b → GoesOn answer p s (after_head (cut answer) (take n s) v (drop n s) b)
+  on_body s p n v e goes true under = ap (λ x. cut answer (x ++ p)) (sym (take-append-drop n s))
+  on_body s p n v e goes false there =
+      let within = steady.within s n v e in
+      rw (
+        cut_steps (s ++ p),
+        steady.keeps s p n v e,
+        head_there (cut answer) n v s p within,
+        body_there (cut answer) (take n s) v (drop n s) p (ltb-false (length (drop n s)) (body_length v) there),
+        goes (drop (body_length v) (drop n s)) (shorter s n (body_length v) (steady.some s n v e) within),
+      )
+
+  on_answer : (s p : List ℕ) (a : Answer) → answer s ≡ a → ((t : List ℕ) → length t < length s → GoesOn answer p t (cut answer t)) → GoesOn answer p s (by_answer (cut answer) s a)
+  on_answer s p More e goes = refl
+  on_answer s p (Judged n v) e goes =
+      on_body s p n v e goes (nat_lt (length (drop n s)) (body_length v)) refl
+
+  goes_within : (n : ℕ) (s p : List ℕ) → length s < n → GoesOn answer p s (cut answer s)
+  goes_within zero s p short = absurd (omega arith)
+  goes_within (suc n) s p short =
+      rw (cut_steps s)
+      (on_answer s p (answer s) refl (λ t shorter. goes_within n t p (omega arith)))
+
+  pub goes_on : (s p : List ℕ) → GoesOn answer p s (cut answer s)
+  goes_on s p = goes_within (suc (length s)) s p (omega arith)
+
+  cover_body : (s : List ℕ) (n : ℕ) (v : Verdict) → n ≤ length s → 0 < n → ((t : List ℕ) → length t < length s → Covers t (cut answer t)) → (b : Bool) → nat_lt (length (drop n s)) (body_length v) ≡ b → Covers s (after_head (cut answer) (take n s) v (drop n s) b)
+  cover_body s n v within some covers true under = omega (arith, ap length (take-append-drop n s))
+  cover_body s n v within some covers false there =
+      let m = body_length v in
+      omega (
+        arith,
+        covers (drop m (drop n s)) (shorter s n m some within),
+        simp length-append at (ap length (take-append-drop n s)),
+        simp length-append at (ap length (take-append-drop m (drop n s))),
+      )
+
+  cover_answer : (s : List ℕ) (a : Answer) → answer s ≡ a → ((t : List ℕ) → length t < length s → Covers t (cut answer t)) → Covers s (by_answer (cut answer) s a)
+  cover_answer s More e covers = omega arith
+  cover_answer s (Judged n v) e covers =
+      cover_body s n v (steady.within s n v e) (steady.some s n v e) covers
+      (nat_lt (length (drop n s)) (body_length v)) refl
+
+  covers_within : (n : ℕ) (s : List ℕ) → length s < n → Covers s (cut answer s)
+  covers_within zero s short = absurd (omega arith)
+  covers_within (suc n) s short =
+      rw (cut_steps s)
+      (cover_answer s (answer s) refl (λ t shorter. covers_within n t (omega arith)))
+
+  pub covers : (s : List ℕ) → Covers s (cut answer s)
+  covers s = covers_within (suc (length s)) s (omega arith)
+
+  pub left_alone : (s : List ℕ) → IsLeft answer (cut answer s)
+  left_alone s =
+      let c = cut answer s in
+      let u = rest_bytes c.rest in
+      let e : c ≡ after_whole c.whole (cut answer u) =
+      ap (cut answer) (sym (append-nil s))
+      ∙ (goes_on s [] ∙ ap (λ x. after_whole c.whole (cut answer x)) (append-nil u)) in
+      let w : (cut answer u).whole ≡ [] =
+      append_cancel_left c.whole (cut answer u).whole [] (sym (ap (λ x. x.whole) e) ∙ sym (append-nil c.whole)) in
+      let at : List Asked → Rest → Cut = λ ws r. record { whole = ws; rest = r } in
+      ap (λ x. at x (cut answer u).rest) w ∙ ap (at []) (sym (ap (λ x. x.rest) e))
+
+  pub moments_alone : (s q : List ℕ) → moments answer s q ≡ moments answer (left answer s) q
+  unfolding moments
+  moments_alone s q =
+      let c = cut answer s in
+      let u = left answer s in
+      ap (moments_of c) (goes_on s q)
+      ∙ (moments_after c.whole c.rest (cut answer (u ++ q))
+      ∙ ap (λ x. moments_of x (cut answer (u ++ q))) (sym (left_alone s)))
+
+  pub taken_alone : (s p : List ℕ) → taken answer s p ≡ taken answer (left answer s) p
+  unfolding taken
+  taken_alone s p =
+      let c = cut answer s in
+      let u = left answer s in
+      ap (taken_of s p c) (goes_on s p)
+      ∙ (taken_after c.whole c.rest s u p (cut answer (u ++ p)) (covers s)
+      ∙ ap (λ x. taken_of u p x (cut answer (u ++ p))) (sym (left_alone s)))

@@ -39,28 +39,6 @@ answer_case : (answer : Reader) (u : List ℕ) (r : Asked) (a : Answer) → answ
 answer_case answer u r More e q = let x : InBody r ≡ InHead u = ap (λ (c : Cut). c.rest) q in absurd (cc)
 answer_case answer u r (Judged n v) e q = body_case answer u r n v e (nat_lt (length (drop n u)) (body_length v)) refl q
 
--- what is left of a stream whose rest is a body
-pub left_body : (answer : Reader) → IsSteady answer → (s : List ℕ) (r : Asked) → (cut answer s).rest ≡ InBody r
-    → (m : ℕ) × IsBody answer (left answer s) m r
-left_body answer steady s r e =
-    let u = left answer s in
-    let f : cut answer u ≡ only_body r = left_alone answer steady s ∙ ap (λ x. record { whole = []; rest = x }) e in
-    answer_case answer u r (answer u) refl (sym f ∙ cut_steps answer steady u)
-
--- the cut with more of the body
-pub cut_more : (answer : Reader) → IsSteady answer → (u q : List ℕ) (n : ℕ) (r : Asked) → IsBody answer u n r
-    → cut answer (u ++ q) ≡ after_head (cut answer) r.head r.verdict (r.body ++ q)
-    (nat_lt (length (r.body ++ q)) (body_length r.verdict))
-cut_more answer steady u q n r is =
-    let v = r.verdict in
-    rw (
-      cut_steps answer steady (u ++ q),
-      steady.keeps u q n v is.judged,
-      head_there (cut answer) n v u q (steady.within u n v is.judged),
-      is.head,
-      is.body,
-    )
-
 abbrev pub longer : Asked → List ℕ → Asked
 longer r q = record r { body = r.body ++ q }
 
@@ -70,142 +48,9 @@ bytes_came q = record { head = None; body = None; came = q }
 abbrev pub body_ended : Asked → List ℕ → Moments
 body_ended r q = record { head = None; body = Some (longer r q); came = q }
 
-empty_answer : (answer : Reader) → IsSteady answer → (a : Answer) → answer [] ≡ a → a ≡ More
-empty_answer answer steady More e = refl
-empty_answer answer steady (Judged n v) e =
-    absurd (omega (arith, steady.some [] n v e, steady.within [] n v e))
-
-pub empty_cut : (answer : Reader) → IsSteady answer → cut answer [] ≡ record { whole = []; rest = InHead [] }
-empty_cut answer steady = rw (cut_steps answer steady [], empty_answer answer steady (answer []) refl)
-
--- MORE OF A BODY: fewer bytes than it wants
-pub part_cut : (answer : Reader) → IsSteady answer → (u q : List ℕ) (n : ℕ) (r : Asked) → IsBody answer u n r
-    → length r.body + length q < body_length r.verdict → cut answer (u ++ q) ≡ only_body (longer r q)
-part_cut answer steady u q n r is few =
-    rw (
-      cut_more answer steady u q n r is,
-      lt-ltb (length (r.body ++ q)) (body_length r.verdict) (simp length-append few),
-    )
-
-pub part_came : (answer : Reader) → IsSteady answer → (u q : List ℕ) (n : ℕ) (r : Asked) → IsBody answer u n r
-    → cut answer u ≡ only_body r
-    → length r.body + length q < body_length r.verdict → moments answer u q ≡ bytes_came q
-unfolding moments
-part_came answer steady u q n r is only few =
-    rw (only, part_cut answer steady u q n r is few, drop-append_seam r.body q)
-
--- its last bytes
-pub rest_cut : (answer : Reader) → IsSteady answer → (u q : List ℕ) (n : ℕ) (r : Asked) → IsBody answer u n r
-    → length r.body + length q ≡ body_length r.verdict
-    → cut answer (u ++ q) ≡ record { whole = longer r q ∷ []; rest = InHead [] }
-rest_cut answer steady u q n r is all =
-    let m = body_length r.verdict in
-    let l : length (r.body ++ q) ≡ m = simp length-append all in
-    rw (
-      cut_more answer steady u q n r is,
-      le-ltb (length (r.body ++ q)) m (omega arith),
-      take_all m (r.body ++ q) (omega arith),
-      drop_all m (r.body ++ q) (omega arith),
-      empty_cut answer steady,
-    )
-
-pub rest_came : (answer : Reader) → IsSteady answer → (u q : List ℕ) (n : ℕ) (r : Asked) → IsBody answer u n r
-    → cut answer u ≡ only_body r
-    → length r.body + length q ≡ body_length r.verdict → moments answer u q ≡ body_ended r q
-unfolding moments
-rest_came answer steady u q n r is only all =
-    rw (only, rest_cut answer steady u q n r is all, drop-append_seam r.body q)
-
--- HOW MUCH IS TAKEN of a body: the piece, or what the body still wants
-pub part_taken : (answer : Reader) → IsSteady answer → (u p : List ℕ) (n : ℕ) (r : Asked) → IsBody answer u n r
-    → cut answer u ≡ only_body r
-    → length r.body + length p < body_length r.verdict → taken answer u p ≡ length p
-unfolding taken
-part_taken answer steady u p n r is only few = rw (only, part_cut answer steady u p n r is few)
-
-pub rest_taken : (answer : Reader) → IsSteady answer → (u p : List ℕ) (n : ℕ) (r : Asked) → IsBody answer u n r
-    → cut answer u ≡ only_body r
-    → body_length r.verdict ≤ length r.body + length p → taken answer u p ≡ body_length r.verdict - length r.body
-unfolding taken
-rest_taken answer steady u p n r is only enough =
-    let m = body_length r.verdict in
-    let l : m ≤ length (r.body ++ p) = simp length-append enough in
-    let t = length-take-le m (r.body ++ p) l in
-    let parts = simp (length-append, is.head, is.body) at (ap length (take-append-drop n u)) in
-    rw (only, cut_more answer steady u p n r is, le-ltb (length (r.body ++ p)) m l) (omega arith)
-
 -- AN UNFINISHED HEAD
 abbrev pub only_head : List ℕ → Cut
 only_head h = record { whole = []; rest = InHead h }
-
--- the head isn't whole yet
-pub more_cut : (answer : Reader) → IsSteady answer → (s : List ℕ) → answer s ≡ More → cut answer s ≡ only_head s
-more_cut answer steady s e = rw (cut_steps answer steady s, e)
-
-pub head_part : (answer : Reader) → IsSteady answer → (h q : List ℕ) → cut answer h ≡ only_head h
-    → answer (h ++ q) ≡ More
-    → (moments answer h q ≡ record { head = None; body = None; came = [] }) × (taken answer h q ≡ length q)
-unfolding moments taken
-head_part answer steady h q only e =
-    let f = more_cut answer steady (h ++ q) e in
-    (rw (only, f), rw (only, f))
-
--- the head is whole, and its body isn't
-pub begun_cut : (answer : Reader) → IsSteady answer → (s : List ℕ) (n : ℕ) (v : Verdict) → answer s ≡ Judged n v
-    → length (drop n s) < body_length v → cut answer s ≡ only_body (judged_as s n v)
-begun_cut answer steady s n v e few =
-    rw (cut_steps answer steady s, e, lt-ltb (length (drop n s)) (body_length v) few)
-
-pub head_whole : (answer : Reader) → IsSteady answer → (h q : List ℕ) (n : ℕ) (v : Verdict) → cut answer h ≡ only_head h
-    → answer (h ++ q) ≡ Judged n v
-    → length (drop n (h ++ q)) < body_length v
-    → (moments answer h q ≡ record {
-      head = Some (judged_as (h ++ q) n v);
-      body = None;
-      came = drop n (h ++ q);
-    }) × (taken answer h q ≡ length q)
-unfolding moments taken
-head_whole answer steady h q n v only e few =
-    let f = begun_cut answer steady (h ++ q) n v e few in
-    (rw (only, f), rw (only, f))
-
--- both are whole, and the bytes end there
-pub whole_cut : (answer : Reader) → IsSteady answer → (s : List ℕ) (n : ℕ) (v : Verdict) → answer s ≡ Judged n v
-    → length (drop n s) ≡ body_length v
-    → cut answer s ≡ record { whole = judged_as s n v ∷ []; rest = InHead [] }
-whole_cut answer steady s n v e all =
-    let m = body_length v in
-    let rest = drop n s in
-    rw (
-      cut_steps answer steady s,
-      e,
-      le-ltb (length rest) m (omega arith),
-      take_all m rest (omega arith),
-      drop_all m rest (omega arith),
-      empty_cut answer steady,
-    )
-
-pub both_whole : (answer : Reader) → IsSteady answer → (h q : List ℕ) (n : ℕ) (v : Verdict) → cut answer h ≡ only_head h
-    → answer (h ++ q) ≡ Judged n v
-    → length (drop n (h ++ q)) ≡ body_length v
-    → moments answer h q ≡ record {
-      head = Some (judged_as (h ++ q) n v);
-      body = Some (judged_as (h ++ q) n v);
-      came = drop n (h ++ q);
-    }
-unfolding moments
-both_whole answer steady h q n v only e all = rw (only, whole_cut answer steady (h ++ q) n v e all)
-
--- a piece in which the request ends: its head and body alone are taken
-pub whole_taken : (answer : Reader) → IsSteady answer → (h p : List ℕ) (n : ℕ) (v : Verdict)
-    → cut answer h ≡ only_head h → answer (h ++ p) ≡ Judged n v
-    → body_length v ≤ length (drop n (h ++ p)) → taken answer h p ≡ n + body_length v - length h
-unfolding taken
-whole_taken answer steady h p n v only e enough =
-    let m = body_length v in
-    let a = length-take-le n (h ++ p) (steady.within (h ++ p) n v e) in
-    let b = length-take-le m (drop n (h ++ p)) enough in
-    rw (only, cut_steps answer steady (h ++ p), e, le-ltb (length (drop n (h ++ p))) m enough) (omega arith)
 
 -- THE HEAD'S LAST BYTE comes in the event that makes the head whole
 no_answer_case : (answer : Reader) (h : List ℕ) (n : ℕ) (v : Verdict) (b : Bool)
@@ -214,18 +59,137 @@ no_answer_case answer h n v true q =
     let x : InHead h ≡ InBody (judged_as h n v) = ap (λ (c : Cut). c.rest) q in absurd (cc)
 no_answer_case answer h n v false q = omega (arith, ap (λ (c : Cut). length c.whole) q)
 
-no_answer : (answer : Reader) → IsSteady answer → (h : List ℕ) (n : ℕ) (v : Verdict) → cut answer h ≡ only_head h
-    → answer h ≡ Judged n v → ⊥
-no_answer answer steady h n v only e =
-    no_answer_case answer h n v (nat_lt (length (drop n h)) (body_length v))
-    (sym only ∙ (cut_steps answer steady h ∙ ap (by_answer (cut answer) h) e))
+module _ (answer : Reader) (steady : IsSteady answer) where
+  -- what is left of a stream whose rest is a body
+  pub left_body : (s : List ℕ) (r : Asked) → (cut answer s).rest ≡ InBody r → (m : ℕ) × IsBody answer (left answer s) m r
+  left_body s r e =
+      let u = left answer s in
+      let f : cut answer u ≡ only_body r = left_alone answer steady s ∙ ap (λ x. record { whole = []; rest = x }) e in
+      answer_case answer u r (answer u) refl (sym f ∙ cut_steps answer steady u)
 
-pub head_new : (answer : Reader) → IsSteady answer → (h q : List ℕ) (n : ℕ) (v : Verdict) → cut answer h ≡ only_head h
-    → answer (h ++ q) ≡ Judged n v → length h < n
-head_new answer steady h q n v only e = elim (cases_lt (length h) n) [
-  | inl new ↦ new
-  | inr within ↦
-      let own = rw (take-append-le n h q within) at (steady.own (h ++ q) n v e) in
-      absurd (no_answer answer steady h n v only
-      (rw (take-append-drop n h) at (steady.keeps (take n h) (drop n h) n v own)))
-]
+  -- the cut with more of the body
+  pub cut_more : (u q : List ℕ) (n : ℕ) (r : Asked) → IsBody answer u n r → cut answer (u ++ q) ≡ after_head (cut answer) r.head r.verdict (r.body ++ q) (nat_lt (length (r.body ++ q)) (body_length r.verdict))
+  cut_more u q n r is =
+      let v = r.verdict in
+      rw (
+        cut_steps answer steady (u ++ q),
+        steady.keeps u q n v is.judged,
+        head_there (cut answer) n v u q (steady.within u n v is.judged),
+        is.head,
+        is.body,
+      )
+
+  empty_answer : (a : Answer) → answer [] ≡ a → a ≡ More
+  empty_answer More e = refl
+  empty_answer (Judged n v) e =
+      absurd (omega (arith, steady.some [] n v e, steady.within [] n v e))
+
+  pub empty_cut : cut answer [] ≡ record { whole = []; rest = InHead [] }
+  empty_cut = rw (cut_steps answer steady [], empty_answer (answer []) refl)
+
+  -- MORE OF A BODY: fewer bytes than it wants
+  pub part_cut : (u q : List ℕ) (n : ℕ) (r : Asked) → IsBody answer u n r → length r.body + length q < body_length r.verdict → cut answer (u ++ q) ≡ only_body (longer r q)
+  part_cut u q n r is few =
+      rw (
+        cut_more u q n r is,
+        lt-ltb (length (r.body ++ q)) (body_length r.verdict) (simp length-append few),
+      )
+
+  pub part_came : (u q : List ℕ) (n : ℕ) (r : Asked) → IsBody answer u n r → cut answer u ≡ only_body r → length r.body + length q < body_length r.verdict → moments answer u q ≡ bytes_came q
+  unfolding moments
+  part_came u q n r is only few =
+      rw (only, part_cut u q n r is few, drop-append_seam r.body q)
+
+  -- its last bytes
+  pub rest_cut : (u q : List ℕ) (n : ℕ) (r : Asked) → IsBody answer u n r → length r.body + length q ≡ body_length r.verdict → cut answer (u ++ q) ≡ record { whole = longer r q ∷ []; rest = InHead [] }
+  rest_cut u q n r is all =
+      let m = body_length r.verdict in
+      let l : length (r.body ++ q) ≡ m = simp length-append all in
+      rw (
+        cut_more u q n r is,
+        le-ltb (length (r.body ++ q)) m (omega arith),
+        take_all m (r.body ++ q) (omega arith),
+        drop_all m (r.body ++ q) (omega arith),
+        empty_cut,
+      )
+
+  pub rest_came : (u q : List ℕ) (n : ℕ) (r : Asked) → IsBody answer u n r → cut answer u ≡ only_body r → length r.body + length q ≡ body_length r.verdict → moments answer u q ≡ body_ended r q
+  unfolding moments
+  rest_came u q n r is only all =
+      rw (only, rest_cut u q n r is all, drop-append_seam r.body q)
+
+  -- HOW MUCH IS TAKEN of a body: the piece, or what the body still wants
+  pub part_taken : (u p : List ℕ) (n : ℕ) (r : Asked) → IsBody answer u n r → cut answer u ≡ only_body r → length r.body + length p < body_length r.verdict → taken answer u p ≡ length p
+  unfolding taken
+  part_taken u p n r is only few = rw (only, part_cut u p n r is few)
+
+  pub rest_taken : (u p : List ℕ) (n : ℕ) (r : Asked) → IsBody answer u n r → cut answer u ≡ only_body r → body_length r.verdict ≤ length r.body + length p → taken answer u p ≡ body_length r.verdict - length r.body
+  unfolding taken
+  rest_taken u p n r is only enough =
+      let m = body_length r.verdict in
+      let l : m ≤ length (r.body ++ p) = simp length-append enough in
+      let t = length-take-le m (r.body ++ p) l in
+      let parts = simp (length-append, is.head, is.body) at (ap length (take-append-drop n u)) in
+      rw (only, cut_more u p n r is, le-ltb (length (r.body ++ p)) m l) (omega arith)
+
+  -- the head isn't whole yet
+  pub more_cut : (s : List ℕ) → answer s ≡ More → cut answer s ≡ only_head s
+  more_cut s e = rw (cut_steps answer steady s, e)
+
+  pub head_part : (h q : List ℕ) → cut answer h ≡ only_head h → answer (h ++ q) ≡ More → (moments answer h q ≡ record { head = None; body = None; came = [] }) × (taken answer h q ≡ length q)
+  unfolding moments taken
+  head_part h q only e =
+      let f = more_cut (h ++ q) e in
+      (rw (only, f), rw (only, f))
+
+  -- the head is whole, and its body isn't
+  pub begun_cut : (s : List ℕ) (n : ℕ) (v : Verdict) → answer s ≡ Judged n v → length (drop n s) < body_length v → cut answer s ≡ only_body (judged_as s n v)
+  begun_cut s n v e few =
+      rw (cut_steps answer steady s, e, lt-ltb (length (drop n s)) (body_length v) few)
+
+  pub head_whole : (h q : List ℕ) (n : ℕ) (v : Verdict) → cut answer h ≡ only_head h → answer (h ++ q) ≡ Judged n v → length (drop n (h ++ q)) < body_length v → (moments answer h q ≡ record { head = Some (judged_as (h ++ q) n v); body = None; came = drop n (h ++ q) }) × (taken answer h q ≡ length q)
+  unfolding moments taken
+  head_whole h q n v only e few =
+      let f = begun_cut (h ++ q) n v e few in
+      (rw (only, f), rw (only, f))
+
+  -- both are whole, and the bytes end there
+  pub whole_cut : (s : List ℕ) (n : ℕ) (v : Verdict) → answer s ≡ Judged n v → length (drop n s) ≡ body_length v → cut answer s ≡ record { whole = judged_as s n v ∷ []; rest = InHead [] }
+  whole_cut s n v e all =
+      let m = body_length v in
+      let rest = drop n s in
+      rw (
+        cut_steps answer steady s,
+        e,
+        le-ltb (length rest) m (omega arith),
+        take_all m rest (omega arith),
+        drop_all m rest (omega arith),
+        empty_cut,
+      )
+
+  pub both_whole : (h q : List ℕ) (n : ℕ) (v : Verdict) → cut answer h ≡ only_head h → answer (h ++ q) ≡ Judged n v → length (drop n (h ++ q)) ≡ body_length v → moments answer h q ≡ record { head = Some (judged_as (h ++ q) n v); body = Some (judged_as (h ++ q) n v); came = drop n (h ++ q) }
+  unfolding moments
+  both_whole h q n v only e all = rw (only, whole_cut (h ++ q) n v e all)
+
+  -- a piece in which the request ends: its head and body alone are taken
+  pub whole_taken : (h p : List ℕ) (n : ℕ) (v : Verdict) → cut answer h ≡ only_head h → answer (h ++ p) ≡ Judged n v → body_length v ≤ length (drop n (h ++ p)) → taken answer h p ≡ n + body_length v - length h
+  unfolding taken
+  whole_taken h p n v only e enough =
+      let m = body_length v in
+      let a = length-take-le n (h ++ p) (steady.within (h ++ p) n v e) in
+      let b = length-take-le m (drop n (h ++ p)) enough in
+      rw (only, cut_steps answer steady (h ++ p), e, le-ltb (length (drop n (h ++ p))) m enough) (omega arith)
+
+  no_answer : (h : List ℕ) (n : ℕ) (v : Verdict) → cut answer h ≡ only_head h → answer h ≡ Judged n v → ⊥
+  no_answer h n v only e =
+      no_answer_case answer h n v (nat_lt (length (drop n h)) (body_length v))
+      (sym only ∙ (cut_steps answer steady h ∙ ap (by_answer (cut answer) h) e))
+
+  pub head_new : (h q : List ℕ) (n : ℕ) (v : Verdict) → cut answer h ≡ only_head h → answer (h ++ q) ≡ Judged n v → length h < n
+  head_new h q n v only e = elim (cases_lt (length h) n) [
+    | inl new ↦ new
+    | inr within ↦
+        let own = rw (take-append-le n h q within) at (steady.own (h ++ q) n v e) in
+        absurd (no_answer h n v only
+        (rw (take-append-drop n h) at (steady.keeps (take n h) (drop n h) n v own)))
+  ]
