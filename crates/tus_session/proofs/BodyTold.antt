@@ -1,7 +1,7 @@
 -- From what a body comes to, to the turn's answer.
 use Rattle.std.proofs.Common.{ℕ, zero, suc, ◌+◌, ◌-◌, ◌<◌, ◌≤◌, ◌≡◌, inl, inr, Bool, true, false, List, [], ◌∷◌, ◌++◌}
-use Rattle.std.proofs.Common.{Option, Some, None, Result, Ok, Err, length, take, refl, sym, ◌∙◌, ap, subst, arith, append-nil}
-use Rattle.std.proofs.Common.{min, if◌then◌else◌}
+use Rattle.std.proofs.Common.{Option, Some, None, Result, Ok, Err, length, take, refl, sym, ◌∙◌, ap, subst, arith}
+use Rattle.std.proofs.Common.{append-nil, min, if◌then◌else◌}
 use Rattle.std.proofs.lemmas.Bool.{cases_lt}
 use Rattle.std.proofs.lemmas.List.{length-take-le, take_all, length-append}
 use Rattle.tus_request.specs.Buffers.{bytes_of}
@@ -9,8 +9,7 @@ use Rattle.tus_request.specs.Requests.{Request, body_length}
 use Rattle.upload_rules.specs.Store.{Upload, upload_of, patched, find}
 use Rattle.upload_rules.specs.World.{Patch, World}
 use Rattle.upload_rules.specs.Grown.{GrewFrom}
-use Rattle.upload_rules.specs.Calls.{dropped, spent, commit_refusal, appended_at}
-use Rattle.upload_rules.specs.Calls.{longer as longer_patch}
+use Rattle.upload_rules.specs.Calls.{dropped, spent, commit_refusal, appended_at, longer as longer_patch}
 use Rattle.upload_rules.proofs.Finds.{find_replaced_same}
 use Rattle.upload_rules.specs.declared.uploads.Uploads.{Ghosts}
 use Rattle.tus_action.specs.Acts.{Giving, Acted, fed, fed_patch}
@@ -30,12 +29,11 @@ use Rattle.tus_session.specs.declared.conns.Link.{Link}
 use Rattle.tus_session.proofs.BodyTurns.{part_turn, rest_turn, turn_at}
 use Rattle.tus_session.proofs.Feeding.{fed_body, fed_began, fed_number, fed_count, fed_declare}
 use Rattle.tus_session.proofs.Frames.{grown_more}
-pub use Rattle.tus_session.proofs.Frames.{rest_same}
 use Rattle.tus_session.proofs.Opening.{still}
 use Rattle.tus_session.proofs.Moved.{feed_moves, spend_moves, both_moves}
-use Rattle.tus_session.proofs.NewRests.{is_steady, body_part_rest, body_whole_rest}
-use Rattle.tus_session.proofs.Tasks.{body_wants}
+use Rattle.tus_session.proofs.NewRests.{is_steady, body_part_rest, body_whole_rest, body_wants}
 use Rattle.tus_session.proofs.Unfinished.{longer}
+pub use Rattle.tus_session.proofs.Frames.{rest_same}
 
 abbrev pub plain : List ℕ → Option ℕ → Conn
 plain s d = record { stream = s; draft = d; pending = None }

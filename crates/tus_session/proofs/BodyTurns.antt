@@ -1,6 +1,6 @@
 -- The turn of a connection whose request under way is a body: by how many bytes the body still wants.
-use Rattle.std.proofs.Common.{ℕ, ◌+◌, ◌-◌, ◌<◌, ◌≤◌, ◌≡◌, inl, inr, List, [], ◌++◌, Option, Some, None, length, take, min}
-use Rattle.std.proofs.Common.{refl, ◌∙◌, ap, arith}
+use Rattle.std.proofs.Common.{ℕ, ◌+◌, ◌-◌, ◌<◌, ◌≤◌, ◌≡◌, inl, inr, List, [], ◌++◌, Option, Some, None, length, take}
+use Rattle.std.proofs.Common.{min, refl, ◌∙◌, ap, arith}
 use Rattle.std.proofs.lemmas.Bool.{cases_lt}
 use Rattle.std.proofs.lemmas.List.{length-take-le, take_all, length-append}
 use Rattle.tus_request.specs.Requests.{body_length}

@@ -1,12 +1,12 @@
 -- A patch whose body goes on.
 use Rattle.std.proofs.Common.{◌≡◌, ℕ, ◌+◌, ◌==◌, Bool, true, false, List, [], ◌∷◌, ◌++◌, length, Option, Some, None}
-use Rattle.std.proofs.Common.{Err}
-use Rattle.std.proofs.Common.{refl, sym, ◌∙◌, ap, subst, arith, append-nil, if◌then◌else◌}
+use Rattle.std.proofs.Common.{Err, refl, sym, ◌∙◌, ap, arith, append-nil, if◌then◌else◌}
 use Rattle.std.proofs.lemmas.Bool.Decides.{nat_tests}
 use Rattle.std.proofs.lemmas.List.{length-append}
 use Rattle.upload_rules.specs.Store.{find, without, replaced}
 use Rattle.upload_rules.specs.World.{Patch, World, reached}
-use Rattle.upload_rules.specs.Calls.{longer, appended_at, dropped, commit_refusal, commit_outcome}
+use Rattle.upload_rules.specs.Calls.{longer, appended_at, dropped, commit_refusal, commit_outcome, committed_store}
+use Rattle.upload_rules.specs.Calls.{spent, outcome}
 use Rattle.upload_rules.specs.declared.uploads.Uploads.{Ghosts}
 use Rattle.tus_request.specs.Requests.{Request}
 use Rattle.tus_action.specs.Acts.{Acted, fed, fed_patch}
@@ -18,8 +18,8 @@ use Rattle.tus_request.specs.declared.buffer.HeadBuffer.{HeadBuffer}
 use Rattle.tus_session.specs.Bodies.{ended_by, took, link_after, Answered, Parts, Replies}
 use Rattle.tus_session.specs.declared.conns.Link.{Link}
 use Rattle.tus_session.specs.Turned.{Turned}
-use Rattle.tus_session.specs.Turns.{Conn, Turn, left_world}
-use Rattle.tus_session.proofs.Tasks.{spent_store}
+use Rattle.tus_session.specs.Turns.{Conn, Turn}
+use Rattle.upload_rules.specs.declared.errors.UploadRefusal.{UploadRefusal}
 
 pub fed_body : (w : World) (d : ℕ) (p : Patch) (piece : List ℕ) → (fed_patch w d p piece).body ≡ p.body ++ piece
 fed_body w d p [] = sym (append-nil p.body)
@@ -68,6 +68,11 @@ drop_fed w d p [] found = refl
 drop_fed w d p (b ∷ piece) found =
     ap (λ o. dropped (appended_at w d (b ∷ piece) o) d) found
     ∙ ap (λ ps. record w { patches = ps }) (without_replaced d (longer w d p (b ∷ piece)) w.patches)
+
+pub spent_store : (w : World) (d : ℕ) (p : Patch) (o : Option UploadRefusal)
+    → (spent w d p o).store ≡ outcome o w.store (committed_store w.store p)
+spent_store w d p None = refl
+spent_store w d p (Some f) = refl
 
 -- the offset after the whole body
 pub reached_fed : (w : World) (d : ℕ) (p : Patch) (piece : List ℕ) (n : ℕ) → length p.body + length piece ≡ p.count

@@ -1,19 +1,19 @@
--- The next piece of a text.
-use Rattle.std.proofs.Common.{◌≡◌, ℕ, Bool, true, false, List, [], Option, Some, None, Err, refl, sym, ◌∙◌}
-use Rattle.std.proofs.Common.{ap, subst, append-nil}
+-- The next piece of a text, and the end of a connection.
+use Rattle.std.proofs.Common.{◌≡◌, ℕ, Bool, true, false, List, [], Option, Some, None, Err, refl, sym, ◌∙◌, ap, subst}
+use Rattle.std.proofs.Common.{append-nil, ◌⊎◌, inl, inr, Result, Ok}
 use Rattle.tus_request.specs.Buffers.{bytes_of}
-use Rattle.upload_rules.specs.Store.{Store, Upload, upload_of}
-use Rattle.upload_rules.specs.World.{World}
+use Rattle.upload_rules.specs.Store.{Store, Upload, upload_of, find}
+use Rattle.upload_rules.specs.World.{World, Patch}
 use Rattle.upload_rules.specs.declared.uploads.Uploads.{Ghosts}
 use Rattle.tus_action.specs.Acts.{Giving, is_pending, pending_after, piece_of}
-use Rattle.tus_action.specs.Serves.{GivingIs, IsGiven, Gives, Appends}
+use Rattle.tus_action.specs.Serves.{GivingIs, IsGiven, Gives, Appends, Ends}
 use Rattle.tus_action.specs.declared.acts.Giving as given
 use Rattle.tus_action.specs.declared.acts.Given.TheVariants.{Piece, Last, Gone}
 use Rattle.tus_session.specs.Streams.{cut}
-use Rattle.tus_session.specs.Turns.{Conn, Turn, reader, given_up, more_on, more_turn}
-use Rattle.tus_session.specs.Stands.{IsGivingText, LinkIs}
+use Rattle.tus_session.specs.Turns.{Conn, Turn, reader, given_up, more_on, more_turn, ended_on, ended_world}
+use Rattle.tus_session.specs.Stands.{IsGivingText, LinkIs, IsPatching}
 use Rattle.tus_session.specs.Moves.{Moves}
-use Rattle.tus_session.specs.Turned.{TurnedAs, Turned}
+use Rattle.tus_session.specs.Turned.{TurnedAs, Turned, EndedAs, Ended}
 use Rattle.tus_action.specs.declared.acts.Stop.{Stop}
 use Rattle.tus_action.specs.declared.acts.Stop.TheVariants as stops
 use Rattle.tus_request.specs.declared.buffer.HeadBuffer.{HeadBuffer}
@@ -25,6 +25,10 @@ use Rattle.tus_session.specs.declared.conns.Link.{Link}
 use Rattle.tus_session.proofs.BodyTold.{answered_here}
 use Rattle.tus_action.proofs.Pieces.{piece_appends}
 use Rattle.tus_session.proofs.Opening.{still}
+use Rattle.upload_rules.specs.Calls.{dropped, spent, commit_refusal, commit_outcome}
+use Rattle.tus_action.specs.declared.bodies.OpenPatch.{OpenPatch}
+use Rattle.tus_session.proofs.Moved.{spend_moves}
+use Rattle.tus_session.proofs.Feeding.{spent_store}
 
 more_is : (w : World) (conn : Conn) (o : Option Giving) → conn.pending ≡ o → more_turn w conn ≡ more_on w conn o
 unfolding more_turn
@@ -144,3 +148,52 @@ pub gone_with_upload : (sure : Bool) (m : Store) (old new : List ℕ) (h : Givin
     → IsGiven sure m Gone old new h o → (o ≡ None) × (new ≡ old)
 gone_with_upload sure m old new h None is = (refl, is)
 gone_with_upload sure m old new h (Some up) is = absurd is
+
+-- THE END OF A CONNECTION
+
+pub ended_is : (w : World) (conn : Conn) (d : ℕ) (p : Patch) → conn.draft ≡ Some d → find d w.patches ≡ Some p
+    → ended_world w conn ≡ spent w d p (commit_refusal w d p)
+unfolding ended_world
+ended_is w conn d p is found = rw (is, found)
+
+pub ended_none : (w : World) (conn : Conn) → conn.draft ≡ None → ended_world w conn ≡ w
+unfolding ended_world
+ended_none w conn is = ap (ended_on w) is
+
+module _ {U B : Type 0} (u : Ghosts U B) (sure : Bool) where
+  -- nothing was open
+  pub ends_idle : (store : U) (w : World) (conn : Conn) → u.stands store sure w → conn.draft ≡ None
+      → EndedAs u sure store w conn.draft (ended_world w conn)
+  ends_idle store w conn stands none =
+      rw (ended_none w conn none, none) (record { shown = stands; moves = still w None })
+
+  module _ (w : World) (conn : Conn) (head : List ℕ) (b : OpenPatch B) (left : ℕ)
+      (is : IsPatching u w conn head b left) where
+    abbrev d : ℕ
+    d = u.number_of b.draft
+
+    ended_as : ended_world w conn ≡ spent w d is.p (commit_refusal w d is.p)
+    ended_as = ended_is w conn d is.p is.draft is.patches.found
+
+    -- a cut body
+    pub ends_cut : (store : U) (r : Result (Unit {0}) Stop)
+        → Ends u sure store r (dropped w d) (spent w d is.p (commit_refusal w d is.p))
+        → Ended u sure store r w conn.draft (ended_world w conn)
+    ends_cut store (Ok x) stands =
+        rw (ended_as, is.draft) (record { shown = stands; moves = spend_moves w d is.p is.patches.grown })
+    ends_cut store (Err stops.NoMemory) stands = rw is.draft stands
+    ends_cut store (Err stops.DiskFault) x = tt
+
+    pub ends_store : commit_outcome w d is.p ≡ (ended_world w conn).store
+    ends_store = rw ended_as (sym (spent_store w d is.p (commit_refusal w d is.p)))
+
+  -- no patch is open
+  pub no_draft : (w : World) (head : List ℕ) (awaiting : Awaiting B) (conn : Conn) → LinkIs u w head awaiting conn
+      → (awaiting ≡ awaits.Head) ⊎ (((n : ℕ) × (awaiting ≡ awaits.Skip n))
+      ⊎ ((g : given.Giving) × (n : ℕ) × (awaiting ≡ awaits.Text g n))) → conn.draft ≡ None
+  no_draft w head awaits.Head conn is how = is.draft
+  no_draft w head (awaits.Skip left) conn is how = is.draft
+  no_draft w head (awaits.Text g left) conn is how = is.draft
+  no_draft w head (awaits.Patch b left) conn is (inl e) = absurd (cc)
+  no_draft w head (awaits.Patch b left) conn is (inr (inl (n, e))) = absurd (cc)
+  no_draft w head (awaits.Patch b left) conn is (inr (inr (g, n, e))) = absurd (cc)

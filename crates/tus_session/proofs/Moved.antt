@@ -8,8 +8,8 @@ use Rattle.std.proofs.lemmas.List.{length-append, nil_from_length}
 use Rattle.std.proofs.lemmas.Option.{same_Some}
 use Rattle.upload_rules.specs.Lengths.{is_length, known_or, is_new, differ, longest}
 use Rattle.upload_rules.specs.Store.{New, Upload, Store, upload_of, text_of, text_with, patched, find, replaced}
-use Rattle.upload_rules.specs.Store.{without, is_complete, new_upload, created_store, deleted_store}
-use Rattle.upload_rules.specs.Store.{patched_at, patched_store}
+use Rattle.upload_rules.specs.Store.{without, is_complete, new_upload, created_store, deleted_store, patched_at}
+use Rattle.upload_rules.specs.Store.{patched_store}
 use Rattle.upload_rules.specs.World.{Patch, World, is_there, least_from, free_number, reached, length_then, completes}
 use Rattle.upload_rules.specs.World.{patch_text}
 use Rattle.upload_rules.specs.Room.{is_short}

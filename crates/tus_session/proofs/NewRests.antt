@@ -1,6 +1,5 @@
 -- What is left of a stream after an event.
-use Rattle.std.proofs.Common.{ℕ, zero, suc, ◌+◌, ◌<◌, ◌≡◌, List, [], ◌∷◌, ◌++◌, length, take, drop, ◌∙◌, ap}
-use Rattle.std.proofs.Common.{arith}
+use Rattle.std.proofs.Common.{ℕ, zero, suc, ◌+◌, ◌<◌, ◌≡◌, List, [], ◌∷◌, ◌++◌, length, take, drop, ◌∙◌, ap, arith}
 use Rattle.enc_model.specs.Indexes.{offers}
 use Rattle.tus_request.proofs.Prefixes.{steady}
 use Rattle.tus_request.specs.Requests.{Verdict, body_length}
@@ -10,11 +9,16 @@ use Rattle.tus_request.specs.Steady.{IsSteady}
 use Rattle.tus_request.specs.Answers.{More, Judged}
 use Rattle.tus_session.specs.Streams.{Asked, InHead, InBody, Reader, cut}
 use Rattle.tus_session.proofs.Cuts.{goes_on, left, left_alone}
-use Rattle.tus_session.proofs.Unfinished.{left_body, longer, judged_as, only_head, part_cut, rest_cut, more_cut, begun_cut}
-use Rattle.tus_session.proofs.Unfinished.{whole_cut}
+use Rattle.tus_session.proofs.Unfinished.{left_body, longer, judged_as, only_head, part_cut, rest_cut, more_cut}
+use Rattle.tus_session.proofs.Unfinished.{begun_cut, whole_cut}
 
 pub is_steady : (w : World) → IsSteady (reader w)
 is_steady w = steady (offers w.store.indexes)
+
+-- a body under way wants bytes
+pub body_wants : (w : World) (s : List ℕ) (asked : Asked) → (cut (reader w) s).rest ≡ InBody asked
+    → length asked.body < body_length asked.verdict
+body_wants w s asked e = (left_body (reader w) (is_steady w) s asked e).1.wants
 
 module _ (answer : Reader) (steady : IsSteady answer) where
   rest_on : (s p : List ℕ) → (cut answer (s ++ p)).rest ≡ (cut answer (left answer s ++ p)).rest

@@ -1,7 +1,7 @@
 -- A connection is opened; a session begins.
 use Rattle.std.proofs.Common.{◌≡◌, ◌⊎◌, inl, inr, ℕ, zero, suc, ◌<◌, ◌≤◌, Bool, true, false, List, [], ◌∷◌, ◌++◌}
-use Rattle.std.proofs.Common.{length, get_or, slice_set, Option, Some, None, refl, sym, ◌∙◌, ap}
-use Rattle.std.proofs.Common.{arith, append-nil, is_some}
+use Rattle.std.proofs.Common.{length, get_or, slice_set, Option, Some, None, refl, sym, ◌∙◌, ap, arith, append-nil}
+use Rattle.std.proofs.Common.{is_some}
 use Rattle.std.proofs.lemmas.Bool.{lt-ltb, le-ltb, cases_eq}
 use Rattle.std.proofs.lemmas.Option.{same_Some}
 use Rattle.tus_request.specs.Buffers.{bytes_of}
@@ -12,8 +12,7 @@ use Rattle.upload_rules.specs.World.{World, at_rest}
 use Rattle.upload_rules.specs.declared.uploads.Uploads.{Ghosts}
 use Rattle.tus_session.specs.Streams.{InHead}
 use Rattle.tus_session.specs.Turns.{fresh, reader}
-use Rattle.tus_session.specs.History.{State, Opened, Served, Done, Refused, beginning, step}
-use Rattle.tus_session.specs.History.{most_open}
+use Rattle.tus_session.specs.History.{State, Opened, Served, Done, Refused, beginning, step, most_open}
 use Rattle.tus_session.specs.Stands.{PlaceIs, draft_at, SessionStands}
 use Rattle.tus_session.specs.Moves.{Longer, Grows, Moves}
 use Rattle.tus_session.specs.Told.{Follows}

@@ -1,7 +1,7 @@
 -- From a patch that a head opened, to the turn's answer.
-use Rattle.std.proofs.Common.{ℕ, ◌+◌, ◌-◌, ◌<◌, ◌≤◌, ◌≡◌, inl, inr, false, List, [], ◌∷◌, ◌++◌, Option, Bool}
-use Rattle.std.proofs.Common.{Some, None, Result, Ok, Err, length, take, drop, refl, sym, ◌∙◌, ap, subst, arith}
-use Rattle.std.proofs.Common.{append-nil, append_assoc, if◌then◌else◌}
+use Rattle.std.proofs.Common.{ℕ, ◌+◌, ◌-◌, ◌<◌, ◌≤◌, ◌≡◌, inl, inr, false, List, [], ◌∷◌, ◌++◌, Option, Bool, Some}
+use Rattle.std.proofs.Common.{None, Result, Ok, Err, length, take, drop, refl, sym, ◌∙◌, ap, subst, arith, append-nil}
+use Rattle.std.proofs.Common.{append_assoc, if◌then◌else◌}
 use Rattle.std.proofs.lemmas.Bool.{cases_lt}
 use Rattle.std.proofs.lemmas.Bool.Decides.{nat_tests}
 use Rattle.std.proofs.lemmas.List.{length-drop, length-take-le, take_all}
@@ -11,7 +11,7 @@ use Rattle.tus_request.specs.Buffers.{bytes_of}
 use Rattle.tus_request.specs.Requests.{Request, Asks}
 use Rattle.tus_request.specs.declared.buffer.HeadBuffer.{HeadBuffer}
 use Rattle.upload_rules.specs.Answers.{Limits}
-use Rattle.upload_rules.specs.Store.{Upload, Store, upload_of, find, without}
+use Rattle.upload_rules.specs.Store.{Upload, Store, upload_of, find}
 use Rattle.upload_rules.specs.World.{Patch, World}
 use Rattle.upload_rules.specs.Calls.{first_patch, dropped}
 use Rattle.upload_rules.specs.declared.uploads.Uploads.{Ghosts}
@@ -23,7 +23,7 @@ use Rattle.tus_action.specs.declared.acts.Stop.TheVariants as stops
 use Rattle.tus_action.specs.declared.bodies.OpenPatch.{OpenPatch}
 use Rattle.tus_session.specs.Streams.{Asked, InHead}
 use Rattle.tus_session.specs.Stands.{PatchesAs}
-use Rattle.tus_session.specs.Turns.{Conn, Turn, reader, came_turn}
+use Rattle.tus_session.specs.Turns.{Conn, reader, came_turn}
 use Rattle.tus_session.specs.Heads.{IsWhole, ReachedIs}
 use Rattle.tus_session.specs.Turned.{Turned}
 use Rattle.tus_session.specs.Bodies.{Parts, Replies, ended_by, BackTo}
@@ -35,9 +35,8 @@ use Rattle.tus_session.proofs.Growth.{patched_nothing}
 use Rattle.tus_session.proofs.HeadTurns.{part_turn_is, whole_turn_is, within, body_is, verdict_is, prefix_is}
 use Rattle.tus_session.proofs.Moved.{with_patch, open_moves, both_moves}
 use Rattle.tus_session.proofs.NewRests.{is_steady, head_part_rest, head_whole_rest}
-use Rattle.tus_session.proofs.Limiting.{first_then, still_limits}
-use Rattle.tus_session.proofs.Tasks.{limits_to}
-use Rattle.tus_session.proofs.RequestLeaves.{Opened, Nothing, Text, Patching as AsPatch, leaves}
+use Rattle.tus_session.proofs.Limiting.{first_then, still_limits, limits_to}
+use Rattle.tus_session.proofs.RequestLeaves.{Nothing, Text, Patching as AsPatch, leaves}
 
 -- what the head of a patch did
 abbrev opened : World → ℕ → Patch → List ℕ → Acted

@@ -2,8 +2,7 @@
 use Rattle.std.proofs.Common.{ℕ, ◌+◌, ◌≤◌, ◌≡◌, ◌==◌, Bool, true, false, List, [], ◌∷◌, Option, Some, None, length}
 use Rattle.std.proofs.Common.{drop, refl, ap, if◌then◌else◌}
 use Rattle.std.proofs.lemmas.Bool.{eqb-true}
-use Rattle.tus_request.specs.Requests.{Request, Action, Options, Create, Head, Get, Delete, Asks}
-use Rattle.tus_request.specs.Requests.{Patch as Patches}
+use Rattle.tus_request.specs.Requests.{Request, Action, Options, Create, Head, Get, Delete, Asks, Patch as Patches}
 use Rattle.upload_rules.specs.Store.{New, Upload, upload_of, find, text_of}
 use Rattle.upload_rules.specs.World.{World, free_number}
 use Rattle.upload_rules.specs.Calls.{create_refusal, terminate_refusal, begin_refusal, begin_refusal_at, begun_at}

@@ -2,12 +2,11 @@
 use Rattle.std.proofs.Common.{◌≡◌, ℕ, List, Option, Some, None, Ok, Err, refl, ap, [], Bool}
 use Rattle.upload_rules.specs.declared.uploads.Uploads.{Ghosts}
 use Rattle.tus_session.specs.Turns.{Conn, Turn, left_world, more_turn, came_turn, ended_world}
-use Rattle.tus_session.specs.History.{State, Event, Opened, Came, More, Ended, Served, OutOfMemory, Failed, Gave}
-use Rattle.tus_session.specs.History.{Done, Refused, step, put, turned, conn_in, lost_at, failed_at, came_at, more_at}
+use Rattle.tus_session.specs.History.{State, Event, Opened, Came, More, Ended, Served, OutOfMemory, Failed, Gave, Done}
+use Rattle.tus_session.specs.History.{Refused, step, put, turned, conn_in, lost_at, failed_at, came_at, more_at}
 use Rattle.tus_session.specs.History.{ended_at, is_closed, has_text}
 use Rattle.tus_session.specs.Stands.{SessionStands}
-use Rattle.tus_session.specs.Turned.{Turned, TurnedAs, EndedAs}
-use Rattle.tus_session.specs.Turned.{Ended as EndedBy}
+use Rattle.tus_session.specs.Turned.{Turned, TurnedAs, EndedAs, Ended as EndedBy}
 use Rattle.tus_session.specs.Faults.{error_of}
 use Rattle.tus_action.specs.declared.acts.Stop.{Stop}
 use Rattle.tus_action.specs.declared.acts.Stop.TheVariants as stops

@@ -7,8 +7,8 @@ use Rattle.std.proofs.Math.Seq.{drop-append_seam}
 use Rattle.tus_request.specs.Requests.{Verdict, body_length}
 use Rattle.tus_request.specs.Steady.{IsSteady}
 use Rattle.tus_request.specs.Answers.{Answer, More, Judged}
-use Rattle.tus_session.specs.Streams.{Asked, InHead, InBody, Cut, Reader, after_head, by_answer, cut}
-use Rattle.tus_session.specs.Streams.{Moments, moments, taken}
+use Rattle.tus_session.specs.Streams.{Asked, InHead, InBody, Cut, Reader, after_head, by_answer, cut, Moments, moments}
+use Rattle.tus_session.specs.Streams.{taken}
 use Rattle.tus_session.proofs.Cuts.{cut_steps, left, left_alone, head_there}
 
 -- the bytes are a head and part of its body, and nothing else

@@ -5,9 +5,8 @@ use Rattle.tus_session.specs.Stands.{IsPatching, IsSkipping, IsGivingText}
 use Rattle.tus_session.specs.Turned.{TurnedAs}
 use Rattle.tus_session.specs.declared.conns.Awaiting.TheVariants.{Text}
 use Rattle.tus_action.specs.Acts.{is_pending}
-use Rattle.tus_session.proofs.Limiting.{still_limits}
+use Rattle.tus_session.proofs.Limiting.{still_limits, limits_to}
 use Rattle.tus_session.proofs.Mores.{stays}
-use Rattle.tus_session.proofs.Tasks.{limits_to}
 use Rattle.tus_session.proofs.BodyTold.{patch_told, left_wanted, rest_store, skip_told, text_turn_is}
 use Rattle.tus_session.proofs.heads.came_of.Goals as goal
 

@@ -1,7 +1,8 @@
 use Rattle.std.proofs.Common.{true}
 use Rattle.tus_request.specs.Buffers.{bytes_of}
 use Rattle.tus_session.specs.Stands.{IsPatching}
-use Rattle.tus_session.proofs.Tasks.{no_draft, ends_idle, ends_cut, ends_store, limits_same, limits_to}
+use Rattle.tus_session.proofs.Limiting.{limits_same, limits_to}
+use Rattle.tus_session.proofs.Mores.{no_draft, ends_idle, ends_cut, ends_store}
 use Rattle.tus_session.proofs.turns.end_of.Goals as goal
 
 pub returns-in-Patch-clause-answer : goal.returns-in-Patch-clause-answer

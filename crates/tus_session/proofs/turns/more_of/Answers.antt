@@ -2,8 +2,8 @@ use Rattle.std.proofs.lemmas.Result.{err_from_is_err_and}
 use Rattle.upload_rules.specs.Store.{upload_of}
 use Rattle.tus_request.specs.Buffers.{bytes_of}
 use Rattle.tus_session.specs.Stands.{IsGivingText}
-use Rattle.tus_session.proofs.Mores.{more_nothing, more_some, more_done, more_gone, more_stopped}
-use Rattle.tus_session.proofs.Mores.{piece_of_upload, last_of_upload, gone_with_upload}
+use Rattle.tus_session.proofs.Mores.{more_nothing, more_some, more_done, more_gone, more_stopped, piece_of_upload}
+use Rattle.tus_session.proofs.Mores.{last_of_upload, gone_with_upload}
 use Rattle.tus_session.proofs.turns.more_of.Goals as goal
 
 pub returns-in_default-clause-answer : goal.returns-in_default-clause-answer

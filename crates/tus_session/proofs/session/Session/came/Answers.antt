@@ -4,7 +4,7 @@ use Rattle.tus_session.specs.Turns.{came_turn}
 use Rattle.tus_session.specs.History.{Came}
 use Rattle.tus_session.proofs.InPlace.{is_put_back}
 use Rattle.tus_session.proofs.Stops.{stop_is, counts_as, no_down, no_memory}
-use Rattle.tus_session.proofs.Tasks.{limits_to}
+use Rattle.tus_session.proofs.Limiting.{limits_to}
 use Rattle.tus_session.proofs.Tolds.{came_is, none_open, told, stopped}
 use Rattle.tus_session.proofs.session.Session.came.Goals as goal
 
