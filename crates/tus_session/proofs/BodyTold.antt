@@ -38,6 +38,15 @@ pub use Rattle.tus_session.proofs.Frames.{rest_same}
 abbrev pub plain : List ℕ → Option ℕ → Conn
 plain s d = record { stream = s; draft = d; pending = None }
 
+-- a turn after which nothing is open
+abbrev pub answers : World → Bool → List ℕ → List ℕ → List ℕ → ℕ → Turn
+answers w closes s bytes text n =
+    record { world = w; conn = if closes then None else Some (plain s None); bytes = bytes; text = text; taken = n }
+
+-- a turn after which the body goes on
+abbrev pub goes_on : World → ℕ → List ℕ → List ℕ → ℕ → Turn
+goes_on w d s bytes n = record { world = w; conn = Some (plain s (Some d)); bytes = bytes; text = []; taken = n }
+
 module _ {U B : Type 0} (u : Ghosts U B) (sure : Bool) where
   -- a body of which so many bytes are to come is dropped
   dropping_is : (w : World) (conn : Conn) (head : List ℕ) (left : ℕ) (rest : Rest)
@@ -59,15 +68,8 @@ module _ {U B : Type 0} (u : Ghosts U B) (sure : Bool) where
       (own : Option ℕ) (head : HeadBuffer) (left taken : ℕ) (closes : Bool) (s' : List ℕ) (rest : Rest)
       → u.stands store sure w' → Moves w w' own None → link ≡ link_after head left closes
       → RestIs (bytes_of head) left rest → (cut (reader w) s').rest ≡ rest → a ≡ took taken closes
-      → Appends sure old new bytes text → TurnedAs u sure store link a old new w own
-      (record {
-        world = w';
-        conn = if closes then None else Some (plain s' None);
-        bytes = bytes;
-        text = text;
-        taken =
-            taken;
-      })
+      → Appends sure old new bytes text
+      → TurnedAs u sure store link a old new w own (answers w' closes s' bytes text taken)
   answered_here store link a old new bytes text w w' own head left taken true s' rest shown moves e kept here is given =
       rw (e, is) (assumption (shown, moves, given))
   answered_here store link a old new bytes text w w' own head left taken false s' rest shown moves e kept here is
@@ -99,13 +101,7 @@ module _ {U B : Type 0} (u : Ghosts U B) (sure : Bool) where
         → GoesOn u sure store link a head b b' left taken (fed w d q) (fed_patch w d p q) → Moves v w own (Some d)
         → (bytes_of head) ≡ [] → 0 < left → left ≡ body_length asked.verdict - length (asked.body ++ q)
         → (cut (reader w) s').rest ≡ InBody (longer asked q) → new ≡ old ++ reply
-        → TurnedAs u sure store link a old new v own (record {
-          world = fed w d q;
-          conn = Some (plain s' (Some d));
-          bytes = reply;
-          text = [];
-          taken = count;
-        })
+        → TurnedAs u sure store link a old new v own (goes_on (fed w d q) d s' reply count)
     part_here store link a head b' left taken count q s' old new reply v own count_is goes before cleared some wanted
         here written =
         let w' = fed w d q in
@@ -177,13 +173,8 @@ module _ {U B : Type 0} (u : Ghosts U B) (sure : Bool) (w : World) (conn : Conn)
       let n : length is.p.body ≡ length is.asked.body = ap length is.patches.body in
       omega (arith, is.inside.some, is.inside.wanted, is.patches.count)
 
-  part_is : (bytes : List ℕ) → length bytes < left → came_turn w conn bytes ≡ record {
-    world = fed w own bytes;
-    conn = Some (plain (conn.stream ++ bytes) (Some own));
-    bytes = [];
-    text = [];
-    taken = length bytes;
-  }
+  part_is : (bytes : List ℕ) → length bytes < left
+      → came_turn w conn bytes ≡ goes_on (fed w own bytes) own (conn.stream ++ bytes) [] (length bytes)
   part_is bytes few =
       let wanted = is.inside.wanted in
       let at : Option ℕ → Turn = λ d. turn_of conn bytes (length bytes)
@@ -194,13 +185,8 @@ module _ {U B : Type 0} (u : Ghosts U B) (sure : Bool) (w : World) (conn : Conn)
   abbrev ended : List ℕ → Acted
   ended bytes = ended_by w own is.p (take left bytes) is.r
 
-  rest_is : (bytes : List ℕ) → left ≤ length bytes → came_turn w conn bytes ≡ record {
-    world = (ended bytes).world;
-    conn = if (ended bytes).closes then None else Some (plain (conn.stream ++ take left bytes) None);
-    bytes = (ended bytes).bytes;
-    text = [];
-    taken = left;
-  }
+  rest_is : (bytes : List ℕ) → left ≤ length bytes → came_turn w conn bytes
+      ≡ answers (ended bytes).world (ended bytes).closes (conn.stream ++ take left bytes) (ended bytes).bytes [] left
   rest_is bytes enough =
       let wanted = is.inside.wanted in
       rw (

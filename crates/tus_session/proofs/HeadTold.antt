@@ -1,6 +1,6 @@
 -- From what a head comes to, to the turn's answer.
 use Rattle.std.proofs.Common.{ℕ, ◌+◌, ◌-◌, ◌≤◌, ◌≡◌, false, List, [], ◌++◌, Option, Some, None, Bool, length, take}
-use Rattle.std.proofs.Common.{drop, min, refl, sym, ◌∙◌, ap, subst, arith, append-nil, if◌then◌else◌, inl, inr, true}
+use Rattle.std.proofs.Common.{drop, min, refl, sym, ◌∙◌, ap, subst, arith, append-nil, inl, inr, true}
 use Rattle.std.proofs.lemmas.List.{take_all, length-append, length-drop}
 use Rattle.tus_request.specs.Buffers.{bytes_of}
 use Rattle.enc_model.specs.Indexes.{IndexSet, offers}
@@ -21,7 +21,7 @@ use Rattle.tus_session.specs.Bodies.{took, link_after}
 use Rattle.tus_session.specs.declared.answers.Answer as code
 use Rattle.tus_request.specs.declared.buffer.HeadBuffer.{HeadBuffer}
 use Rattle.tus_session.specs.declared.conns.Link.{Link}
-use Rattle.tus_session.proofs.BodyTold.{plain, answered_here}
+use Rattle.tus_session.proofs.BodyTold.{answers, answered_here}
 use Rattle.tus_session.proofs.HeadTurns.{more_turn_is, head_turn, verdict_is, prefix_is}
 use Rattle.tus_session.proofs.NewRests.{is_steady, head_more_rest, head_part_rest, head_whole_rest}
 use Rattle.tus_session.proofs.Opening.{still}
@@ -36,14 +36,8 @@ use Rattle.tus_session.proofs.Limiting.{still_limits}
 use Rattle.tus_session.proofs.RequestLeaves.{Nothing, Text, Patching, leaves}
 use Rattle.tus_session.proofs.Unfinished.{judged_as}
 
-abbrev pub answered_turn : Acted → List ℕ → ℕ → Turn
-answered_turn a s n = record {
-  world = a.world;
-  conn = if a.closes then None else Some (plain s None);
-  bytes = a.bytes;
-  text = a.text;
-  taken = n;
-}
+abbrev answered_turn : Acted → List ℕ → ℕ → Turn
+answered_turn a s n = answers a.world a.closes s a.bytes a.text n
 
 -- without a patch or a text, what the head did is all
 pub came_plain : (k : Conn) (piece : List ℕ) (n : ℕ) (m : Moments) (a : Acted) → a.pending ≡ None → a.draft ≡ None

@@ -1,7 +1,7 @@
 -- From a patch that a head opened, to the turn's answer.
 use Rattle.std.proofs.Common.{ℕ, ◌+◌, ◌-◌, ◌<◌, ◌≤◌, ◌≡◌, inl, inr, false, List, [], ◌∷◌, ◌++◌, Option, Bool, Some}
 use Rattle.std.proofs.Common.{None, Result, Ok, Err, length, take, drop, refl, sym, ◌∙◌, ap, subst, arith, append-nil}
-use Rattle.std.proofs.Common.{append_assoc, if◌then◌else◌}
+use Rattle.std.proofs.Common.{append_assoc}
 use Rattle.std.proofs.lemmas.Bool.{cases_lt}
 use Rattle.std.proofs.lemmas.Bool.Decides.{nat_tests}
 use Rattle.std.proofs.lemmas.List.{length-drop, length-take-le, take_all}
@@ -29,7 +29,7 @@ use Rattle.tus_session.specs.Turned.{Turned}
 use Rattle.tus_session.specs.Bodies.{Parts, Replies, ended_by, BackTo}
 use Rattle.tus_session.specs.declared.answers.Answer as code
 use Rattle.tus_session.specs.declared.conns.Link.{Link}
-use Rattle.tus_session.proofs.BodyTold.{Bodied, plain, answered_here, part_here, rest_moves, fed_found}
+use Rattle.tus_session.proofs.BodyTold.{Bodied, answers, goes_on, answered_here, part_here, rest_moves, fed_found}
 use Rattle.tus_session.proofs.Feeding.{without_first}
 use Rattle.tus_session.proofs.Growth.{patched_nothing}
 use Rattle.tus_session.proofs.HeadTurns.{part_turn_is, whole_turn_is, within, body_is, verdict_is, prefix_is}
@@ -126,13 +126,8 @@ module _ {U B : Type 0} (u : Ghosts U B) (sure : Bool) (w : World) (conn : Conn)
   abbrev reply : List ℕ
   reply = (acted w (Asks r)).bytes
 
-  part_is : length q < r.length → came_turn w conn bytes ≡ record {
-    world = fed v own q;
-    conn = Some (plain (conn.stream ++ bytes) (Some own));
-    bytes = reply ++ [];
-    text = [];
-    taken = length bytes;
-  }
+  part_is : length q < r.length
+      → came_turn w conn bytes ≡ goes_on (fed v own q) own (conn.stream ++ bytes) (reply ++ []) (length bytes)
   part_is few =
       rw (
         part_turn_is w conn h bytes n before (Asks r) is few,
@@ -143,13 +138,9 @@ module _ {U B : Type 0} (u : Ghosts U B) (sure : Bool) (w : World) (conn : Conn)
   abbrev ended : Acted
   ended = ended_by v own begins.p (take r.length q) r
 
-  rest_is : r.length ≤ length q → came_turn w conn bytes ≡ record {
-    world = ended.world;
-    conn = if ended.closes then None else Some (plain (conn.stream ++ take (before + r.length) bytes) None);
-    bytes = reply ++ ended.bytes;
-    text = [];
-    taken = before + r.length;
-  }
+  rest_is : r.length ≤ length q → came_turn w conn bytes
+      ≡ answers ended.world ended.closes (conn.stream ++ take (before + r.length) bytes) (reply ++ ended.bytes) []
+      (before + r.length)
   rest_is enough =
       rw (
         whole_turn_is w conn h bytes n before (Asks r) is enough,
