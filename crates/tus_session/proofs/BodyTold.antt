@@ -26,11 +26,10 @@ use Rattle.tus_action.specs.declared.acts.Stop.TheVariants as stops
 use Rattle.tus_action.specs.declared.bodies.OpenPatch.{OpenPatch}
 use Rattle.tus_request.specs.declared.buffer.HeadBuffer.{HeadBuffer}
 use Rattle.tus_session.specs.declared.conns.Link.{Link}
-use Rattle.tus_session.proofs.BodyTurns.{part_turn, rest_turn, turn_at}
+use Rattle.tus_session.proofs.HeadTurns.{part_turn, rest_turn, turn_at}
 use Rattle.tus_session.proofs.Feeding.{fed_body, fed_began, fed_number, fed_count, fed_declare}
 use Rattle.tus_session.proofs.Frames.{grown_more}
-use Rattle.tus_session.proofs.Opening.{still}
-use Rattle.tus_session.proofs.Moved.{feed_moves, spend_moves, both_moves}
+use Rattle.tus_session.proofs.Moved.{still, feed_moves, spend_moves, both_moves}
 use Rattle.tus_session.proofs.NewRests.{is_steady, body_part_rest, body_whole_rest, body_wants}
 use Rattle.tus_session.proofs.Unfinished.{longer}
 pub use Rattle.tus_session.proofs.Frames.{rest_same}

@@ -1,19 +1,30 @@
--- A connection in its place again, after an event.
+-- A connection in its place: after an event, and when it opens.
 use Rattle.std.proofs.Common.{◌≡◌, ◌≢◌, ◌⊎◌, inl, inr, ℕ, ◌<◌, ◌≤◌, List, length, get_or, slice_set, Bool, Option, Some}
 use Rattle.std.proofs.Common.{None, refl, sym, ◌∙◌, ap, subst, arith, get_or-set_same, get_or-set_other, length-set}
+use Rattle.std.proofs.Common.{zero, suc, true, false, [], ◌∷◌, ◌++◌, is_some}
 use Rattle.std.proofs.lemmas.Bool.Decides.{nat_tests}
-use Rattle.std.proofs.lemmas.Bool.{cases_eq}
+use Rattle.std.proofs.lemmas.Bool.{cases_eq, lt-ltb, le-ltb}
 use Rattle.std.proofs.lemmas.Grind.{common_steps}
-use Rattle.upload_rules.specs.Store.{find}
-use Rattle.upload_rules.specs.World.{Patch, World}
+use Rattle.upload_rules.specs.Store.{find, Store}
+use Rattle.upload_rules.specs.World.{Patch, World, at_rest}
 use Rattle.upload_rules.specs.declared.uploads.Uploads.{Ghosts}
-use Rattle.tus_session.specs.Turns.{Conn}
-use Rattle.tus_session.specs.History.{State, with_conn, put}
+use Rattle.tus_session.specs.Turns.{Conn, fresh, reader}
+use Rattle.tus_session.specs.History.{State, with_conn, put, Opened, Served, Done, Refused, beginning, step, most_open}
 use Rattle.tus_session.specs.Stands.{PlaceIs, draft_at, SessionStands}
 use Rattle.tus_session.specs.Moves.{Moves}
 use Rattle.tus_session.specs.Places.{IsPut, IsOpen}
 use Rattle.tus_session.specs.declared.conns.Link.{Link}
 use Rattle.tus_session.proofs.Frames.{place_moved, draft_found}
+use Rattle.tus_request.specs.Buffers.{bytes_of}
+use Rattle.enc_model.specs.Indexes.{offers}
+use Rattle.tus_request.proofs.Prefixes.{steady}
+use Rattle.tus_session.specs.Streams.{InHead}
+use Rattle.tus_session.specs.Told.{Follows}
+use Rattle.tus_request.specs.declared.buffer.HeadBuffer.{HeadBuffer}
+use Rattle.tus_session.specs.declared.conns.Awaiting.TheVariants as awaits
+use Rattle.tus_session.specs.declared.errors.SessionError.TheVariants.{TooMany}
+use Rattle.tus_session.proofs.Unfinished.{empty_cut}
+use Rattle.tus_session.proofs.Moved.{still}
 
 pub conns_here : (conns : ℕ → Option Conn) (k : ℕ) (conn : Option Conn) → with_conn conns k conn k ≡ conn
 conns_here conns k conn = grind (arith, nat_tests)
@@ -144,3 +155,69 @@ module _ {U B : Type 0} (u : Ghosts U B) (sure : Bool) where
       subst (λ y. PlaceIs u st.world y (st.conns c)) is (place_at places store st c x stands lt e) in
       let some = some_conn st.world k (st.conns c) at in
       (some.0, some.1, subst (λ o. PlaceIs u st.world (Some k) o) some.1 at)
+
+-- A CONNECTION OPENS
+
+module _ {U B : Type 0} (u : Ghosts U B) (sure : Bool) where
+  new_place : (w : World) (head : HeadBuffer) → (bytes_of head) ≡ []
+      → PlaceIs u w (Some (record { head = head; awaiting = awaits.Head })) (Some fresh)
+  new_place w head e = record {
+    rest = ap (λ x. x.rest) (empty_cut (reader w) (steady (offers w.store.indexes))) ∙ ap InHead (sym e);
+    draft = refl;
+    pending = refl;
+  }
+
+  pub opened : (places : List (Option (Link B))) (store : U) (st : State) (c : ℕ) (head : HeadBuffer)
+      → SessionStands u sure places store st → c < length places → st.conns c ≡ None → (bytes_of head) ≡ []
+      → Follows u sure (slice_set places c (Some (record { head = head; awaiting = awaits.Head }))) store
+      (step st (Opened c) Served).state (step st (Opened c) Served).outcome Done
+  unfolding step
+  opened places store st c head stands lt none e =
+      let k : Option (Link B) = Some (record { head = head; awaiting = awaits.Head }) in
+      let moves : Moves st.world st.world (draft_at (st.conns c)) None = rw none (still st.world None) in
+      let s = in_place u sure places (slice_set places c k) store store st st.world c k (Some fresh) stands
+      (is_set u sure places c k lt) moves stands.shown (new_place st.world head e) in
+      rw (none, lt-ltb c most_open (omega (arith, stands.count))) (record { stands = s; outcome = refl })
+
+  pub not_below : (places : List (Option (Link B))) (store : U) (st : State) (c : ℕ)
+      → SessionStands u sure places store st → length places ≤ c
+      → Follows u sure places store st (step st (Opened c) Served).outcome (Refused TooMany)
+  unfolding step
+  not_below places store st c stands le =
+      rw (beyond u sure places store st c stands le, le-ltb c most_open (omega (arith, stands.count)))
+      (record { stands = stands; outcome = refl })
+
+  pub is_open : (places : List (Option (Link B))) (store : U) (st : State) (c : ℕ) (x : Option (Link B))
+      → SessionStands u sure places store st → c < length places → x ≡ get_or places c x → is_some x ≡ true
+      → Follows u sure places store st (step st (Opened c) Served).outcome (Refused TooMany)
+  unfolding step
+  is_open places store st c None stands lt e is = absurd (cc)
+  is_open places store st c (Some k) stands lt e is =
+      rw (open_at u sure places store st c (Some k) k stands lt e refl).1 (record { stands = stands; outcome = refl })
+
+  pub not_open : (places : List (Option (Link B))) (store : U) (st : State) (c : ℕ) (x : Option (Link B))
+      → SessionStands u sure places store st → c < length places → x ≡ get_or places c x → is_some x ≡ false
+      → st.conns c ≡ None
+  not_open places store st c None stands lt e is = closed_at u sure places store st c None stands lt e refl
+  not_open places store st c (Some k) stands lt e is = absurd (cc)
+
+  -- no connection in any place
+  pub begun : (places : List (Option (Link B))) (store : U) (m : Store) (blocks : Option ℕ)
+      → u.stands store sure (at_rest m blocks) → length places ≡ most_open → ((c : ℕ) → get_or places c None ≡ None)
+      → SessionStands u sure places store (beginning m blocks)
+  begun places store m blocks shown count all = record {
+    count = count;
+    shown = shown;
+    each = λ c. rw (all c) tt;
+    apart = λ c e d f g. absurd (cc);
+    unique = tt;
+    owned = λ d p found. absurd (cc);
+  }
+
+-- one closed place more
+pub closed_push : {B : Type 0} (xs : List (Option (Link B))) → ((c : ℕ) → get_or xs c None ≡ None) → (c : ℕ)
+    → get_or (xs ++ None ∷ []) c None ≡ None
+closed_push [] h zero = refl
+closed_push [] h (suc c) = refl
+closed_push (x ∷ xs) h zero = h zero
+closed_push (x ∷ xs) h (suc c) = closed_push xs (λ c. h (suc c)) c

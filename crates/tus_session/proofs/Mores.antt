@@ -24,10 +24,9 @@ use Rattle.tus_session.specs.declared.conns.Awaiting.TheVariants as awaits
 use Rattle.tus_session.specs.declared.conns.Link.{Link}
 use Rattle.tus_session.proofs.BodyTold.{answered_here}
 use Rattle.tus_action.proofs.Pieces.{piece_appends}
-use Rattle.tus_session.proofs.Opening.{still}
+use Rattle.tus_session.proofs.Moved.{still, spend_moves}
 use Rattle.upload_rules.specs.Calls.{dropped, spent, commit_refusal, commit_outcome}
 use Rattle.tus_action.specs.declared.bodies.OpenPatch.{OpenPatch}
-use Rattle.tus_session.proofs.Moved.{spend_moves}
 use Rattle.tus_session.proofs.Feeding.{spent_store}
 
 more_is : (w : World) (conn : Conn) (o : Option Giving) → conn.pending ≡ o → more_turn w conn ≡ more_on w conn o

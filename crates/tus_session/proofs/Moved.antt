@@ -27,8 +27,38 @@ use Rattle.upload_rules.proofs.Finds.{find_replaced_same, find_replaced_other, n
 use Rattle.tus_action.specs.Acts.{fed}
 use Rattle.tus_session.specs.Turns.{left_world}
 use Rattle.tus_session.specs.Moves.{Longer, Grows, Moves}
-use Rattle.tus_session.proofs.Growth.{IsLonger, patched_twice, text_longer, text_same}
-use Rattle.tus_session.proofs.Opening.{own_or, same_longer, same_grows, still}
+use Rattle.tus_session.proofs.Growth.{IsLonger, patched_twice, text_longer, text_same, patched_nothing}
+
+-- the same upload
+pub same_longer : (m m' : Store) (up : Upload) → m'.indexes ≡ m.indexes → Longer m m' up up
+same_longer m m' up same = record {
+  declare = None;
+  bytes = [];
+  more = [];
+  is = patched_nothing up;
+  text = ap (λ x. text_of x up) same ∙ sym (append-nil (text_of m.indexes up));
+}
+
+pub same_grows : (m : Store) → Grows m m
+same_grows m = record {
+  indexes = refl;
+  next = omega arith;
+  uploads = λ n up lt there. (up, there, same_longer m m up refl);
+}
+
+pub own_or : (own : Option ℕ) (e : ℕ) → (own ≡ Some e) ⊎ (own ≡ Some e → ⊥)
+own_or None e = inr (λ h. absurd (cc))
+own_or (Some d) e = elim (cases_eq d e) [ inl is ↦ inl (ap Some is) | inr ne ↦ inr (λ h. ne (same_Some d e h)) ]
+
+-- nothing moved
+pub still : (w : World) (own : Option ℕ) → Moves w w own own
+still w own = record {
+  grows = same_grows w.store;
+  others = λ e p ne found. found;
+  back = λ e p apart found. elim (own_or own e) [ inl is ↦ inl is | inr ne ↦ inr (ne, (p, found)) ];
+  fresh = λ e h. inl h;
+  unique = λ h. h;
+}
 
 abbrev Patches : Type 0
 Patches = List (ℕ × Patch)

@@ -13,8 +13,7 @@ use Rattle.upload_rules.specs.declared.errors.UploadRefusal.TheVariants.{Offset,
 use Rattle.tus_action.specs.Acts.{Acted, Giving, acted, acted_on, post, new_of, delete, head, get, giving, patch}
 use Rattle.tus_action.specs.Acts.{piece_size}
 use Rattle.tus_session.specs.Moves.{Moves}
-use Rattle.tus_session.proofs.Moved.{create_moves, delete_moves, free_none, has_room, or_else_second}
-use Rattle.tus_session.proofs.Opening.{still}
+use Rattle.tus_session.proofs.Moved.{create_moves, delete_moves, free_none, has_room, or_else_second, still}
 
 -- a patch is open
 pub record Opened (w : World) (r : Request) (a : Acted) : Type 0 where

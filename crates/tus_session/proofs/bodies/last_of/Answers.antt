@@ -2,7 +2,7 @@ use Rattle.std.proofs.Common.{◌≤◌, ◌+◌, length, ◌∙◌, arith, true
 use Rattle.std.proofs.lemmas.Result.{err_from_is_err_and}
 use Rattle.tus_session.proofs.Feeding.{drop_fed, reached_fed, answered_as, ended_store, fed_store, reply_stops}
 use Rattle.tus_session.proofs.Feeding.{stopped_as}
-use Rattle.tus_session.proofs.Stops.{same_stop}
+use Rattle.tus_session.proofs.Tolds.{same_stop}
 use Rattle.tus_session.proofs.Limiting.{limits_to, quiet_then, limits_from, limits_both}
 use Rattle.tus_session.proofs.bodies.last_of.Goals as goal
 

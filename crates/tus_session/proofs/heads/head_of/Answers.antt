@@ -3,7 +3,7 @@ use Rattle.tus_request.specs.Buffers.{bytes_of}
 use Rattle.tus_request.specs.Requests.{Refusal, Refuses}
 use Rattle.tus_session.proofs.Verdicts.{small, makeable, usable}
 use Rattle.tus_session.proofs.HeadTold.{more_told, no_patch_told, slice_rest, within_bytes, in_world, is_whole}
-use Rattle.tus_session.proofs.Opening.{still}
+use Rattle.tus_session.proofs.Moved.{still}
 use Rattle.tus_session.proofs.heads.head_of.Goals as goal
 
 pub slice_bounds-after-count : goal.slice_bounds-after-count

@@ -3,8 +3,8 @@ use Rattle.std.proofs.lemmas.Result.{err_from_is_err_and}
 use Rattle.tus_request.specs.Shown.{request_shown}
 use Rattle.tus_action.specs.declared.bodies.OpenPatch.{OpenPatch}
 use Rattle.tus_session.proofs.Feeding.{head_stopped}
-use Rattle.tus_session.proofs.HeadTold.{slice_is, slice_rest, head_limits, nothing_told, text_told}
-use Rattle.tus_session.proofs.PatchTold.{begun, patch_opened, patch_limits}
+use Rattle.tus_session.proofs.HeadTold.{slice_is, slice_rest, head_limits, nothing_told, text_told, begun, patch_opened}
+use Rattle.tus_session.proofs.HeadTold.{patch_limits}
 use Rattle.tus_session.proofs.heads.request_of.Goals as goal
 
 pub returns-in_err-done-clause-crash : goal.returns-in_err-done-clause-crash

@@ -3,9 +3,8 @@ use Rattle.std.proofs.lemmas.Result.{err_from_is_err_and}
 use Rattle.tus_session.specs.Turns.{came_turn}
 use Rattle.tus_session.specs.History.{Came}
 use Rattle.tus_session.proofs.InPlace.{is_put_back}
-use Rattle.tus_session.proofs.Stops.{stop_is, counts_as, no_down, no_memory}
+use Rattle.tus_session.proofs.Tolds.{stop_is, counts_as, no_down, no_memory, came_is, none_open, told, stopped}
 use Rattle.tus_session.proofs.Limiting.{limits_to}
-use Rattle.tus_session.proofs.Tolds.{came_is, none_open, told, stopped}
 use Rattle.tus_session.proofs.session.Session.came.Goals as goal
 
 pub returns-in_err-link-clause-answer : goal.returns-in_err-link-clause-answer

@@ -1,9 +1,8 @@
 use Rattle.std.proofs.Common.{sym, ap, true}
 use Rattle.std.proofs.lemmas.Result.{err_from_is_err_and}
 use Rattle.tus_session.specs.History.{Ended}
-use Rattle.tus_session.proofs.Stops.{stop_is, counts_as, no_down, no_memory}
+use Rattle.tus_session.proofs.Tolds.{stop_is, counts_as, no_down, no_memory, ended_step, none_open, ends, ends_stopped}
 use Rattle.tus_session.proofs.Limiting.{limits_to}
-use Rattle.tus_session.proofs.Tolds.{ended_step, none_open, ends, ends_stopped}
 use Rattle.tus_session.proofs.session.Session.ended.Goals as goal
 
 pub returns-in_err-link-clause-answer : goal.returns-in_err-link-clause-answer

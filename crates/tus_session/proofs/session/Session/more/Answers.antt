@@ -3,8 +3,7 @@ use Rattle.std.proofs.lemmas.Result.{err_from_is_err_and}
 use Rattle.tus_session.specs.Turns.{more_turn}
 use Rattle.tus_session.specs.History.{More}
 use Rattle.tus_session.proofs.InPlace.{is_put_back}
-use Rattle.tus_session.proofs.Stops.{stop_is, counts_as, no_down}
-use Rattle.tus_session.proofs.Tolds.{more_is, none_open, told, stopped}
+use Rattle.tus_session.proofs.Tolds.{stop_is, counts_as, no_down, more_is, none_open, told, stopped}
 use Rattle.tus_session.proofs.session.Session.more.Goals as goal
 
 pub returns-in_err-link-clause-answer : goal.returns-in_err-link-clause-answer

@@ -1,5 +1,5 @@
 use Rattle.std.proofs.Common.{◌<◌, length, arith, ◌∙◌, sym}
-use Rattle.tus_session.proofs.Opening.{opened, not_below, is_open, not_open}
+use Rattle.tus_session.proofs.InPlace.{opened, not_below, is_open, not_open}
 use Rattle.tus_session.proofs.session.Session.opened.Goals as goal
 use Rattle.tus_session.proofs.session.Session.opened.Goals.{then-conn-len-via-then-conn-len}
 use Rattle.tus_session.proofs.session.Session.opened.Goals.{then-conn-len-via-else-conn-len+then-is_some}
