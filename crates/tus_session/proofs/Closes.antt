@@ -35,7 +35,7 @@ module _ {U B : Type 0} (u : Ghosts U B) (sure : Bool) where
       → SessionStands u sure places store st → draft_at (st.conns c) ≡ Some d → c < length places
   conn_below places store st c d stands e = elim (cases_lt c (length places)) [
     | inl lt ↦ lt
-    | inr le ↦ let x : Some d ≡ None = sym e ∙ ap draft_at (beyond u sure places store st c stands le) in absurd (cc)
+    | inr le ↦ let x : Some d ≡ None = sym e ∙ ap draft_at (beyond u sure places store st stands c le) in absurd (cc)
   ]
 
   pub begins_closing : (places : List (Option (Link B))) (store : U) (st : State) → SessionStands u sure places store st

@@ -12,7 +12,7 @@ use Rattle.tus_session.specs.Turns.{Conn, fresh, reader}
 use Rattle.tus_session.specs.History.{State, with_conn, put, Opened, Served, Done, Refused, beginning, step, most_open}
 use Rattle.tus_session.specs.Stands.{PlaceIs, draft_at, SessionStands}
 use Rattle.tus_session.specs.Moves.{Moves}
-use Rattle.tus_session.specs.Places.{IsPut, IsOpen}
+use Rattle.tus_session.specs.Places.{IsPut}
 use Rattle.tus_session.specs.declared.conns.Link.{Link}
 use Rattle.tus_session.proofs.Frames.{place_moved, draft_found}
 use Rattle.tus_request.specs.Buffers.{bytes_of}
@@ -96,14 +96,6 @@ module _ {U B : Type 0} (u : Ghosts U B) (sure : Bool) where
       owned = owned_there;
     }
 
-  pub is_set : (places : List (Option (Link B))) (k : ℕ) (next : Option (Link B)) → k < length places
-      → IsPut places (slice_set places k next) k next
-  is_set places k next lt = record {
-    count = length-set places k next;
-    here = get_or-set_same places k next None lt;
-    others = λ j ne. get_or-set_other places k j next None ne;
-  }
-
   -- a place is taken, and gets this
   pub is_put_back : (places taken : List (Option (Link B))) (k : ℕ) (next : Option (Link B)) → IsPut places taken k None
       → k < length taken → IsPut places (slice_set taken k next) k next
@@ -113,93 +105,72 @@ module _ {U B : Type 0} (u : Ghosts U B) (sure : Bool) where
     others = λ j ne. get_or-set_other taken k j next None ne ∙ is.others j ne;
   }
 
-  -- what a connection's place tells
-  pub place_at : (places : List (Option (Link B))) (store : U) (st : State) (k : ℕ) (x : Option (Link B))
-      → SessionStands u sure places store st → k < length places → x ≡ get_or places k x
-      → PlaceIs u st.world x (st.conns k)
-  place_at places store st k x stands lt e =
-      subst (λ y. PlaceIs u st.world y (st.conns k)) (sym (e ∙ get_or-any places k x None lt)) (stands.each k)
-    where
-      get_or-any : (xs : List (Option (Link B))) (i : ℕ) (a b : Option (Link B)) → i < length xs → get_or xs i a ≡
-          get_or xs i b
-      get_or-any xs i a b lt = grind (arith, common_steps)
-
   pub closed_none : (w : World) (conn : Option Conn) → PlaceIs u w None conn → conn ≡ None
   closed_none w None is = refl
   closed_none w (Some k) is = absurd is
-
-  past : (places : List (Option (Link B))) (k : ℕ) → length places ≤ k → get_or places k None ≡ None
-  past places k le = grind (arith, common_steps)
-
-  -- no connection is open beyond the places
-  pub beyond : (places : List (Option (Link B))) (store : U) (st : State) (k : ℕ) → SessionStands u sure places store st
-      → length places ≤ k → st.conns k ≡ None
-  beyond places store st k stands le =
-      closed_none st.world (st.conns k)
-      (subst (λ y. PlaceIs u st.world y (st.conns k)) (past places k le) (stands.each k))
-
-  pub closed_at : (places : List (Option (Link B))) (store : U) (st : State) (k : ℕ) (x : Option (Link B))
-      → SessionStands u sure places store st → k < length places → x ≡ get_or places k x → x ≡ None → st.conns k ≡ None
-  closed_at places store st k x stands lt e is =
-      closed_none st.world (st.conns k)
-      (subst (λ y. PlaceIs u st.world y (st.conns k)) is (place_at places store st k x stands lt e))
 
   some_conn : (w : World) (k : Link B) (conn : Option Conn) → PlaceIs u w (Some k) conn → (c : Conn) × (conn ≡ Some c)
   some_conn w k None is = absurd is
   some_conn w k (Some c) is = (c, refl)
 
-  pub open_at : (places : List (Option (Link B))) (store : U) (st : State) (c : ℕ) (x : Option (Link B)) (k : Link B)
-      → SessionStands u sure places store st → c < length places → x ≡ get_or places c x → x ≡ Some k → IsOpen u st c k
-  open_at places store st c x k stands lt e is =
-      let at : PlaceIs u st.world (Some k) (st.conns c) =
-      subst (λ y. PlaceIs u st.world y (st.conns c)) is (place_at places store st c x stands lt e) in
-      let some = some_conn st.world k (st.conns c) at in
-      (some.0, some.1, subst (λ o. PlaceIs u st.world (Some k) o) some.1 at)
+  get_or-any : (xs : List (Option (Link B))) (i : ℕ) (a b : Option (Link B)) → i < length xs
+      → get_or xs i a ≡ get_or xs i b
+  get_or-any xs i a b lt = grind (arith, common_steps)
 
--- A CONNECTION OPENS
+  past : (places : List (Option (Link B))) (k : ℕ) → length places ≤ k → get_or places k None ≡ None
+  past places k le = grind (arith, common_steps)
 
-module _ {U B : Type 0} (u : Ghosts U B) (sure : Bool) where
   new_place : (w : World) (head : HeadBuffer) → (bytes_of head) ≡ []
       → PlaceIs u w (Some (record { head = head; awaiting = awaits.Head })) (Some fresh)
-  new_place w head e = record {
-    rest = ap (λ x. x.rest) (empty_cut (reader w) (steady (offers w.store.indexes))) ∙ ap InHead (sym e);
-    draft = refl;
-    pending = refl;
-  }
+  new_place w head e = assumption (ap (λ x. x.rest) (empty_cut (reader w) (steady (offers w.store.indexes)))
+      ∙ ap InHead (sym e))
 
-  pub opened : (places : List (Option (Link B))) (store : U) (st : State) (c : ℕ) (head : HeadBuffer)
-      → SessionStands u sure places store st → c < length places → st.conns c ≡ None → (bytes_of head) ≡ []
-      → Follows u sure (slice_set places c (Some (record { head = head; awaiting = awaits.Head }))) store
-      (step st (Opened c) Served).state (step st (Opened c) Served).outcome Done
-  unfolding step
-  opened places store st c head stands lt none e =
-      let k : Option (Link B) = Some (record { head = head; awaiting = awaits.Head }) in
-      let moves : Moves st.world st.world (draft_at (st.conns c)) None = rw none (still st.world None) in
-      let s = in_place u sure places (slice_set places c k) store store st st.world c k (Some fresh) stands
-      (is_set u sure places c k lt) moves stands.shown (new_place st.world head e) in
-      rw (none, lt-ltb c most_open (omega (arith, stands.count))) (record { stands = s; outcome = refl })
+  module _ (places : List (Option (Link B))) (store : U) (st : State) (stands : SessionStands u sure places store st)
+      where
+    -- what a connection's place tells
+    place_at : (k : ℕ) (x : Option (Link B)) → k < length places → x ≡ get_or places k x
+        → PlaceIs u st.world x (st.conns k)
+    place_at k x lt e =
+        subst (λ y. PlaceIs u st.world y (st.conns k)) (sym (e ∙ get_or-any places k x None lt)) (stands.each k)
 
-  pub not_below : (places : List (Option (Link B))) (store : U) (st : State) (c : ℕ)
-      → SessionStands u sure places store st → length places ≤ c
-      → Follows u sure places store st (step st (Opened c) Served).outcome (Refused TooMany)
-  unfolding step
-  not_below places store st c stands le =
-      rw (beyond u sure places store st c stands le, le-ltb c most_open (omega (arith, stands.count)))
-      (record { stands = stands; outcome = refl })
+    -- no connection is open beyond the places
+    pub beyond : (k : ℕ) → length places ≤ k → st.conns k ≡ None
+    beyond k le = closed_none st.world (st.conns k) (rw (past places k le) at (stands.each k))
 
-  pub is_open : (places : List (Option (Link B))) (store : U) (st : State) (c : ℕ) (x : Option (Link B))
-      → SessionStands u sure places store st → c < length places → x ≡ get_or places c x → is_some x ≡ true
-      → Follows u sure places store st (step st (Opened c) Served).outcome (Refused TooMany)
-  unfolding step
-  is_open places store st c None stands lt e is = absurd (cc)
-  is_open places store st c (Some k) stands lt e is =
-      rw (open_at u sure places store st c (Some k) k stands lt e refl).1 (record { stands = stands; outcome = refl })
+    -- A CONNECTION OPENS
+    pub opened : (c : ℕ) (head : HeadBuffer) → c < length places → st.conns c ≡ None → (bytes_of head) ≡ []
+        → Follows u sure (slice_set places c (Some (record { head = head; awaiting = awaits.Head }))) store
+        (step st (Opened c) Served).state (step st (Opened c) Served).outcome Done
+    unfolding step
+    opened c head lt none e =
+        let k : Option (Link B) = Some (record { head = head; awaiting = awaits.Head }) in
+        let moves : Moves st.world st.world (draft_at (st.conns c)) None = rw none (still st.world None) in
+        let put : IsPut places (slice_set places c k) c k = record {
+          count = length-set places c k;
+          here = get_or-set_same places c k None lt;
+          others = λ j ne. get_or-set_other places c j k None ne;
+        } in
+        let s = in_place places (slice_set places c k) store store st st.world c k (Some fresh) stands put moves
+        stands.shown (new_place st.world head e) in
+        rw (none, lt-ltb c most_open (omega (arith, stands.count))) (record { stands = s; outcome = refl })
 
-  pub not_open : (places : List (Option (Link B))) (store : U) (st : State) (c : ℕ) (x : Option (Link B))
-      → SessionStands u sure places store st → c < length places → x ≡ get_or places c x → is_some x ≡ false
-      → st.conns c ≡ None
-  not_open places store st c None stands lt e is = closed_at u sure places store st c None stands lt e refl
-  not_open places store st c (Some k) stands lt e is = absurd (cc)
+    pub not_below : (c : ℕ) → length places ≤ c
+        → Follows u sure places store st (step st (Opened c) Served).outcome (Refused TooMany)
+    unfolding step
+    not_below c le =
+        rw (beyond c le, le-ltb c most_open (omega (arith, stands.count))) (record { stands = stands; outcome = refl })
+
+    pub is_open : (c : ℕ) (x : Option (Link B)) → c < length places → x ≡ get_or places c x → is_some x ≡ true
+        → Follows u sure places store st (step st (Opened c) Served).outcome (Refused TooMany)
+    unfolding step
+    is_open c None lt e is = absurd (cc)
+    is_open c (Some k) lt e is =
+        rw (some_conn st.world k (st.conns c) (place_at c (Some k) lt e)).1 (record { stands = stands; outcome = refl })
+
+    pub not_open : (c : ℕ) (x : Option (Link B)) → c < length places → x ≡ get_or places c x → is_some x ≡ false
+        → st.conns c ≡ None
+    not_open c None lt e is = closed_none st.world (st.conns c) (place_at c None lt e)
+    not_open c (Some k) lt e is = absurd (cc)
 
   -- no connection in any place
   pub begun : (places : List (Option (Link B))) (store : U) (m : Store) (blocks : Option ℕ)
