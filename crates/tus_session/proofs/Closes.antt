@@ -19,7 +19,7 @@ use Rattle.tus_session.specs.declared.conns.Link.{Link}
 use Rattle.tus_session.specs.declared.conns.Awaiting.{Awaiting}
 use Rattle.tus_session.specs.declared.conns.Awaiting.TheVariants as awaits
 use Rattle.tus_session.proofs.InPlace.{beyond, closed_none}
-use Rattle.tus_session.proofs.Moved.{apart_without}
+use Rattle.upload_rules.proofs.Patches.{apart_without}
 
 -- a world with the uploads of the history, in which only the drafts of the first places are open
 pub record IsClosing {U B : Type 0} (u : Ghosts U B) (sure : Bool) (st : State) (left : ℕ) (store : U)

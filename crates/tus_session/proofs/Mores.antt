@@ -33,6 +33,27 @@ more_is : (w : World) (conn : Conn) (o : Option Giving) → conn.pending ≡ o �
 unfolding more_turn
 more_is w conn o e = ap (more_on w conn) e
 
+-- WHAT WAS GIVEN TELLS OF THE UPLOAD
+
+-- a piece is given of an upload that is there
+piece_of_upload : (sure : Bool) (m : Store) (g : given.Giving) (old new : List ℕ) (h : Giving) (o : Option Upload)
+    → IsGiven sure m (Piece g) old new h o → (up : Upload) × (o ≡ Some up) × GivingIs m (Some g) (pending_after h)
+    × Appends sure old new (piece_of h) (piece_of h)
+piece_of_upload sure m g old new h None is = absurd is
+piece_of_upload sure m g old new h (Some up) is = (up, refl, is.0, piece_appends old new (piece_of h) is.1)
+
+last_of_upload : (sure : Bool) (m : Store) (old new : List ℕ) (h : Giving) (o : Option Upload)
+    → IsGiven sure m Last old new h o → (up : Upload) × (o ≡ Some up) × (pending_after h ≡ None)
+    × Appends sure old new (piece_of h) (piece_of h)
+last_of_upload sure m old new h None is = absurd is
+last_of_upload sure m old new h (Some up) is = (up, refl, is.0, piece_appends old new (piece_of h) is.1)
+
+-- and nothing of one that is gone
+gone_with_upload : (sure : Bool) (m : Store) (old new : List ℕ) (h : Giving) (o : Option Upload)
+    → IsGiven sure m Gone old new h o → (o ≡ None) × (new ≡ old)
+gone_with_upload sure m old new h None is = (refl, is)
+gone_with_upload sure m old new h (Some up) is = absurd is
+
 module _ {U B : Type 0} (u : Ghosts U B) (sure : Bool) where
   -- a connection stays as it is, and nothing is given
   pub stays : (store : U) (w : World) (k : Link B) (conn : Conn) (more : Bool) (out : List ℕ) → u.stands store sure w
@@ -83,18 +104,19 @@ module _ {U B : Type 0} (u : Ghosts U B) (sure : Bool) where
         assumption (stands, link, still w conn.draft, e)
 
     -- more of the text is left
-    pub more_some : (old new : List ℕ) (rest : given.Giving) (up : Upload) → upload_of w.store is.h.number ≡ Some up
-        → GivingIs w.store (Some rest) (pending_after is.h) → Appends sure old new (piece_of is.h) (piece_of is.h)
+    pub more_some : (old new : List ℕ) (rest : given.Giving)
+        → IsGiven sure w.store (Piece rest) old new is.h (upload_of w.store is.h.number)
         → TurnedAs u sure store (text_link rest) (gave false true) old new w conn.draft (more_turn w conn)
-    more_some old new rest up there given e =
-        rw (more_is w conn (Some is.h) is.pending, there) (some_turned old new rest (pending_after is.h) given e)
+    more_some old new rest given =
+        let x = piece_of_upload sure w.store rest old new is.h (upload_of w.store is.h.number) given in
+        rw (more_is w conn (Some is.h) is.pending, x.1) (some_turned old new rest (pending_after is.h) x.2 x.3)
 
     -- the text is given
-    pub more_done : (old new : List ℕ) (up : Upload) → upload_of w.store is.h.number ≡ Some up
-        → pending_after is.h ≡ None → Appends sure old new (piece_of is.h) (piece_of is.h)
+    pub more_done : (old new : List ℕ) → IsGiven sure w.store Last old new is.h (upload_of w.store is.h.number)
         → TurnedAs u sure store (link_after head left g.closes) (gave g.closes false) old new w conn.draft
         (more_turn w conn)
-    more_done old new up there last e =
+    more_done old new is_last =
+        let x = last_of_upload sure w.store old new is.h (upload_of w.store is.h.number) is_last in
         let T : Option ℕ → Bool → Option Giving → Type 0 = λ d closes pending.
         TurnedAs u sure store (link_after head left g.closes) (gave g.closes false) old new w d (record {
           world = w;
@@ -106,17 +128,18 @@ module _ {U B : Type 0} (u : Ghosts U B) (sure : Bool) where
         let given : T None g.closes None =
         answered_here u sure store (link_after head left g.closes) (gave g.closes false) old new (piece_of is.h)
         (piece_of is.h) w w None head left 0 g.closes conn.stream (cut (reader w) conn.stream).rest stands
-        (still w None) refl is.rest refl refl e in
-        rw (more_is w conn (Some is.h) is.pending, there)
+        (still w None) refl is.rest refl refl x.3 in
+        rw (more_is w conn (Some is.h) is.pending, x.1)
         (subst (λ d. T d is.h.closes (pending_after is.h)) (sym is.draft)
-        (subst (λ c. T None c (pending_after is.h)) is.gives.closes (subst (T None g.closes) (sym last) given)))
+        (subst (λ c. T None c (pending_after is.h)) is.gives.closes (subst (T None g.closes) (sym x.2) given)))
 
     -- the upload was deleted
-    pub more_gone : (old new : List ℕ) → upload_of w.store is.h.number ≡ None → new ≡ old
+    pub more_gone : (old new : List ℕ) → IsGiven sure w.store Gone old new is.h (upload_of w.store is.h.number)
         → TurnedAs u sure store None (gave true false) old new w conn.draft (more_turn w conn)
-    more_gone old new none e =
+    more_gone old new is_gone =
+        let x = gone_with_upload sure w.store old new is.h (upload_of w.store is.h.number) is_gone in
         let moves : Moves w w conn.draft None = rw is.draft (still w None) in
-        rw (more_is w conn (Some is.h) is.pending, none) (assumption (stands, moves, e ∙ sym (append-nil old)))
+        rw (more_is w conn (Some is.h) is.pending, x.0) (assumption (stands, moves, x.1 ∙ sym (append-nil old)))
 
 module _ {U B : Type 0} (u : Ghosts U B) (sure : Bool) where
   -- nothing was given, and the connection closes
@@ -126,27 +149,6 @@ module _ {U B : Type 0} (u : Ghosts U B) (sure : Bool) where
   more_stopped store w conn head g left is stops.NoMemory old new t (there, shown, same) =
       (rw is.draft shown, same)
   more_stopped store w conn head g left is stops.DiskFault old new t (there, same) = same
-
--- WHAT WAS GIVEN TELLS OF THE UPLOAD
-
--- a piece is given of an upload that is there
-pub piece_of_upload : (sure : Bool) (m : Store) (g : given.Giving) (old new : List ℕ) (h : Giving) (o : Option Upload)
-    → IsGiven sure m (Piece g) old new h o → (up : Upload) × (o ≡ Some up) × GivingIs m (Some g) (pending_after h)
-    × Appends sure old new (piece_of h) (piece_of h)
-piece_of_upload sure m g old new h None is = absurd is
-piece_of_upload sure m g old new h (Some up) is = (up, refl, is.0, piece_appends old new (piece_of h) is.1)
-
-pub last_of_upload : (sure : Bool) (m : Store) (old new : List ℕ) (h : Giving) (o : Option Upload)
-    → IsGiven sure m Last old new h o → (up : Upload) × (o ≡ Some up) × (pending_after h ≡ None)
-    × Appends sure old new (piece_of h) (piece_of h)
-last_of_upload sure m old new h None is = absurd is
-last_of_upload sure m old new h (Some up) is = (up, refl, is.0, piece_appends old new (piece_of h) is.1)
-
--- and nothing of one that is gone
-pub gone_with_upload : (sure : Bool) (m : Store) (old new : List ℕ) (h : Giving) (o : Option Upload)
-    → IsGiven sure m Gone old new h o → (o ≡ None) × (new ≡ old)
-gone_with_upload sure m old new h None is = (refl, is)
-gone_with_upload sure m old new h (Some up) is = absurd is
 
 -- THE END OF A CONNECTION
 

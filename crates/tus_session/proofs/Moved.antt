@@ -7,13 +7,12 @@ use Rattle.std.proofs.lemmas.Bool.{cases_eq, eqb-true, ne_eqb, cases_Bool, ltb-f
 use Rattle.std.proofs.lemmas.List.{length-append, nil_from_length}
 use Rattle.std.proofs.lemmas.Option.{same_Some}
 use Rattle.upload_rules.specs.Lengths.{is_length, known_or, is_new, differ, longest}
-use Rattle.upload_rules.specs.Store.{New, Upload, Store, upload_of, text_of, text_with, patched, find, replaced}
+use Rattle.upload_rules.specs.Store.{New, Upload, Store, upload_of, text_of, text_with, patched, find}
 use Rattle.upload_rules.specs.Store.{without, is_complete, new_upload, created_store, deleted_store, patched_at}
 use Rattle.upload_rules.specs.Store.{patched_store}
 use Rattle.upload_rules.specs.World.{Patch, World, is_there, least_from, free_number, reached, length_then, completes}
 use Rattle.upload_rules.specs.World.{patch_text}
 use Rattle.upload_rules.specs.Room.{is_short}
-use Rattle.upload_rules.specs.Apart.{IsApart}
 use Rattle.upload_rules.specs.Grown.{GrewFrom}
 use Rattle.upload_rules.specs.declared.errors.UploadRefusal.{UploadRefusal}
 use Rattle.upload_rules.specs.declared.errors.UploadRefusal.TheVariants.{Offset, LengthSet, TooLong, Unencodable, Full}
@@ -22,8 +21,9 @@ use Rattle.upload_rules.specs.Calls.{commit_refusal, upload_refusal, length_refu
 use Rattle.upload_rules.specs.Calls.{declares, declares_at, is_idle, text_stays}
 use Rattle.upload_rules.proofs.Commits.{complete_patched}
 use Rattle.upload_rules.proofs.Deleted.{none_in_others, find_in_others}
-use Rattle.upload_rules.proofs.Finds.{find_push_other, find_without_other, find_without_same, none_without}
-use Rattle.upload_rules.proofs.Finds.{find_replaced_same, find_replaced_other, none_replaced, length_without}
+use Rattle.upload_rules.proofs.Finds.{find_push_other, find_without_other, find_without_same}
+use Rattle.upload_rules.proofs.Finds.{find_replaced_same, find_replaced_other, length_without}
+use Rattle.upload_rules.proofs.Patches.{apart_without, apart_replaced}
 use Rattle.tus_action.specs.Acts.{fed}
 use Rattle.tus_session.specs.Turns.{left_world}
 use Rattle.tus_session.specs.Moves.{Longer, Grows, Moves}
@@ -62,27 +62,6 @@ still w own = record {
 
 abbrev Patches : Type 0
 Patches = List (ℕ × Patch)
-
--- FINDING AND KEEPING APART
-
-without_case : {A : Type 0} (d : ℕ) (x : ℕ × A) (xs : List (ℕ × A)) → IsApart (x ∷ xs) → IsApart (without d xs)
-    → (b : Bool) → IsApart (if b then xs else x ∷ without d xs)
-without_case d x xs apart rest true = apart.1
-without_case d x xs apart rest false = (none_without d x.0 xs apart.0, rest)
-
-pub apart_without : {A : Type 0} (d : ℕ) (xs : List (ℕ × A)) → IsApart xs → IsApart (without d xs)
-apart_without d [] apart = tt
-apart_without d (x ∷ xs) apart = without_case d x xs apart (apart_without d xs apart.1) (x.0 == d)
-
-replaced_case : {A : Type 0} (d : ℕ) (a : A) (x : ℕ × A) (xs : List (ℕ × A)) → IsApart (x ∷ xs)
-    → IsApart (replaced d a xs) → (b : Bool) → (x.0 == d) ≡ b
-    → IsApart (if b then (d, a) ∷ xs else x ∷ replaced d a xs)
-replaced_case d a x xs apart rest true e = (rw (eqb-true x.0 d e) at apart.0, apart.1)
-replaced_case d a x xs apart rest false e = (none_replaced d x.0 a xs apart.0, rest)
-
-pub apart_replaced : {A : Type 0} (d : ℕ) (a : A) (xs : List (ℕ × A)) → IsApart xs → IsApart (replaced d a xs)
-apart_replaced d a [] apart = tt
-apart_replaced d a (x ∷ xs) apart = replaced_case d a x xs apart (apart_replaced d a xs apart.1) (x.0 == d) refl
 
 some_ne : (d e : ℕ) → (Some d ≡ Some e → ⊥) → d ≡ e → ⊥
 some_ne d e h is = h (ap Some is)
