@@ -5,7 +5,7 @@ use Rattle.std.proofs.lemmas.Bool.{cases_eq, cases_lt}
 use Rattle.std.proofs.lemmas.Bool.Decides.{nat_tests}
 use Rattle.std.proofs.lemmas.List.{length_push, take-append-drop}
 use Rattle.std.proofs.lemmas.Option.{same_Some}
-use Rattle.std.proofs.Math.Seq.{take-append_seam}
+use Rattle.std.proofs.Math.Seq.{get_or-append_seam, take-append_seam}
 use Rattle.upload_rules.specs.Store.{Store, find}
 use Rattle.upload_rules.specs.World.{Patch, World, at_rest}
 use Rattle.upload_rules.specs.Apart.{IsApart}
@@ -105,10 +105,6 @@ module _ {U B : Type 0} (u : Ghosts U B) (sure : Bool) where
       rw (none, is.uploads, is.blocks) in
       rw e at is.shown
 
-get_seam : {A : Type 0} (prefix after : List A) (x other : A) → get_or (prefix ++ x ∷ after) (length prefix) other ≡ x
-get_seam [] after x other = refl
-get_seam (y ∷ prefix) after x other = get_seam prefix after x other
-
 -- the last of the first places is taken off
 pub record Popped {B : Type 0} (all old new : List (Option (Link B))) (x : Option (Link B)) : Type 0 where
   pub prefix : new ≡ take (length new) all
@@ -124,7 +120,7 @@ popped all old new x prefix items =
     ∙ (ap (λ ys. ys ++ rest) (sym prefix ∙ items) ∙ append_assoc new (x ∷ []) rest) in
     record {
       prefix = rw whole (sym (take-append_seam new (x ∷ rest)));
-      here = ap (λ ys. get_or ys (length new) None) whole ∙ get_seam new rest x None;
+      here = ap (λ ys. get_or ys (length new) None) whole ∙ get_or-append_seam new x rest None;
       count = omega (arith, ap length items, length_push new x);
     }
 

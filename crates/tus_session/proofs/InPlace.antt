@@ -4,7 +4,7 @@ use Rattle.std.proofs.Common.{None, refl, sym, ◌∙◌, ap, subst, arith, get_
 use Rattle.std.proofs.Common.{zero, suc, true, false, [], ◌∷◌, ◌++◌, is_some}
 use Rattle.std.proofs.lemmas.Bool.Decides.{nat_tests}
 use Rattle.std.proofs.lemmas.Bool.{cases_eq, lt-ltb, le-ltb}
-use Rattle.std.proofs.lemmas.Grind.{common_steps}
+use Rattle.std.proofs.lemmas.List.{get_or_default, get_or_past}
 use Rattle.upload_rules.specs.Store.{find, Store}
 use Rattle.upload_rules.specs.World.{Patch, World, at_rest}
 use Rattle.upload_rules.specs.declared.uploads.Uploads.{Ghosts}
@@ -113,13 +113,6 @@ module _ {U B : Type 0} (u : Ghosts U B) (sure : Bool) where
   some_conn w k None is = absurd is
   some_conn w k (Some c) is = (c, refl)
 
-  get_or-any : (xs : List (Option (Link B))) (i : ℕ) (a b : Option (Link B)) → i < length xs
-      → get_or xs i a ≡ get_or xs i b
-  get_or-any xs i a b lt = grind (arith, common_steps)
-
-  past : (places : List (Option (Link B))) (k : ℕ) → length places ≤ k → get_or places k None ≡ None
-  past places k le = grind (arith, common_steps)
-
   new_place : (w : World) (head : HeadBuffer) → (bytes_of head) ≡ []
       → PlaceIs u w (Some (record { head = head; awaiting = awaits.Head })) (Some fresh)
   new_place w head e = assumption (ap (λ x. x.rest) (empty_cut (reader w) (steady (offers w.store.indexes)))
@@ -131,11 +124,11 @@ module _ {U B : Type 0} (u : Ghosts U B) (sure : Bool) where
     place_at : (k : ℕ) (x : Option (Link B)) → k < length places → x ≡ get_or places k x
         → PlaceIs u st.world x (st.conns k)
     place_at k x lt e =
-        subst (λ y. PlaceIs u st.world y (st.conns k)) (sym (e ∙ get_or-any places k x None lt)) (stands.each k)
+        subst (λ y. PlaceIs u st.world y (st.conns k)) (sym (e ∙ get_or_default places k x None lt)) (stands.each k)
 
     -- no connection is open beyond the places
     pub beyond : (k : ℕ) → length places ≤ k → st.conns k ≡ None
-    beyond k le = closed_none st.world (st.conns k) (rw (past places k le) at (stands.each k))
+    beyond k le = closed_none st.world (st.conns k) (rw (get_or_past places k None le) at (stands.each k))
 
     -- A CONNECTION OPENS
     pub opened : (c : ℕ) (head : HeadBuffer) → c < length places → st.conns c ≡ None → (bytes_of head) ≡ []

@@ -1,5 +1,6 @@
 -- What is left of a stream after an event.
-use Rattle.std.proofs.Common.{ℕ, zero, suc, ◌+◌, ◌<◌, ◌≡◌, List, [], ◌∷◌, ◌++◌, length, take, drop, ◌∙◌, ap, arith}
+use Rattle.std.proofs.Common.{ℕ, ◌+◌, ◌<◌, ◌≡◌, List, [], ◌++◌, length, take, drop, ◌∙◌, ap}
+use Rattle.std.proofs.Math.Seq.{drop-append-add, take-append-add}
 use Rattle.enc_model.specs.Indexes.{offers}
 use Rattle.tus_request.proofs.Prefixes.{steady}
 use Rattle.tus_request.specs.Requests.{Verdict, body_length}
@@ -67,11 +68,7 @@ module _ (answer : Reader) (steady : IsSteady answer) where
     head_whole_rest p n v e all = head_on p ∙ ap (λ c. c.rest) (whole_cut answer steady (h ++ p) n v e all)
 
 pub drop_after : {A : Type 0} (h bytes : List A) (b n : ℕ) → n ≡ length h + b → drop n (h ++ bytes) ≡ drop b bytes
-drop_after [] bytes b n e = let x : n ≡ b = omega arith in ap (λ k. drop k bytes) x
-drop_after (x ∷ h) bytes b zero e = absurd (omega arith)
-drop_after (x ∷ h) bytes b (suc n) e = drop_after h bytes b n (omega arith)
+drop_after h bytes b n e = rw e (drop-append-add h bytes b)
 
 pub take_after : {A : Type 0} (h bytes : List A) (b n : ℕ) → n ≡ length h + b → take n (h ++ bytes) ≡ h ++ take b bytes
-take_after [] bytes b n e = let x : n ≡ b = omega arith in ap (λ k. take k bytes) x
-take_after (x ∷ h) bytes b zero e = absurd (omega arith)
-take_after (x ∷ h) bytes b (suc n) e = ap (λ ys. x ∷ ys) (take_after h bytes b n (omega arith))
+take_after h bytes b n e = rw e (take-append-add h bytes b)
