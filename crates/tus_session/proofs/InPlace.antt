@@ -119,51 +119,51 @@ module _ {U B : Type 0} (u : Ghosts U B) (sure : Bool) where
       ∙ ap InHead (sym e))
 
   module _ (places : List (Option (Link B))) (store : U) (st : State) (stands : SessionStands u sure places store st)
-      where
-    -- what a connection's place tells
-    place_at : (k : ℕ) (x : Option (Link B)) → k < length places → x ≡ get_or places k x
-        → PlaceIs u st.world x (st.conns k)
-    place_at k x lt e =
-        subst (λ y. PlaceIs u st.world y (st.conns k)) (sym (e ∙ get_or_default places k x None lt)) (stands.each k)
+    where
+      -- what a connection's place tells
+      place_at : (k : ℕ) (x : Option (Link B)) → k < length places → x ≡ get_or places k x
+          → PlaceIs u st.world x (st.conns k)
+      place_at k x lt e =
+          subst (λ y. PlaceIs u st.world y (st.conns k)) (sym (e ∙ get_or_default places k x None lt)) (stands.each k)
 
-    -- no connection is open beyond the places
-    pub beyond : (k : ℕ) → length places ≤ k → st.conns k ≡ None
-    beyond k le = closed_none st.world (st.conns k) (rw (get_or_past places k None le) at (stands.each k))
+      -- no connection is open beyond the places
+      pub beyond : (k : ℕ) → length places ≤ k → st.conns k ≡ None
+      beyond k le = closed_none st.world (st.conns k) (rw (get_or_past places k None le) at (stands.each k))
 
-    -- A CONNECTION OPENS
-    pub opened : (c : ℕ) (head : HeadBuffer) → c < length places → st.conns c ≡ None → (bytes_of head) ≡ []
-        → Follows u sure (slice_set places c (Some (record { head = head; awaiting = awaits.Head }))) store
-        (step st (Opened c) Served).state (step st (Opened c) Served).outcome Done
-    unfolding step
-    opened c head lt none e =
-        let k : Option (Link B) = Some (record { head = head; awaiting = awaits.Head }) in
-        let moves : Moves st.world st.world (draft_at (st.conns c)) None = rw none (still st.world None) in
-        let put : IsPut places (slice_set places c k) c k = record {
-          count = length-set places c k;
-          here = get_or-set_same places c k None lt;
-          others = λ j ne. get_or-set_other places c j k None ne;
-        } in
-        let s = in_place places (slice_set places c k) store store st st.world c k (Some fresh) stands put moves
-        stands.shown (new_place st.world head e) in
-        rw (none, lt-ltb c most_open (omega (arith, stands.count))) (record { stands = s; outcome = refl })
+      -- A CONNECTION OPENS
+      pub opened : (c : ℕ) (head : HeadBuffer) → c < length places → st.conns c ≡ None → (bytes_of head) ≡ []
+          → Follows u sure (slice_set places c (Some (record { head = head; awaiting = awaits.Head }))) store
+          (step st (Opened c) Served).state (step st (Opened c) Served).outcome Done
+      unfolding step
+      opened c head lt none e =
+          let k : Option (Link B) = Some (record { head = head; awaiting = awaits.Head }) in
+          let moves : Moves st.world st.world (draft_at (st.conns c)) None = rw none (still st.world None) in
+          let put : IsPut places (slice_set places c k) c k = record {
+            count = length-set places c k;
+            here = get_or-set_same places c k None lt;
+            others = λ j ne. get_or-set_other places c j k None ne;
+          } in
+          let s = in_place places (slice_set places c k) store store st st.world c k (Some fresh) stands put moves
+          stands.shown (new_place st.world head e) in
+          rw (none, lt-ltb c most_open (omega (arith, stands.count))) (record { stands = s; outcome = refl })
 
-    pub not_below : (c : ℕ) → length places ≤ c
-        → Follows u sure places store st (step st (Opened c) Served).outcome (Refused TooMany)
-    unfolding step
-    not_below c le =
-        rw (beyond c le, le-ltb c most_open (omega (arith, stands.count))) (record { stands = stands; outcome = refl })
+      pub not_below : (c : ℕ) → length places ≤ c
+          → Follows u sure places store st (step st (Opened c) Served).outcome (Refused TooMany)
+      unfolding step
+      not_below c le =
+          rw (beyond c le, le-ltb c most_open (omega (arith, stands.count))) (record { stands = stands; outcome = refl })
 
-    pub is_open : (c : ℕ) (x : Option (Link B)) → c < length places → x ≡ get_or places c x → is_some x ≡ true
-        → Follows u sure places store st (step st (Opened c) Served).outcome (Refused TooMany)
-    unfolding step
-    is_open c None lt e is = absurd (cc)
-    is_open c (Some k) lt e is =
-        rw (some_conn st.world k (st.conns c) (place_at c (Some k) lt e)).1 (record { stands = stands; outcome = refl })
+      pub is_open : (c : ℕ) (x : Option (Link B)) → c < length places → x ≡ get_or places c x → is_some x ≡ true
+          → Follows u sure places store st (step st (Opened c) Served).outcome (Refused TooMany)
+      unfolding step
+      is_open c None lt e is = absurd (cc)
+      is_open c (Some k) lt e is =
+          rw (some_conn st.world k (st.conns c) (place_at c (Some k) lt e)).1 (record { stands = stands; outcome = refl })
 
-    pub not_open : (c : ℕ) (x : Option (Link B)) → c < length places → x ≡ get_or places c x → is_some x ≡ false
-        → st.conns c ≡ None
-    not_open c None lt e is = closed_none st.world (st.conns c) (place_at c None lt e)
-    not_open c (Some k) lt e is = absurd (cc)
+      pub not_open : (c : ℕ) (x : Option (Link B)) → c < length places → x ≡ get_or places c x → is_some x ≡ false
+          → st.conns c ≡ None
+      not_open c None lt e is = closed_none st.world (st.conns c) (place_at c None lt e)
+      not_open c (Some k) lt e is = absurd (cc)
 
   -- no connection in any place
   pub begun : (places : List (Option (Link B))) (store : U) (m : Store) (blocks : Option ℕ)
