@@ -83,7 +83,8 @@ module _ {U B : Type 0} (u : Ghosts U B) (sure : Bool) where
   grew_as p q (Some up) same (declare, more, is) =
       (declare, more, is ∙ ap (λ x. patched x declare more) (sym same))
 
-  module _ (w : World) (b : OpenPatch B) (asked : Asked) (r : Request) (p : Patch) (is : PatchesAs u w b asked r p) where
+  module _ (w : World) (b : OpenPatch B) (asked : Asked) (r : Request) (p : Patch)
+      (is : PatchesAs u w b asked r p) where
     abbrev d : ℕ
     d = u.number_of b.draft
 
@@ -188,13 +189,9 @@ module _ {U B : Type 0} (u : Ghosts U B) (sure : Bool) (w : World) (conn : Conn)
       ≡ answers (ended bytes).world (ended bytes).closes (conn.stream ++ take left bytes) (ended bytes).bytes [] left
   rest_is bytes enough =
       let wanted = is.inside.wanted in
-      rw (
-        rest_turn w conn is.asked is.inside.rest bytes is.pending (omega arith) wants,
-        ← is.inside.wanted,
-        is.draft,
-        is.patches.asks,
-        fed_found w own is.p (take left bytes) is.patches.found,
-      )
+      let turn = rest_turn w conn is.asked is.inside.rest bytes is.pending (omega arith) wants in
+      let found = fed_found w own is.p (take left bytes) is.patches.found in
+      rw (turn, ← is.inside.wanted, is.draft, is.patches.asks, found)
 
   part_told : (store' : U) (old new bytes : List ℕ) (a : Result (Option (Link B) × Answer) Stop) → length bytes < left
       → Parts u sure store' a head b (left - length bytes) (0 + length bytes) (fed w own bytes)

@@ -2,7 +2,8 @@
 use Rattle.std.proofs.Common.{ℕ, zero, suc, ◌+◌, ◌<◌, ◌≤◌, ◌≡◌, Bool, true, false, List, [], ◌∷◌, ◌++◌, Option}
 use Rattle.std.proofs.Common.{Some, None, length, take, drop, refl, sym, ◌∙◌, ap, arith, append_assoc}
 use Rattle.std.proofs.Common.{append-nil, nat_lt, slice_get}
-use Rattle.std.proofs.lemmas.List.{length-append, length-drop, take-append-le, drop-append-le, take-append-drop, append_cancel_left}
+use Rattle.std.proofs.lemmas.List.{length-append, length-drop, take-append-le, drop-append-le, take-append-drop}
+use Rattle.std.proofs.lemmas.List.{append_cancel_left}
 use Rattle.std.proofs.lemmas.Bool.{ltb-false, le-ltb}
 use Rattle.std.proofs.Math.Seq.{take-append_seam}
 use Rattle.tus_request.specs.Requests.{Verdict, body_length}
@@ -34,11 +35,9 @@ body_there : (f : List ℕ → Cut) (head : List ℕ) (v : Verdict) (rest p : Li
     → after_head f head v (rest ++ p) (nat_lt (length (rest ++ p)) (body_length v))
     ≡ onto (record { head = head; verdict = v; body = take (body_length v) rest }) (f (drop (body_length v) rest ++ p))
 body_there f head v rest p fits =
-    rw (
-      le-ltb (length (rest ++ p)) (body_length v) (simp length-append (omega arith)),
-      take-append-le (body_length v) rest p fits,
-      drop-append-le (body_length v) rest p fits,
-    )
+    let m = body_length v in
+    let l : m ≤ length (rest ++ p) = simp length-append (omega arith) in
+    rw (le-ltb (length (rest ++ p)) m l, take-append-le m rest p fits, drop-append-le m rest p fits)
 
 pub head_there : (f : List ℕ → Cut) (n : ℕ) (v : Verdict) (s p : List ℕ) → n ≤ length s
     → by_answer f (s ++ p) (Judged n v) ≡ after_head f (take n s) v (drop n s ++ p)
@@ -68,13 +67,9 @@ get_first_after xs ys = ap (slice_get (xs ++ ys)) (omega arith) ∙ get_after xs
 moments_after : (ws : List Asked) (r : Rest) (d : Cut)
     → moments_of (record { whole = ws; rest = r }) (after_whole ws d) ≡ moments_of (record { whole = []; rest = r }) d
 moments_after ws r d =
-    rw (
-      append_assoc ws d.whole (headed d.rest),
-      length-append ws (headed r),
-      get_after ws (heads_of d) (length (headed r)),
-      get_first_after ws d.whole,
-      get_first_after ws (heads_of d),
-    )
+    let heads = append_assoc ws d.whole (headed d.rest) in
+    let later = get_after ws (heads_of d) (length (headed r)) in
+    rw (heads, length-append ws (headed r), later, get_first_after ws d.whole, get_first_after ws (heads_of d))
 
 -- the unfinished part of a stream
 abbrev pub left : Reader → List ℕ → List ℕ
@@ -96,11 +91,13 @@ taken_after ws r s u p d covers =
     ∙ by_end ws s u p d covers (slice_get d.whole 0)
 
 module _ (answer : Reader) (steady : IsSteady answer) where
-  answer_same : (f g : List ℕ → Cut) (s : List ℕ) (a : Answer) → answer s ≡ a → ((t : List ℕ) → length t < length s → f t ≡ g t) → by_answer f s a ≡ by_answer g s a
+  answer_same : (f g : List ℕ → Cut) (s : List ℕ) (a : Answer) → answer s ≡ a
+      → ((t : List ℕ) → length t < length s → f t ≡ g t) → by_answer f s a ≡ by_answer g s a
   answer_same f g s More e same = refl
   answer_same f g s (Judged n v) e same =
       head_same f g (take n s) v (drop n s) (nat_lt (length (drop n s)) (body_length v))
-      (same (drop (body_length v) (drop n s)) (shorter s n (body_length v) (steady.some s n v e) (steady.within s n v e)))
+      (same (drop (body_length v) (drop n s))
+      (shorter s n (body_length v) (steady.some s n v e) (steady.within s n v e)))
 
   -- enough requests are enough
   enough : (n m : ℕ) (s : List ℕ) → length s < n → length s < m → cut_within answer n s ≡ cut_within answer m s
@@ -118,19 +115,22 @@ module _ (answer : Reader) (steady : IsSteady answer) where
       refl
       (λ t shorter. enough (length s) (suc (length t)) t shorter (omega arith))
 
-  on_body : (s p : List ℕ) (n : ℕ) (v : Verdict) → answer s ≡ Judged n v → ((t : List ℕ) → length t < length s → GoesOn answer p t (cut answer t)) → (b : Bool) → nat_lt (length (drop n s)) (body_length v) ≡ b → GoesOn answer p s (after_head (cut answer) (take n s) v (drop n s) b)
+  on_body : (s p : List ℕ) (n : ℕ) (v : Verdict) → answer s ≡ Judged n v
+      → ((t : List ℕ) → length t < length s → GoesOn answer p t (cut answer t)) → (b : Bool)
+      → nat_lt (length (drop n s)) (body_length v) ≡ b
+      → GoesOn answer p s (after_head (cut answer) (take n s) v (drop n s) b)
   on_body s p n v e goes true under = ap (λ x. cut answer (x ++ p)) (sym (take-append-drop n s))
   on_body s p n v e goes false there =
       let within = steady.within s n v e in
-      rw (
-        cut_steps (s ++ p),
-        steady.keeps s p n v e,
-        head_there (cut answer) n v s p within,
-        body_there (cut answer) (take n s) v (drop n s) p (ltb-false (length (drop n s)) (body_length v) there),
-        goes (drop (body_length v) (drop n s)) (shorter s n (body_length v) (steady.some s n v e) within),
-      )
+      let head = head_there (cut answer) n v s p within in
+      let body = body_there (cut answer) (take n s) v (drop n s) p
+      (ltb-false (length (drop n s)) (body_length v) there) in
+      let later = goes (drop (body_length v) (drop n s)) (shorter s n (body_length v) (steady.some s n v e) within) in
+      rw (cut_steps (s ++ p), steady.keeps s p n v e, head, body, later)
 
-  on_answer : (s p : List ℕ) (a : Answer) → answer s ≡ a → ((t : List ℕ) → length t < length s → GoesOn answer p t (cut answer t)) → GoesOn answer p s (by_answer (cut answer) s a)
+  on_answer : (s p : List ℕ) (a : Answer) → answer s ≡ a
+      → ((t : List ℕ) → length t < length s → GoesOn answer p t (cut answer t))
+      → GoesOn answer p s (by_answer (cut answer) s a)
   on_answer s p More e goes = refl
   on_answer s p (Judged n v) e goes =
       on_body s p n v e goes (nat_lt (length (drop n s)) (body_length v)) refl
@@ -144,7 +144,9 @@ module _ (answer : Reader) (steady : IsSteady answer) where
   pub goes_on : (s p : List ℕ) → GoesOn answer p s (cut answer s)
   goes_on s p = goes_within (suc (length s)) s p (omega arith)
 
-  cover_body : (s : List ℕ) (n : ℕ) (v : Verdict) → n ≤ length s → 0 < n → ((t : List ℕ) → length t < length s → Covers t (cut answer t)) → (b : Bool) → nat_lt (length (drop n s)) (body_length v) ≡ b → Covers s (after_head (cut answer) (take n s) v (drop n s) b)
+  cover_body : (s : List ℕ) (n : ℕ) (v : Verdict) → n ≤ length s → 0 < n
+      → ((t : List ℕ) → length t < length s → Covers t (cut answer t)) → (b : Bool)
+      → nat_lt (length (drop n s)) (body_length v) ≡ b → Covers s (after_head (cut answer) (take n s) v (drop n s) b)
   cover_body s n v within some covers true under = omega (arith, ap length (take-append-drop n s))
   cover_body s n v within some covers false there =
       let m = body_length v in
@@ -155,7 +157,8 @@ module _ (answer : Reader) (steady : IsSteady answer) where
         simp length-append at (ap length (take-append-drop m (drop n s))),
       )
 
-  cover_answer : (s : List ℕ) (a : Answer) → answer s ≡ a → ((t : List ℕ) → length t < length s → Covers t (cut answer t)) → Covers s (by_answer (cut answer) s a)
+  cover_answer : (s : List ℕ) (a : Answer) → answer s ≡ a
+      → ((t : List ℕ) → length t < length s → Covers t (cut answer t)) → Covers s (by_answer (cut answer) s a)
   cover_answer s More e covers = omega arith
   cover_answer s (Judged n v) e covers =
       cover_body s n v (steady.within s n v e) (steady.some s n v e) covers

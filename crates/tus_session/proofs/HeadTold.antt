@@ -69,7 +69,8 @@ module _ {U B : Type 0} (u : Ghosts U B) (sure : Bool) where
       rw (take_all (length bytes) bytes (omega arith)) at (more_turn_is w conn h inside bytes more) in
       subst (λ d. TurnedAs u sure store (link_after head 0 false) x out out w d (came_turn w conn bytes))
       (sym inside.draft)
-      (rw turn (answered_here u sure store (link_after head 0 false) x out out [] [] w w None head 0 (length bytes) false
+      (rw turn
+      (answered_here u sure store (link_after head 0 false) x out out [] [] w w None head 0 (length bytes) false
       (conn.stream ++ bytes) (InHead (h ++ bytes)) stands (still w None) refl (head_is, refl)
       (head_more_rest (reader w) (is_steady w) conn.stream h inside.rest bytes more) answer_is (sym (append-nil out))))
 
@@ -333,11 +334,8 @@ module _ {U B : Type 0} (u : Ghosts U B) (sure : Bool) (w : World) (conn : Conn)
   part_is : length q < r.length
       → came_turn w conn bytes ≡ goes_on (fed v own q) own (conn.stream ++ bytes) (reply ++ []) (length bytes)
   part_is few =
-      rw (
-        part_turn_is w conn h bytes n before (Asks r) is few,
-        begins.act_is,
-        take_all (length bytes) bytes (omega arith),
-      )
+      let turn = part_turn_is w conn h bytes n before (Asks r) is few in
+      rw (turn, begins.act_is, take_all (length bytes) bytes (omega arith))
 
   abbrev ended : Acted
   ended = ended_by v own begins.p (take r.length q) r
@@ -346,11 +344,8 @@ module _ {U B : Type 0} (u : Ghosts U B) (sure : Bool) (w : World) (conn : Conn)
       ≡ answers ended.world ended.closes (conn.stream ++ take (before + r.length) bytes) (reply ++ ended.bytes) []
       (before + r.length)
   rest_is enough =
-      rw (
-        whole_turn_is w conn h bytes n before (Asks r) is enough,
-        begins.act_is,
-        fed_found v own begins.p (take r.length q) begins.patches.found,
-      )
+      let turn = whole_turn_is w conn h bytes n before (Asks r) is enough in
+      rw (turn, begins.act_is, fed_found v own begins.p (take r.length q) begins.patches.found)
 
   dropped_first : dropped v own ≡ w
   dropped_first = ap (λ ps. record w { patches = ps }) (without_first own begins.p w.patches)
@@ -362,7 +357,8 @@ module _ {U B : Type 0} (u : Ghosts U B) (sure : Bool) (w : World) (conn : Conn)
         rw (start_is, same, begins.written, take-append_seam old reply) at cut_is
 
     part_case : (a : Result (Option (Link B) × code.Answer) Stop) → length q < r.length
-        → Parts u sure store' a head b (r.length - length q) (before + length q) (fed v own q) (fed_patch v own begins.p q)
+        → Parts u sure store' a head b (r.length - length q) (before + length q) (fed v own q)
+        (fed_patch v own begins.p q)
         (dropped v own) × (mid2 ≡ mid) → BackTo a start mid2 new
         → Turned u sure store' a old new w None (came_turn w conn bytes)
     part_case (Ok (link, a)) few ((b', goes), same) out =
@@ -373,7 +369,8 @@ module _ {U B : Type 0} (u : Ghosts U B) (sure : Bool) (w : World) (conn : Conn)
         let here = rw body at (head_part_rest (reader w) (is_steady w) conn.stream h is.inside.rest bytes n (Asks r)
         is.judged (omega arith)) in
         rw (part_is few)
-        (part_here u sure v b (asked_by (take n (h ++ bytes)) r) r begins.p begins.patches store' link a head b' (r.length - length q) (before + length q)
+        (part_here u sure v b (asked_by (take n (h ++ bytes)) r) r begins.p begins.patches store' link a head b'
+        (r.length - length q) (before + length q)
         (length bytes) q (conn.stream ++ bytes) old new (reply ++ []) w None (omega arith) goes
         (open_moves w own begins.p begins.free) cleared (omega arith) refl here
         (rw (append-nil reply) (out ∙ (same ∙ begins.written))))

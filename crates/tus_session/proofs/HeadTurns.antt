@@ -40,15 +40,8 @@ module _ (w : World) (conn : Conn) (h : List ℕ) (inside : InsideHead w conn h)
       let answer = reader w in
       let s = conn.stream in
       let l = head_left answer (is_steady w) s h inside.rest in
-      rw (
-        inside.pending,
-        taken_alone answer (is_steady w) s piece,
-        l,
-        e,
-        moments_alone answer (is_steady w) s (take n piece),
-        l,
-        f,
-      )
+      let took = taken_alone answer (is_steady w) s piece in
+      rw (inside.pending, took, l, e, moments_alone answer (is_steady w) s (take n piece), l, f)
 
   -- the head isn't whole yet
   pub more_turn_is : (piece : List ℕ) → reader w (h ++ piece) ≡ More
@@ -75,11 +68,8 @@ module _ (w : World) (conn : Conn) (h : List ℕ) (inside : InsideHead w conn h)
     prefix_judged m =
         let q = take (before + m) bytes in
         let a = rw (take_after h bytes before n head_within.0) at ((is_steady w).own (h ++ bytes) n v judged) in
-        rw (
-          ← (take-append-drop before q),
-          take-take before (before + m) bytes (omega arith),
-          ← (append_assoc h (take before bytes) (drop before q)),
-        )
+        let parts = take-take before (before + m) bytes (omega arith) in
+        rw (← (take-append-drop before q), parts, ← (append_assoc h (take before bytes) (drop before q)))
         ((is_steady w).keeps (h ++ take before bytes) (drop before q) n v a)
 
     pub prefix_body : (m : ℕ) → drop n (h ++ take (before + m) bytes) ≡ take m (drop before bytes)
@@ -198,13 +188,8 @@ module _ (w : World) (k : Conn) (asked : Asked) (rest : (cut (reader w) k.stream
       → moments (reader w) (left (reader w) k.stream) (take n piece) ≡ m → came_turn w k piece ≡ came_at w k piece n m
   unfolding came_turn
   body_moments piece n m idle e f =
-      rw (
-        idle,
-        taken_alone (reader w) (is_steady w) k.stream piece,
-        e,
-        moments_alone (reader w) (is_steady w) k.stream (take n piece),
-        f,
-      )
+      let took = taken_alone (reader w) (is_steady w) k.stream piece in
+      rw (idle, took, e, moments_alone (reader w) (is_steady w) k.stream (take n piece), f)
 
   -- fewer bytes than the body wants: all are taken
   pub part_turn : (piece : List ℕ) → k.pending ≡ None → length asked.body + length piece < body_length asked.verdict

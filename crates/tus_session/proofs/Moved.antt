@@ -201,7 +201,8 @@ both_moves w w1 w2 x y z a b = record {
   grows = grows_both w.store w1.store w2.store a.grows b.grows;
   others = λ e p ne found.
       b.others e p
-      (λ h. elim (a.fresh e h) [ inl own ↦ ne own | inr none ↦ let c : Some p ≡ None = sym found ∙ none in absurd (cc) ])
+      (λ h. elim (a.fresh e h)
+      [ inl own ↦ ne own | inr none ↦ let c : Some p ≡ None = sym found ∙ none in absurd (cc) ])
       (a.others e p ne found);
   back = λ e p apart found. elim (b.back e p (a.unique apart) found) [
     | inl own ↦ inl own

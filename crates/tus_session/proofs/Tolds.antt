@@ -94,8 +94,8 @@ module _ {U B : Type 0} (u : Ghosts U B) (sure : Bool) where
         { state = put st (ended_world st.world conn) (conn_in e) None; outcome = Done; text = [] }
         → EndedAs u sure store' st.world conn.draft (ended_world st.world conn) → Ends u sure all store' (Ok tt) st e
     ends is_put done turn =
-        let s = in_place u sure places all store store' st (ended_world st.world conn) (conn_in e) None None stands is_put
-        (rw is turn.moves) turn.shown tt in
+        let s = in_place u sure places all store store' st (ended_world st.world conn) (conn_in e) None None stands
+        is_put (rw is turn.moves) turn.shown tt in
         rw done (record { stands = s; outcome = refl })
 
     pub ends_stopped : (stop : Stop) → IsPut places all (conn_in e) None

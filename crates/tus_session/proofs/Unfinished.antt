@@ -61,23 +61,21 @@ no_answer_case answer h n v false q = omega (arith, ap (λ (c : Cut). length c.w
 
 module _ (answer : Reader) (steady : IsSteady answer) where
   -- what is left of a stream whose rest is a body
-  pub left_body : (s : List ℕ) (r : Asked) → (cut answer s).rest ≡ InBody r → (m : ℕ) × IsBody answer (left answer s) m r
+  pub left_body : (s : List ℕ) (r : Asked) → (cut answer s).rest ≡ InBody r
+      → (m : ℕ) × IsBody answer (left answer s) m r
   left_body s r e =
       let u = left answer s in
       let f : cut answer u ≡ only_body r = left_alone answer steady s ∙ ap (λ x. record { whole = []; rest = x }) e in
       answer_case answer u r (answer u) refl (sym f ∙ cut_steps answer steady u)
 
   -- the cut with more of the body
-  pub cut_more : (u q : List ℕ) (n : ℕ) (r : Asked) → IsBody answer u n r → cut answer (u ++ q) ≡ after_head (cut answer) r.head r.verdict (r.body ++ q) (nat_lt (length (r.body ++ q)) (body_length r.verdict))
+  pub cut_more : (u q : List ℕ) (n : ℕ) (r : Asked) → IsBody answer u n r
+      → cut answer (u ++ q)
+      ≡ after_head (cut answer) r.head r.verdict (r.body ++ q) (nat_lt (length (r.body ++ q)) (body_length r.verdict))
   cut_more u q n r is =
       let v = r.verdict in
-      rw (
-        cut_steps answer steady (u ++ q),
-        steady.keeps u q n v is.judged,
-        head_there (cut answer) n v u q (steady.within u n v is.judged),
-        is.head,
-        is.body,
-      )
+      let there = head_there (cut answer) n v u q (steady.within u n v is.judged) in
+      rw (cut_steps answer steady (u ++ q), steady.keeps u q n v is.judged, there, is.head, is.body)
 
   empty_answer : (a : Answer) → answer [] ≡ a → a ≡ More
   empty_answer More e = refl
@@ -88,42 +86,43 @@ module _ (answer : Reader) (steady : IsSteady answer) where
   empty_cut = rw (cut_steps answer steady [], empty_answer (answer []) refl)
 
   -- MORE OF A BODY: fewer bytes than it wants
-  pub part_cut : (u q : List ℕ) (n : ℕ) (r : Asked) → IsBody answer u n r → length r.body + length q < body_length r.verdict → cut answer (u ++ q) ≡ only_body (longer r q)
+  pub part_cut : (u q : List ℕ) (n : ℕ) (r : Asked) → IsBody answer u n r
+      → length r.body + length q < body_length r.verdict → cut answer (u ++ q) ≡ only_body (longer r q)
   part_cut u q n r is few =
-      rw (
-        cut_more u q n r is,
-        lt-ltb (length (r.body ++ q)) (body_length r.verdict) (simp length-append few),
-      )
+      let under : length (r.body ++ q) < body_length r.verdict = simp length-append few in
+      rw (cut_more u q n r is, lt-ltb (length (r.body ++ q)) (body_length r.verdict) under)
 
-  pub part_came : (u q : List ℕ) (n : ℕ) (r : Asked) → IsBody answer u n r → cut answer u ≡ only_body r → length r.body + length q < body_length r.verdict → moments answer u q ≡ bytes_came q
+  pub part_came : (u q : List ℕ) (n : ℕ) (r : Asked) → IsBody answer u n r → cut answer u ≡ only_body r
+      → length r.body + length q < body_length r.verdict → moments answer u q ≡ bytes_came q
   unfolding moments
   part_came u q n r is only few =
       rw (only, part_cut u q n r is few, drop-append_seam r.body q)
 
   -- its last bytes
-  pub rest_cut : (u q : List ℕ) (n : ℕ) (r : Asked) → IsBody answer u n r → length r.body + length q ≡ body_length r.verdict → cut answer (u ++ q) ≡ record { whole = longer r q ∷ []; rest = InHead [] }
+  pub rest_cut : (u q : List ℕ) (n : ℕ) (r : Asked) → IsBody answer u n r
+      → length r.body + length q ≡ body_length r.verdict
+      → cut answer (u ++ q) ≡ record { whole = longer r q ∷ []; rest = InHead [] }
   rest_cut u q n r is all =
       let m = body_length r.verdict in
       let l : length (r.body ++ q) ≡ m = simp length-append all in
-      rw (
-        cut_more u q n r is,
-        le-ltb (length (r.body ++ q)) m (omega arith),
-        take_all m (r.body ++ q) (omega arith),
-        drop_all m (r.body ++ q) (omega arith),
-        empty_cut,
-      )
+      let body = r.body ++ q in
+      let none = drop_all m body (omega arith) in
+      rw (cut_more u q n r is, le-ltb (length body) m (omega arith), take_all m body (omega arith), none, empty_cut)
 
-  pub rest_came : (u q : List ℕ) (n : ℕ) (r : Asked) → IsBody answer u n r → cut answer u ≡ only_body r → length r.body + length q ≡ body_length r.verdict → moments answer u q ≡ body_ended r q
+  pub rest_came : (u q : List ℕ) (n : ℕ) (r : Asked) → IsBody answer u n r → cut answer u ≡ only_body r
+      → length r.body + length q ≡ body_length r.verdict → moments answer u q ≡ body_ended r q
   unfolding moments
   rest_came u q n r is only all =
       rw (only, rest_cut u q n r is all, drop-append_seam r.body q)
 
   -- HOW MUCH IS TAKEN of a body: the piece, or what the body still wants
-  pub part_taken : (u p : List ℕ) (n : ℕ) (r : Asked) → IsBody answer u n r → cut answer u ≡ only_body r → length r.body + length p < body_length r.verdict → taken answer u p ≡ length p
+  pub part_taken : (u p : List ℕ) (n : ℕ) (r : Asked) → IsBody answer u n r → cut answer u ≡ only_body r
+      → length r.body + length p < body_length r.verdict → taken answer u p ≡ length p
   unfolding taken
   part_taken u p n r is only few = rw (only, part_cut u p n r is few)
 
-  pub rest_taken : (u p : List ℕ) (n : ℕ) (r : Asked) → IsBody answer u n r → cut answer u ≡ only_body r → body_length r.verdict ≤ length r.body + length p → taken answer u p ≡ body_length r.verdict - length r.body
+  pub rest_taken : (u p : List ℕ) (n : ℕ) (r : Asked) → IsBody answer u n r → cut answer u ≡ only_body r
+      → body_length r.verdict ≤ length r.body + length p → taken answer u p ≡ body_length r.verdict - length r.body
   unfolding taken
   rest_taken u p n r is only enough =
       let m = body_length r.verdict in
@@ -136,43 +135,48 @@ module _ (answer : Reader) (steady : IsSteady answer) where
   pub more_cut : (s : List ℕ) → answer s ≡ More → cut answer s ≡ only_head s
   more_cut s e = rw (cut_steps answer steady s, e)
 
-  pub head_part : (h q : List ℕ) → cut answer h ≡ only_head h → answer (h ++ q) ≡ More → (moments answer h q ≡ record { head = None; body = None; came = [] }) × (taken answer h q ≡ length q)
+  pub head_part : (h q : List ℕ) → cut answer h ≡ only_head h → answer (h ++ q) ≡ More
+      → (moments answer h q ≡ record { head = None; body = None; came = [] }) × (taken answer h q ≡ length q)
   unfolding moments taken
   head_part h q only e =
       let f = more_cut (h ++ q) e in
       (rw (only, f), rw (only, f))
 
   -- the head is whole, and its body isn't
-  pub begun_cut : (s : List ℕ) (n : ℕ) (v : Verdict) → answer s ≡ Judged n v → length (drop n s) < body_length v → cut answer s ≡ only_body (judged_as s n v)
+  pub begun_cut : (s : List ℕ) (n : ℕ) (v : Verdict) → answer s ≡ Judged n v → length (drop n s) < body_length v
+      → cut answer s ≡ only_body (judged_as s n v)
   begun_cut s n v e few =
       rw (cut_steps answer steady s, e, lt-ltb (length (drop n s)) (body_length v) few)
 
-  pub head_whole : (h q : List ℕ) (n : ℕ) (v : Verdict) → cut answer h ≡ only_head h → answer (h ++ q) ≡ Judged n v → length (drop n (h ++ q)) < body_length v → (moments answer h q ≡ record { head = Some (judged_as (h ++ q) n v); body = None; came = drop n (h ++ q) }) × (taken answer h q ≡ length q)
+  pub head_whole : (h q : List ℕ) (n : ℕ) (v : Verdict) → cut answer h ≡ only_head h → answer (h ++ q) ≡ Judged n v
+      → length (drop n (h ++ q)) < body_length v
+      → (moments answer h q ≡ record { head = Some (judged_as (h ++ q) n v); body = None; came = drop n (h ++ q) }) ×
+      (taken answer h q ≡ length q)
   unfolding moments taken
   head_whole h q n v only e few =
       let f = begun_cut (h ++ q) n v e few in
       (rw (only, f), rw (only, f))
 
   -- both are whole, and the bytes end there
-  pub whole_cut : (s : List ℕ) (n : ℕ) (v : Verdict) → answer s ≡ Judged n v → length (drop n s) ≡ body_length v → cut answer s ≡ record { whole = judged_as s n v ∷ []; rest = InHead [] }
+  pub whole_cut : (s : List ℕ) (n : ℕ) (v : Verdict) → answer s ≡ Judged n v → length (drop n s) ≡ body_length v
+      → cut answer s ≡ record { whole = judged_as s n v ∷ []; rest = InHead [] }
   whole_cut s n v e all =
       let m = body_length v in
       let rest = drop n s in
-      rw (
-        cut_steps answer steady s,
-        e,
-        le-ltb (length rest) m (omega arith),
-        take_all m rest (omega arith),
-        drop_all m rest (omega arith),
-        empty_cut,
-      )
+      let none = drop_all m rest (omega arith) in
+      let steps = cut_steps answer steady s in
+      rw (steps, e, le-ltb (length rest) m (omega arith), take_all m rest (omega arith), none, empty_cut)
 
-  pub both_whole : (h q : List ℕ) (n : ℕ) (v : Verdict) → cut answer h ≡ only_head h → answer (h ++ q) ≡ Judged n v → length (drop n (h ++ q)) ≡ body_length v → moments answer h q ≡ record { head = Some (judged_as (h ++ q) n v); body = Some (judged_as (h ++ q) n v); came = drop n (h ++ q) }
+  pub both_whole : (h q : List ℕ) (n : ℕ) (v : Verdict) → cut answer h ≡ only_head h → answer (h ++ q) ≡ Judged n v
+      → length (drop n (h ++ q)) ≡ body_length v
+      → moments answer h q
+      ≡ record { head = Some (judged_as (h ++ q) n v); body = Some (judged_as (h ++ q) n v); came = drop n (h ++ q) }
   unfolding moments
   both_whole h q n v only e all = rw (only, whole_cut (h ++ q) n v e all)
 
   -- a piece in which the request ends: its head and body alone are taken
-  pub whole_taken : (h p : List ℕ) (n : ℕ) (v : Verdict) → cut answer h ≡ only_head h → answer (h ++ p) ≡ Judged n v → body_length v ≤ length (drop n (h ++ p)) → taken answer h p ≡ n + body_length v - length h
+  pub whole_taken : (h p : List ℕ) (n : ℕ) (v : Verdict) → cut answer h ≡ only_head h → answer (h ++ p) ≡ Judged n v
+      → body_length v ≤ length (drop n (h ++ p)) → taken answer h p ≡ n + body_length v - length h
   unfolding taken
   whole_taken h p n v only e enough =
       let m = body_length v in
@@ -185,7 +189,8 @@ module _ (answer : Reader) (steady : IsSteady answer) where
       no_answer_case answer h n v (nat_lt (length (drop n h)) (body_length v))
       (sym only ∙ (cut_steps answer steady h ∙ ap (by_answer (cut answer) h) e))
 
-  pub head_new : (h q : List ℕ) (n : ℕ) (v : Verdict) → cut answer h ≡ only_head h → answer (h ++ q) ≡ Judged n v → length h < n
+  pub head_new : (h q : List ℕ) (n : ℕ) (v : Verdict) → cut answer h ≡ only_head h → answer (h ++ q) ≡ Judged n v
+      → length h < n
   head_new h q n v only e = elim (cases_lt (length h) n) [
     | inl new ↦ new
     | inr within ↦

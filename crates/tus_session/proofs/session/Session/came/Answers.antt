@@ -58,5 +58,6 @@ returns-clause-crash g c st stands =
 pub returns-in_err-next-clause-unmade : goal.returns-in_err-next-clause-unmade
 returns-in_err-next-clause-unmade g c st stands none_left =
     let o = c.in_ok-link.ensures.open true c.args.store.now st stands in
-    c.in_err-next.ensures.unmade st.world o.0 stands.shown o.2
-    (no_memory c.in_err-next.field-0.0 (rw (stop_is c.from_residual-in_err-next.result c.in_err-next.field-0.0 c.from_residual-in_err-next.ensures.1) at none_left))
+    let stop = c.in_err-next.field-0.0 in
+    let is = stop_is c.from_residual-in_err-next.result stop c.from_residual-in_err-next.ensures.1 in
+    c.in_err-next.ensures.unmade st.world o.0 stands.shown o.2 (no_memory stop (rw is at none_left))

@@ -9,7 +9,8 @@ pub returns-in_err-link-clause-answer : goal.returns-in_err-link-clause-answer
 returns-in_err-link-clause-answer g c sure st stands =
     let stop = err_from_is_err_and c.from_residual.result c.from_residual.ensures.1 in
     let none = c.in_err-link.ensures.closed sure c.args.store.now st stands in
-    rw (stop.1, stop.2, c.in_err-link.ensures.refusal) (none_open g.U.Uploads sure _ _ st (Ended c.args.conn) none.1 tt none.0)
+    rw (stop.1, stop.2, c.in_err-link.ensures.refusal)
+    (none_open g.U.Uploads sure _ _ st (Ended c.args.conn) none.1 tt none.0)
 
 pub returns-in_err-end_of-clause-answer : goal.returns-in_err-end_of-clause-answer
 returns-in_err-end_of-clause-answer g c sure st stands =
@@ -27,8 +28,9 @@ returns-in_err-end_of-clause-crash g c st stands =
 pub returns-in_err-end_of-clause-unmade : goal.returns-in_err-end_of-clause-unmade
 returns-in_err-end_of-clause-unmade g c st stands none_left =
     let o = c.in_ok-link.ensures.open true c.args.store.now st stands in
-    c.in_err-end_of.ensures.unmade st.world o.0 stands.shown o.2
-    (no_memory c.in_err-end_of.field-0.0 (rw (stop_is c.from_residual-in_err-end_of.result c.in_err-end_of.field-0.0 c.from_residual-in_err-end_of.ensures.1) at none_left))
+    let stop = c.in_err-end_of.field-0.0 in
+    let is = stop_is c.from_residual-in_err-end_of.result stop c.from_residual-in_err-end_of.ensures.1 in
+    c.in_err-end_of.ensures.unmade st.world o.0 stands.shown o.2 (no_memory stop (rw is at none_left))
 
 pub returns-in_err-end_of-clause-counts : goal.returns-in_err-end_of-clause-counts
 returns-in_err-end_of-clause-counts g c =
