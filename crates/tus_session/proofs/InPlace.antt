@@ -152,7 +152,7 @@ module _ {U B : Type 0} (u : Ghosts U B) (sure : Bool) where
       unfolding step
       not_below c le =
           rw (beyond c le, le-ltb c most_open (omega (arith, stands.count)))
-        (record { stands = stands; outcome = refl })
+          (record { stands = stands; outcome = refl })
 
       pub is_open : (c : ℕ) (x : Option (Link B)) → c < length places → x ≡ get_or places c x → is_some x ≡ true
           → Follows u sure places store st (step st (Opened c) Served).outcome (Refused TooMany)
@@ -160,7 +160,7 @@ module _ {U B : Type 0} (u : Ghosts U B) (sure : Bool) where
       is_open c None lt e is = absurd (cc)
       is_open c (Some k) lt e is =
           rw (some_conn st.world k (st.conns c) (place_at c (Some k) lt e)).1
-        (record { stands = stands; outcome = refl })
+          (record { stands = stands; outcome = refl })
 
       pub not_open : (c : ℕ) (x : Option (Link B)) → c < length places → x ≡ get_or places c x → is_some x ≡ false
           → st.conns c ≡ None
