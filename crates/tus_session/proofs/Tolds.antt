@@ -19,7 +19,6 @@ use Rattle.tus_session.specs.Places.{IsPut}
 use Rattle.tus_session.proofs.InPlace.{in_place}
 use Rattle.std.specs.Result.{IsErrAnd}
 use Rattle.std.proofs.lemmas.Result.{err_from_is_err_and}
-use Rattle.upload_rules.specs.Answers.{Counts}
 use Rattle.tus_session.specs.declared.errors.SessionError.{SessionError}
 
 -- the event's turn on an open connection
@@ -127,24 +126,7 @@ module _ {A : Type 0} where
       → result ≡ Err (error_of stop)
   stop_is result stop is = let s = err_from_is_err_and result is in s.1 ∙ ap Err s.2
 
-  pub no_down : (stop : Stop) → IsErrOf {T = A} (Err (error_of stop)) errors.Down → ⊥
-  no_down stops.NoMemory f = absurd (cc)
-  no_down stops.DiskFault f = absurd (cc)
-
 module _ {A B : Type 0} where
-  pub counts_as : {x y : ℕ} (stop : Stop) → Counts (IsErrOf {T = B} (Err stop) stops.DiskFault) x y
-      → Counts (IsErrOf {T = A} (Err (error_of stop)) errors.DiskFault) x y
-  counts_as stops.NoMemory c = record {
-    later = c.later;
-    counted = λ f. absurd (cc);
-    nothing_else = λ lt. let f = c.nothing_else lt in absurd (cc);
-  }
-  counts_as stops.DiskFault c = record {
-    later = c.later;
-    counted = λ f. c.counted refl;
-    nothing_else = λ lt. refl;
-  }
-
   pub no_memory : (stop : Stop) → IsErrOf {T = A} (Err (error_of stop)) errors.NoMemory
       → IsErrOf {T = B} (Err stop) stops.NoMemory
   no_memory stops.NoMemory f = refl

@@ -10,10 +10,6 @@ use Rattle.tus_session.proofs.Mores.{stays}
 use Rattle.tus_session.proofs.BodyTold.{patch_told, left_wanted, rest_store, skip_told, text_turn_is}
 use Rattle.tus_session.proofs.heads.came_of.Goals as goal
 
-pub returns-in-Head-clause-answer : goal.returns-in-Head-clause-answer
-returns-in-Head-clause-answer g c sure w conn stands link = c.head_of.ensures.answer sure w conn stands
-    (rw c.in-Head.is at link)
-
 pub returns-in-Head-clause-crash : goal.returns-in-Head-clause-crash
 returns-in-Head-clause-crash g c w conn stands link = c.head_of.ensures.crash w conn stands (rw c.in-Head.is at link)
 

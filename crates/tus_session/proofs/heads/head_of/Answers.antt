@@ -39,9 +39,6 @@ request_of-requires-clause-within g c =
     (rw c.in-Head.is at c.in_ok-parsed.ensures.function) in
     omega (arith, w, c.len-had.ensures, c.saturating_sub-before-in-Head.ensures)
 
-pub request_of-requires-clause-cleared : goal.request_of-requires-clause-cleared
-request_of-requires-clause-cleared g c = rw c.in-Head.is at c.in_ok-parsed.ensures.rest
-
 pub returns-in-More-clause-answer : goal.returns-in-More-clause-answer
 returns-in-More-clause-answer g c sure w conn stands inside =
     more_told g.U.Uploads sure _ _ _ w conn (bytes_of c.args.head) c.args.bytes.now c.read_by.new.self stands inside

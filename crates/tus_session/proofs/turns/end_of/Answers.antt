@@ -1,7 +1,7 @@
 use Rattle.std.proofs.Common.{true}
 use Rattle.tus_request.specs.Buffers.{bytes_of}
 use Rattle.tus_session.specs.Stands.{IsPatching}
-use Rattle.tus_session.proofs.Limiting.{limits_same, limits_to}
+use Rattle.tus_session.proofs.Limiting.{limits_to}
 use Rattle.tus_session.proofs.Mores.{no_draft, ends_idle, ends_cut, ends_store}
 use Rattle.tus_session.proofs.turns.end_of.Goals as goal
 
@@ -22,6 +22,3 @@ returns-in-Patch-clause-crash g c w conn stands link =
 pub returns-in-Head-clause-answer : goal.returns-in-Head-clause-answer
 returns-in-Head-clause-answer g c sure w conn stands link =
     ends_idle g.U.Uploads sure _ w conn stands (no_draft g.U.Uploads sure w _ _ conn link c.in-Head.is)
-
-pub returns-in-Head-clause-crash : goal.returns-in-Head-clause-crash
-returns-in-Head-clause-crash g c w conn stands link = limits_same _ _ _ _

@@ -1,7 +1,7 @@
 use Rattle.std.proofs.Common.{sym, ap, true}
 use Rattle.std.proofs.lemmas.Result.{err_from_is_err_and}
 use Rattle.tus_session.specs.History.{Ended}
-use Rattle.tus_session.proofs.Tolds.{stop_is, counts_as, no_down, no_memory, ended_step, none_open, ends, ends_stopped}
+use Rattle.tus_session.proofs.Tolds.{stop_is, no_memory, ended_step, none_open, ends, ends_stopped}
 use Rattle.tus_session.proofs.Limiting.{limits_to}
 use Rattle.tus_session.proofs.session.Session.ended.Goals as goal
 
@@ -31,16 +31,6 @@ returns-in_err-end_of-clause-unmade g c st stands none_left =
     let stop = c.in_err-end_of.field-0.0 in
     let is = stop_is c.from_residual-in_err-end_of.result stop c.from_residual-in_err-end_of.ensures.1 in
     c.in_err-end_of.ensures.unmade st.world o.0 stands.shown o.2 (no_memory stop (rw is at none_left))
-
-pub returns-in_err-end_of-clause-counts : goal.returns-in_err-end_of-clause-counts
-returns-in_err-end_of-clause-counts g c =
-    rw (stop_is c.from_residual-in_err-end_of.result c.in_err-end_of.field-0.0 c.from_residual-in_err-end_of.ensures.1)
-    (counts_as c.in_err-end_of.field-0.0 c.in_err-end_of.ensures.counts)
-
-pub returns-in_err-end_of-clause-no_down : goal.returns-in_err-end_of-clause-no_down
-returns-in_err-end_of-clause-no_down g c =
-    rw (stop_is c.from_residual-in_err-end_of.result c.in_err-end_of.field-0.0 c.from_residual-in_err-end_of.ensures.1)
-    (no_down c.in_err-end_of.field-0.0)
 
 pub returns-clause-answer : goal.returns-clause-answer
 returns-clause-answer g c sure st stands =

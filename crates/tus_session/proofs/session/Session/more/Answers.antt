@@ -3,7 +3,7 @@ use Rattle.std.proofs.lemmas.Result.{err_from_is_err_and}
 use Rattle.tus_session.specs.Turns.{more_turn}
 use Rattle.tus_session.specs.History.{More}
 use Rattle.tus_session.proofs.InPlace.{is_put_back}
-use Rattle.tus_session.proofs.Tolds.{stop_is, counts_as, no_down, more_is, none_open, told, stopped}
+use Rattle.tus_session.proofs.Tolds.{stop_is, more_is, none_open, told, stopped}
 use Rattle.tus_session.proofs.session.Session.more.Goals as goal
 
 pub returns-in_err-link-clause-answer : goal.returns-in_err-link-clause-answer
@@ -20,16 +20,6 @@ returns-in_err-next-clause-answer g c sure st stands =
     (stopped g.U.Uploads sure _ _ _ _ st (More c.args.conn) o.0 stands tt o.1 (more_turn st.world o.0)
     c.in_err-next.field-0.0 _ _ c.in_ok-link.ensures.taken
     (c.in_err-next.ensures.answer sure st.world o.0 stands.shown o.2))
-
-pub returns-in_err-next-clause-counts : goal.returns-in_err-next-clause-counts
-returns-in_err-next-clause-counts g c =
-    rw (stop_is c.from_residual-in_err-next.result c.in_err-next.field-0.0 c.from_residual-in_err-next.ensures.1)
-    (counts_as c.in_err-next.field-0.0 c.in_err-next.ensures.counts)
-
-pub returns-in_err-next-clause-no_down : goal.returns-in_err-next-clause-no_down
-returns-in_err-next-clause-no_down g c =
-    rw (stop_is c.from_residual-in_err-next.result c.in_err-next.field-0.0 c.from_residual-in_err-next.ensures.1)
-    (no_down c.in_err-next.field-0.0)
 
 pub returns-clause-answer : goal.returns-clause-answer
 returns-clause-answer g c sure st stands =
