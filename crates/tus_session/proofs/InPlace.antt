@@ -5,11 +5,11 @@ use Rattle.std.proofs.Common.{zero, suc, true, false, [], ◌∷◌, ◌++◌, i
 use Rattle.std.proofs.lemmas.Bool.Decides.{nat_tests}
 use Rattle.std.proofs.lemmas.Bool.{cases_eq, lt-ltb, le-ltb}
 use Rattle.std.proofs.lemmas.List.{get_or_default, get_or_past}
-use Rattle.upload_rules.specs.Store.{find, Store}
-use Rattle.upload_rules.specs.World.{Patch, World, at_rest}
+use Rattle.upload_rules.specs.Store.{find}
+use Rattle.upload_rules.specs.World.{Patch, World}
 use Rattle.upload_rules.specs.declared.uploads.Uploads.{Ghosts}
 use Rattle.tus_session.specs.Turns.{Conn, fresh, reader}
-use Rattle.tus_session.specs.History.{State, with_conn, put, Opened, Served, Done, Refused, beginning, step, most_open}
+use Rattle.tus_session.specs.History.{State, with_conn, put, Opened, Served, Done, Refused, step, most_open}
 use Rattle.tus_session.specs.Stands.{PlaceIs, draft_at, SessionStands}
 use Rattle.tus_session.specs.Moves.{Moves}
 use Rattle.tus_session.specs.Places.{IsPut}
@@ -166,19 +166,6 @@ module _ {U B : Type 0} (u : Ghosts U B) (sure : Bool) where
           → st.conns c ≡ None
       not_open c None lt e is = closed_none st.world (st.conns c) (place_at c None lt e)
       not_open c (Some k) lt e is = absurd (cc)
-
-  -- no connection in any place
-  pub begun : (places : List (Option (Link B))) (store : U) (m : Store) (blocks : Option ℕ)
-      → u.stands store sure (at_rest m blocks) → length places ≡ most_open → ((c : ℕ) → get_or places c None ≡ None)
-      → SessionStands u sure places store (beginning m blocks)
-  begun places store m blocks shown count all = record {
-    count = count;
-    shown = shown;
-    each = λ c. rw (all c) tt;
-    apart = λ c e d f g. absurd (cc);
-    unique = tt;
-    owned = λ d p found. absurd (cc);
-  }
 
 -- one closed place more
 pub closed_push : {B : Type 0} (xs : List (Option (Link B))) → ((c : ℕ) → get_or xs c None ≡ None) → (c : ℕ)
