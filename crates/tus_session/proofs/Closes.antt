@@ -1,25 +1,25 @@
 -- The end of a session: its drafts are dropped, one place after another.
-use Rattle.std.proofs.Common.{◌≡◌, ◌≢◌, inl, inr, ℕ, suc, ◌+◌, ◌<◌, List, [], ◌∷◌, ◌++◌, length, take, drop, get_or}
-use Rattle.std.proofs.Common.{append_assoc, Option, Some, None, refl, sym, ◌∙◌, ap, subst, arith, Bool}
+use Rattle.std.proofs.Common.{◌≡◌, ◌≢◌, inl, inr, ℕ, suc, ◌<◌, List, [], ◌∷◌, ◌++◌, length, take, drop, get_or}
+use Rattle.std.proofs.Common.{append_assoc, Option, Some, None, refl, sym, ◌∙◌, ap, arith, Bool}
 use Rattle.std.proofs.lemmas.Bool.{cases_eq, cases_lt}
 use Rattle.std.proofs.lemmas.Bool.Decides.{nat_tests}
-use Rattle.std.proofs.lemmas.List.{length-append, take-append-drop}
-use Rattle.std.proofs.Math.Seq.{take-append_seam}
-use Rattle.upload_rules.specs.Store.{find, without}
+use Rattle.std.proofs.lemmas.List.{length_push, take-append-drop}
+use Rattle.std.proofs.lemmas.Option.{same_Some}
+use Rattle.std.proofs.Math.Seq.{get_or-append_seam, take-append_seam}
+use Rattle.upload_rules.specs.Store.{Store, find}
 use Rattle.upload_rules.specs.World.{Patch, World, at_rest}
 use Rattle.upload_rules.specs.Apart.{IsApart}
-use Rattle.upload_rules.specs.Calls.{dropped}
 use Rattle.upload_rules.specs.declared.uploads.Uploads.{Ghosts}
 use Rattle.upload_rules.proofs.Finds.{find_without_same, find_without_other}
 use Rattle.tus_request.specs.Buffers.{bytes_of}
-use Rattle.tus_session.specs.Turns.{Conn}
+use Rattle.tus_session.specs.Turns.{Conn, left_world}
 use Rattle.tus_session.specs.History.{State}
 use Rattle.tus_session.specs.Stands.{LinkIs, PlaceIs, draft_at, SessionStands, dropped_by}
 use Rattle.tus_session.specs.declared.conns.Link.{Link}
 use Rattle.tus_session.specs.declared.conns.Awaiting.{Awaiting}
 use Rattle.tus_session.specs.declared.conns.Awaiting.TheVariants as awaits
-use Rattle.tus_session.proofs.InPlace.{beyond}
-use Rattle.tus_session.proofs.Moved.{apart_without}
+use Rattle.tus_session.proofs.InPlace.{beyond, closed_none}
+use Rattle.upload_rules.proofs.Patches.{apart_without}
 
 -- a world with the uploads of the history, in which only the drafts of the first places are open
 pub record IsClosing {U B : Type 0} (u : Ghosts U B) (sure : Bool) (st : State) (left : ℕ) (store : U)
@@ -35,7 +35,7 @@ module _ {U B : Type 0} (u : Ghosts U B) (sure : Bool) where
       → SessionStands u sure places store st → draft_at (st.conns c) ≡ Some d → c < length places
   conn_below places store st c d stands e = elim (cases_lt c (length places)) [
     | inl lt ↦ lt
-    | inr le ↦ let x : Some d ≡ None = sym e ∙ ap draft_at (beyond u sure places store st c stands le) in absurd (cc)
+    | inr le ↦ let x : Some d ≡ None = sym e ∙ ap draft_at (beyond u sure places store st stands c le) in absurd (cc)
   ]
 
   pub begins_closing : (places : List (Option (Link B))) (store : U) (st : State) → SessionStands u sure places store st
@@ -48,85 +48,46 @@ module _ {U B : Type 0} (u : Ghosts U B) (sure : Bool) where
     owned = λ d p found. let c = stands.owned d p found in (c.0, conn_below places store st c.0 d stands c.1, c.1);
   }
 
-  -- a place that has no draft
-  pub none_closing : (st : State) (left : ℕ) (store : U) (v : World) → IsClosing u sure st (suc left) store v
-      → draft_at (st.conns left) ≡ None → IsClosing u sure st left store v
-  none_closing st left store v is none = record {
-    shown = is.shown;
+  -- the draft of the last place is dropped, if it has one
+  pub closing : (st : State) (left : ℕ) (store store' : U) (v : World) (own : Option ℕ)
+      → IsClosing u sure st (suc left) store v → draft_at (st.conns left) ≡ own
+      → u.stands store' sure (left_world v own) → IsClosing u sure st left store' (left_world v own)
+  closing st left store store' v None is none shown = record {
+    shown = shown;
     uploads = is.uploads;
     blocks = is.blocks;
     unique = is.unique;
     owned = λ d p found.
         let c = is.owned d p found in
-        let ne : c.0 ≢ left = λ e. let x : Some d ≡ None =
-        sym c.2 ∙ (ap (λ i. draft_at (st.conns i)) e ∙ none) in absurd (cc) in
+        let ne : c.0 ≢ left = λ e. let x : None ≡ Some d = rw (e, none) at c.2 in absurd (cc) in
         (c.0, omega (arith, c.1, ne), c.2);
   }
-
-  -- a place whose draft is dropped
-  pub draft_closing : (st : State) (left : ℕ) (store store' : U) (v : World) (d : ℕ)
-      → IsClosing u sure st (suc left) store v → draft_at (st.conns left) ≡ Some d → u.stands store' sure (dropped v d)
-      → IsClosing u sure st left store' (dropped v d)
-  draft_closing st left store store' v d is own shown = record {
+  closing st left store store' v (Some d) is own shown = record {
     shown = shown;
     uploads = is.uploads;
     blocks = is.blocks;
     unique = apart_without d v.patches is.unique;
     owned = λ e p found. elim (cases_eq d e) [
       | inl same ↦
-          let none : find e (without d v.patches) ≡ None =
-          subst (λ n. find n (without d v.patches) ≡ None) same (find_without_same d v.patches is.unique) in
-          let x : Some p ≡ None = sym found ∙ none in absurd (cc)
+          let x : Some p ≡ None = sym found ∙ rw (← same) (find_without_same d v.patches is.unique) in absurd (cc)
       | inr ne ↦
           let c = is.owned e p (sym (find_without_other d e v.patches ne) ∙ found) in
-          let other : c.0 ≢ left = λ same. ne
-          (let x : Some d ≡ Some e = sym own
-          ∙ (ap (λ i. draft_at (st.conns i)) (sym same) ∙ c.2) in let y : d ≡ e = cc in y) in
+          let other : c.0 ≢ left = λ same. ne (same_Some d e (sym own ∙ rw same at c.2)) in
           (c.0, omega (arith, c.1, other), c.2)
     ];
   }
 
-  -- a connection without a patch
-  idle_closing : (st : State) (left : ℕ) (store store' : U) (v : World) (conn : Conn)
-      → IsClosing u sure st (suc left) store v → st.conns left ≡ Some conn → conn.draft ≡ None → u.stands store' sure v
-      → (v' : World) × IsClosing u sure st left store' v'
-  idle_closing st left store store' v conn is e none shown =
-      let now : IsClosing u sure st (suc left) store' v = record {
-        shown = shown;
-        uploads = is.uploads;
-        blocks = is.blocks;
-        unique = is.unique;
-        owned = is.owned;
-      } in
-      (v, none_closing st left store' v now (ap draft_at e ∙ none))
+  left_by : (w v : World) (head : List ℕ) (awaiting : Awaiting B) (conn : Conn) → LinkIs u w head awaiting conn
+      → dropped_by u v awaiting ≡ left_world v conn.draft
+  left_by w v head awaits.Head conn is = rw is.draft
+  left_by w v head (awaits.Patch b left) conn is = rw is.draft
+  left_by w v head (awaits.Skip left) conn is = rw is.draft
+  left_by w v head (awaits.Text g left) conn is = rw is.draft
 
-  awaiting_closing : (st : State) (left : ℕ) (store store' : U) (v : World) (head : List ℕ) (awaiting : Awaiting B)
-      (conn : Conn) → IsClosing u sure st (suc left) store v → st.conns left ≡ Some conn
-      → LinkIs u st.world head awaiting conn → u.stands store' sure (dropped_by u v awaiting) → (v' : World)
-      × IsClosing u sure st left store' v'
-  awaiting_closing st left store store' v head awaits.Head conn is e link shown =
-      idle_closing st left store store' v conn is e link.draft shown
-  awaiting_closing st left store store' v head (awaits.Skip wanted) conn is e link shown =
-      idle_closing st left store store' v conn is e link.draft shown
-  awaiting_closing st left store store' v head (awaits.Text g wanted) conn is e link shown =
-      idle_closing st left store store' v conn is e link.draft shown
-  awaiting_closing st left store store' v head (awaits.Patch b wanted) conn is e link shown =
-      let stands : u.stands store' sure (dropped v link.d) =
-      subst (λ n. u.stands store' sure (dropped v n)) link.patches.number shown in
-      (dropped v link.d, draft_closing st left store store' v link.d is (ap draft_at e ∙ link.draft) stands)
-
-  pub link_closing : (st : State) (left : ℕ) (store store' : U) (v : World) (k : Link B) (o : Option Conn)
-      → IsClosing u sure st (suc left) store v → st.conns left ≡ o → PlaceIs u st.world (Some k) o
-      → u.stands store' sure (dropped_by u v k.awaiting) → (v' : World) × IsClosing u sure st left store' v'
-  link_closing st left store store' v k None is e place shown = absurd place
-  link_closing st left store store' v k (Some conn) is e place shown =
-      awaiting_closing st left store store' v (bytes_of k.head) k.awaiting conn is e place shown
-
-  pub closed_closing : (st : State) (left : ℕ) (store : U) (v : World) (o : Option Conn)
-      → IsClosing u sure st (suc left) store v → st.conns left ≡ o → PlaceIs u st.world None o → (v' : World)
-      × IsClosing u sure st left store v'
-  closed_closing st left store v None is e place = (v, none_closing st left store v is (ap draft_at e))
-  closed_closing st left store v (Some conn) is e place = absurd place
+  place_left : (w v : World) (k : Link B) (o : Option Conn) → PlaceIs u w (Some k) o
+      → dropped_by u v k.awaiting ≡ left_world v (draft_at o)
+  place_left w v k None is = absurd is
+  place_left w v k (Some conn) is = left_by w v (bytes_of k.head) k.awaiting conn is
 
   no_patches : (patches : List (ℕ × Patch)) → ((d : ℕ) (p : Patch) → find d patches ≡ Some p → ⊥) → patches ≡ []
   no_patches [] none = refl
@@ -139,22 +100,10 @@ module _ {U B : Type 0} (u : Ghosts U B) (sure : Bool) where
       let none : v.patches ≡ [] =
       no_patches v.patches (λ d p found. let c = is.owned d p found in let l : c.0 < 0 = c.1 in absurd
       (omega arith)) in
-      let a : u.stands store sure (record {
-        store = v.store;
-        patches = [];
-        blocks = v.blocks;
-      }) = subst (λ ps. u.stands store sure (record { store = v.store; patches = ps; blocks = v.blocks })) none
-      is.shown in
-      let b : u.stands store sure (record {
-        store = st.world.store;
-        patches = [];
-        blocks = v.blocks;
-      }) = subst (λ m. u.stands store sure (record { store = m; patches = []; blocks = v.blocks })) is.uploads a in
-      subst (λ n. u.stands store sure (record { store = st.world.store; patches = []; blocks = n })) is.blocks b
-
-get_seam : {A : Type 0} (prefix after : List A) (x other : A) → get_or (prefix ++ x ∷ after) (length prefix) other ≡ x
-get_seam [] after x other = refl
-get_seam (y ∷ prefix) after x other = get_seam prefix after x other
+      let at : Store → List (ℕ × Patch) → Option ℕ → World = λ m ps n. record { store = m; patches = ps; blocks = n } in
+      let e : at v.store v.patches v.blocks ≡ at st.world.store [] st.world.blocks =
+      rw (none, is.uploads, is.blocks) in
+      rw e at is.shown
 
 -- the last of the first places is taken off
 pub record Popped {B : Type 0} (all old new : List (Option (Link B))) (x : Option (Link B)) : Type 0 where
@@ -169,32 +118,30 @@ popped all old new x prefix items =
     let whole : all ≡ new ++ x ∷ rest =
     sym (take-append-drop (length old) all)
     ∙ (ap (λ ys. ys ++ rest) (sym prefix ∙ items) ∙ append_assoc new (x ∷ []) rest) in
-    let n : length (new ++ x ∷ []) ≡ length new + length (x ∷ []) = length-append new (x ∷ []) in
-    let m : length old ≡ length (new ++ x ∷ []) = ap length items in
     record {
-      prefix = sym (ap (take (length new)) whole ∙ take-append_seam new (x ∷ rest));
-      here = ap (λ ys. get_or ys (length new) None) whole ∙ get_seam new rest x None;
-      count = omega arith;
+      prefix = rw whole (sym (take-append_seam new (x ∷ rest)));
+      here = ap (λ ys. get_or ys (length new) None) whole ∙ get_or-append_seam new x rest None;
+      count = omega (arith, ap length items, length_push new x);
     }
 
 module _ {U B : Type 0} (u : Ghosts U B) (sure : Bool) (all old new : List (Option (Link B))) (first : U) (st : State)
     (stands : SessionStands u sure all first st) where
   place_there : (x : Option (Link B)) → Popped all old new x → PlaceIs u st.world x (st.conns (length new))
-  place_there x is = subst (λ p. PlaceIs u st.world p (st.conns (length new))) is.here (stands.each (length new))
-
-  one_less : (store : U) (v : World) (x : Option (Link B)) → Popped all old new x
-      → IsClosing u sure st (length old) store v → IsClosing u sure st (suc (length new)) store v
-  one_less store v x is closing = subst (λ n. IsClosing u sure st n store v) is.count closing
+  place_there x is = rw is.here at (stands.each (length new))
 
   pub after_closed : (store : U) (v : World) (x : Option (Link B)) → x ≡ None → Popped all old new x
       → IsClosing u sure st (length old) store v → (v' : World) × IsClosing u sure st (length new) store v'
-  after_closed store v x e is closing =
-      closed_closing u sure st (length new) store v (st.conns (length new)) (one_less store v x is closing) refl
-      (subst (λ p. PlaceIs u st.world p (st.conns (length new))) e (place_there x is))
+  after_closed store v x e is closes =
+      let none = closed_none u sure st.world (st.conns (length new)) (rw e at (place_there x is)) in
+      (v, closing u sure st (length new) store store v None (rw is.count at closes) (ap draft_at none) closes.shown)
 
   pub after_open : (store store' : U) (v : World) (x : Option (Link B)) (k : Link B) → x ≡ Some k → Popped all old new x
       → IsClosing u sure st (length old) store v → u.stands store' sure (dropped_by u v k.awaiting) → (v' : World)
       × IsClosing u sure st (length new) store' v'
-  after_open store store' v x k e is closing shown =
-      link_closing u sure st (length new) store store' v k (st.conns (length new)) (one_less store v x is closing) refl
-      (subst (λ p. PlaceIs u st.world p (st.conns (length new))) e (place_there x is)) shown
+  after_open store store' v x k e is closes shown =
+      let conn = st.conns (length new) in
+      let left = place_left u sure st.world v k conn (rw e at (place_there x is)) in (
+        left_world v (draft_at conn),
+        closing u sure st (length new) store store' v (draft_at conn)
+            (rw is.count at closes) refl (rw left at shown),
+      )

@@ -1,5 +1,5 @@
 -- A turn on one connection leaves the others as they were.
-use Rattle.std.proofs.Common.{◌≡◌, ◌<◌, ℕ, ◌+◌, List, ◌++◌, length, take, drop, Option, Some, None, refl, sym, ◌∙◌, ap}
+use Rattle.std.proofs.Common.{◌≡◌, ◌<◌, ◌≤◌, ℕ, List, ◌++◌, length, take, drop, Option, Some, None, refl, sym, ◌∙◌, ap}
 use Rattle.std.proofs.Common.{subst, arith, Bool}
 use Rattle.std.proofs.lemmas.List.{length-append, take-append-le}
 use Rattle.tus_request.specs.Buffers.{bytes_of}
@@ -16,7 +16,7 @@ use Rattle.tus_action.specs.declared.acts.Giving as given
 use Rattle.tus_request.specs.Requests.{Request}
 use Rattle.tus_session.specs.Streams.{Asked, cut}
 use Rattle.tus_session.specs.Turns.{Conn, reader}
-use Rattle.tus_session.specs.Stands.{PatchesAs, InsideBody, RestIs, LinkIs, PlaceIs, draft_at}
+use Rattle.tus_session.specs.Stands.{PatchesAs, InsideBody, LinkIs, PlaceIs, draft_at}
 use Rattle.tus_session.specs.Moves.{Longer, Grows, Moves}
 use Rattle.tus_action.specs.declared.bodies.OpenPatch.{OpenPatch}
 use Rattle.tus_session.specs.declared.conns.Awaiting.{Awaiting}
@@ -47,24 +47,18 @@ gives_as : (w w' : World) (g : given.Giving) (h : Giving) (up up' : Upload) → 
     → GivesAs w.store g h up → GivesAs w'.store g h up'
 gives_as w w' g h up up' found m is =
     let t = text_of w.store.indexes up in
-    let n : length (t ++ m.more) ≡ length t + length m.more = length-append t m.more in
     let within = is.within in
-    let l : length (text_of w'.store.indexes up') ≡ length t + length m.more = ap length m.text ∙ n in
+    let n : g.length ≤ length (text_of w'.store.indexes up') =
+    rw m.text (simp length-append (omega arith)) in
     let f : take g.length (text_of w'.store.indexes up') ≡ take g.length t =
-    ap (take g.length) m.text ∙ take-append-le g.length t m.more within in record {
-      number = is.number;
-      found = found;
-      some = is.some;
-      within = omega arith;
-      left = is.left ∙ ap (drop g.given) (sym f);
-      closes = is.closes;
-    }
+    rw m.text (take-append-le g.length t m.more within) in
+    assumption (found, n, is.left ∙ ap (drop g.given) (sym f))
 
 gives_more : (w w' : World) (g : given.Giving) (h : Giving) → Grows w.store w'.store → IsGiving w.store g h
     → IsGiving w'.store g h
 gives_more w w' g h grows is = record {
   number = is.number;
-  below = (let b = is.below in let n = grows.next in omega (arith, b, n));
+  below = omega (arith, is.below, grows.next);
   closes = is.closes;
   there = λ up found. (let m = grows.uploads h.number up is.below found in gives_as w w' g h m.0 up found m.2
       (is.there m.0 m.1));
@@ -76,51 +70,37 @@ pub rest_same : (w w' : World) (s : List ℕ) → w'.store.indexes ≡ w.store.i
 rest_same w w' s e = ap (λ x. (cut (answer_of (offers x)) s).rest) e
 
 module _ {U B : Type 0} (u : Ghosts U B) (sure : Bool) where
-  patch_moved : (w w' : World) (own : Option ℕ) (b : OpenPatch B) (d : ℕ) (asked : Asked) (r : Request) (p : Patch)
-      (own' : Option ℕ) → Moves w w' own own' → (own ≡ Some d → ⊥) → PatchesAs u w b d asked r p
-      → PatchesAs u w' b d asked r p
-  patch_moved w w' own b d asked r p own' moves ne is = record {
-    number = is.number;
-    found = moves.others d p ne is.found;
-    holds = is.holds;
-    asks = is.asks;
-    count = is.count;
-    body = is.body;
-    reached = is.reached;
-    fits = is.fits;
-    below = (let b = is.below in let n = moves.grows.next in omega (arith, b, n));
-    grown = grown_more w w' p moves.grows is.below is.grown;
-    bare = is.bare;
-    closes = is.closes;
-  }
+  patch_moved : (w w' : World) (own own' : Option ℕ) (b : OpenPatch B) (asked : Asked) (r : Request) (p : Patch)
+      → Moves w w' own own' → (own ≡ Some (u.number_of b.draft) → ⊥) → PatchesAs u w b asked r p
+      → PatchesAs u w' b asked r p
+  patch_moved w w' own own' b asked r p moves ne is =
+      let found = moves.others (u.number_of b.draft) p ne is.found in
+      let next = moves.grows.next in
+      let below : p.number < w'.store.next = omega (arith, is.below, next) in
+      assumption (found, below, grown_more w w' p moves.grows is.below is.grown)
 
   inside_moved : (w w' : World) (conn : Conn) (head : List ℕ) (left : ℕ) (asked : Asked)
       → w'.store.indexes ≡ w.store.indexes → InsideBody w conn head left asked → InsideBody w' conn head left asked
-  inside_moved w w' conn head left asked same is = record {
-    rest = rest_same w w' conn.stream same ∙ is.rest;
-    cleared = is.cleared;
-    some = is.some;
-    wanted = is.wanted;
-  }
+  inside_moved w w' conn head left asked same is = assumption (rest_same w w' conn.stream same ∙ is.rest)
 
   link_moved : (w w' : World) (own own' : Option ℕ) (head : List ℕ) (awaiting : Awaiting B) (conn : Conn)
       → Moves w w' own own' → ((e : ℕ) → conn.draft ≡ Some e → own ≡ Some e → ⊥) → LinkIs u w head awaiting conn
       → LinkIs u w' head awaiting conn
-  link_moved w w' own own' head awaits.Head conn moves ne is = record {
-    rest = rest_same w w' conn.stream moves.grows.indexes ∙ is.rest;
-    draft = is.draft;
-    pending = is.pending;
-  }
-  link_moved w w' own own' head (awaits.Patch b left) conn moves ne is = record {
-    d = is.d;
-    asked = is.asked;
-    r = is.r;
-    p = is.p;
-    inside = inside_moved w w' conn head left is.asked moves.grows.indexes is.inside;
-    draft = is.draft;
-    pending = is.pending;
-    patches = patch_moved w w' own b is.d is.asked is.r is.p own' moves (ne is.d is.draft) is.patches;
-  }
+  link_moved w w' own own' head awaits.Head conn moves ne is =
+      assumption (rest_same w w' conn.stream moves.grows.indexes ∙ is.rest)
+  link_moved w w' own own' head (awaits.Patch b left) conn moves ne is =
+      let inside = inside_moved w w' conn head left is.asked moves.grows.indexes is.inside in
+      let patches = patch_moved w w' own own' b is.asked is.r is.p moves (ne (u.number_of b.draft) is.draft)
+      is.patches in
+      record {
+        asked = is.asked;
+        r = is.r;
+        p = is.p;
+        inside = inside;
+        draft = is.draft;
+        pending = is.pending;
+        patches = patches;
+      }
   link_moved w w' own own' head (awaits.Skip left) conn moves ne is = record {
     asked = is.asked;
     inside = inside_moved w w' conn head left is.asked moves.grows.indexes is.inside;
@@ -129,7 +109,7 @@ module _ {U B : Type 0} (u : Ghosts U B) (sure : Bool) where
   }
   link_moved w w' own own' head (awaits.Text g left) conn moves ne is = record {
     h = is.h;
-    rest = subst (RestIs head left) (sym (rest_same w w' conn.stream moves.grows.indexes)) is.rest;
+    rest = rw (rest_same w w' conn.stream moves.grows.indexes) is.rest;
     draft = is.draft;
     pending = is.pending;
     gives = gives_more w w' g is.h moves.grows is.gives;
@@ -146,13 +126,11 @@ module _ {U B : Type 0} (u : Ghosts U B) (sure : Bool) where
 
   link_draft : (w : World) (head : List ℕ) (awaiting : Awaiting B) (conn : Conn) (d : ℕ) → LinkIs u w head awaiting conn
       → conn.draft ≡ Some d → (p : Patch) × (find d w.patches ≡ Some p)
-  link_draft w head awaits.Head conn d is e = let x : None ≡ Some d = sym is.draft ∙ e in absurd (cc)
+  link_draft w head awaits.Head conn d is e = absurd (cc)
   link_draft w head (awaits.Patch b left) conn d is e =
-      let x : Some is.d ≡ Some d = sym is.draft ∙ e in
-      let f : is.d ≡ d = cc in
-      (is.p, subst (λ n. find n w.patches ≡ Some is.p) f is.patches.found)
-  link_draft w head (awaits.Skip left) conn d is e = let x : None ≡ Some d = sym is.draft ∙ e in absurd (cc)
-  link_draft w head (awaits.Text g left) conn d is e = let x : None ≡ Some d = sym is.draft ∙ e in absurd (cc)
+      let f : u.number_of b.draft ≡ d = cc in (is.p, rw (← f) is.patches.found)
+  link_draft w head (awaits.Skip left) conn d is e = absurd (cc)
+  link_draft w head (awaits.Text g left) conn d is e = absurd (cc)
 
   -- a draft's patch is open
   pub draft_found : (w : World) (place : Option (Link B)) (conn : Option Conn) (d : ℕ) → PlaceIs u w place conn

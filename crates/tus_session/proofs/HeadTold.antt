@@ -1,70 +1,61 @@
 -- From what a head comes to, to the turn's answer.
-use Rattle.std.proofs.Common.{ℕ, ◌+◌, ◌-◌, ◌≤◌, ◌≡◌, inl, inr, true, false, List, [], ◌++◌, Option, Some, None, Bool}
-use Rattle.std.proofs.Common.{length, take, drop, min, refl, sym, ◌∙◌, ap, subst, arith, append-nil, if◌then◌else◌}
-use Rattle.std.proofs.lemmas.Bool.{cases_lt}
-use Rattle.std.proofs.lemmas.List.{length-take-le, take_all, length-append, length-drop}
+use Rattle.std.proofs.Common.{ℕ, ◌+◌, ◌-◌, ◌≤◌, ◌≡◌, false, List, [], ◌++◌, Option, Some, None, Bool, length, take}
+use Rattle.std.proofs.Common.{drop, min, refl, sym, ◌∙◌, ap, subst, arith, append-nil, inl, inr, true, ◌<◌, ◌∷◌, Result}
+use Rattle.std.proofs.Common.{Ok, Err, append_assoc}
+use Rattle.std.proofs.lemmas.List.{take_all, length-append, length-drop, length-take-le}
 use Rattle.tus_request.specs.Buffers.{bytes_of}
 use Rattle.enc_model.specs.Indexes.{IndexSet, offers}
-use Rattle.tus_request.specs.Shown.{answer_shown}
-use Rattle.tus_request.specs.declared.requests.Parsed.{Parsed}
 use Rattle.tus_request.proofs.Prefixes.{steady}
 use Rattle.tus_request.specs.Answers.{Answer, More, Judged, answer_of}
-use Rattle.tus_request.specs.Requests.{Verdict, body_length}
-use Rattle.tus_request.specs.Steady.{IsSteady}
-use Rattle.upload_rules.specs.World.{World}
+use Rattle.tus_request.specs.Requests.{Verdict, body_length, Request, Asks}
+use Rattle.upload_rules.specs.World.{World, Patch}
 use Rattle.upload_rules.specs.declared.uploads.Uploads.{Ghosts}
-use Rattle.tus_action.specs.Acts.{Acted, Giving, acted, is_pending}
-use Rattle.tus_action.specs.Serves.{Appends}
-use Rattle.tus_session.specs.Streams.{InHead, InBody, Moments}
-use Rattle.tus_session.specs.Turns.{Conn, Turn, reader, turn_of, came_with, body_step, came_turn}
-use Rattle.tus_session.specs.Heads.{InsideHead, IsWhole}
+use Rattle.tus_action.specs.Acts.{Acted, Giving, acted, fed, fed_patch}
+use Rattle.tus_action.specs.Serves.{Appends, ActedAs, GivingIs, DraftIs}
+use Rattle.tus_session.specs.Streams.{InHead, Moments, Rest, InBody, cut, Asked}
+use Rattle.tus_session.specs.Stands.{RestIs, IsGivingText, PatchesAs}
+use Rattle.tus_session.specs.Turns.{Conn, Turn, reader, came_with, came_turn}
+use Rattle.tus_session.specs.Heads.{InsideHead, IsWhole, ReachedIs}
 use Rattle.tus_session.specs.Moves.{Moves}
-use Rattle.tus_session.specs.Turned.{TurnedAs}
-use Rattle.tus_session.specs.Bodies.{took, link_after}
+use Rattle.tus_session.specs.Turned.{TurnedAs, Turned}
+use Rattle.tus_session.specs.Bodies.{took, link_after, Parts, Replies, ended_by, BackTo}
 use Rattle.tus_session.specs.declared.answers.Answer as code
 use Rattle.tus_request.specs.declared.buffer.HeadBuffer.{HeadBuffer}
 use Rattle.tus_session.specs.declared.conns.Link.{Link}
-use Rattle.tus_session.proofs.BodyTold.{plain, answered_here}
-use Rattle.tus_session.proofs.HeadTurns.{more_turn_is, head_within, prefix_judged, prefix_body, part_turn_is}
-use Rattle.tus_session.proofs.HeadTurns.{whole_turn_is}
-use Rattle.tus_session.proofs.NewRests.{head_more_rest, head_part_rest, head_whole_rest, drop_after}
-use Rattle.tus_session.proofs.Opening.{still}
+use Rattle.tus_session.proofs.BodyTold.{answers, answered_here, Bodied, goes_on, part_here, rest_moves, fed_found}
+use Rattle.tus_session.proofs.HeadTurns.{more_turn_is, head_turn, verdict_is, prefix_is, part_turn_is, whole_turn_is}
+use Rattle.tus_session.proofs.HeadTurns.{within, body_is}
+use Rattle.tus_session.proofs.NewRests.{is_steady, head_more_rest, head_part_rest, head_whole_rest}
+use Rattle.tus_session.proofs.Moved.{still, with_patch, open_moves, both_moves}
+use Rattle.std.proofs.lemmas.Bool.{cases_lt}
+use Rattle.upload_rules.specs.Store.{Store, Upload, upload_of, find}
+use Rattle.upload_rules.specs.Answers.{Limits}
+use Rattle.tus_action.specs.declared.acts.Giving as given
+use Rattle.tus_action.specs.declared.acts.Done.TheVariants as Done
+use Rattle.tus_session.specs.declared.conns.Awaiting.TheVariants as awaits
+use Rattle.tus_session.proofs.Frames.{rest_same}
+use Rattle.tus_session.proofs.Limiting.{still_limits, first_then, limits_to}
+use Rattle.tus_session.proofs.RequestLeaves.{Nothing, Text, Patching, leaves}
 use Rattle.tus_session.proofs.Unfinished.{judged_as}
+use Rattle.std.proofs.lemmas.Bool.Decides.{nat_tests}
+use Rattle.std.proofs.lemmas.Option.{same_Some}
+use Rattle.std.proofs.Math.Seq.{take-append_seam}
+use Rattle.upload_rules.specs.Calls.{first_patch, dropped}
+use Rattle.tus_action.specs.declared.acts.Stop.{Stop}
+use Rattle.tus_action.specs.declared.acts.Stop.TheVariants as stops
+use Rattle.tus_action.specs.declared.bodies.OpenPatch.{OpenPatch}
+use Rattle.tus_session.proofs.Feeding.{without_first}
+use Rattle.tus_session.proofs.Growth.{patched_nothing}
 
-is_steady : (w : World) → IsSteady (reader w)
-is_steady w = steady (offers w.store.indexes)
+abbrev answered_turn : Acted → List ℕ → ℕ → Turn
+answered_turn a s n = answers a.world a.closes s a.bytes a.text n
 
 -- without a patch or a text, what the head did is all
-came_plain : (k : Conn) (piece : List ℕ) (n : ℕ) (m : Moments) (a : Acted) → a.pending ≡ None → a.draft ≡ None
-    → came_with k piece n m a ≡ turn_of k piece n a
+pub came_plain : (k : Conn) (piece : List ℕ) (n : ℕ) (m : Moments) (a : Acted) → a.pending ≡ None → a.draft ≡ None
+    → came_with k piece n m a ≡ answered_turn a (k.stream ++ take n piece) n
 came_plain k piece n m a idle none =
-    ap (λ b. elim b as (λ _. Turn) [
-      | true ↦ turn_of k piece (n - length m.came) a
-      | false ↦ turn_of k piece n (body_step a m.came m.body a.draft)
-    ]) (ap is_pending idle)
-    ∙ ap (λ d. turn_of k piece n (body_step a m.came m.body d)) none
-
-abbrev pub answered_turn : Acted → List ℕ → ℕ → Turn
-answered_turn a s n = record {
-  world = a.world;
-  conn = if a.closes then None else Some (plain s None);
-  bytes = a.bytes;
-  text = a.text;
-  taken = n;
-}
-
-turn_plain : (k : Conn) (piece : List ℕ) (n : ℕ) (a : Acted) → a.pending ≡ None → a.draft ≡ None
-    → turn_of k piece n a ≡ answered_turn a (k.stream ++ take n piece) n
-turn_plain k piece n a idle none =
-    let s = k.stream ++ take n piece in
-    let T : Option ℕ → Option Giving → Turn = λ d g. record {
-      world = a.world;
-      conn = if a.closes then None else Some (record { stream = s; draft = d; pending = g });
-      bytes = a.bytes;
-      text = a.text;
-      taken = n;
-    } in
-    ap (λ d. T d a.pending) none ∙ ap (T None) idle
+    let at : Option ℕ → Option Giving → Acted = λ d g. record a { draft = d; pending = g } in
+    ap (λ g. came_with k piece n m (at a.draft g)) idle ∙ ap (λ d. came_with k piece n m (at d None)) none
 
 module _ {U B : Type 0} (u : Ghosts U B) (sure : Bool) where
   -- the head isn't whole yet
@@ -74,115 +65,359 @@ module _ {U B : Type 0} (u : Ghosts U B) (sure : Bool) where
       → TurnedAs u sure store (link_after head 0 false) x out out w conn.draft (came_turn w conn bytes)
   more_told store x out w conn h bytes head stands inside more head_is answer_is =
       let a : Acted = record { world = w; draft = None; bytes = []; text = []; pending = None; closes = false } in
-      let t : take (length bytes) bytes ≡ bytes = take_all (length bytes) bytes (omega arith) in
       let turn : came_turn w conn bytes ≡ answered_turn a (conn.stream ++ bytes) (length bytes) =
-      more_turn_is w conn h inside bytes more ∙ ap (λ q. answered_turn a (conn.stream ++ q) (length bytes)) t in
-      let here = head_more_rest (reader w) (is_steady w) conn.stream h inside.rest bytes more in
-      let now = answered_here u sure store (link_after head 0 false) x out out [] [] w w None head 0 (length bytes)
-      false
-      (conn.stream ++ bytes) (InHead (h ++ bytes)) stands (still w None) refl (head_is, refl) here answer_is
-      (sym (append-nil out)) in
+      rw (take_all (length bytes) bytes (omega arith)) at (more_turn_is w conn h inside bytes more) in
       subst (λ d. TurnedAs u sure store (link_after head 0 false) x out out w d (came_turn w conn bytes))
       (sym inside.draft)
-      (subst (TurnedAs u sure store (link_after head 0 false) x out out w None) (sym turn) now)
+      (rw turn
+      (answered_here u sure store (link_after head 0 false) x out out [] [] w w None head 0 (length bytes) false
+      (conn.stream ++ bytes) (InHead (h ++ bytes)) stands (still w None) refl (head_is, refl)
+      (head_more_rest (reader w) (is_steady w) conn.stream h inside.rest bytes more) answer_is (sym (append-nil out))))
 
-  module _ (store' : U) (w : World) (conn : Conn) (h bytes : List ℕ) (n before : ℕ) (v : Verdict)
-      (is : IsWhole w conn h bytes n before v) where
-    abbrev after : List ℕ
-    after = drop before bytes
-
-    -- what the head did is all: the rest of the body is dropped
-    pub no_patch_told : (link : Option (Link B)) (x : code.Answer) (old new : List ℕ) (head : HeadBuffer)
-        → u.stands store' sure (acted w v).world → Moves w (acted w v).world None None → (acted w v).draft ≡ None
-        → (acted w v).pending ≡ None → link ≡ link_after head (body_length v - min (body_length v) (length after))
-        (acted w v).closes → (bytes_of head) ≡ [] → x ≡ took (before + min (body_length v) (length after))
-        (acted w v).closes → Appends sure old new (acted w v).bytes (acted w v).text
-        → TurnedAs u sure store' link x old new w conn.draft (came_turn w conn bytes)
-    no_patch_told link x old new head shown moves none idle link_is head_is answer_is bytes_are =
-        let a = acted w v in
-        let m = body_length v in
-        let left = m - min m (length after) in
-        let within = head_within w conn h is.inside bytes n before v is.judged is.before_is in
-        let l : length after ≡ length bytes - before = length-drop before bytes in
-        subst (λ d. TurnedAs u sure store' link x old new w d (came_turn w conn bytes)) (sym is.inside.draft)
-        (elim (cases_lt (length after) m) as (λ _. TurnedAs u sure store' link x old new w None
-        (came_turn w conn bytes)) [
-          | inl few ↦
-              let t : take (length bytes) bytes ≡ bytes = take_all (length bytes) bytes (omega arith) in
-              let turn : came_turn w conn bytes ≡ answered_turn a (conn.stream ++ bytes) (length bytes) =
-              part_turn_is w conn h is.inside bytes n before v is.judged is.before_is few
-              ∙ (came_plain conn bytes (length bytes)
-              (record { head = Some (judged_as (h ++ bytes) n v); body = None; came = after }) a idle none
-              ∙ (turn_plain conn bytes (length bytes) a idle none ∙ ap
-              (λ q. answered_turn a (conn.stream ++ q) (length bytes)) t)) in
-              let b : drop n (h ++ bytes) ≡ after = drop_after h bytes before n within.0 in
-              let lb : length (drop n (h ++ bytes)) ≡ length after = ap length b in
-              let here = head_part_rest (reader w) (is_steady w) conn.stream h is.inside.rest bytes n v is.judged
-              (omega arith) in
-              let left_is : left ≡ m - length (drop n (h ++ bytes)) = omega arith in
-              let count : before + min m (length after) ≡ length bytes = omega arith in
-              let now = answered_here u sure store' link x old new a.bytes a.text w a.world None head left
-              (length bytes) a.closes
-              (conn.stream ++ bytes) (InBody (judged_as (h ++ bytes) n v)) shown moves link_is (head_is, left_is) here
-              (answer_is ∙ ap (λ i. took i a.closes) count) bytes_are in
-              subst (TurnedAs u sure store' link x old new w None) (sym turn) now
-          | inr enough ↦
-              let q = take (before + m) bytes in
-              let turn : came_turn w conn bytes ≡ answered_turn a (conn.stream ++ q) (before + m) =
-              whole_turn_is w conn h is.inside bytes n before v is.judged is.before_is enough
-              ∙ (came_plain conn bytes (before + m)
-              (record {
-                head = Some (judged_as (h ++ q) n v);
-                body = Some (judged_as (h ++ q) n v);
-                came = take m after;
-              }) a idle none ∙ turn_plain conn bytes (before + m) a idle none) in
-              let b : drop n (h ++ q) ≡ take m after =
-              prefix_body w conn h is.inside bytes n before v is.judged is.before_is m in
-              let all : length (drop n (h ++ q)) ≡ m = ap length b ∙ length-take-le m after enough in
-              let here = head_whole_rest (reader w) (is_steady w) conn.stream h is.inside.rest q n v
-              (prefix_judged w conn h is.inside bytes n before v is.judged is.before_is m) all in
-              let left_is : left ≡ 0 = omega arith in
-              let count : before + min m (length after) ≡ before + m = omega arith in
-              let now = answered_here u sure store' link x old new a.bytes a.text w a.world None head left (before + m)
-              a.closes
-              (conn.stream ++ q) (InHead []) shown moves link_is (head_is, left_is) here
-              (answer_is ∙ ap (λ i. took i a.closes) count) bytes_are in
-              subst (TurnedAs u sure store' link x old new w None) (sym turn) now
-        ])
-
--- WHAT READING TELLS
-pub judged_by : (x : IndexSet) (s : List ℕ) (p p' : Parsed) → answer_shown p ≡ answer_of (offers x) s → p ≡ p'
-    → answer_of (offers x) s ≡ answer_shown p'
-judged_by x s p p' f g = sym f ∙ ap answer_shown g
-
-pub within_bytes : (x : IndexSet) (h bytes : List ℕ) (n : ℕ) (v : Verdict)
-    → answer_of (offers x) (h ++ bytes) ≡ Judged n v → n - length h ≤ length bytes
-within_bytes x h bytes n v e =
-    let within = (steady (offers x)).within (h ++ bytes) n v e in
-    let l : length (h ++ bytes) ≡ length h + length bytes = length-append h bytes in
-    omega arith
-
-pub in_world : (w : World) (x : IndexSet) (s : List ℕ) (a : Answer) → x ≡ w.store.indexes → answer_of (offers x) s ≡ a
-    → reader w s ≡ a
-in_world w x s a e f = ap (λ y. answer_of (offers y) s) (sym e) ∙ f
-
--- the rest of the bytes, as a range of them
-pub slice_rest : (before : ℕ) (bytes : List ℕ) → length (take (length bytes - before) (drop before bytes)) ≡ length
-    (drop before bytes)
-slice_rest before bytes =
-    let l : length (drop before bytes) ≡ length bytes - before = length-drop before bytes in
-    ap length (take_all (length bytes - before) (drop before bytes) (omega arith))
-
-module _ {U B : Type 0} (u : Ghosts U B) (sure : Bool) (store' : U) (w : World) (conn : Conn) (h bytes : List ℕ)
-    (n before : ℕ) (v : Verdict) (is : IsWhole w conn h bytes n before v) where
-  pub no_patch_len : (link : Option (Link B)) (x : code.Answer) (old new : List ℕ) (head : HeadBuffer) (len : ℕ)
-      → len ≡ length (drop before bytes) → u.stands store' sure (acted w v).world → Moves w (acted w v).world None None
-      → (acted w v).draft ≡ None → (acted w v).pending ≡ None → link ≡ link_after head
-      (body_length v - min (body_length v) len) (acted w v).closes → (bytes_of head) ≡ []
+  -- what the head did is all: the rest of the body is dropped
+  pub no_patch_told : (store' : U) (w : World) (conn : Conn) (h bytes : List ℕ) (n before : ℕ) (v : Verdict)
+      (is : IsWhole w conn h bytes n before v) (link : Option (Link B)) (x : code.Answer) (old new : List ℕ)
+      (head : HeadBuffer) (len : ℕ) → len ≡ length (drop before bytes) → u.stands store' sure (acted w v).world
+      → Moves w (acted w v).world None None → (acted w v).draft ≡ None → (acted w v).pending ≡ None
+      → link ≡ link_after head (body_length v - min (body_length v) len) (acted w v).closes → (bytes_of head) ≡ []
       → x ≡ took (before + min (body_length v) len) (acted w v).closes
       → Appends sure old new (acted w v).bytes (acted w v).text
       → TurnedAs u sure store' link x old new w conn.draft (came_turn w conn bytes)
-  no_patch_len link x old new head len len_is shown moves none idle link_is head_is answer_is bytes_are =
-      no_patch_told u sure store' w conn h bytes n before v is link x old new head shown moves none idle
-      (link_is ∙ ap (λ i. link_after head (body_length v - min (body_length v) i) (acted w v).closes) len_is)
-      head_is (answer_is ∙ ap (λ i. took (before + min (body_length v) i) (acted w v).closes) len_is) bytes_are
+  no_patch_told store' w conn h bytes n before v is link x old new head len len_is shown moves none idle link_is head_is
+      answer_is bytes_are =
+      let a = acted w v in
+      let left = body_length v - min (body_length v) len in
+      let t = head_turn w conn h bytes n before v is in
+      let turn = t.turn_is ∙ came_plain conn bytes t.count t.moments a idle none in
+      let left_is : RestIs (bytes_of head) left t.rest = rw (head_is, len_is) t.left_is in
+      let count : before + min (body_length v) len ≡ t.count = rw len_is (sym t.count_is) in
+      subst (λ d. TurnedAs u sure store' link x old new w d (came_turn w conn bytes)) (sym is.inside.draft)
+      (rw turn (answered_here u sure store' link x old new a.bytes a.text w a.world None head left t.count a.closes
+      (conn.stream ++ take t.count bytes) t.rest shown moves link_is left_is t.rest_is
+      (answer_is ∙ ap (λ i. took i a.closes) count) bytes_are))
+
+-- WHAT READING TELLS
+pub within_bytes : (x : IndexSet) (h bytes : List ℕ) (n : ℕ) (v : Verdict)
+    → Judged n v ≡ answer_of (offers x) (h ++ bytes) → n - length h ≤ length bytes
+within_bytes x h bytes n v e =
+    omega (arith, simp length-append at ((steady (offers x)).within (h ++ bytes) n v (sym e)))
+
+pub in_world : (w : World) (x : IndexSet) (s : List ℕ) (a : Answer) → x ≡ w.store.indexes
+    → a ≡ answer_of (offers x) s → reader w s ≡ a
+in_world w x s a same e = rw same at (sym e)
+
+pub is_whole : (w : World) (x : IndexSet) (conn : Conn) (h bytes : List ℕ) (n before : ℕ) (v : Verdict)
+    → x ≡ w.store.indexes → Judged n v ≡ answer_of (offers x) (h ++ bytes) → before ≡ n - length h
+    → InsideHead w conn h → IsWhole w conn h bytes n before v
+is_whole w x conn h bytes n before v same e before_is inside =
+    assumption (in_world w x (h ++ bytes) (Judged n v) same e)
+
+-- the rest of the bytes, as a range of them
+pub slice_is : (before : ℕ) (bytes : List ℕ) → take (length bytes - before) (drop before bytes) ≡ drop before bytes
+slice_is before bytes = take_all (length bytes - before) (drop before bytes) (simp length-drop (omega arith))
+
+pub slice_rest : (before : ℕ) (bytes : List ℕ) → length (take (length bytes - before) (drop before bytes)) ≡ length
+    (drop before bytes)
+slice_rest before bytes = ap length (slice_is before bytes)
+
+-- A REQUEST
+
+-- the turn of a text that is left: the call stops at the head's end
+abbrev text_turn : List ℕ → Acted → Giving → ℕ → Turn
+text_turn s a g n = record {
+  world = a.world;
+  conn = Some (record { stream = s; draft = None; pending = Some g });
+  bytes = a.bytes;
+  text = a.text;
+  taken = n;
+}
+
+came_text : (k : Conn) (piece : List ℕ) (n : ℕ) (m : Moments) (a : Acted) (g : Giving) → a.pending ≡ Some g
+    → a.draft ≡ None → a.closes ≡ false
+    → came_with k piece n m a
+    ≡ text_turn (k.stream ++ take (n - length m.came) piece) a g (n - length m.came)
+came_text k piece n m a g some none stays =
+    let T : Option Giving → Option ℕ → Bool → Turn = λ p d c.
+    came_with k piece n m (record a { pending = p; draft = d; closes = c }) in
+    ap (λ p. T p a.draft a.closes) some ∙ (ap (λ d. T (Some g) d a.closes) none ∙ ap (T (Some g) None) stays)
+
+-- without a patch the head alone changes the world
+came_world : (k : Conn) (piece : List ℕ) (n : ℕ) (m : Moments) (a : Acted) → a.draft ≡ None
+    → (came_with k piece n m a).world ≡ a.world
+came_world k piece n m a none = by_pending a.pending refl
+  where
+    by_pending : (g : Option Giving) → a.pending ≡ g → (came_with k piece n m a).world ≡ a.world
+    by_pending None idle = ap (λ t. t.world) (came_plain k piece n m a idle none)
+    by_pending (Some g) some = ap (λ p. (came_with k piece n m (record a { pending = p })).world) some
+
+module _ (w : World) (conn : Conn) (h bytes : List ℕ) (n before : ℕ) (r : Request)
+    (is : IsWhole w conn h bytes n before (Asks r)) where
+  turn_world : (acted w (Asks r)).draft ≡ None → (came_turn w conn bytes).world ≡ (acted w (Asks r)).world
+  turn_world none =
+      let t = head_turn w conn h bytes n before (Asks r) is in
+      ap (λ x. x.world) t.turn_is ∙ came_world conn bytes t.count t.moments (acted w (Asks r)) none
+
+  -- what a crash may leave where the call ends with the head
+  pub head_limits : {m0 m1 : ℕ} {l0 l1 : Option ℕ → ℕ → List Store → Type 0}
+      → Limits m0 m1 l0 l1 w.store (acted w (Asks r)).world.store
+      → Limits m0 m1 l0 l1 w.store (came_turn w conn bytes).world.store
+  head_limits l = elim (leaves w r) [
+    | Nothing moves none idle ↦ rw (turn_world none) l
+    | Text g same none some stays ↦ rw (turn_world none) l
+    | Patching x ↦ still_limits (came_turn w conn bytes).world.store (rw x.world_is at l)
+  ]
+
+  text_is : (g : Giving) → (acted w (Asks r)).pending ≡ Some g → (acted w (Asks r)).draft ≡ None
+      → (acted w (Asks r)).closes ≡ false
+      → came_turn w conn bytes ≡ text_turn (conn.stream ++ take before bytes) (acted w (Asks r)) g before
+  text_is g some none stays =
+      let t = head_turn w conn h bytes n before (Asks r) is in
+      rw t.head_is at (t.turn_is ∙ came_text conn bytes t.count t.moments (acted w (Asks r)) g some none stays)
+
+  -- what is left of the stream at the head's end
+  head_end : (head : List ℕ) → head ≡ []
+      → (rest : Rest) × ((cut (reader w) (conn.stream ++ take before bytes)).rest ≡ rest) × RestIs head r.length rest
+  head_end head cleared =
+      let z : before + 0 ≡ before = omega arith in
+      let q = take before bytes in
+      let judged = rw z at (verdict_is w conn h bytes n before (Asks r) is 0) in
+      let none : length (drop n (h ++ q)) ≡ 0 =
+      ap length (rw z at (prefix_is w conn h bytes n before (Asks r) is 0)) in
+      elim (cases_lt 0 r.length) [
+        | inl some ↦ (
+          InBody (judged_as (h ++ q) n (Asks r)),
+          head_part_rest (reader w) (is_steady w) conn.stream h is.inside.rest q n (Asks r) judged (omega arith),
+          (cleared, omega arith),
+        )
+        | inr nothing_wanted ↦ (
+          InHead [],
+          head_whole_rest (reader w) (is_steady w) conn.stream h is.inside.rest q n (Asks r) judged (omega arith),
+          (cleared, omega arith),
+        )
+      ]
+
+  module _ {U B : Type 0} (u : Ghosts U B) (sure : Bool) where
+    pub nothing_told : (store' : U) (link : Option (Link B)) (x : code.Answer) (closes : Bool) (old new : List ℕ)
+        (head : HeadBuffer) (len : ℕ) → ActedAs u sure store' (Done.Replied closes) old new (acted w (Asks r))
+        → len ≡ length (drop before bytes) → link ≡ link_after head (r.length - min r.length len) closes
+        → (bytes_of head) ≡ [] → x ≡ took (before + min r.length len) closes
+        → TurnedAs u sure store' link x old new w conn.draft (came_turn w conn bytes)
+    nothing_told store' link x closes old new head len as_is len_is link_is cleared answer_is = elim (leaves w r) [
+      | Nothing moves none idle ↦
+          no_patch_told u sure store' w conn h bytes n before (Asks r) is link x old new head len len_is as_is.stands
+          moves none idle (rw as_is.closes at link_is) cleared (rw as_is.closes at answer_is) as_is.bytes
+      | Text g same none some stays ↦ absurd (rw some at as_is.giving)
+      | Patching y ↦ absurd (rw y.draft_is at as_is.draft)
+    ]
+
+    abbrev text_link : HeadBuffer → given.Giving → Option (Link B)
+    text_link head g = Some (record { head = head; awaiting = awaits.Text g r.length })
+
+    abbrev text_answer : code.Answer
+    text_answer = record { taken = before; closes = false; more = true }
+
+    pub text_told : (store' : U) (g : given.Giving) (old new : List ℕ) (head : HeadBuffer)
+        → ActedAs u sure store' (Done.Giving g) old new (acted w (Asks r)) → (bytes_of head) ≡ []
+        → TurnedAs u sure store' (text_link head g) text_answer old new w conn.draft (came_turn w conn bytes)
+    text_told store' g old new head as_is cleared = elim (leaves w r) [
+      | Nothing moves none idle ↦ absurd (rw idle at as_is.giving)
+      | Patching y ↦ absurd (rw y.idle at as_is.giving)
+      | Text h' same none some stays ↦
+          let a = acted w (Asks r) in
+          let s' = conn.stream ++ take before bytes in
+          let ends = head_end (bytes_of head) cleared in
+          let gives : GivingIs a.world.store (Some g) (Some h') = rw some at as_is.giving in
+          let here : IsGivingText a.world (record { stream = s'; draft = None; pending = Some h' }) (bytes_of head) g
+          r.length = record {
+            h = h';
+            rest = rw (rest_same w a.world s' (ap (λ x. x.store.indexes) same), ends.1) ends.2;
+            draft = refl;
+            pending = refl;
+            gives = gives;
+          } in
+          let moves : Moves w a.world None None = rw same (still w None) in
+          subst (λ d. TurnedAs u sure store' (text_link head g) text_answer old new w d (came_turn w conn bytes))
+          (sym is.inside.draft)
+          (rw (text_is h' some none stays) (assumption (as_is.stands, here, moves, as_is.bytes)))
+    ]
+
+-- A PATCH THAT A HEAD OPENED
+
+-- what the head of a patch did
+abbrev opened : World → ℕ → Patch → List ℕ → Acted
+opened w d p reply = record {
+  world = with_patch w d p;
+  draft = Some d;
+  bytes = reply;
+  text = [];
+  pending = None;
+  closes = false;
+}
+
+-- the request of a patch whose head is whole
+abbrev asked_by : List ℕ → Request → Asked
+asked_by head r = record { head = head; verdict = Asks r; body = [] }
+
+-- a patch that a head opened: the history's, and the code's
+pub record Begun {U B : Type 0} (u : Ghosts U B) (sure : Bool) (w : World) (r : Request) (head : List ℕ)
+    (b : OpenPatch B) (store : U) (old mid : List ℕ) : Type 0 where
+  pub p : Patch
+  pub act_is : acted w (Asks r) ≡ opened w (u.number_of b.draft) p (acted w (Asks r)).bytes
+  pub free : find (u.number_of b.draft) w.patches ≡ None
+  pub patches : PatchesAs u (with_patch w (u.number_of b.draft) p) b (asked_by head r) r p
+  pub wanted : length p.body + r.length ≡ p.count
+  pub shown : u.stands store sure (with_patch w (u.number_of b.draft) p)
+  pub written : mid ≡ old ++ (acted w (Asks r)).bytes
+
+first_found : (d : ℕ) (p : Patch) (patches : List (ℕ × Patch)) → find d ((d, p) ∷ patches) ≡ Some p
+first_found d p patches = grind (arith, nat_tests)
+
+pub begun : {U B : Type 0} (u : Ghosts U B) (sure : Bool) (w : World) (r : Request) (head : List ℕ) (store : U)
+    (old mid : List ℕ) (b : OpenPatch B)
+    → ActedAs u sure store (Done.Opened b.draft) old mid (acted w (Asks r)) → ReachedIs r.action r.length b.reached
+    → b.bare ≡ r.bare → b.closes ≡ r.closes
+    → ((number : ℕ) (up : Upload) → upload_of w.store number ≡ Some up → number < w.store.next)
+    → Begun u sure w r head b store old mid
+begun u sure w r head store old mid b done reached bare closes below = elim (leaves w r) [
+  | Nothing moves none idle ↦ absurd (rw none at done.draft)
+  | Text g same none some stays ↦ absurd (rw none at done.draft)
+  | Patching x ↦
+      let a = acted w (Asks r) in
+      let own = u.number_of b.draft in
+      let p = first_patch x.number r.length x.declare x.up in
+      let T : World → Option ℕ → List ℕ → Option Giving → Bool → Acted = λ v d t p c.
+      record { world = v; draft = d; bytes = a.bytes; text = t; pending = p; closes = c } in
+      let act_is : T a.world a.draft a.text a.pending a.closes ≡ opened w x.d p a.bytes =
+      rw (x.world_is, x.draft_is, x.no_text, x.idle, x.stays) in
+      let draft : DraftIs u (with_patch w x.d p) (Some b.draft) (Some x.d) =
+      rw (x.world_is, x.draft_is) at done.draft in
+      let same = same_Some draft.1.0 p (sym draft.1.1 ∙ first_found x.d p w.patches) in
+      let whole : b.reached ≡ x.offset + r.length = rw x.action_is at reached in
+      record {
+        p = p;
+        act_is = rw draft.0 act_is;
+        free = rw draft.0 x.free;
+        patches = record {
+          found = first_found own p w.patches;
+          holds = rw same at draft.1.2;
+          asks = refl;
+          count = refl;
+          body = refl;
+          reached = omega (arith, x.length_is, whole);
+          fits = omega (arith, x.length_is, x.fits);
+          below = below x.number x.up x.there;
+          grown = rw x.there (None, [], patched_nothing x.up);
+          bare = bare;
+          closes = closes;
+        };
+        wanted = omega arith;
+        shown = rw draft.0 (rw x.world_is at done.stands);
+        written = rw x.no_text at done.bytes;
+      }
+]
+
+module _ {U B : Type 0} (u : Ghosts U B) (sure : Bool) (w : World) (conn : Conn) (h bytes : List ℕ) (n before : ℕ)
+    (r : Request) (is : IsWhole w conn h bytes n before (Asks r)) (b : OpenPatch B) (store : U) (old mid : List ℕ)
+    (begins : Begun u sure w r (take n (h ++ bytes)) b store old mid) where
+  abbrev own : ℕ
+  own = u.number_of b.draft
+
+  abbrev v : World
+  v = with_patch w own begins.p
+
+  abbrev q : List ℕ
+  q = drop before bytes
+
+  abbrev reply : List ℕ
+  reply = (acted w (Asks r)).bytes
+
+  part_is : length q < r.length
+      → came_turn w conn bytes ≡ goes_on (fed v own q) own (conn.stream ++ bytes) (reply ++ []) (length bytes)
+  part_is few =
+      let turn = part_turn_is w conn h bytes n before (Asks r) is few in
+      rw (turn, begins.act_is, take_all (length bytes) bytes (omega arith))
+
+  abbrev ended : Acted
+  ended = ended_by v own begins.p (take r.length q) r
+
+  rest_is : r.length ≤ length q → came_turn w conn bytes
+      ≡ answers ended.world ended.closes (conn.stream ++ take (before + r.length) bytes) (reply ++ ended.bytes) []
+      (before + r.length)
+  rest_is enough =
+      let turn = whole_turn_is w conn h bytes n before (Asks r) is enough in
+      rw (turn, begins.act_is, fed_found v own begins.p (take r.length q) begins.patches.found)
+
+  dropped_first : dropped v own ≡ w
+  dropped_first = ap (λ ps. record w { patches = ps }) (without_first own begins.p w.patches)
+
+  module _ (store' : U) (mid2 new : List ℕ) (head : HeadBuffer) (cleared : (bytes_of head) ≡ []) (start : ℕ)
+      (start_is : start ≡ length old) where
+    taken_back : mid2 ≡ mid → new ≡ take start mid2 → new ≡ old
+    taken_back same cut_is =
+        rw (start_is, same, begins.written, take-append_seam old reply) at cut_is
+
+    part_case : (a : Result (Option (Link B) × code.Answer) Stop) → length q < r.length
+        → Parts u sure store' a head b (r.length - length q) (before + length q) (fed v own q)
+        (fed_patch v own begins.p q)
+        (dropped v own) × (mid2 ≡ mid) → BackTo a start mid2 new
+        → Turned u sure store' a old new w None (came_turn w conn bytes)
+    part_case (Ok (link, a)) few ((b', goes), same) out =
+        let at = within w conn h bytes n before (Asks r) is in
+        let l = length-drop before bytes in
+        let body = body_is w conn h bytes n before (Asks r) is in
+        let lb : length (drop n (h ++ bytes)) ≡ length q = ap length body in
+        let here = rw body at (head_part_rest (reader w) (is_steady w) conn.stream h is.inside.rest bytes n (Asks r)
+        is.judged (omega arith)) in
+        rw (part_is few)
+        (part_here u sure v b (asked_by (take n (h ++ bytes)) r) r begins.p begins.patches store' link a head b'
+        (r.length - length q) (before + length q)
+        (length bytes) q (conn.stream ++ bytes) old new (reply ++ []) w None (omega arith) goes
+        (open_moves w own begins.p begins.free) cleared (omega arith) refl here
+        (rw (append-nil reply) (out ∙ (same ∙ begins.written))))
+    part_case (Err stops.NoMemory) few (shown, same) out = (rw dropped_first at shown, taken_back same out)
+    part_case (Err stops.DiskFault) few (z, same) out = taken_back same out
+
+    rest_case : (a : Result (Option (Link B) × code.Answer) Stop) → r.length ≤ length q
+        → Replies u sure store' a mid mid2 head (before + r.length) ended
+        (dropped v own) → BackTo a start mid2 new → Turned u sure store' a old new w None (came_turn w conn bytes)
+    rest_case (Ok (link, a)) enough answered out =
+        let m = ended in
+        let all = ap length (prefix_is w conn h bytes n before (Asks r) is r.length)
+        ∙ length-take-le r.length q enough in
+        let ends = head_whole_rest (reader w) (is_steady w) conn.stream h is.inside.rest
+        (take (before + r.length) bytes) n (Asks r) (verdict_is w conn h bytes n before (Asks r) is r.length) all in
+        let moves = both_moves w v m.world None (Some own) None (open_moves w own begins.p begins.free)
+        (rest_moves u sure v b (asked_by (take n (h ++ bytes)) r) r begins.p begins.patches (take r.length q)) in
+        let bytes_are : new ≡ old ++ (reply ++ m.bytes) =
+        out ∙ (answered.bytes ∙ (ap (λ z. z ++ m.bytes) begins.written ∙ append_assoc old reply m.bytes)) in
+        rw (rest_is enough)
+        (answered_here u sure store' link a old new (reply ++ m.bytes) [] w m.world None head 0 (before + r.length)
+        m.closes (conn.stream ++ take (before + r.length) bytes) (InHead []) answered.shown moves answered.link_is
+        (cleared, refl) ends answered.answer_is bytes_are)
+    rest_case (Err stops.NoMemory) enough (shown, same) out = (rw dropped_first at shown, taken_back same out)
+    rest_case (Err stops.DiskFault) enough same out = taken_back same out
+
+    pub patch_opened : (a : Result (Option (Link B) × code.Answer) Stop) (z : List ℕ) → z ≡ q
+        → Bodied u sure store' a mid mid2 head b r.length before v begins.p z r → BackTo a start mid2 new
+        → Turned u sure store' a old new w conn.draft (came_turn w conn bytes)
+    patch_opened a z e is_z out =
+        let bodied = rw e at is_z in
+        subst (λ d. Turned u sure store' a old new w d (came_turn w conn bytes)) (sym is.inside.draft)
+        (elim (cases_lt (length q) r.length) [
+          | inl few ↦ part_case a few (bodied.part few) out
+          | inr enough ↦ rest_case a enough (bodied.rest enough) out
+        ])
+
+  -- what a crash may leave
+  pub patch_limits : {m0 m1 m2 : ℕ} {l0 l1 l2 : Option ℕ → ℕ → List Store → Type 0} (z : List ℕ) → z ≡ q
+      → Limits m0 m1 l0 l1 w.store (acted w (Asks r)).world.store
+      → (length z < r.length → Limits m1 m2 l1 l2 w.store w.store)
+      → (r.length ≤ length z → Limits m1 m2 l1 l2 w.store (ended_by v own begins.p (take r.length z) r).world.store)
+      → Limits m0 m2 l0 l2 w.store (came_turn w conn bytes).world.store
+  patch_limits z e head part rest =
+      let first = rw begins.act_is at head in
+      elim (cases_lt (length q) r.length) [
+        | inl few ↦ still_limits (came_turn w conn bytes).world.store (first_then first ((rw e at part) few))
+        | inr enough ↦
+            first_then first (limits_to (ap (λ t. t.world.store) (sym (rest_is enough))) ((rw e at rest) enough))
+      ]

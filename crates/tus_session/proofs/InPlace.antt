@@ -1,20 +1,30 @@
--- A connection in its place again, after an event.
-use Rattle.std.proofs.Common.{◌≡◌, ◌≢◌, inl, inr, ℕ, ◌<◌, ◌≤◌, List, length, get_or, slice_set, Bool}
-use Rattle.std.proofs.Common.{Option, Some, None, refl, sym, ◌∙◌, ap, subst, arith, get_or-set_same, get_or-set_other}
-use Rattle.std.proofs.Common.{length-set}
+-- A connection in its place: after an event, and when it opens.
+use Rattle.std.proofs.Common.{◌≡◌, ◌≢◌, ◌⊎◌, inl, inr, ℕ, ◌<◌, ◌≤◌, List, length, get_or, slice_set, Bool, Option, Some}
+use Rattle.std.proofs.Common.{None, refl, sym, ◌∙◌, ap, subst, arith, get_or-set_same, get_or-set_other, length-set}
+use Rattle.std.proofs.Common.{zero, suc, true, false, [], ◌∷◌, ◌++◌, is_some}
 use Rattle.std.proofs.lemmas.Bool.Decides.{nat_tests}
-use Rattle.std.proofs.lemmas.Bool.{cases_eq}
-use Rattle.std.proofs.lemmas.Grind.{common_steps}
+use Rattle.std.proofs.lemmas.Bool.{cases_eq, lt-ltb, le-ltb}
+use Rattle.std.proofs.lemmas.List.{get_or_default, get_or_past}
 use Rattle.upload_rules.specs.Store.{find}
 use Rattle.upload_rules.specs.World.{Patch, World}
 use Rattle.upload_rules.specs.declared.uploads.Uploads.{Ghosts}
-use Rattle.tus_session.specs.Turns.{Conn}
-use Rattle.tus_session.specs.History.{State, with_conn, put}
+use Rattle.tus_session.specs.Turns.{Conn, fresh, reader}
+use Rattle.tus_session.specs.History.{State, with_conn, put, Opened, Served, Done, Refused, step, most_open}
 use Rattle.tus_session.specs.Stands.{PlaceIs, draft_at, SessionStands}
 use Rattle.tus_session.specs.Moves.{Moves}
-use Rattle.tus_session.specs.Places.{IsPut, IsOpen}
+use Rattle.tus_session.specs.Places.{IsPut}
 use Rattle.tus_session.specs.declared.conns.Link.{Link}
 use Rattle.tus_session.proofs.Frames.{place_moved, draft_found}
+use Rattle.tus_request.specs.Buffers.{bytes_of}
+use Rattle.enc_model.specs.Indexes.{offers}
+use Rattle.tus_request.proofs.Prefixes.{steady}
+use Rattle.tus_session.specs.Streams.{InHead}
+use Rattle.tus_session.specs.Told.{Follows}
+use Rattle.tus_request.specs.declared.buffer.HeadBuffer.{HeadBuffer}
+use Rattle.tus_session.specs.declared.conns.Awaiting.TheVariants as awaits
+use Rattle.tus_session.specs.declared.errors.SessionError.TheVariants.{TooMany}
+use Rattle.tus_session.proofs.Unfinished.{empty_cut}
+use Rattle.tus_session.proofs.Moved.{still}
 
 pub conns_here : (conns : ℕ → Option Conn) (k : ℕ) (conn : Option Conn) → with_conn conns k conn k ≡ conn
 conns_here conns k conn = grind (arith, nat_tests)
@@ -29,19 +39,13 @@ module _ {U B : Type 0} (u : Ghosts U B) (sure : Bool) where
       (shown : u.stands store' sure w') (here : PlaceIs u w' next conn') where
     each_there : (c : ℕ) → PlaceIs u w' (get_or all c None) (with_conn st.conns k conn' c)
     each_there c = elim (cases_eq c k) [
-      | inl is ↦
-          let P : ℕ → Type 0 = λ i. PlaceIs u w' (get_or all i None) (with_conn st.conns k conn' i) in
-          let a : PlaceIs u w' (get_or all k None) conn' = subst (λ x. PlaceIs u w' x conn') (sym is_put.here) here in
-          let b : P k = subst (λ x. PlaceIs u w' (get_or all k None) x) (sym (conns_here st.conns k conn')) a in
-          subst P (sym is) b
+      | inl is ↦ rw (is, is_put.here, conns_here st.conns k conn') here
       | inr ne ↦
-          let a : PlaceIs u w' (get_or places c None) (st.conns c) =
-          place_moved u sure st.world w' (draft_at (st.conns k)) (draft_at conn') (get_or places c None) (st.conns c)
-          moves
-          (λ e f g. ne (stands.apart c k e f g)) (stands.each c) in
-          let b : PlaceIs u w' (get_or all c None) (st.conns c) =
-          subst (λ x. PlaceIs u w' x (st.conns c)) (sym (is_put.others c ne)) a in
-          subst (λ x. PlaceIs u w' (get_or all c None) x) (sym (conns_else st.conns k c conn' ne)) b
+          let ours = λ (e : ℕ) (f : draft_at (st.conns c) ≡ Some e) (g : draft_at (st.conns k) ≡ Some e).
+          ne (stands.apart c k e f g) in
+          rw (is_put.others c ne, conns_else st.conns k c conn' ne)
+          (place_moved u sure st.world w' (draft_at (st.conns k)) (draft_at conn') (get_or places c None) (st.conns c)
+          moves ours (stands.each c))
     ]
 
     -- another connection's draft isn't the one that is here now
@@ -52,26 +56,23 @@ module _ {U B : Type 0} (u : Ghosts U B) (sure : Bool) where
           g in let x : Some p.0 ≡ None = sym p.1 ∙ none in absurd (cc)
     ]
 
+    draft_there : (c : ℕ) → ((c ≡ k) × (draft_at (with_conn st.conns k conn' c) ≡ draft_at conn'))
+        ⊎ ((c ≢ k) × (draft_at (with_conn st.conns k conn' c) ≡ draft_at (st.conns c)))
+    draft_there c = elim (cases_eq c k) [
+      | inl is ↦ inl (is, rw (is, conns_here st.conns k conn'))
+      | inr ne ↦ inr (ne, ap draft_at (conns_else st.conns k c conn' ne))
+    ]
+
     apart_there : (c e d : ℕ) → draft_at (with_conn st.conns k conn' c) ≡ Some d
         → draft_at (with_conn st.conns k conn' e) ≡ Some d → c ≡ e
-    apart_there c e d f g = elim (cases_eq c k) [
-      | inl is ↦ elim (cases_eq e k) [
-        | inl is' ↦ is ∙ sym is'
-        | inr ne' ↦
-            let a : draft_at conn' ≡ Some d =
-            ap draft_at (sym (conns_here st.conns k conn'))
-            ∙ (ap (λ i. draft_at (with_conn st.conns k conn' i)) (sym is) ∙ f) in
-            absurd (not_both e d ne' a (ap draft_at (sym (conns_else st.conns k e conn' ne')) ∙ g))
+    apart_there c e d f g = elim (draft_there c) [
+      | inl x ↦ elim (draft_there e) [
+        | inl y ↦ x.0 ∙ sym y.0
+        | inr y ↦ absurd (not_both e d y.0 (sym x.1 ∙ f) (sym y.1 ∙ g))
       ]
-      | inr ne ↦ elim (cases_eq e k) [
-        | inl is' ↦
-            let a : draft_at conn' ≡ Some d =
-            ap draft_at (sym (conns_here st.conns k conn'))
-            ∙ (ap (λ i. draft_at (with_conn st.conns k conn' i)) (sym is') ∙ g) in
-            absurd (not_both c d ne a (ap draft_at (sym (conns_else st.conns k c conn' ne)) ∙ f))
-        | inr ne' ↦
-            stands.apart c e d (ap draft_at (sym (conns_else st.conns k c conn' ne)) ∙ f)
-            (ap draft_at (sym (conns_else st.conns k e conn' ne')) ∙ g)
+      | inr x ↦ elim (draft_there e) [
+        | inl y ↦ absurd (not_both c d x.0 (sym y.1 ∙ g) (sym x.1 ∙ f))
+        | inr y ↦ stands.apart c e d (sym x.1 ∙ f) (sym y.1 ∙ g)
       ]
     ]
 
@@ -95,14 +96,6 @@ module _ {U B : Type 0} (u : Ghosts U B) (sure : Bool) where
       owned = owned_there;
     }
 
-  pub is_set : (places : List (Option (Link B))) (k : ℕ) (next : Option (Link B)) → k < length places
-      → IsPut places (slice_set places k next) k next
-  is_set places k next lt = record {
-    count = length-set places k next;
-    here = get_or-set_same places k next None lt;
-    others = λ j ne. get_or-set_other places k j next None ne;
-  }
-
   -- a place is taken, and gets this
   pub is_put_back : (places taken : List (Option (Link B))) (k : ℕ) (next : Option (Link B)) → IsPut places taken k None
       → k < length taken → IsPut places (slice_set taken k next) k next
@@ -112,45 +105,72 @@ module _ {U B : Type 0} (u : Ghosts U B) (sure : Bool) where
     others = λ j ne. get_or-set_other taken k j next None ne ∙ is.others j ne;
   }
 
-  -- what a connection's place tells
-  pub place_at : (places : List (Option (Link B))) (store : U) (st : State) (k : ℕ) (x : Option (Link B))
-      → SessionStands u sure places store st → k < length places → x ≡ get_or places k x
-      → PlaceIs u st.world x (st.conns k)
-  place_at places store st k x stands lt e =
-      subst (λ y. PlaceIs u st.world y (st.conns k)) (sym (e ∙ get_or-any places k x None lt)) (stands.each k)
-    where
-      get_or-any : (xs : List (Option (Link B))) (i : ℕ) (a b : Option (Link B)) → i < length xs → get_or xs i a ≡
-          get_or xs i b
-      get_or-any xs i a b lt = grind (arith, common_steps)
-
-  closed_none : (w : World) (conn : Option Conn) → PlaceIs u w None conn → conn ≡ None
+  pub closed_none : (w : World) (conn : Option Conn) → PlaceIs u w None conn → conn ≡ None
   closed_none w None is = refl
   closed_none w (Some k) is = absurd is
-
-  past : (places : List (Option (Link B))) (k : ℕ) → length places ≤ k → get_or places k None ≡ None
-  past places k le = grind (arith, common_steps)
-
-  -- no connection is open beyond the places
-  pub beyond : (places : List (Option (Link B))) (store : U) (st : State) (k : ℕ) → SessionStands u sure places store st
-      → length places ≤ k → st.conns k ≡ None
-  beyond places store st k stands le =
-      closed_none st.world (st.conns k)
-      (subst (λ y. PlaceIs u st.world y (st.conns k)) (past places k le) (stands.each k))
-
-  pub closed_at : (places : List (Option (Link B))) (store : U) (st : State) (k : ℕ) (x : Option (Link B))
-      → SessionStands u sure places store st → k < length places → x ≡ get_or places k x → x ≡ None → st.conns k ≡ None
-  closed_at places store st k x stands lt e is =
-      closed_none st.world (st.conns k)
-      (subst (λ y. PlaceIs u st.world y (st.conns k)) is (place_at places store st k x stands lt e))
 
   some_conn : (w : World) (k : Link B) (conn : Option Conn) → PlaceIs u w (Some k) conn → (c : Conn) × (conn ≡ Some c)
   some_conn w k None is = absurd is
   some_conn w k (Some c) is = (c, refl)
 
-  pub open_at : (places : List (Option (Link B))) (store : U) (st : State) (c : ℕ) (x : Option (Link B)) (k : Link B)
-      → SessionStands u sure places store st → c < length places → x ≡ get_or places c x → x ≡ Some k → IsOpen u st c k
-  open_at places store st c x k stands lt e is =
-      let at : PlaceIs u st.world (Some k) (st.conns c) =
-      subst (λ y. PlaceIs u st.world y (st.conns c)) is (place_at places store st c x stands lt e) in
-      let some = some_conn st.world k (st.conns c) at in
-      (some.0, some.1, subst (λ o. PlaceIs u st.world (Some k) o) some.1 at)
+  new_place : (w : World) (head : HeadBuffer) → (bytes_of head) ≡ []
+      → PlaceIs u w (Some (record { head = head; awaiting = awaits.Head })) (Some fresh)
+  new_place w head e = assumption (ap (λ x. x.rest) (empty_cut (reader w) (steady (offers w.store.indexes)))
+      ∙ ap InHead (sym e))
+
+  module _ (places : List (Option (Link B))) (store : U) (st : State) (stands : SessionStands u sure places store st)
+    where
+      -- what a connection's place tells
+      place_at : (k : ℕ) (x : Option (Link B)) → k < length places → x ≡ get_or places k x
+          → PlaceIs u st.world x (st.conns k)
+      place_at k x lt e =
+          subst (λ y. PlaceIs u st.world y (st.conns k)) (sym (e ∙ get_or_default places k x None lt)) (stands.each k)
+
+      -- no connection is open beyond the places
+      pub beyond : (k : ℕ) → length places ≤ k → st.conns k ≡ None
+      beyond k le = closed_none st.world (st.conns k) (rw (get_or_past places k None le) at (stands.each k))
+
+      -- A CONNECTION OPENS
+      pub opened : (c : ℕ) (head : HeadBuffer) → c < length places → st.conns c ≡ None → (bytes_of head) ≡ []
+          → Follows u sure (slice_set places c (Some (record { head = head; awaiting = awaits.Head }))) store
+          (step st (Opened c) Served).state (step st (Opened c) Served).outcome Done
+      unfolding step
+      opened c head lt none e =
+          let k : Option (Link B) = Some (record { head = head; awaiting = awaits.Head }) in
+          let moves : Moves st.world st.world (draft_at (st.conns c)) None = rw none (still st.world None) in
+          let put : IsPut places (slice_set places c k) c k = record {
+            count = length-set places c k;
+            here = get_or-set_same places c k None lt;
+            others = λ j ne. get_or-set_other places c j k None ne;
+          } in
+          let s = in_place places (slice_set places c k) store store st st.world c k (Some fresh) stands put moves
+          stands.shown (new_place st.world head e) in
+          rw (none, lt-ltb c most_open (omega (arith, stands.count))) (record { stands = s; outcome = refl })
+
+      pub not_below : (c : ℕ) → length places ≤ c
+          → Follows u sure places store st (step st (Opened c) Served).outcome (Refused TooMany)
+      unfolding step
+      not_below c le =
+          rw (beyond c le, le-ltb c most_open (omega (arith, stands.count)))
+          (record { stands = stands; outcome = refl })
+
+      pub is_open : (c : ℕ) (x : Option (Link B)) → c < length places → x ≡ get_or places c x → is_some x ≡ true
+          → Follows u sure places store st (step st (Opened c) Served).outcome (Refused TooMany)
+      unfolding step
+      is_open c None lt e is = absurd (cc)
+      is_open c (Some k) lt e is =
+          rw (some_conn st.world k (st.conns c) (place_at c (Some k) lt e)).1
+          (record { stands = stands; outcome = refl })
+
+      pub not_open : (c : ℕ) (x : Option (Link B)) → c < length places → x ≡ get_or places c x → is_some x ≡ false
+          → st.conns c ≡ None
+      not_open c None lt e is = closed_none st.world (st.conns c) (place_at c None lt e)
+      not_open c (Some k) lt e is = absurd (cc)
+
+-- one closed place more
+pub closed_push : {B : Type 0} (xs : List (Option (Link B))) → ((c : ℕ) → get_or xs c None ≡ None) → (c : ℕ)
+    → get_or (xs ++ None ∷ []) c None ≡ None
+closed_push [] h zero = refl
+closed_push [] h (suc c) = refl
+closed_push (x ∷ xs) h zero = h zero
+closed_push (x ∷ xs) h (suc c) = closed_push xs (λ c. h (suc c)) c

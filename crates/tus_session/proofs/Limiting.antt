@@ -31,3 +31,12 @@ limits_from {m0} {m1} {l0} {l1} {a} {b} {c} e h = subst (λ z. Limits m0 m1 l0 l
 pub limits_both : {m0 m1 : ℕ} {l0 l1 : Option ℕ → ℕ → List Store → Type 0} {a b : Store} → a ≡ b
     → Limits m0 m1 l0 l1 a a → Limits m0 m1 l0 l1 b b
 limits_both {m0} {m1} {l0} {l1} {a} {b} e h = subst (λ z. Limits m0 m1 l0 l1 z z) e h
+
+pub limits_same : (moment : ℕ) (left_only : Option ℕ → ℕ → List Store → Type 0) (m m' : Store)
+    → Limits moment moment left_only left_only m m'
+limits_same moment left_only m m' = record { later = omega arith; limits = λ n t ms le left a b. left }
+
+pub limits_to : {moment moment' : ℕ} {left_only left_only' : Option ℕ → ℕ → List Store → Type 0} {m x y : Store} → x ≡ y
+    → Limits moment moment' left_only left_only' m x → Limits moment moment' left_only left_only' m y
+limits_to {moment} {moment'} {left_only} {left_only'} {m} e h =
+    subst (λ z. Limits moment moment' left_only left_only' m z) e h

@@ -1,19 +1,19 @@
--- The next piece of a text.
-use Rattle.std.proofs.Common.{◌≡◌, ℕ, Bool, true, false, List, [], Option, Some, None, Err, refl, sym, ◌∙◌}
-use Rattle.std.proofs.Common.{ap, subst, append-nil}
+-- The next piece of a text, and the end of a connection.
+use Rattle.std.proofs.Common.{◌≡◌, ℕ, Bool, true, false, List, [], Option, Some, None, Err, refl, sym, ◌∙◌, ap, subst}
+use Rattle.std.proofs.Common.{append-nil, ◌⊎◌, inl, inr, Result, Ok}
 use Rattle.tus_request.specs.Buffers.{bytes_of}
-use Rattle.upload_rules.specs.Store.{Store, Upload, upload_of}
-use Rattle.upload_rules.specs.World.{World}
+use Rattle.upload_rules.specs.Store.{Store, Upload, upload_of, find}
+use Rattle.upload_rules.specs.World.{World, Patch}
 use Rattle.upload_rules.specs.declared.uploads.Uploads.{Ghosts}
 use Rattle.tus_action.specs.Acts.{Giving, is_pending, pending_after, piece_of}
-use Rattle.tus_action.specs.Serves.{GivingIs, IsGiven, Gives, Appends}
+use Rattle.tus_action.specs.Serves.{GivingIs, IsGiven, Gives, Appends, Ends}
 use Rattle.tus_action.specs.declared.acts.Giving as given
 use Rattle.tus_action.specs.declared.acts.Given.TheVariants.{Piece, Last, Gone}
 use Rattle.tus_session.specs.Streams.{cut}
-use Rattle.tus_session.specs.Turns.{Conn, Turn, reader, left_world, given_up, give_on, more_on, more_turn}
-use Rattle.tus_session.specs.Stands.{IsGivingText, LinkIs}
+use Rattle.tus_session.specs.Turns.{Conn, Turn, reader, given_up, more_on, more_turn, ended_on, ended_world}
+use Rattle.tus_session.specs.Stands.{IsGivingText, LinkIs, IsPatching}
 use Rattle.tus_session.specs.Moves.{Moves}
-use Rattle.tus_session.specs.Turned.{TurnedAs, Turned}
+use Rattle.tus_session.specs.Turned.{TurnedAs, Turned, EndedAs, Ended}
 use Rattle.tus_action.specs.declared.acts.Stop.{Stop}
 use Rattle.tus_action.specs.declared.acts.Stop.TheVariants as stops
 use Rattle.tus_request.specs.declared.buffer.HeadBuffer.{HeadBuffer}
@@ -24,52 +24,43 @@ use Rattle.tus_session.specs.declared.conns.Awaiting.TheVariants as awaits
 use Rattle.tus_session.specs.declared.conns.Link.{Link}
 use Rattle.tus_session.proofs.BodyTold.{answered_here}
 use Rattle.tus_action.proofs.Pieces.{piece_appends}
-use Rattle.tus_session.proofs.Opening.{still}
+use Rattle.tus_session.proofs.Moved.{still, spend_moves}
+use Rattle.upload_rules.specs.Calls.{dropped, spent, commit_refusal, commit_outcome}
+use Rattle.tus_action.specs.declared.bodies.OpenPatch.{OpenPatch}
+use Rattle.tus_session.proofs.Feeding.{spent_store}
 
-abbrev unmoved_turn : World → Conn → Turn
-unmoved_turn w conn = record { world = w; conn = Some conn; bytes = []; text = []; taken = 0 }
-
-abbrev given_turn : World → Conn → Giving → Turn
-given_turn w conn h = record {
-  world = w;
-  conn = given_up conn h.closes (pending_after h);
-  bytes = piece_of h;
-  text = piece_of h;
-  taken = 0;
-}
-
-more_none_is : (w : World) (conn : Conn) → conn.pending ≡ None → unmoved_turn w conn ≡ more_turn w conn
+more_is : (w : World) (conn : Conn) (o : Option Giving) → conn.pending ≡ o → more_turn w conn ≡ more_on w conn o
 unfolding more_turn
-more_none_is w conn e = sym (ap (more_on w conn) e)
+more_is w conn o e = ap (more_on w conn) e
 
-more_some_is : (w : World) (conn : Conn) (h : Giving) (up : Upload) → conn.pending ≡ Some h
-    → upload_of w.store h.number ≡ Some up → given_turn w conn h ≡ more_turn w conn
-unfolding more_turn
-more_some_is w conn h up e there = sym (ap (more_on w conn) e ∙ ap (give_on w conn h) there)
+-- WHAT WAS GIVEN TELLS OF THE UPLOAD
 
-abbrev gone_turn : World → Turn
-gone_turn w = record { world = w; conn = None; bytes = []; text = []; taken = 0 }
+-- a piece is given of an upload that is there
+piece_of_upload : (sure : Bool) (m : Store) (g : given.Giving) (old new : List ℕ) (h : Giving) (o : Option Upload)
+    → IsGiven sure m (Piece g) old new h o → (up : Upload) × (o ≡ Some up) × GivingIs m (Some g) (pending_after h)
+    × Appends sure old new (piece_of h) (piece_of h)
+piece_of_upload sure m g old new h None is = absurd is
+piece_of_upload sure m g old new h (Some up) is = (up, refl, is.0, piece_appends old new (piece_of h) is.1)
 
-more_gone_is : (w : World) (conn : Conn) (h : Giving) → conn.pending ≡ Some h → upload_of w.store h.number ≡ None
-    → gone_turn w ≡ more_turn w conn
-unfolding more_turn
-more_gone_is w conn h e none = sym (ap (more_on w conn) e ∙ ap (give_on w conn h) none)
+last_of_upload : (sure : Bool) (m : Store) (old new : List ℕ) (h : Giving) (o : Option Upload)
+    → IsGiven sure m Last old new h o → (up : Upload) × (o ≡ Some up) × (pending_after h ≡ None)
+    × Appends sure old new (piece_of h) (piece_of h)
+last_of_upload sure m old new h None is = absurd is
+last_of_upload sure m old new h (Some up) is = (up, refl, is.0, piece_appends old new (piece_of h) is.1)
+
+-- and nothing of one that is gone
+gone_with_upload : (sure : Bool) (m : Store) (old new : List ℕ) (h : Giving) (o : Option Upload)
+    → IsGiven sure m Gone old new h o → (o ≡ None) × (new ≡ old)
+gone_with_upload sure m old new h None is = (refl, is)
+gone_with_upload sure m old new h (Some up) is = absurd is
 
 module _ {U B : Type 0} (u : Ghosts U B) (sure : Bool) where
   -- a connection stays as it is, and nothing is given
   pub stays : (store : U) (w : World) (k : Link B) (conn : Conn) (more : Bool) (out : List ℕ) → u.stands store sure w
       → LinkIs u w (bytes_of k.head) k.awaiting conn → more ≡ is_pending conn.pending
       → TurnedAs u sure store (Some k) (record { taken = 0; closes = false; more = more }) out out w conn.draft
-      (unmoved_turn w conn)
-  stays store w k conn more out stands link e = record {
-    shown = stands;
-    here = link;
-    moves = still w conn.draft;
-    taken = refl;
-    closes = refl;
-    more = e;
-    bytes = sym (append-nil out);
-  }
+      (record { world = w; conn = Some conn; bytes = []; text = []; taken = 0 })
+  stays store w k conn more out stands link e = assumption (still w conn.draft, sym (append-nil out))
 
   no_text : (w : World) (head : List ℕ) (awaiting : Awaiting B) (conn : Conn) → LinkIs u w head awaiting conn
       → ((g : given.Giving) (left : ℕ) → awaiting ≡ awaits.Text g left → ⊥) → conn.pending ≡ None
@@ -86,9 +77,7 @@ module _ {U B : Type 0} (u : Ghosts U B) (sure : Bool) where
       (more_turn w conn)
   more_nothing store w k conn out stands link not =
       let none = no_text w (bytes_of k.head) k.awaiting conn link not in
-      subst (TurnedAs u sure store (Some k) (record { taken = 0; closes = false; more = false }) out out w conn.draft)
-      (more_none_is w conn none)
-      (stays store w k conn false out stands link (sym (ap is_pending none)))
+      rw (more_is w conn None none) (stays store w k conn false out stands link (sym (ap is_pending none)))
 
   module _ (store : U) (w : World) (head : HeadBuffer) (conn : Conn) (g : given.Giving) (left : ℕ)
       (stands : u.stands store sure w) (is : IsGivingText w conn (bytes_of head) g left) where
@@ -109,82 +98,48 @@ module _ {U B : Type 0} (u : Ghosts U B) (sure : Bool) where
           taken = 0;
         })
     some_turned old new rest None given e = absurd given
-    some_turned old new rest (Some h) given e = record {
-      shown = stands;
-      here = record { h = h; rest = is.rest; draft = is.draft; pending = refl; gives = given };
-      moves = still w conn.draft;
-      taken = refl;
-      closes = refl;
-      more = refl;
-      bytes = e;
-    }
+    some_turned old new rest (Some h) given e =
+        let link : IsGivingText w (record conn { pending = Some h }) (bytes_of head) rest left =
+        record { h = h; rest = is.rest; draft = is.draft; pending = refl; gives = given } in
+        assumption (stands, link, still w conn.draft, e)
 
     -- more of the text is left
-    pub more_some : (old new : List ℕ) (rest : given.Giving) (up : Upload) → upload_of w.store is.h.number ≡ Some up
-        → GivingIs w.store (Some rest) (pending_after is.h) → Appends sure old new (piece_of is.h) (piece_of is.h)
+    pub more_some : (old new : List ℕ) (rest : given.Giving)
+        → IsGiven sure w.store (Piece rest) old new is.h (upload_of w.store is.h.number)
         → TurnedAs u sure store (text_link rest) (gave false true) old new w conn.draft (more_turn w conn)
-    more_some old new rest up there given e =
-        subst (TurnedAs u sure store (text_link rest) (gave false true) old new w conn.draft)
-        (more_some_is w conn is.h up is.pending there) (some_turned old new rest (pending_after is.h) given e)
-
-    none_turned : (old new : List ℕ) (closes : Bool) (pending : Option Giving) → GivingIs w.store None pending
-        → Appends sure old new (piece_of is.h) (piece_of is.h) → TurnedAs u sure store (link_after head left closes)
-        (gave closes false) old new w conn.draft
-        (record {
-          world = w;
-          conn = given_up conn closes pending;
-          bytes = piece_of is.h;
-          text = piece_of is.h;
-          taken =
-              0;
-        })
-    none_turned old new closes (Some h) given e = absurd given
-    none_turned old new closes None given e =
-        subst (λ d. TurnedAs u sure store (link_after head left closes) (gave closes false) old new w d
-        (record {
-          world = w;
-          conn = given_up (record conn { draft = d }) closes None;
-          bytes = piece_of is.h;
-          text = piece_of is.h;
-          taken = 0;
-        }))
-        (sym is.draft)
-        (answered_here u sure store (link_after head left closes) (gave closes false) old new (piece_of is.h)
-        (piece_of is.h) w w None head
-        left 0 closes conn.stream (cut (reader w) conn.stream).rest stands (still w None) refl is.rest refl refl e)
+    more_some old new rest given =
+        let x = piece_of_upload sure w.store rest old new is.h (upload_of w.store is.h.number) given in
+        rw (more_is w conn (Some is.h) is.pending, x.1) (some_turned old new rest (pending_after is.h) x.2 x.3)
 
     -- the text is given
-    pub more_done : (old new : List ℕ) (up : Upload) → upload_of w.store is.h.number ≡ Some up
-        → pending_after is.h ≡ None → Appends sure old new (piece_of is.h) (piece_of is.h)
+    pub more_done : (old new : List ℕ) → IsGiven sure w.store Last old new is.h (upload_of w.store is.h.number)
         → TurnedAs u sure store (link_after head left g.closes) (gave g.closes false) old new w conn.draft
         (more_turn w conn)
-    more_done old new up there last e =
-        subst (TurnedAs u sure store (link_after head left g.closes) (gave g.closes false) old new w conn.draft)
-        (ap (λ c. record {
+    more_done old new is_last =
+        let x = last_of_upload sure w.store old new is.h (upload_of w.store is.h.number) is_last in
+        let T : Option ℕ → Bool → Option Giving → Type 0 = λ d closes pending.
+        TurnedAs u sure store (link_after head left g.closes) (gave g.closes false) old new w d (record {
           world = w;
-          conn = given_up conn c (pending_after is.h);
+          conn = given_up (record conn { draft = d }) closes pending;
           bytes = piece_of is.h;
-          text =
-              piece_of is.h;
+          text = piece_of is.h;
           taken = 0;
-        })
-        is.gives.closes ∙ more_some_is w conn is.h up is.pending there)
-        (none_turned old new g.closes (pending_after is.h) (subst (GivingIs w.store None) (sym last) tt) e)
+        }) in
+        let given : T None g.closes None =
+        answered_here u sure store (link_after head left g.closes) (gave g.closes false) old new (piece_of is.h)
+        (piece_of is.h) w w None head left 0 g.closes conn.stream (cut (reader w) conn.stream).rest stands
+        (still w None) refl is.rest refl refl x.3 in
+        rw (more_is w conn (Some is.h) is.pending, x.1)
+        (subst (λ d. T d is.h.closes (pending_after is.h)) (sym is.draft)
+        (subst (λ c. T None c (pending_after is.h)) is.gives.closes (subst (T None g.closes) (sym x.2) given)))
 
     -- the upload was deleted
-    pub more_gone : (old new : List ℕ) → upload_of w.store is.h.number ≡ None → new ≡ old
+    pub more_gone : (old new : List ℕ) → IsGiven sure w.store Gone old new is.h (upload_of w.store is.h.number)
         → TurnedAs u sure store None (gave true false) old new w conn.draft (more_turn w conn)
-    more_gone old new none e =
-        subst (TurnedAs u sure store None (gave true false) old new w conn.draft)
-        (more_gone_is w conn is.h is.pending none) (record {
-          shown = stands;
-          here = tt;
-          moves = subst (λ o. Moves w w o None) (sym is.draft) (still w None);
-          taken = refl;
-          closes = refl;
-          more = refl;
-          bytes = e ∙ sym (append-nil old);
-        })
+    more_gone old new is_gone =
+        let x = gone_with_upload sure w.store old new is.h (upload_of w.store is.h.number) is_gone in
+        let moves : Moves w w conn.draft None = rw is.draft (still w None) in
+        rw (more_is w conn (Some is.h) is.pending, x.0) (assumption (stands, moves, x.1 ∙ sym (append-nil old)))
 
 module _ {U B : Type 0} (u : Ghosts U B) (sure : Bool) where
   -- nothing was given, and the connection closes
@@ -192,26 +147,54 @@ module _ {U B : Type 0} (u : Ghosts U B) (sure : Bool) where
       (is : IsGivingText w conn head g left) (e : Stop) (old new : List ℕ) (t : Turn)
       → Gives u sure store (Err e) old new w is.h → Turned u sure store (Err e) old new w conn.draft t
   more_stopped store w conn head g left is stops.NoMemory old new t (there, shown, same) =
-      (subst (λ o. u.stands store sure (left_world w o)) (sym is.draft) shown, same)
+      (rw is.draft shown, same)
   more_stopped store w conn head g left is stops.DiskFault old new t (there, same) = same
 
--- WHAT WAS GIVEN TELLS OF THE UPLOAD
+-- THE END OF A CONNECTION
 
--- a piece is given of an upload that is there
-pub piece_of_upload : (sure : Bool) (m : Store) (g : given.Giving) (old new : List ℕ) (h : Giving) (o : Option Upload)
-    → IsGiven sure m (Piece g) old new h o → (up : Upload) × (o ≡ Some up) × GivingIs m (Some g) (pending_after h)
-    × Appends sure old new (piece_of h) (piece_of h)
-piece_of_upload sure m g old new h None is = absurd is
-piece_of_upload sure m g old new h (Some up) is = (up, refl, is.0, piece_appends old new (piece_of h) is.1)
+pub ended_is : (w : World) (conn : Conn) (d : ℕ) (p : Patch) → conn.draft ≡ Some d → find d w.patches ≡ Some p
+    → ended_world w conn ≡ spent w d p (commit_refusal w d p)
+unfolding ended_world
+ended_is w conn d p is found = rw (is, found)
 
-pub last_of_upload : (sure : Bool) (m : Store) (old new : List ℕ) (h : Giving) (o : Option Upload)
-    → IsGiven sure m Last old new h o → (up : Upload) × (o ≡ Some up) × (pending_after h ≡ None)
-    × Appends sure old new (piece_of h) (piece_of h)
-last_of_upload sure m old new h None is = absurd is
-last_of_upload sure m old new h (Some up) is = (up, refl, is.0, piece_appends old new (piece_of h) is.1)
+pub ended_none : (w : World) (conn : Conn) → conn.draft ≡ None → ended_world w conn ≡ w
+unfolding ended_world
+ended_none w conn is = ap (ended_on w) is
 
--- and nothing of one that is gone
-pub gone_with_upload : (sure : Bool) (m : Store) (old new : List ℕ) (h : Giving) (o : Option Upload)
-    → IsGiven sure m Gone old new h o → (o ≡ None) × (new ≡ old)
-gone_with_upload sure m old new h None is = (refl, is)
-gone_with_upload sure m old new h (Some up) is = absurd is
+module _ {U B : Type 0} (u : Ghosts U B) (sure : Bool) where
+  -- nothing was open
+  pub ends_idle : (store : U) (w : World) (conn : Conn) → u.stands store sure w → conn.draft ≡ None
+      → EndedAs u sure store w conn.draft (ended_world w conn)
+  ends_idle store w conn stands none =
+      rw (ended_none w conn none, none) (record { shown = stands; moves = still w None })
+
+  module _ (w : World) (conn : Conn) (head : List ℕ) (b : OpenPatch B) (left : ℕ)
+      (is : IsPatching u w conn head b left) where
+    abbrev d : ℕ
+    d = u.number_of b.draft
+
+    ended_as : ended_world w conn ≡ spent w d is.p (commit_refusal w d is.p)
+    ended_as = ended_is w conn d is.p is.draft is.patches.found
+
+    -- a cut body
+    pub ends_cut : (store : U) (r : Result (Unit {0}) Stop)
+        → Ends u sure store r (dropped w d) (spent w d is.p (commit_refusal w d is.p))
+        → Ended u sure store r w conn.draft (ended_world w conn)
+    ends_cut store (Ok x) stands =
+        rw (ended_as, is.draft) (record { shown = stands; moves = spend_moves w d is.p is.patches.grown })
+    ends_cut store (Err stops.NoMemory) stands = rw is.draft stands
+    ends_cut store (Err stops.DiskFault) x = tt
+
+    pub ends_store : commit_outcome w d is.p ≡ (ended_world w conn).store
+    ends_store = rw ended_as (sym (spent_store w d is.p (commit_refusal w d is.p)))
+
+  -- no patch is open
+  pub no_draft : (w : World) (head : List ℕ) (awaiting : Awaiting B) (conn : Conn) → LinkIs u w head awaiting conn
+      → (awaiting ≡ awaits.Head) ⊎ (((n : ℕ) × (awaiting ≡ awaits.Skip n))
+      ⊎ ((g : given.Giving) × (n : ℕ) × (awaiting ≡ awaits.Text g n))) → conn.draft ≡ None
+  no_draft w head awaits.Head conn is how = is.draft
+  no_draft w head (awaits.Skip left) conn is how = is.draft
+  no_draft w head (awaits.Text g left) conn is how = is.draft
+  no_draft w head (awaits.Patch b left) conn is (inl e) = absurd (cc)
+  no_draft w head (awaits.Patch b left) conn is (inr (inl (n, e))) = absurd (cc)
+  no_draft w head (awaits.Patch b left) conn is (inr (inr (g, n, e))) = absurd (cc)

@@ -4,16 +4,15 @@ use Rattle.std.proofs.Common.{◌++◌, length, if◌then◌else◌, Option, Som
 use Rattle.std.proofs.Common.{append-nil, append_assoc, nat_lt, ◌&&◌}
 use Rattle.std.proofs.lemmas.Bool.Decides.{nat_tests}
 use Rattle.std.proofs.lemmas.Bool.{cases_eq, eqb-true, ne_eqb, cases_Bool, ltb-false}
-use Rattle.std.proofs.lemmas.List.{length-append}
+use Rattle.std.proofs.lemmas.List.{length-append, nil_from_length}
 use Rattle.std.proofs.lemmas.Option.{same_Some}
 use Rattle.upload_rules.specs.Lengths.{is_length, known_or, is_new, differ, longest}
-use Rattle.upload_rules.specs.Store.{New, Upload, Store, upload_of, text_of, text_with, patched, find, replaced}
-use Rattle.upload_rules.specs.Store.{without, others, is_complete, new_upload, created_store, deleted_store}
-use Rattle.upload_rules.specs.Store.{patched_at, patched_store}
+use Rattle.upload_rules.specs.Store.{New, Upload, Store, upload_of, text_of, text_with, patched, find}
+use Rattle.upload_rules.specs.Store.{without, is_complete, new_upload, created_store, deleted_store, patched_at}
+use Rattle.upload_rules.specs.Store.{patched_store}
 use Rattle.upload_rules.specs.World.{Patch, World, is_there, least_from, free_number, reached, length_then, completes}
 use Rattle.upload_rules.specs.World.{patch_text}
 use Rattle.upload_rules.specs.Room.{is_short}
-use Rattle.upload_rules.specs.Apart.{IsApart}
 use Rattle.upload_rules.specs.Grown.{GrewFrom}
 use Rattle.upload_rules.specs.declared.errors.UploadRefusal.{UploadRefusal}
 use Rattle.upload_rules.specs.declared.errors.UploadRefusal.TheVariants.{Offset, LengthSet, TooLong, Unencodable, Full}
@@ -22,37 +21,47 @@ use Rattle.upload_rules.specs.Calls.{commit_refusal, upload_refusal, length_refu
 use Rattle.upload_rules.specs.Calls.{declares, declares_at, is_idle, text_stays}
 use Rattle.upload_rules.proofs.Commits.{complete_patched}
 use Rattle.upload_rules.proofs.Deleted.{none_in_others, find_in_others}
-use Rattle.upload_rules.proofs.Finds.{find_push_other, find_without_other, find_without_same, none_without}
-use Rattle.upload_rules.proofs.Finds.{find_replaced_same, find_replaced_other, none_replaced, length_without}
+use Rattle.upload_rules.proofs.Finds.{find_push_other, find_without_other, find_without_same}
+use Rattle.upload_rules.proofs.Finds.{find_replaced_same, find_replaced_other, length_without}
+use Rattle.upload_rules.proofs.Patches.{apart_without, apart_replaced}
 use Rattle.tus_action.specs.Acts.{fed}
 use Rattle.tus_session.specs.Turns.{left_world}
 use Rattle.tus_session.specs.Moves.{Longer, Grows, Moves}
-use Rattle.tus_session.proofs.Growth.{IsLonger, patched_twice, text_longer, text_same}
-use Rattle.tus_session.proofs.Opening.{same_longer, same_grows, still}
+use Rattle.tus_session.proofs.Growth.{IsLonger, patched_twice, text_longer, text_same, patched_nothing}
+
+-- the same upload
+pub same_longer : (m m' : Store) (up : Upload) → m'.indexes ≡ m.indexes → Longer m m' up up
+same_longer m m' up same = record {
+  declare = None;
+  bytes = [];
+  more = [];
+  is = patched_nothing up;
+  text = ap (λ x. text_of x up) same ∙ sym (append-nil (text_of m.indexes up));
+}
+
+pub same_grows : (m : Store) → Grows m m
+same_grows m = record {
+  indexes = refl;
+  next = omega arith;
+  uploads = λ n up lt there. (up, there, same_longer m m up refl);
+}
+
+pub own_or : (own : Option ℕ) (e : ℕ) → (own ≡ Some e) ⊎ (own ≡ Some e → ⊥)
+own_or None e = inr (λ h. absurd (cc))
+own_or (Some d) e = elim (cases_eq d e) [ inl is ↦ inl (ap Some is) | inr ne ↦ inr (λ h. ne (same_Some d e h)) ]
+
+-- nothing moved
+pub still : (w : World) (own : Option ℕ) → Moves w w own own
+still w own = record {
+  grows = same_grows w.store;
+  others = λ e p ne found. found;
+  back = λ e p apart found. elim (own_or own e) [ inl is ↦ inl is | inr ne ↦ inr (ne, (p, found)) ];
+  fresh = λ e h. inl h;
+  unique = λ h. h;
+}
 
 abbrev Patches : Type 0
 Patches = List (ℕ × Patch)
-
--- FINDING AND KEEPING APART
-
-without_case : {A : Type 0} (d : ℕ) (x : ℕ × A) (xs : List (ℕ × A)) → IsApart (x ∷ xs) → IsApart (without d xs)
-    → (b : Bool) → IsApart (if b then xs else x ∷ without d xs)
-without_case d x xs apart rest true = apart.1
-without_case d x xs apart rest false = (none_without d x.0 xs apart.0, rest)
-
-pub apart_without : {A : Type 0} (d : ℕ) (xs : List (ℕ × A)) → IsApart xs → IsApart (without d xs)
-apart_without d [] apart = tt
-apart_without d (x ∷ xs) apart = without_case d x xs apart (apart_without d xs apart.1) (x.0 == d)
-
-replaced_case : {A : Type 0} (d : ℕ) (a : A) (x : ℕ × A) (xs : List (ℕ × A)) → IsApart (x ∷ xs)
-    → IsApart (replaced d a xs) → (b : Bool) → (x.0 == d) ≡ b
-    → IsApart (if b then (d, a) ∷ xs else x ∷ replaced d a xs)
-replaced_case d a x xs apart rest true e = (subst (λ n. find n xs ≡ None) (eqb-true x.0 d e) apart.0, apart.1)
-replaced_case d a x xs apart rest false e = (none_replaced d x.0 a xs apart.0, rest)
-
-pub apart_replaced : {A : Type 0} (d : ℕ) (a : A) (xs : List (ℕ × A)) → IsApart xs → IsApart (replaced d a xs)
-apart_replaced d a [] apart = tt
-apart_replaced d a (x ∷ xs) apart = replaced_case d a x xs apart (apart_replaced d a xs apart.1) (x.0 == d) refl
 
 some_ne : (d e : ℕ) → (Some d ≡ Some e → ⊥) → d ≡ e → ⊥
 some_ne d e h is = h (ap Some is)
@@ -64,11 +73,8 @@ drop_moves w d = record {
   others = λ e p ne found. find_without_other d e w.patches (some_ne d e ne) ∙ found;
   back = λ e p apart found. elim (cases_eq d e) [
     | inl is ↦
-        let none : find e (without d w.patches) ≡ None =
-        subst (λ n. find n (without d w.patches) ≡ None) is (find_without_same d w.patches apart) in
-        let x : Some p ≡ None = sym found ∙ none in
-        absurd (cc)
-    | inr ne ↦ inr (λ h. ne (let x : d ≡ e = cc in x), (p, sym (find_without_other d e w.patches ne) ∙ found))
+        let x : Some p ≡ None = sym found ∙ rw (← is) (find_without_same d w.patches apart) in absurd (cc)
+    | inr ne ↦ inr (λ h. ne (same_Some d e h), (p, sym (find_without_other d e w.patches ne) ∙ found))
   ];
   fresh = λ e h. absurd (cc);
   unique = λ h. apart_without d w.patches h;
@@ -84,22 +90,16 @@ pub feed_moves : (w : World) (d : ℕ) (p : Patch) (piece : List ℕ) → find d
 feed_moves w d p [] found = still w (Some d)
 feed_moves w d p (b ∷ piece) found =
     let q = longer w d p (b ∷ piece) in
-    let w' : World = record w { patches = replaced d q w.patches } in
-    let e : w' ≡ fed w d (b ∷ piece) =
-    ap (λ o. elim o as (λ _. World)
-    [ None ↦ w | Some p ↦ record w { patches = replaced d (longer w d p (b ∷ piece)) w.patches } ]) (sym
-    found) in
-    let now : Moves w w' (Some d) (Some d) = record {
+    rw found (record {
       grows = same_grows w.store;
       others = λ e p ne there. find_replaced_other d e q w.patches (some_ne d e ne) ∙ there;
       back = λ e p apart there. elim (cases_eq d e) [
         | inl is ↦ inl (ap Some is)
-        | inr ne ↦ inr (λ h. ne (let x : d ≡ e = cc in x), (p, sym (find_replaced_other d e q w.patches ne) ∙ there))
+        | inr ne ↦ inr (λ h. ne (same_Some d e h), (p, sym (find_replaced_other d e q w.patches ne) ∙ there))
       ];
       fresh = λ e h. inl h;
       unique = λ h. apart_replaced d q w.patches h;
-    } in
-    subst (λ x. Moves w x (Some d) (Some d)) e now
+    })
 
 -- THE LEAST FREE NUMBER
 
@@ -127,17 +127,16 @@ one_more_full : (n : ℕ) (patches : Patches) → IsFull n patches → is_there 
     → IsFull (n + 1) patches
 one_more_full n patches full there k lt =
     elim (cases_eq k n) [
-      | inl is ↦ subst (λ i. is_there (find i patches) ≡ true) (sym is) there
-      | inr ne ↦ full k
-          (omega arith)
+      | inl is ↦ rw is there
+      | inr ne ↦ full k (omega arith)
     ]
 
 none_least : (left n : ℕ) (patches : Patches) → IsFull n patches → length patches ≤ n + left
     → find (least_from left n patches) patches ≡ None
 none_least zero n patches full high =
     elim (cases_Bool (is_there (find n patches))) [
-      | inl there ↦ let more = at_least (n + 1) (n + 1) patches refl (one_more_full n patches full there) in absurd
-          (omega (arith, more))
+      | inl there ↦
+          absurd (omega (arith, at_least (n + 1) (n + 1) patches refl (one_more_full n patches full there)))
       | inr free ↦ none_is (find n patches) free
     ]
 none_least (suc left) n patches full high =
@@ -152,9 +151,6 @@ free_none w = none_least (length w.patches) 0 w.patches (λ k lt. absurd (omega 
 abbrev pub with_patch : World → ℕ → Patch → World
 with_patch w d p = record w { patches = (d, p) ∷ w.patches }
 
-find_first : (d : ℕ) (p : Patch) (patches : Patches) → find d ((d, p) ∷ patches) ≡ Some p
-find_first d p patches = grind (arith, nat_tests)
-
 find_after : (d e : ℕ) (p : Patch) (patches : Patches) → (d ≡ e → ⊥) → find e ((d, p) ∷ patches) ≡ find e patches
 find_after d e p patches ne = grind (arith, nat_tests)
 
@@ -163,14 +159,14 @@ pub open_moves : (w : World) (d : ℕ) (p : Patch) → find d w.patches ≡ None
 open_moves w d p free = record {
   grows = same_grows w.store;
   others = λ e q ne found. elim (cases_eq d e) [
-    | inl is ↦ let x : None ≡ Some q = sym free ∙ (ap (λ n. find n w.patches) is ∙ found) in absurd (cc)
+    | inl is ↦ let x : None ≡ Some q = sym (rw is at free) ∙ found in absurd (cc)
     | inr ne' ↦ find_after d e p w.patches ne' ∙ found
   ];
   back = λ e q apart found. elim (cases_eq d e) [
     | inl is ↦ inl (ap Some is)
     | inr ne ↦ inr (λ h. absurd (cc), (q, sym (find_after d e p w.patches ne) ∙ found))
   ];
-  fresh = λ e h. let x : d ≡ e = cc in inr (ap (λ n. find n w.patches) (sym x) ∙ free);
+  fresh = λ e h. inr (rw (← (same_Some d e h)) free);
   unique = λ h. (free, h);
 }
 
@@ -196,10 +192,6 @@ grows_both m m1 m2 a b = record {
       (x.0, x.1, longer_both m m1 m2 x.0 y.0 up x.2 y.2);
 }
 
-own_or : (own : Option ℕ) (e : ℕ) → (own ≡ Some e) ⊎ (own ≡ Some e → ⊥)
-own_or None e = inr (λ h. absurd (cc))
-own_or (Some d) e = elim (cases_eq d e) [ inl is ↦ inl (ap Some is) | inr ne ↦ inr (λ h. ne (let x : d ≡ e = cc in x)) ]
-
 none_or : (o : Option Patch) → (o ≡ None) ⊎ ((p : Patch) × (o ≡ Some p))
 none_or None = inl refl
 none_or (Some p) = inr (p, refl)
@@ -209,11 +201,8 @@ both_moves w w1 w2 x y z a b = record {
   grows = grows_both w.store w1.store w2.store a.grows b.grows;
   others = λ e p ne found.
       b.others e p
-      (λ h. elim (a.fresh e h) [
-        | inl own ↦ ne own
-        | inr none ↦ let c : Some p ≡ None = sym found
-            ∙ none in absurd (cc)
-      ])
+      (λ h. elim (a.fresh e h)
+      [ inl own ↦ ne own | inr none ↦ let c : Some p ≡ None = sym found ∙ none in absurd (cc) ])
       (a.others e p ne found);
   back = λ e p apart found. elim (b.back e p (a.unique apart) found) [
     | inl own ↦ inl own
@@ -234,13 +223,7 @@ both_moves w w1 w2 x y z a b = record {
 
 -- the uploads of the second world, and the patches of the first
 pub stored_moves : (w : World) (m : Store) (own : Option ℕ) → Grows w.store m → Moves w (record w { store = m }) own own
-stored_moves w m own grows = let s = still w own in record {
-  grows = grows;
-  others = s.others;
-  back = s.back;
-  fresh = s.fresh;
-  unique = s.unique;
-}
+stored_moves w m own grows = let s = still w own in assumption (grows, s)
 
 -- an upload is made
 pub create_moves : (w : World) (new : New) (own : Option ℕ) → Moves w (created w new) own own
@@ -261,10 +244,7 @@ delete_moves w number own = stored_moves w (deleted_store w.store number) own (r
   next = omega arith;
   uploads = λ n up lt there. elim (cases_eq number n) [
     | inl same ↦
-        let none : find n (others number w.store.uploads) ≡ None =
-        subst (λ k. find k (others number w.store.uploads) ≡ None) same (none_in_others number w.store.uploads) in
-        let x : Some up ≡ None = sym there ∙ none in
-        absurd (cc)
+        let x : Some up ≡ None = sym there ∙ rw (← same) (none_in_others number w.store.uploads) in absurd (cc)
     | inr ne ↦ (
       up,
       sym (find_in_others number n w.store.uploads ne) ∙ there,
@@ -285,16 +265,11 @@ put_grows m number declare bytes u there longer =
       next = omega arith;
       uploads = λ n up lt found. elim (cases_eq number n) [
         | inl is ↦
-            let put : find number m'.uploads ≡ Some v = find_replaced_same number u v m.uploads there in
-            let same : v ≡ up = same_Some v up (sym put ∙ (ap (upload_of m') is ∙ found)) in
-            let l : Longer m m' u v = record {
-              declare = declare;
-              bytes = bytes;
-              more = longer.0;
-              is = refl;
-              text = longer.1;
-            } in
-            (u, ap (upload_of m) (sym is) ∙ there, subst (Longer m m' u) same l)
+            let put : find n m'.uploads ≡ Some v = rw (← is) (find_replaced_same number u v m.uploads there) in
+            let same : v ≡ up = same_Some v up (sym put ∙ found) in
+            let l : Longer m m' u v =
+            record { declare = declare; bytes = bytes; more = longer.0; is = refl; text = longer.1 } in
+            (u, rw (← is) there, subst (Longer m m' u) same l)
         | inr ne ↦ (up, sym (find_replaced_other number n v m.uploads ne) ∙ found, same_longer m m' up refl)
       ];
     }
@@ -325,12 +300,6 @@ not_empty : (body : List ℕ) → is_empty body ≡ false → 0 < length body
 not_empty [] e = absurd (cc)
 not_empty (b ∷ body) e = omega arith
 
-none_after : (xs ys : List ℕ) → length (xs ++ ys) ≡ length xs → ys ≡ []
-none_after xs [] e = refl
-none_after xs (y ∷ ys) e =
-    let n : length (xs ++ y ∷ ys) ≡ length xs + length (y ∷ ys) = length-append xs (y ∷ ys) in
-    absurd (omega arith)
-
 no_fault : (o : Option ℕ) (rest : Option UploadRefusal) → (if is_there o then Some Unencodable else rest) ≡ None
     → o ≡ None
 no_fault None rest e = refl
@@ -342,10 +311,7 @@ has_value : (w : World) (d : ℕ) (p : Patch) → text_stays w.store p ≡ false
 unfolding patch_text
 has_value w d p moves none =
     let done = completes w.store p in
-    let fault = (patch_text w.store.indexes p done).fault in
-    let rest = refuse_if (is_short w d p done) Full in
-    no_fault fault rest
-    (sym (ap (λ b. if b then None else (if is_there fault then Some Unencodable else rest)) moves) ∙ none)
+    no_fault (patch_text w.store.indexes p done).fault (refuse_if (is_short w d p done) Full) (rw moves at none)
 
 -- The upload of a patch that goes with it: it has as many bytes as at the patch's head moment, and its length leaves
 -- room for the body.
@@ -400,25 +366,22 @@ module _ (w : World) (d : ℕ) (p : Patch) (grown : GrewFrom p (upload_of w.stor
       known_before None new = cc
       known_before (Some k) new = cc
   unfinished_case (Some n) e false new busy =
-      let room : reached p ≤ n = subst (λ k. reached p ≤ longest (known_or k p.declare)) e fit.room in
+      let room : reached p ≤ n = rw e at fit.room in
       ne_eqb (length u.accepted) n (omega (arith, room, fit.count, not_empty p.body busy))
 
   unfinished : is_idle m p ≡ false → is_complete u ≡ false
   unfinished busy =
-      unfinished_case u.declared refl (is_new u.declared p.declare) refl
-      (sym (ap (λ b. if b then false else is_empty p.body) new_is) ∙ busy)
+      unfinished_case u.declared refl (is_new u.declared p.declare) refl (rw new_is at busy)
 
   -- the accepted bytes are those of the head moment
   value_here : (done : Bool) → (text_with m.indexes p.began p.body done).fault ≡ None
       → (text_with m.indexes u p.body done).fault ≡ None
   value_here done value =
-      let grew : GrewFrom p (Some u) = subst (GrewFrom p) fit.there grown in
+      let grew : GrewFrom p (Some u) = rw fit.there at grown in
       let l : length (p.began.accepted ++ grew.1) ≡ length p.began.accepted =
       sym (ap (λ x. length x.accepted) grew.2) ∙ fit.count in
-      let same : p.began.accepted ++ grew.1 ≡ p.began.accepted =
-      ap (λ z. p.began.accepted ++ z) (none_after p.began.accepted grew.1 l) ∙ append-nil p.began.accepted in
-      ap (λ x. (text_with m.indexes x p.body done).fault) grew.2
-      ∙ (ap (λ z. (text_with m.indexes (record p.began { accepted = z }) p.body done).fault) same ∙ value)
+      let none = nil_from_length grew.1 (omega (arith, simp length-append at l)) in
+      rw (grew.2, none, append-nil p.began.accepted) value
 
   completes_is : is_complete (patched u p.declare p.body) ≡ completes m p
   completes_is =
@@ -451,7 +414,7 @@ module _ (w : World) (d : ℕ) (p : Patch) (grown : GrewFrom p (upload_of w.stor
       → Grows m (if b then m else patched_store m p.number p.declare p.body)
   store_grows fine true e = same_grows m
   store_grows fine false busy =
-      subst (λ o. Grows m (patched_at m p.number p.declare p.body o)) (sym fit.there)
+      rw fit.there
       (put_grows m p.number p.declare p.body u fit.there (text_grows fine busy (text_stays m p) refl))
 
 -- the patch is spent

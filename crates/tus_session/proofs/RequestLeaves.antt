@@ -2,8 +2,7 @@
 use Rattle.std.proofs.Common.{ℕ, ◌+◌, ◌≤◌, ◌≡◌, ◌==◌, Bool, true, false, List, [], ◌∷◌, Option, Some, None, length}
 use Rattle.std.proofs.Common.{drop, refl, ap, if◌then◌else◌}
 use Rattle.std.proofs.lemmas.Bool.{eqb-true}
-use Rattle.tus_request.specs.Requests.{Request, Action, Options, Create, Head, Get, Delete, Asks}
-use Rattle.tus_request.specs.Requests.{Patch as Patches}
+use Rattle.tus_request.specs.Requests.{Request, Action, Options, Create, Head, Get, Delete, Asks, Patch as Patches}
 use Rattle.upload_rules.specs.Store.{New, Upload, upload_of, find, text_of}
 use Rattle.upload_rules.specs.World.{World, free_number}
 use Rattle.upload_rules.specs.Calls.{create_refusal, terminate_refusal, begin_refusal, begin_refusal_at, begun_at}
@@ -14,8 +13,7 @@ use Rattle.upload_rules.specs.declared.errors.UploadRefusal.TheVariants.{Offset,
 use Rattle.tus_action.specs.Acts.{Acted, Giving, acted, acted_on, post, new_of, delete, head, get, giving, patch}
 use Rattle.tus_action.specs.Acts.{piece_size}
 use Rattle.tus_session.specs.Moves.{Moves}
-use Rattle.tus_session.proofs.Moved.{create_moves, delete_moves, free_none, has_room, or_else_second}
-use Rattle.tus_session.proofs.Opening.{still}
+use Rattle.tus_session.proofs.Moved.{create_moves, delete_moves, free_none, has_room, or_else_second, still}
 
 -- a patch is open
 pub record Opened (w : World) (r : Request) (a : Acted) : Type 0 where
@@ -40,32 +38,6 @@ pub data Leaves (w : World) (r : Request) (a : Acted) : Type 0 where
   Text : (h : Giving) → a.world ≡ w → a.draft ≡ None → a.pending ≡ Some h → a.closes ≡ false → Leaves w r a
   Patching : Opened w r a → Leaves w r a
 
-posted : (w : World) (r : Request) (new : New) (o : Option UploadRefusal) → Leaves w r (post w r new o)
-posted w r new None = Nothing (create_moves w new None) refl refl
-posted w r new (Some f) = Nothing (still w None) refl refl
-
-deleted : (w : World) (r : Request) (number : ℕ) (o : Option UploadRefusal) → Leaves w r (delete w r number o)
-deleted w r number None = Nothing (delete_moves w number None) refl refl
-deleted w r number (Some f) = Nothing (still w None) refl refl
-
-shown : (w : World) (r : Request) (o : Option Upload) → Leaves w r (head w r o)
-shown w r None = Nothing (still w None) refl refl
-shown w r (Some u) = Nothing (still w None) refl refl
-
-given : (w : World) (r : Request) (number : ℕ) (u : Upload) (text left : List ℕ)
-    → Leaves w r (giving w r number u text left)
-given w r number u text [] = Nothing (still w None) refl refl
-given w r number u text (b ∷ left) = Text (record {
-  number = number;
-  left = b ∷ left;
-  closes = r.closes;
-}) refl refl refl refl
-
-got : (w : World) (r : Request) (number : ℕ) (o : Option Upload) → Leaves w r (get w r number o)
-got w r number None = Nothing (still w None) refl refl
-got w r number (Some u) =
-    given w r number u (text_of w.store.indexes u) (if r.bare then [] else drop piece_size (text_of w.store.indexes u))
-
 -- a patch that isn't refused
 pub record Begins (offset count : ℕ) (declare : Option ℕ) (o : Option Upload) : Type 0 where
   pub up : Upload
@@ -79,13 +51,12 @@ begins_case : (offset count : ℕ) (declare : Option ℕ) (u : Upload) (b : Bool
     else Some Offset) ≡ None
     → Begins offset count declare (Some u)
 begins_case offset count declare u true same e =
-    let large = refuse_if (is_too_large declare) TooLarge in
-    let long = length_refusal u.declared declare (offset + count) in
     record {
       up = u;
       there = refl;
       length_is = eqb-true (length u.accepted) offset same;
-      fits = has_room u.declared declare (offset + count) (or_else_second large long e);
+      fits = has_room u.declared declare (offset + count) (or_else_second (refuse_if (is_too_large declare) TooLarge)
+          (length_refusal u.declared declare (offset + count)) e);
     }
 begins_case offset count declare u false same e = absurd (cc)
 
@@ -94,38 +65,62 @@ begins : (offset count : ℕ) (declare : Option ℕ) (o : Option Upload) → beg
 begins offset count declare None e = absurd (cc)
 begins offset count declare (Some u) e = begins_case offset count declare u (length u.accepted == offset) refl e
 
-patched : (w : World) (r : Request) (number offset : ℕ) (declare : Option ℕ)
-    → r.action ≡ Patches number offset declare → (o : Option UploadRefusal)
-    → begin_refusal w number offset r.length declare ≡ o → Leaves w r (patch w r number declare o)
-patched w r number offset declare action (Some f) e = Nothing (still w None) refl refl
-patched w r number offset declare action None e =
-    let b = begins offset r.length declare (upload_of w.store number) e in
-    Patching (record {
-      d = free_number w;
-      number = number;
-      offset = offset;
-      declare = declare;
-      up = b.up;
-      draft_is = refl;
-      action_is = action;
-      there = b.there;
-      world_is = ap (begun_at w number r.length declare) b.there;
-      free = free_none w;
-      length_is = b.length_is;
-      fits = b.fits;
-      no_text = refl;
-      idle = refl;
-      stays = refl;
-    })
+module _ (w : World) (r : Request) where
+  posted : (new : New) (o : Option UploadRefusal) → Leaves w r (post w r new o)
+  posted new None = Nothing (create_moves w new None) refl refl
+  posted new (Some f) = Nothing (still w None) refl refl
 
-leaves_on : (w : World) (r : Request) (x : Action) → r.action ≡ x → Leaves w r (acted_on w r x)
-leaves_on w r Options e = Nothing (still w None) refl refl
-leaves_on w r (Create c) e = posted w r (new_of c) (create_refusal w (new_of c))
-leaves_on w r (Head n) e = shown w r (upload_of w.store n)
-leaves_on w r (Get n) e = got w r n (upload_of w.store n)
-leaves_on w r (Patches n offset declare) e =
-    patched w r n offset declare e (begin_refusal w n offset r.length declare) refl
-leaves_on w r (Delete n) e = deleted w r n (terminate_refusal w n)
+  deleted : (number : ℕ) (o : Option UploadRefusal) → Leaves w r (delete w r number o)
+  deleted number None = Nothing (delete_moves w number None) refl refl
+  deleted number (Some f) = Nothing (still w None) refl refl
 
-pub leaves : (w : World) (r : Request) → Leaves w r (acted w (Asks r))
-leaves w r = leaves_on w r r.action refl
+  shown : (o : Option Upload) → Leaves w r (head w r o)
+  shown None = Nothing (still w None) refl refl
+  shown (Some u) = Nothing (still w None) refl refl
+
+  given : (number : ℕ) (u : Upload) (text left : List ℕ) → Leaves w r (giving w r number u text left)
+  given number u text [] = Nothing (still w None) refl refl
+  given number u text (b ∷ left) =
+      Text (record { number = number; left = b ∷ left; closes = r.closes }) refl refl refl refl
+
+  got : (number : ℕ) (o : Option Upload) → Leaves w r (get w r number o)
+  got number None = Nothing (still w None) refl refl
+  got number (Some u) =
+      given number u (text_of w.store.indexes u)
+      (if r.bare then [] else drop piece_size (text_of w.store.indexes u))
+
+  patched : (number offset : ℕ) (declare : Option ℕ) → r.action ≡ Patches number offset declare
+      → (o : Option UploadRefusal) → begin_refusal w number offset r.length declare ≡ o
+      → Leaves w r (patch w r number declare o)
+  patched number offset declare action (Some f) e = Nothing (still w None) refl refl
+  patched number offset declare action None e =
+      let b = begins offset r.length declare (upload_of w.store number) e in
+      Patching (record {
+        d = free_number w;
+        number = number;
+        offset = offset;
+        declare = declare;
+        up = b.up;
+        draft_is = refl;
+        action_is = action;
+        there = b.there;
+        world_is = ap (begun_at w number r.length declare) b.there;
+        free = free_none w;
+        length_is = b.length_is;
+        fits = b.fits;
+        no_text = refl;
+        idle = refl;
+        stays = refl;
+      })
+
+  leaves_on : (x : Action) → r.action ≡ x → Leaves w r (acted_on w r x)
+  leaves_on Options e = Nothing (still w None) refl refl
+  leaves_on (Create c) e = posted (new_of c) (create_refusal w (new_of c))
+  leaves_on (Head n) e = shown (upload_of w.store n)
+  leaves_on (Get n) e = got n (upload_of w.store n)
+  leaves_on (Patches n offset declare) e =
+      patched n offset declare e (begin_refusal w n offset r.length declare) refl
+  leaves_on (Delete n) e = deleted n (terminate_refusal w n)
+
+  pub leaves : Leaves w r (acted w (Asks r))
+  leaves = leaves_on r.action refl

@@ -1,16 +1,12 @@
 -- From a turn to the session's answer.
-use Rattle.std.proofs.Common.{◌≡◌, ℕ, List, Option, Some, None, Ok, Err, refl, sym, ◌∙◌, ap, subst, [], Bool}
-use Rattle.upload_rules.specs.World.{World}
+use Rattle.std.proofs.Common.{◌≡◌, ℕ, List, Option, Some, None, Ok, Err, refl, ap, [], Bool, Result, IsErrOf, ◌∙◌}
 use Rattle.upload_rules.specs.declared.uploads.Uploads.{Ghosts}
-use Rattle.tus_action.specs.Serves.{Appends}
 use Rattle.tus_session.specs.Turns.{Conn, Turn, left_world, more_turn, came_turn, ended_world}
-use Rattle.tus_session.specs.History.{State, Step, Event, Opened, Came, More, Ended, Served, OutOfMemory, Failed, Gave}
-use Rattle.tus_session.specs.History.{Done, Refused, step, put, turned, conn_in, lost_at, failed_at, came_at, more_at}
+use Rattle.tus_session.specs.History.{State, Event, Opened, Came, More, Ended, Served, OutOfMemory, Failed, Gave, Done}
+use Rattle.tus_session.specs.History.{Refused, step, put, turned, conn_in, lost_at, failed_at, came_at, more_at}
 use Rattle.tus_session.specs.History.{ended_at, is_closed, has_text}
-use Rattle.tus_session.specs.Stands.{draft_at, SessionStands}
-use Rattle.tus_session.specs.Moves.{Moves}
-use Rattle.tus_session.specs.Turned.{Turned, TurnedAs, EndedAs}
-use Rattle.tus_session.specs.Turned.{Ended as EndedBy}
+use Rattle.tus_session.specs.Stands.{SessionStands}
+use Rattle.tus_session.specs.Turned.{Turned, TurnedAs, EndedAs, Ended as EndedBy}
 use Rattle.tus_session.specs.Faults.{error_of}
 use Rattle.tus_action.specs.declared.acts.Stop.{Stop}
 use Rattle.tus_action.specs.declared.acts.Stop.TheVariants as stops
@@ -21,6 +17,9 @@ use Rattle.tus_session.specs.declared.errors.SessionError.TheVariants as errors
 use Rattle.tus_session.proofs.Moved.{left_moves}
 use Rattle.tus_session.specs.Places.{IsPut}
 use Rattle.tus_session.proofs.InPlace.{in_place}
+use Rattle.std.specs.Result.{IsErrAnd}
+use Rattle.std.proofs.lemmas.Result.{err_from_is_err_and}
+use Rattle.tus_session.specs.declared.errors.SessionError.{SessionError}
 
 -- the event's turn on an open connection
 pub record IsTurn (st : State) (e : Event) (conn : Conn) (t : Turn) : Type 0 where
@@ -62,48 +61,26 @@ failed_is st (More c) conn on is = ap (λ o. (failed_at st c o).outcome) is
 failed_is st (Ended c) conn on is = ap (λ o. (failed_at st c o).outcome) is
 
 module _ {U B : Type 0} (u : Ghosts U B) (sure : Bool) where
-  pub gave : (out new : List ℕ) (a : Answer) (t : Turn) → a.taken ≡ t.taken → a.closes ≡ is_closed t.conn
-      → a.more ≡ has_text t.conn
-      → Gave t.bytes t.taken (is_closed t.conn) (has_text t.conn) ≡ Gave t.bytes a.taken a.closes a.more
-  gave out new a t e f g = sym (ap (λ n. Gave t.bytes n a.closes a.more) e ∙ (ap (λ b. Gave t.bytes t.taken b a.more) f
-      ∙ ap (λ b. Gave t.bytes t.taken (is_closed t.conn) b) g))
-
   module _ (places all : List (Option (Link B))) (store store' : U) (st : State) (e : Event) (conn : Conn)
       (stands : SessionStands u sure places store st) (on : IsOnOpen e) (is : st.conns (conn_in e) ≡ Some conn) where
-    moves_at : (w' : World) (own' : Option ℕ) → Moves st.world w' conn.draft own'
-        → Moves st.world w' (draft_at (st.conns (conn_in e))) own'
-    moves_at w' own' moves = subst (λ o. Moves st.world w' (draft_at o) own') (sym is) moves
-
     -- the connection is gone, with its draft
     lost : IsPut places all (conn_in e) None → u.stands store' sure (left_world st.world conn.draft)
         → Follows u sure all store' (step st e OutOfMemory).state (step st e OutOfMemory).outcome
         (Refused errors.NoMemory)
     lost is_put shown =
-        let w' = left_world st.world conn.draft in
-        let s : SessionStands u sure all store' (put st w' (conn_in e) None) =
-        in_place u sure places all store store' st w' (conn_in e) None None stands is_put
-        (moves_at w' None (left_moves st.world conn.draft)) shown tt in
-        let x : Step = record { state = put st w' (conn_in e) None; outcome = Refused errors.NoMemory; text = [] } in
-        let f : Follows u sure all store' x.state x.outcome (Refused errors.NoMemory) =
-        record { stands = s; outcome = refl } in
-        subst (λ y. Follows u sure all store' y.state y.outcome (Refused errors.NoMemory))
-        (sym (memory_is st e conn on is)) f
+        let s = in_place u sure places all store store' st (left_world st.world conn.draft) (conn_in e) None None stands
+        is_put (rw is (left_moves st.world conn.draft)) shown tt in
+        rw (memory_is st e conn on is) (record { stands = s; outcome = refl })
 
     pub told : (next : Option (Link B)) (t : Turn) (a : Answer) (old new : List ℕ) → IsPut places all (conn_in e) next
         → IsTurn st e conn t → TurnedAs u sure store' next a old new st.world conn.draft t
         → Told u sure all store' (Ok a) old new st e
     told next t a old new is_put is_turn turn =
-        let s : SessionStands u sure all store' (put st t.world (conn_in e) t.conn) =
-        in_place u sure places all store store' st t.world (conn_in e) next t.conn stands is_put
-        (moves_at t.world (draft_at t.conn) turn.moves) turn.shown turn.here in
-        let x = turned st (conn_in e) t in
-        let f : Follows u sure all store' x.state x.outcome (Gave t.bytes a.taken a.closes a.more) =
-        record { stands = s; outcome = gave old new a t turn.taken turn.closes turn.more } in (
-          t.bytes,
-          subst (λ y. Follows u sure all store' y.state y.outcome (Gave t.bytes a.taken a.closes a.more))
-              (sym is_turn.step_is) f,
-          subst (λ y. Appends sure old new t.bytes y.text) (sym is_turn.step_is) turn.bytes,
-        )
+        let s = in_place u sure places all store store' st t.world (conn_in e) next t.conn stands is_put
+        (rw is turn.moves) turn.shown turn.here in
+        let same : Gave t.bytes t.taken (is_closed t.conn) (has_text t.conn) ≡ Gave t.bytes a.taken a.closes a.more =
+        rw (turn.taken, turn.closes, turn.more) in
+        (t.bytes, rw is_turn.step_is (record { stands = s; outcome = same }), rw is_turn.step_is turn.bytes)
 
     -- an error closes the connection
     pub stopped : (t : Turn) (stop : Stop) (old new : List ℕ) → IsPut places all (conn_in e) None
@@ -116,13 +93,9 @@ module _ {U B : Type 0} (u : Ghosts U B) (sure : Bool) where
         { state = put st (ended_world st.world conn) (conn_in e) None; outcome = Done; text = [] }
         → EndedAs u sure store' st.world conn.draft (ended_world st.world conn) → Ends u sure all store' (Ok tt) st e
     ends is_put done turn =
-        let w' = ended_world st.world conn in
-        let s : SessionStands u sure all store' (put st w' (conn_in e) None) =
-        in_place u sure places all store store' st w' (conn_in e) None None stands is_put
-        (moves_at w' None turn.moves) turn.shown tt in
-        let x : Step = record { state = put st w' (conn_in e) None; outcome = Done; text = [] } in
-        let f : Follows u sure all store' x.state x.outcome Done = record { stands = s; outcome = refl } in
-        subst (λ y. Follows u sure all store' y.state y.outcome Done) (sym done) f
+        let s = in_place u sure places all store store' st (ended_world st.world conn) (conn_in e) None None stands
+        is_put (rw is turn.moves) turn.shown tt in
+        rw done (record { stands = s; outcome = refl })
 
     pub ends_stopped : (stop : Stop) → IsPut places all (conn_in e) None
         → EndedBy u sure store' (Err stop) st.world conn.draft (ended_world st.world conn)
@@ -131,30 +104,38 @@ module _ {U B : Type 0} (u : Ghosts U B) (sure : Bool) where
     ends_stopped stops.DiskFault is_put turn = failed_is st e conn on is
 
   -- no connection is open there
-  pub none_came : (places : List (Option (Link B))) (store : U) (st : State) (c : ℕ) (bytes : List ℕ)
-      → SessionStands u sure places store st → st.conns c ≡ None
-      → Follows u sure places store st (step st (Came c bytes) Served).outcome (Refused errors.Closed)
+  pub none_open : (places : List (Option (Link B))) (store : U) (st : State) (e : Event)
+      → SessionStands u sure places store st → IsOnOpen e → st.conns (conn_in e) ≡ None
+      → Follows u sure places store st (step st e Served).outcome (Refused errors.Closed)
   unfolding step
-  none_came places store st c bytes stands none =
-      record { stands = stands; outcome = ap (λ o. (came_at st c bytes o).outcome) none }
-
-  pub none_more : (places : List (Option (Link B))) (store : U) (st : State) (c : ℕ)
-      → SessionStands u sure places store st → st.conns c ≡ None
-      → Follows u sure places store st (step st (More c) Served).outcome (Refused errors.Closed)
-  unfolding step
-  none_more places store st c stands none =
-      record { stands = stands; outcome = ap (λ o. (more_at st c o).outcome) none }
-
-  pub none_ended : (places : List (Option (Link B))) (store : U) (st : State) (c : ℕ)
-      → SessionStands u sure places store st → st.conns c ≡ None
-      → Follows u sure places store st (step st (Ended c) Served).outcome (Refused errors.Closed)
-  unfolding step
-  none_ended places store st c stands none = record {
-    stands = stands;
-    outcome = ap (λ o. (ended_at st c o).outcome) none;
-  }
+  none_open places store st (Opened c) stands on none = absurd on
+  none_open places store st (Came c bytes) stands on none = rw none (record { stands = stands; outcome = refl })
+  none_open places store st (More c) stands on none = rw none (record { stands = stands; outcome = refl })
+  none_open places store st (Ended c) stands on none = rw none (record { stands = stands; outcome = refl })
 
 pub ended_step : (st : State) (c : ℕ) (conn : Conn) → st.conns c ≡ Some conn
     → step st (Ended c) Served ≡ record { state = put st (ended_world st.world conn) c None; outcome = Done; text = [] }
 unfolding step
 ended_step st c conn e = ap (ended_at st c) e
+
+-- AN ERROR of a call on the uploads, as the session's own
+
+module _ {A : Type 0} where
+  -- what a `?` makes of it
+  pub stop_is : (result : Result A SessionError) (stop : Stop) → IsErrAnd result (λ e. e ≡ error_of stop)
+      → result ≡ Err (error_of stop)
+  stop_is result stop is = let s = err_from_is_err_and result is in s.1 ∙ ap Err s.2
+
+module _ {A B : Type 0} where
+  pub no_memory : (stop : Stop) → IsErrOf {T = A} (Err (error_of stop)) errors.NoMemory
+      → IsErrOf {T = B} (Err stop) stops.NoMemory
+  no_memory stops.NoMemory f = refl
+  no_memory stops.DiskFault f = absurd (cc)
+
+  -- a call that stopped out of memory, where its caller does
+  pub same_stop : (r : Result A Stop) (e stop : Stop) → r ≡ Err e → e ≡ stop → IsErrOf r stops.NoMemory
+      → IsErrOf {T = B} (Err stop) stops.NoMemory
+  same_stop r stops.NoMemory stops.NoMemory is same f = refl
+  same_stop r stops.NoMemory stops.DiskFault is same f = absurd (cc)
+  same_stop r stops.DiskFault stops.NoMemory is same f = absurd (cc)
+  same_stop r stops.DiskFault stops.DiskFault is same f = absurd (cc)

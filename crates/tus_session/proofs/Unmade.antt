@@ -2,9 +2,8 @@
 use Rattle.std.proofs.Common.{◌≡◌, ℕ, Bool, true, false, Option, Some, None, refl, nat_lt}
 use Rattle.upload_rules.specs.World.{World}
 use Rattle.tus_session.specs.Turns.{Conn, left_world}
-use Rattle.tus_session.specs.History.{State, Event, Opened, Came, More, Ended, OutOfMemory, Failed}
-use Rattle.tus_session.specs.History.{most_open, opened_if}
-use Rattle.tus_session.specs.History.{opened_at, lost_at, failed_at, step}
+use Rattle.tus_session.specs.History.{State, Event, Opened, Came, More, Ended, OutOfMemory, Failed, most_open}
+use Rattle.tus_session.specs.History.{opened_if, opened_at, lost_at, failed_at, step}
 
 put_uploads : (st : State) (c : ℕ) (b : Bool)
     → (opened_if st c b).state.world.store ≡ st.world.store

@@ -9,32 +9,24 @@ use Rattle.upload_rules.specs.World.{World}
 use Rattle.tus_action.specs.Serves.{CanBeMade, CanBeRead}
 use Rattle.tus_session.specs.Heads.{OffsetFits, IsSmall}
 
-offset_fits : (x : IndexSet) (a : Action) → IsValidAction (offers x) a → OffsetFits a
-offset_fits x Options s = tt {0}
-offset_fits x (Create c) s = tt {0}
-offset_fits x (Head n) s = tt {0}
-offset_fits x (Get n) s = tt {0}
-offset_fits x (Patch n offset declare) s = s
-offset_fits x (Delete n) s = tt {0}
+fits_made : (x : IndexSet) (a : Action) → IsValidAction (offers x) a → OffsetFits a × CanBeMade a
+fits_made x Options s = (tt {0}, tt {0})
+fits_made x (Create c) s = (tt {0}, record { no_utf16 = s.no_utf16; short = s.short; printable = s.plain })
+fits_made x (Head n) s = (tt {0}, tt {0})
+fits_made x (Get n) s = (tt {0}, tt {0})
+fits_made x (Patch n offset declare) s = (s, tt {0})
+fits_made x (Delete n) s = (tt {0}, tt {0})
 
 -- its numbers are small
 pub small : (x : IndexSet) (s : List ℕ) (n : ℕ) (r : Request) → answer_of (offers x) s ≡ Judged n (Asks r) → IsSmall r
 small x s n r e =
     let p = request_valid (offers x) s n r e in
-    record { count = p.length_is; offset = offset_fits x r.action p.action_is }
-
-action_made : (x : IndexSet) (a : Action) → IsValidAction (offers x) a → CanBeMade a
-action_made x Options s = tt {0}
-action_made x (Create c) s = record { no_utf16 = s.no_utf16; short = s.short; printable = s.plain }
-action_made x (Head n) s = tt {0}
-action_made x (Get n) s = tt {0}
-action_made x (Patch n offset declare) s = tt {0}
-action_made x (Delete n) s = tt {0}
+    record { count = p.length_is; offset = (fits_made x r.action p.action_is).0 }
 
 -- what a POST asks for can be made
 pub makeable : (x : IndexSet) (s : List ℕ) (n : ℕ) (r : Request) → answer_of (offers x) s ≡ Judged n (Asks r)
     → CanBeMade r.action
-makeable x s n r e = let p = request_valid (offers x) s n r e in action_made x r.action p.action_is
+makeable x s n r e = (fits_made x r.action (request_valid (offers x) s n r e).action_is).1
 
 action_read : (w : World) (a : Action) → IsValidAction (offers w.store.indexes) a → CanBeRead w a
 action_read w Options s = tt {0}
@@ -47,4 +39,4 @@ action_read w (Delete n) s = tt {0}
 -- a POST asks for what the index set offers
 pub usable : (w : World) (s : List ℕ) (n : ℕ) (r : Request) → answer_of (offers w.store.indexes) s ≡ Judged n (Asks r)
     → CanBeRead w r.action
-usable w s n r e = let p = request_valid (offers w.store.indexes) s n r e in action_read w r.action p.action_is
+usable w s n r e = action_read w r.action (request_valid (offers w.store.indexes) s n r e).action_is

@@ -22,10 +22,9 @@ use Rattle.tus_session.specs.declared.conns.Awaiting.TheVariants as awaits
 use Rattle.tus_session.specs.declared.conns.Link.{Link}
 
 -- The open patch belongs to request r: its draft, body and offset are those of the history.
-pub record PatchesAs {U B : Type 0} (u : Ghosts U B) (w : World) (b : OpenPatch B) (d : ℕ) (asked : Asked) (r : Request)
+pub record PatchesAs {U B : Type 0} (u : Ghosts U B) (w : World) (b : OpenPatch B) (asked : Asked) (r : Request)
     (p : Patch) : Type 0 where
-  pub number : u.number_of b.draft ≡ d
-  pub found : find d w.patches ≡ Some p
+  pub found : find (u.number_of b.draft) w.patches ≡ Some p
   pub holds : u.holds b.draft p
   pub asks : asked.verdict ≡ Asks r
   pub count : p.count ≡ r.length
@@ -47,14 +46,13 @@ pub record InsideBody (w : World) (conn : Conn) (head : List ℕ) (left : ℕ) (
 -- The body is fed to an open patch.
 pub record IsPatching {U B : Type 0} (u : Ghosts U B) (w : World) (conn : Conn) (head : List ℕ) (b : OpenPatch B)
     (left : ℕ) : Type 0 where
-  pub d : ℕ
   pub asked : Asked
   pub r : Request
   pub p : Patch
   pub inside : InsideBody w conn head left asked
-  pub draft : conn.draft ≡ Some d
+  pub draft : conn.draft ≡ Some (u.number_of b.draft)
   pub pending : conn.pending ≡ None
-  pub patches : PatchesAs u w b d asked r p
+  pub patches : PatchesAs u w b asked r p
 
 -- The body is dropped.
 pub record IsSkipping (w : World) (conn : Conn) (head : List ℕ) (left : ℕ) : Type 0 where

@@ -1,24 +1,10 @@
-use Rattle.std.proofs.Common.{refl}
 use Rattle.std.proofs.lemmas.Result.{err_from_is_err_and}
-use Rattle.tus_session.proofs.FedStops.{part_stops}
+use Rattle.tus_session.proofs.Feeding.{part_stops}
 use Rattle.tus_session.proofs.bodies.go_on.Goals as goal
 
 pub returns-clause-answer : goal.returns-clause-answer
 returns-clause-answer g c sure w p stands found holds few =
-    let fed = c.in_ok-patch.ensures.answer sure w p stands found holds few in (
-      c.in_ok-patch.patch,
-      record {
-        link_is = refl;
-        answer_is = c.waits.ensures;
-        number = fed.number;
-        holds = fed.holds;
-        found = fed.found;
-        shown = fed.shown;
-        reached = fed.reached;
-        bare = fed.bare;
-        closes = fed.closes;
-      },
-    )
+    (c.in_ok-patch.patch, assumption (c.in_ok-patch.ensures.answer sure w p stands found holds few, c.waits.ensures))
 
 pub returns-in_err-patch-clause-answer : goal.returns-in_err-patch-clause-answer
 returns-in_err-patch-clause-answer g c sure w p stands found holds few =

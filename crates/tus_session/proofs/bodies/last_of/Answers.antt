@@ -1,29 +1,22 @@
 use Rattle.std.proofs.Common.{◌≤◌, ◌+◌, length, ◌∙◌, arith, true}
 use Rattle.std.proofs.lemmas.Result.{err_from_is_err_and}
-use Rattle.tus_action.specs.Acts.{fed, fed_patch}
-use Rattle.tus_session.proofs.Feeding.{drop_fed, reached_fed, answered_as, ended_store, fed_store, fed_found_as}
+use Rattle.tus_session.proofs.Feeding.{drop_fed, reached_fed, answered_as, ended_store, fed_store, reply_stops}
 use Rattle.tus_session.proofs.Feeding.{stopped_as}
-use Rattle.tus_session.proofs.FedStops.{reply_stops}
-use Rattle.tus_session.proofs.Stops.{same_stop}
-use Rattle.tus_session.proofs.Tasks.{limits_to}
-use Rattle.tus_session.proofs.Limiting.{quiet_then, limits_from, limits_both}
+use Rattle.tus_session.proofs.Tolds.{same_stop}
+use Rattle.tus_session.proofs.Limiting.{limits_to, quiet_then, limits_from, limits_both}
 use Rattle.tus_session.proofs.bodies.last_of.Goals as goal
 
 pub returns-in_err-finish-clause-answer : goal.returns-in_err-finish-clause-answer
 returns-in_err-finish-clause-answer g c sure w p r stands found holds all reached bare closes =
     let few : length p.body + length c.args.bytes.now ≤ p.count = omega arith in
     let d = g.U.Uploads.number_of c.args.patch.draft in
-    let fed_is = c.in_ok-fed.ensures.answer sure w p stands found holds few in
-    let w1 = fed w d c.args.bytes.now in
-    let p1 = fed_patch w d p c.args.bytes.now in
-    let found1 = fed_found_as g.U.Uploads sure w d p c.args.bytes.now c.in_ok-fed.fed.draft fed_is.number
-    fed_is.found in
-    let after = reached_fed w d p c.args.bytes.now c.args.patch.reached all reached in
+    let is = c.in_ok-fed.ensures.answer sure w p stands found holds few in
+    let after = is.reached ∙ reached_fed w d p c.args.bytes.now c.args.patch.reached all reached in
     let stopped = err_from_is_err_and c.from_residual-in_err-finish.result c.from_residual-in_err-finish.ensures.1 in
-    let a = rw fed_is.number at (c.in_err-finish.ensures.answer sure w1 p1 r fed_is.shown found1 fed_is.holds
-    (fed_is.reached ∙ after) (fed_is.bare ∙ bare) (fed_is.closes ∙ closes)) in
+    let told = rw is.number at (c.in_err-finish.ensures.answer sure _ _ r is.shown (rw is.number is.found) is.holds
+    after (is.bare ∙ bare) (is.closes ∙ closes)) in
     rw (stopped.1, stopped.2) (stopped_as g.U.Uploads sure _ c.in_err-finish.field-0.0 _ _ _ _ _ _ _ _
-    (drop_fed w d p c.args.bytes.now found) a)
+    (drop_fed w d p c.args.bytes.now found) told)
 
 pub returns-in_err-fed-clause-answer : goal.returns-in_err-fed-clause-answer
 returns-in_err-fed-clause-answer g c sure w p r stands found holds all reached bare closes =
@@ -36,45 +29,34 @@ pub returns-clause-answer : goal.returns-clause-answer
 returns-clause-answer g c sure w p r stands found holds all reached bare closes =
     let few : length p.body + length c.args.bytes.now ≤ p.count = omega arith in
     let d = g.U.Uploads.number_of c.args.patch.draft in
-    let fed_is = c.in_ok-fed.ensures.answer sure w p stands found holds few in
-    let w1 = fed w d c.args.bytes.now in
-    let p1 = fed_patch w d p c.args.bytes.now in
-    let found1 = fed_found_as g.U.Uploads sure w d p c.args.bytes.now c.in_ok-fed.fed.draft fed_is.number
-    fed_is.found in
-    let after = reached_fed w d p c.args.bytes.now c.args.patch.reached all reached in
-    let a = rw fed_is.number at (c.in_ok-finish.ensures.answer sure w1 p1 r fed_is.shown found1 fed_is.holds
-    (fed_is.reached ∙ after) (fed_is.bare ∙ bare) (fed_is.closes ∙ closes)) in
-    answered_as g.U.Uploads sure _ _ _ _ c.args.head _ _ c.args.patch.closes a.0 closes c.after_reply.ensures a.1
+    let is = c.in_ok-fed.ensures.answer sure w p stands found holds few in
+    let after = is.reached ∙ reached_fed w d p c.args.bytes.now c.args.patch.reached all reached in
+    let told = rw is.number at (c.in_ok-finish.ensures.answer sure _ _ r is.shown (rw is.number is.found) is.holds
+    after (is.bare ∙ bare) (is.closes ∙ closes)) in
+    answered_as g.U.Uploads sure _ _ _ _ c.args.head _ _ c.args.patch.closes told.0 closes c.after_reply.ensures told.1
 
 pub returns-in_err-finish-clause-crash : goal.returns-in_err-finish-clause-crash
 returns-in_err-finish-clause-crash g c w p r stands found holds few =
     let d = g.U.Uploads.number_of c.args.patch.draft in
-    let fed_is = c.in_ok-fed.ensures.answer true w p stands found holds few in
-    let found1 = fed_found_as g.U.Uploads true w d p c.args.bytes.now c.in_ok-fed.fed.draft fed_is.number
-    fed_is.found in
-    let l = limits_from (fed_store w d c.args.bytes.now)
-    (rw fed_is.number at (c.finish.ensures.crash _ _ fed_is.shown found1 fed_is.holds)) in
-    limits_to (ended_store w d p c.args.bytes.now r) (quiet_then (c.feed.ensures.crash w p stands found holds) l)
+    let is = c.in_ok-fed.ensures.answer true w p stands found holds few in
+    limits_to (ended_store w d p c.args.bytes.now r) (quiet_then (c.feed.ensures.crash w p stands found holds)
+    (limits_from (fed_store w d c.args.bytes.now)
+    (rw is.number at (c.finish.ensures.crash _ _ is.shown (rw is.number is.found) is.holds))))
 
 pub returns-clause-crash : goal.returns-clause-crash
 returns-clause-crash g c w p r stands found holds few =
     let d = g.U.Uploads.number_of c.args.patch.draft in
-    let fed_is = c.in_ok-fed.ensures.answer true w p stands found holds few in
-    let found1 = fed_found_as g.U.Uploads true w d p c.args.bytes.now c.in_ok-fed.fed.draft fed_is.number
-    fed_is.found in
-    let l = limits_from (fed_store w d c.args.bytes.now)
-    (rw fed_is.number at (c.finish.ensures.crash _ _ fed_is.shown found1 fed_is.holds)) in
-    limits_to (ended_store w d p c.args.bytes.now r) (quiet_then (c.feed.ensures.crash w p stands found holds) l)
+    let is = c.in_ok-fed.ensures.answer true w p stands found holds few in
+    limits_to (ended_store w d p c.args.bytes.now r) (quiet_then (c.feed.ensures.crash w p stands found holds)
+    (limits_from (fed_store w d c.args.bytes.now)
+    (rw is.number at (c.finish.ensures.crash _ _ is.shown (rw is.number is.found) is.holds))))
 
 pub returns-in_err-finish-clause-unmade : goal.returns-in_err-finish-clause-unmade
 returns-in_err-finish-clause-unmade g c w p stands found holds few none_left =
     let d = g.U.Uploads.number_of c.args.patch.draft in
-    let fed_is = c.in_ok-fed.ensures.answer true w p stands found holds few in
-    let found1 = fed_found_as g.U.Uploads true w d p c.args.bytes.now c.in_ok-fed.fed.draft fed_is.number
-    fed_is.found in
+    let is = c.in_ok-fed.ensures.answer true w p stands found holds few in
     let stopped = err_from_is_err_and c.from_residual-in_err-finish.result c.from_residual-in_err-finish.ensures.1 in
-    let l = limits_both (fed_store w d c.args.bytes.now)
-    (c.in_err-finish.ensures.unmade _ _ fed_is.shown found1 fed_is.holds
-    (same_stop c.from_residual-in_err-finish.result
-    stopped.0 c.in_err-finish.field-0.0 stopped.1 stopped.2 none_left)) in
-    quiet_then (c.feed.ensures.crash w p stands found holds) l
+    let failed = same_stop c.from_residual-in_err-finish.result stopped.0 c.in_err-finish.field-0.0 stopped.1 stopped.2
+    none_left in
+    quiet_then (c.feed.ensures.crash w p stands found holds) (limits_both (fed_store w d c.args.bytes.now)
+    (c.in_err-finish.ensures.unmade _ _ is.shown (rw is.number is.found) is.holds failed))

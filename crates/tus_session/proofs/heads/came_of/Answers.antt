@@ -5,15 +5,10 @@ use Rattle.tus_session.specs.Stands.{IsPatching, IsSkipping, IsGivingText}
 use Rattle.tus_session.specs.Turned.{TurnedAs}
 use Rattle.tus_session.specs.declared.conns.Awaiting.TheVariants.{Text}
 use Rattle.tus_action.specs.Acts.{is_pending}
-use Rattle.tus_session.proofs.Limiting.{still_limits}
+use Rattle.tus_session.proofs.Limiting.{still_limits, limits_to}
 use Rattle.tus_session.proofs.Mores.{stays}
-use Rattle.tus_session.proofs.Tasks.{found_as, limits_to}
 use Rattle.tus_session.proofs.BodyTold.{patch_told, left_wanted, rest_store, skip_told, text_turn_is}
 use Rattle.tus_session.proofs.heads.came_of.Goals as goal
-
-pub returns-in-Head-clause-answer : goal.returns-in-Head-clause-answer
-returns-in-Head-clause-answer g c sure w conn stands link = c.head_of.ensures.answer sure w conn stands
-    (rw c.in-Head.is at link)
 
 pub returns-in-Head-clause-crash : goal.returns-in-Head-clause-crash
 returns-in-Head-clause-crash g c w conn stands link = c.head_of.ensures.crash w conn stands (rw c.in-Head.is at link)
@@ -24,42 +19,38 @@ returns-in-Head-clause-unmade g c w conn stands link none_left =
 
 pub returns-in-Patch-clause-answer : goal.returns-in-Patch-clause-answer
 returns-in-Patch-clause-answer g c sure w conn stands link =
-    let head = c.args.link.head in
     let b = c.in-Patch.patch in
     let left = c.in-Patch.left in
-    let is : IsPatching g.U.Uploads w conn (bytes_of head) b left = rw c.in-Patch.is at link in
-    let found = found_as g.U.Uploads sure w conn (bytes_of head) b left is in
-    let all = left_wanted g.U.Uploads sure w conn head b left is in
-    patch_told g.U.Uploads sure w conn head b left is _ _ _ c.args.bytes.now c.body_of.result
-    (λ few. c.body_of.ensures.part few sure w is.p stands found is.patches.holds (omega arith))
-    (λ few. c.body_of.ensures.part_out few)
-    (λ enough. c.body_of.ensures.rest enough sure w is.p is.r stands found is.patches.holds all is.patches.reached
-    is.patches.bare is.patches.closes)
+    let is : IsPatching g.U.Uploads w conn (bytes_of c.args.link.head) b left = rw c.in-Patch.is at link in
+    let p = is.patches in
+    let all = left_wanted g.U.Uploads sure w conn c.args.link.head b left is in
+    let body = c.body_of.ensures in
+    patch_told g.U.Uploads sure w conn c.args.link.head b left is _ _ _ c.args.bytes.now c.body_of.result (record {
+      part = λ few. (body.part few sure w is.p stands p.found p.holds (omega arith), body.part_out few);
+      rest = λ enough. body.rest enough sure w is.p is.r stands p.found p.holds all p.reached p.bare p.closes;
+    })
 
 pub returns-in-Patch-clause-crash : goal.returns-in-Patch-clause-crash
 returns-in-Patch-clause-crash g c w conn stands link =
-    let head = c.args.link.head in
     let b = c.in-Patch.patch in
     let left = c.in-Patch.left in
-    let is : IsPatching g.U.Uploads w conn (bytes_of head) b left = rw c.in-Patch.is at link in
-    let found = found_as g.U.Uploads true w conn (bytes_of head) b left is in
-    let all = left_wanted g.U.Uploads true w conn head b left is in
+    let is : IsPatching g.U.Uploads w conn (bytes_of c.args.link.head) b left = rw c.in-Patch.is at link in
+    let p = is.patches in
+    let all = left_wanted g.U.Uploads true w conn c.args.link.head b left is in
     elim (cases_lt (length c.args.bytes.now) left) [
-      | inl few ↦ still_limits _ (c.body_of.ensures.part_crash few w is.p stands found is.patches.holds)
+      | inl few ↦ still_limits _ (c.body_of.ensures.part_crash few w is.p stands p.found p.holds)
       | inr enough ↦
-          limits_to (rest_store g.U.Uploads true w conn head b left is c.args.bytes.now enough)
-          (c.body_of.ensures.rest_crash enough w is.p is.r stands found is.patches.holds (omega arith))
+          limits_to (rest_store g.U.Uploads true w conn c.args.link.head b left is c.args.bytes.now enough)
+          (c.body_of.ensures.rest_crash enough w is.p is.r stands p.found p.holds (omega arith))
     ]
 
 pub returns-in-Patch-clause-unmade : goal.returns-in-Patch-clause-unmade
 returns-in-Patch-clause-unmade g c w conn stands link none_left =
-    let head = c.args.link.head in
     let b = c.in-Patch.patch in
     let left = c.in-Patch.left in
-    let is : IsPatching g.U.Uploads w conn (bytes_of head) b left = rw c.in-Patch.is at link in
-    let found = found_as g.U.Uploads true w conn (bytes_of head) b left is in
-    let all = left_wanted g.U.Uploads true w conn head b left is in
-    c.body_of.ensures.unmade w is.p stands found is.patches.holds (omega arith) none_left
+    let is : IsPatching g.U.Uploads w conn (bytes_of c.args.link.head) b left = rw c.in-Patch.is at link in
+    let all = left_wanted g.U.Uploads true w conn c.args.link.head b left is in
+    c.body_of.ensures.unmade w is.p stands is.patches.found is.patches.holds (omega arith) none_left
 
 pub returns-in-Skip-clause-answer : goal.returns-in-Skip-clause-answer
 returns-in-Skip-clause-answer g c sure w conn stands link =

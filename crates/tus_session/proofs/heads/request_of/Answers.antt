@@ -1,16 +1,10 @@
-use Rattle.std.proofs.Common.{◌≡◌, ◌+◌, refl, arith, subst, true}
-use Rattle.tus_action.specs.declared.bodies.OpenPatch.{OpenPatch}
-use Rattle.tus_session.proofs.RequestTold.{head_limits, nothing_told, text_told}
-use Rattle.tus_session.proofs.HeadTold.{slice_rest}
-use Rattle.tus_session.proofs.Feeding.{head_stopped}
+use Rattle.std.proofs.Common.{refl, arith, true}
 use Rattle.std.proofs.lemmas.Result.{err_from_is_err_and}
-use Rattle.tus_session.proofs.PatchTold.{begun, begun_shown, patch_opened, patch_limits, slice_is}
-use Rattle.tus_session.proofs.PatchTold.{reached_whole, first_as, v, p0}
-use Rattle.tus_request.specs.Requests.{Asks}
 use Rattle.tus_request.specs.Shown.{request_shown}
-use Rattle.tus_action.specs.Acts.{acted}
-use Rattle.tus_action.specs.Serves.{ActedAs, Appends}
-use Rattle.tus_action.specs.declared.acts.Done.TheVariants.{Replied, Opened, Giving}
+use Rattle.tus_action.specs.declared.bodies.OpenPatch.{OpenPatch}
+use Rattle.tus_session.proofs.Feeding.{head_stopped}
+use Rattle.tus_session.proofs.HeadTold.{slice_is, slice_rest, head_limits, nothing_told, text_told, begun, patch_opened}
+use Rattle.tus_session.proofs.HeadTold.{patch_limits}
 use Rattle.tus_session.proofs.heads.request_of.Goals as goal
 
 pub returns-in_err-done-clause-crash : goal.returns-in_err-done-clause-crash
@@ -33,75 +27,54 @@ returns-in-Giving-clause-crash g c w conn h n stands is =
 
 pub returns-in-Replied-clause-answer : goal.returns-in-Replied-clause-answer
 returns-in-Replied-clause-answer g c sure w conn h n stands is =
-    let done = rw c.in-Replied.is at (c.in_ok-done.ensures.answer sure w stands) in
-    nothing_told w conn h c.args.bytes.now n c.args.before _ is g.U.Uploads sure _ _ _ (Replied c.in-Replied.closes) _ _
-    c.args.head _ done refl refl (slice_rest c.args.before c.args.bytes.now) c.skip.ensures.link
-    c.requires.cleared c.skip.ensures.answer
+    nothing_told w conn h c.args.bytes.now n c.args.before _ is g.U.Uploads sure _ _ _ c.in-Replied.closes _ _
+    c.args.head _ (rw c.in-Replied.is at (c.in_ok-done.ensures.answer sure w stands))
+    (slice_rest c.args.before c.args.bytes.now) c.skip.ensures.link c.requires.cleared c.skip.ensures.answer
 
 pub returns-in-Giving-clause-answer : goal.returns-in-Giving-clause-answer
 returns-in-Giving-clause-answer g c sure w conn h n stands is =
-    let done = rw c.in-Giving.is at (c.in_ok-done.ensures.answer sure w stands) in
     rw c.waits.ensures
-    (text_told w conn h c.args.bytes.now n c.args.before _ is g.U.Uploads sure _ (Giving c.in-Giving.giving)
-    c.in-Giving.giving _ _
-    c.args.head done refl refl c.requires.cleared)
+    (text_told w conn h c.args.bytes.now n c.args.before _ is g.U.Uploads sure _ c.in-Giving.giving _ _ c.args.head
+    (rw c.in-Giving.is at (c.in_ok-done.ensures.answer sure w stands)) c.requires.cleared)
 
 pub returns-in-Opened-clause-answer : goal.returns-in-Opened-clause-answer
 returns-in-Opened-clause-answer g c sure w conn h n stands is =
-    let U = g.U.Uploads in
     let r = request_shown c.args.request in
-    let bytes = c.args.bytes.now in
     let b : OpenPatch g.row.U-Draft.Denot = record {
       draft = c.in-Opened.draft;
       reached = c.reached_by-reached.result;
       bare = c.args.request.bare;
       closes = c.args.request.closes;
     } in
-    let done : ActedAs U sure c.act.new.store (Opened c.in-Opened.draft) c.args.out.now.items c.act.new.out.items
-    (acted w (Asks r)) = rw c.in-Opened.is at (c.in_ok-done.ensures.answer sure w stands) in
-    let x = begun U sure w conn h bytes n c.args.before r is _ _ _ b done
-    (c.reached_by-reached.ensures c.requires.small)
+    let x = begun g.U.Uploads sure w r _ c.act.new.store _ _ b
+    (rw c.in-Opened.is at (c.in_ok-done.ensures.answer sure w stands)) (c.reached_by-reached.ensures c.requires.small)
     refl refl (λ n up there. g.met.U.Uploads.below c.args.store.now sure w n up stands there) in
-    let v0 = v U sure w conn h bytes n c.args.before r is b x in
-    let p = p0 U sure w conn h bytes n c.args.before r is b x in
-    let shown = begun_shown U sure w conn h bytes n c.args.before r is b x c.act.new.store done.stands in
-    let found = first_as U sure w conn h bytes n c.args.before r is b x in
-    let whole = reached_whole U sure w conn h bytes n c.args.before r is b x in
-    let all : 0 + r.length ≡ r.length = omega arith in
+    let p = x.patches in
+    let body = c.body_of-turned.ensures in
     rw c.back_to.ensures.same
-    (patch_opened U sure w conn h bytes n c.args.before r is b x c.body_of-turned.new.store
-    c.args.out.now.items c.act.new.out.items c.body_of-turned.new.out.items
-    c.back_to.new.out.items c.args.head c.requires.cleared
-    (subst (Appends sure c.args.out.now.items c.act.new.out.items (acted w (Asks r)).bytes) x.x.no_text done.bytes)
-    c.len-start.result
-    (omega (arith, c.len-start.ensures, c.args.out.now.ok.0)) c.body_of-turned.result _
-    (slice_is c.args.before bytes)
-    (λ few. c.body_of-turned.ensures.part few sure v0 p shown found x.holds (omega arith))
-    (λ few. c.body_of-turned.ensures.part_out few)
-    (λ enough. c.body_of-turned.ensures.rest enough sure v0 p r shown found x.holds all whole refl refl)
-    c.back_to.ensures.back)
+    (patch_opened g.U.Uploads sure w conn h c.args.bytes.now n c.args.before _ is b c.act.new.store _ _ x
+    c.body_of-turned.new.store c.body_of-turned.new.out.items c.back_to.new.out.items c.args.head c.requires.cleared
+    c.len-start.result (omega (arith, c.len-start.ensures, c.args.out.now.ok.0)) c.body_of-turned.result _
+    (slice_is c.args.before c.args.bytes.now)
+    (record {
+      part = λ few. (body.part few sure _ _ x.shown p.found p.holds (omega arith), body.part_out few);
+      rest = λ enough. body.rest enough sure _ _ r x.shown p.found p.holds x.wanted p.reached refl refl;
+    }) c.back_to.ensures.back)
 
 pub returns-in-Opened-clause-crash : goal.returns-in-Opened-clause-crash
 returns-in-Opened-clause-crash g c w conn h n stands is =
-    let U = g.U.Uploads in
     let r = request_shown c.args.request in
-    let bytes = c.args.bytes.now in
     let b : OpenPatch g.row.U-Draft.Denot = record {
       draft = c.in-Opened.draft;
       reached = c.reached_by-reached.result;
       bare = c.args.request.bare;
       closes = c.args.request.closes;
     } in
-    let done : ActedAs U true c.act.new.store (Opened c.in-Opened.draft) c.args.out.now.items c.act.new.out.items
-    (acted w (Asks r)) = rw c.in-Opened.is at (c.in_ok-done.ensures.answer true w stands) in
-    let x = begun U true w conn h bytes n c.args.before r is _ _ _ b done
-    (c.reached_by-reached.ensures c.requires.small)
+    let x = begun g.U.Uploads true w r _ c.act.new.store _ _ b
+    (rw c.in-Opened.is at (c.in_ok-done.ensures.answer true w stands)) (c.reached_by-reached.ensures c.requires.small)
     refl refl (λ n up there. g.met.U.Uploads.below c.args.store.now true w n up stands there) in
-    let v0 = v U true w conn h bytes n c.args.before r is b x in
-    let p = p0 U true w conn h bytes n c.args.before r is b x in
-    let shown = begun_shown U true w conn h bytes n c.args.before r is b x c.act.new.store done.stands in
-    let found = first_as U true w conn h bytes n c.args.before r is b x in
-    patch_limits U true w conn h bytes n c.args.before r is b x _
-    (slice_is c.args.before bytes) (c.act.ensures.crash w stands)
-    (λ few. c.body_of-turned.ensures.part_crash few v0 p shown found x.holds)
-    (λ enough. c.body_of-turned.ensures.rest_crash enough v0 p r shown found x.holds (omega arith))
+    let p = x.patches in
+    patch_limits g.U.Uploads true w conn h c.args.bytes.now n c.args.before _ is b c.act.new.store _ _ x _
+    (slice_is c.args.before c.args.bytes.now) (c.act.ensures.crash w stands)
+    (λ few. c.body_of-turned.ensures.part_crash few _ _ x.shown p.found p.holds)
+    (λ enough. c.body_of-turned.ensures.rest_crash enough _ _ r x.shown p.found p.holds (omega arith))

@@ -1,9 +1,7 @@
 use Rattle.std.proofs.lemmas.Result.{err_from_is_err_and}
-use Rattle.upload_rules.specs.Store.{upload_of}
 use Rattle.tus_request.specs.Buffers.{bytes_of}
 use Rattle.tus_session.specs.Stands.{IsGivingText}
 use Rattle.tus_session.proofs.Mores.{more_nothing, more_some, more_done, more_gone, more_stopped}
-use Rattle.tus_session.proofs.Mores.{piece_of_upload, last_of_upload, gone_with_upload}
 use Rattle.tus_session.proofs.turns.more_of.Goals as goal
 
 pub returns-in_default-clause-answer : goal.returns-in_default-clause-answer
@@ -15,28 +13,23 @@ returns-in-Piece-clause-answer g c sure w conn stands link =
     let is : IsGivingText w conn (bytes_of c.args.link.head) c.in-Text.giving c.in-Text.left =
     rw c.in-Text.is at link in
     let a = rw c.in-Piece.is at (c.in_ok-given.ensures.answer sure w is.h stands is.gives) in
-    let x = piece_of_upload sure w.store c.in-Piece.giving _ _ is.h (upload_of w.store is.h.number) a.1 in
     rw c.waits-in-Piece.ensures
-    (more_some g.U.Uploads sure _ w c.args.link.head conn c.in-Text.giving _ a.0 is _ _ c.in-Piece.giving x.0 x.1 x.2
-    x.3)
+    (more_some g.U.Uploads sure _ w c.args.link.head conn c.in-Text.giving _ a.0 is _ _ c.in-Piece.giving a.1)
 
 pub returns-in-Last-clause-answer : goal.returns-in-Last-clause-answer
 returns-in-Last-clause-answer g c sure w conn stands link =
     let is : IsGivingText w conn (bytes_of c.args.link.head) c.in-Text.giving c.in-Text.left =
     rw c.in-Text.is at link in
     let a = rw c.in-Last.is at (c.in_ok-given.ensures.answer sure w is.h stands is.gives) in
-    let x = last_of_upload sure w.store _ _ is.h (upload_of w.store is.h.number) a.1 in
     rw (c.after_reply.ensures, c.gave.ensures)
-    (more_done g.U.Uploads sure _ w c.args.link.head conn c.in-Text.giving _ a.0 is _ _ x.0 x.1 x.2 x.3)
+    (more_done g.U.Uploads sure _ w c.args.link.head conn c.in-Text.giving _ a.0 is _ _ a.1)
 
 pub returns-in-Gone-clause-answer : goal.returns-in-Gone-clause-answer
 returns-in-Gone-clause-answer g c sure w conn stands link =
     let is : IsGivingText w conn (bytes_of c.args.link.head) c.in-Text.giving c.in-Text.left =
     rw c.in-Text.is at link in
     let a = rw c.in-Gone.is at (c.in_ok-given.ensures.answer sure w is.h stands is.gives) in
-    let x = gone_with_upload sure w.store _ _ is.h (upload_of w.store is.h.number) a.1 in
-    rw c.gave-in-Gone.ensures (more_gone g.U.Uploads sure _ w c.args.link.head conn c.in-Text.giving _ a.0 is _ _ x.0
-    x.1)
+    rw c.gave-in-Gone.ensures (more_gone g.U.Uploads sure _ w c.args.link.head conn c.in-Text.giving _ a.0 is _ _ a.1)
 
 pub returns-in_err-given-clause-answer : goal.returns-in_err-given-clause-answer
 returns-in_err-given-clause-answer g c sure w conn stands link =

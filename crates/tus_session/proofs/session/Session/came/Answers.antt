@@ -3,9 +3,8 @@ use Rattle.std.proofs.lemmas.Result.{err_from_is_err_and}
 use Rattle.tus_session.specs.Turns.{came_turn}
 use Rattle.tus_session.specs.History.{Came}
 use Rattle.tus_session.proofs.InPlace.{is_put_back}
-use Rattle.tus_session.proofs.Stops.{counts_as, no_down, no_memory}
-use Rattle.tus_session.proofs.Tasks.{limits_to}
-use Rattle.tus_session.proofs.Tolds.{came_is, none_came, told, stopped}
+use Rattle.tus_session.proofs.Tolds.{stop_is, no_memory, came_is, none_open, told, stopped}
+use Rattle.tus_session.proofs.Limiting.{limits_to}
 use Rattle.tus_session.proofs.session.Session.came.Goals as goal
 
 pub returns-in_err-link-clause-answer : goal.returns-in_err-link-clause-answer
@@ -13,27 +12,16 @@ returns-in_err-link-clause-answer g c sure st stands =
     let stop = err_from_is_err_and c.from_residual.result c.from_residual.ensures.1 in
     let none = c.in_err-link.ensures.closed sure c.args.store.now st stands in
     rw (stop.1, stop.2, c.in_err-link.ensures.refusal)
-    (none_came g.U.Uploads sure _ _ st c.args.conn c.args.bytes.now none.1 none.0, refl)
+    (none_open g.U.Uploads sure _ _ st (Came c.args.conn c.args.bytes.now) none.1 tt none.0, refl)
 
 pub returns-in_err-next-clause-answer : goal.returns-in_err-next-clause-answer
 returns-in_err-next-clause-answer g c sure st stands =
-    let stop = err_from_is_err_and c.from_residual-in_err-next.result c.from_residual-in_err-next.ensures.1 in
     let o = c.in_ok-link.ensures.open sure c.args.store.now st stands in
-    rw (stop.1, stop.2)
+    rw (stop_is c.from_residual-in_err-next.result c.in_err-next.field-0.0 c.from_residual-in_err-next.ensures.1)
     (stopped g.U.Uploads sure _ _ _ _ st (Came c.args.conn c.args.bytes.now) o.0 stands tt o.1 (came_turn st.world o.0
     c.args.bytes.now)
     c.in_err-next.field-0.0 _ _ c.in_ok-link.ensures.taken
     (c.in_err-next.ensures.answer sure st.world o.0 stands.shown o.2))
-
-pub returns-in_err-next-clause-counts : goal.returns-in_err-next-clause-counts
-returns-in_err-next-clause-counts g c =
-    let stop = err_from_is_err_and c.from_residual-in_err-next.result c.from_residual-in_err-next.ensures.1 in
-    rw stop.1 (counts_as c.in_err-next.field-0.0 stop.0 stop.2 c.in_err-next.ensures.counts)
-
-pub returns-in_err-next-clause-no_down : goal.returns-in_err-next-clause-no_down
-returns-in_err-next-clause-no_down g c =
-    let stop = err_from_is_err_and c.from_residual-in_err-next.result c.from_residual-in_err-next.ensures.1 in
-    rw stop.1 (no_down c.in_err-next.field-0.0 stop.0 stop.2)
 
 pub returns-clause-answer : goal.returns-clause-answer
 returns-clause-answer g c sure st stands =
@@ -59,7 +47,7 @@ returns-clause-crash g c st stands =
 
 pub returns-in_err-next-clause-unmade : goal.returns-in_err-next-clause-unmade
 returns-in_err-next-clause-unmade g c st stands none_left =
-    let stop = err_from_is_err_and c.from_residual-in_err-next.result c.from_residual-in_err-next.ensures.1 in
     let o = c.in_ok-link.ensures.open true c.args.store.now st stands in
-    c.in_err-next.ensures.unmade st.world o.0 stands.shown o.2
-    (no_memory c.in_err-next.field-0.0 stop.0 stop.2 (rw stop.1 at none_left))
+    let stop = c.in_err-next.field-0.0 in
+    let is = stop_is c.from_residual-in_err-next.result stop c.from_residual-in_err-next.ensures.1 in
+    c.in_err-next.ensures.unmade st.world o.0 stands.shown o.2 (no_memory stop (rw is at none_left))

@@ -1,22 +1,21 @@
 use Rattle.std.proofs.Common.{sym, ap, true}
 use Rattle.std.proofs.lemmas.Result.{err_from_is_err_and}
 use Rattle.tus_session.specs.History.{Ended}
-use Rattle.tus_session.proofs.Stops.{counts_as, no_down, no_memory}
-use Rattle.tus_session.proofs.Tasks.{limits_to}
-use Rattle.tus_session.proofs.Tolds.{ended_step, none_ended, ends, ends_stopped}
+use Rattle.tus_session.proofs.Tolds.{stop_is, no_memory, ended_step, none_open, ends, ends_stopped}
+use Rattle.tus_session.proofs.Limiting.{limits_to}
 use Rattle.tus_session.proofs.session.Session.ended.Goals as goal
 
 pub returns-in_err-link-clause-answer : goal.returns-in_err-link-clause-answer
 returns-in_err-link-clause-answer g c sure st stands =
     let stop = err_from_is_err_and c.from_residual.result c.from_residual.ensures.1 in
     let none = c.in_err-link.ensures.closed sure c.args.store.now st stands in
-    rw (stop.1, stop.2, c.in_err-link.ensures.refusal) (none_ended g.U.Uploads sure _ _ st c.args.conn none.1 none.0)
+    rw (stop.1, stop.2, c.in_err-link.ensures.refusal)
+    (none_open g.U.Uploads sure _ _ st (Ended c.args.conn) none.1 tt none.0)
 
 pub returns-in_err-end_of-clause-answer : goal.returns-in_err-end_of-clause-answer
 returns-in_err-end_of-clause-answer g c sure st stands =
-    let stop = err_from_is_err_and c.from_residual-in_err-end_of.result c.from_residual-in_err-end_of.ensures.1 in
     let o = c.in_ok-link.ensures.open sure c.args.store.now st stands in
-    rw (stop.1, stop.2)
+    rw (stop_is c.from_residual-in_err-end_of.result c.in_err-end_of.field-0.0 c.from_residual-in_err-end_of.ensures.1)
     (ends_stopped g.U.Uploads sure _ _ _ _ st (Ended c.args.conn) o.0 stands tt o.1 c.in_err-end_of.field-0.0
     c.in_ok-link.ensures.taken (c.in_err-end_of.ensures.answer sure st.world o.0 stands.shown o.2))
 
@@ -28,20 +27,10 @@ returns-in_err-end_of-clause-crash g c st stands =
 
 pub returns-in_err-end_of-clause-unmade : goal.returns-in_err-end_of-clause-unmade
 returns-in_err-end_of-clause-unmade g c st stands none_left =
-    let stop = err_from_is_err_and c.from_residual-in_err-end_of.result c.from_residual-in_err-end_of.ensures.1 in
     let o = c.in_ok-link.ensures.open true c.args.store.now st stands in
-    c.in_err-end_of.ensures.unmade st.world o.0 stands.shown o.2
-    (no_memory c.in_err-end_of.field-0.0 stop.0 stop.2 (rw stop.1 at none_left))
-
-pub returns-in_err-end_of-clause-counts : goal.returns-in_err-end_of-clause-counts
-returns-in_err-end_of-clause-counts g c =
-    let stop = err_from_is_err_and c.from_residual-in_err-end_of.result c.from_residual-in_err-end_of.ensures.1 in
-    rw stop.1 (counts_as c.in_err-end_of.field-0.0 stop.0 stop.2 c.in_err-end_of.ensures.counts)
-
-pub returns-in_err-end_of-clause-no_down : goal.returns-in_err-end_of-clause-no_down
-returns-in_err-end_of-clause-no_down g c =
-    let stop = err_from_is_err_and c.from_residual-in_err-end_of.result c.from_residual-in_err-end_of.ensures.1 in
-    rw stop.1 (no_down c.in_err-end_of.field-0.0 stop.0 stop.2)
+    let stop = c.in_err-end_of.field-0.0 in
+    let is = stop_is c.from_residual-in_err-end_of.result stop c.from_residual-in_err-end_of.ensures.1 in
+    c.in_err-end_of.ensures.unmade st.world o.0 stands.shown o.2 (no_memory stop (rw is at none_left))
 
 pub returns-clause-answer : goal.returns-clause-answer
 returns-clause-answer g c sure st stands =

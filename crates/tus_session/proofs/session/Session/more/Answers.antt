@@ -3,8 +3,7 @@ use Rattle.std.proofs.lemmas.Result.{err_from_is_err_and}
 use Rattle.tus_session.specs.Turns.{more_turn}
 use Rattle.tus_session.specs.History.{More}
 use Rattle.tus_session.proofs.InPlace.{is_put_back}
-use Rattle.tus_session.proofs.Stops.{counts_as, no_down}
-use Rattle.tus_session.proofs.Tolds.{more_is, none_more, told, stopped}
+use Rattle.tus_session.proofs.Tolds.{stop_is, more_is, none_open, told, stopped}
 use Rattle.tus_session.proofs.session.Session.more.Goals as goal
 
 pub returns-in_err-link-clause-answer : goal.returns-in_err-link-clause-answer
@@ -12,26 +11,15 @@ returns-in_err-link-clause-answer g c sure st stands =
     let stop = err_from_is_err_and c.from_residual.result c.from_residual.ensures.1 in
     let none = c.in_err-link.ensures.closed sure c.args.store.now st stands in
     rw (stop.1, stop.2, c.in_err-link.ensures.refusal)
-    (none_more g.U.Uploads sure _ _ st c.args.conn none.1 none.0, refl)
+    (none_open g.U.Uploads sure _ _ st (More c.args.conn) none.1 tt none.0, refl)
 
 pub returns-in_err-next-clause-answer : goal.returns-in_err-next-clause-answer
 returns-in_err-next-clause-answer g c sure st stands =
-    let stop = err_from_is_err_and c.from_residual-in_err-next.result c.from_residual-in_err-next.ensures.1 in
     let o = c.in_ok-link.ensures.open sure c.args.store.now st stands in
-    rw (stop.1, stop.2)
+    rw (stop_is c.from_residual-in_err-next.result c.in_err-next.field-0.0 c.from_residual-in_err-next.ensures.1)
     (stopped g.U.Uploads sure _ _ _ _ st (More c.args.conn) o.0 stands tt o.1 (more_turn st.world o.0)
     c.in_err-next.field-0.0 _ _ c.in_ok-link.ensures.taken
     (c.in_err-next.ensures.answer sure st.world o.0 stands.shown o.2))
-
-pub returns-in_err-next-clause-counts : goal.returns-in_err-next-clause-counts
-returns-in_err-next-clause-counts g c =
-    let stop = err_from_is_err_and c.from_residual-in_err-next.result c.from_residual-in_err-next.ensures.1 in
-    rw stop.1 (counts_as c.in_err-next.field-0.0 stop.0 stop.2 c.in_err-next.ensures.counts)
-
-pub returns-in_err-next-clause-no_down : goal.returns-in_err-next-clause-no_down
-returns-in_err-next-clause-no_down g c =
-    let stop = err_from_is_err_and c.from_residual-in_err-next.result c.from_residual-in_err-next.ensures.1 in
-    rw stop.1 (no_down c.in_err-next.field-0.0 stop.0 stop.2)
 
 pub returns-clause-answer : goal.returns-clause-answer
 returns-clause-answer g c sure st stands =

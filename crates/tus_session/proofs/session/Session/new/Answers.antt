@@ -1,6 +1,6 @@
 use Rattle.std.proofs.Common.{◌≡◌, ◌∷◌, ◌++◌, [], None, arith, length, ap}
 use Rattle.std.proofs.lemmas.List.{length_push}
-use Rattle.tus_session.proofs.Opening.{closed_push}
+use Rattle.tus_session.proofs.InPlace.{closed_push}
 use Rattle.tus_session.proofs.session.Session.new.Goals as goal
 
 pub loop-preserved : goal.loop-preserved
