@@ -48,6 +48,14 @@ text_there m (Some w) u text there is = (refl, ap (text_of m.indexes) (same_Some
 pub same_read : (text : List ℕ) (at n : ℕ) (old new : List ℕ) → IsPieceRead text at n old new → IsRead text at n old new
 same_read text at n old new is = record { count = is.count; bytes = is.bytes }
 
+-- the record of the only slot of a number
+pub only_record : {slots : List (Option SlotRecord)} {s n : ℕ} {q r : SlotRecord} (t : ℕ)
+    → ((k : ℕ) → IsUsedBy slots k n → k ≡ s) → get_or slots s None ≡ Some r → IsUsedBy slots s n
+    → get_or slots t None ≡ Some q → q.number ≡ r.number → q ≡ r
+only_record {q = q} t only there used e is =
+    let at = only t (record { used = q; there = e; is = cc (used.there, used.is) }) in
+    cc
+
 -- the slot of a number, by the order
 pub used_of : (h : Holding) → FitsTogether h → (number : ℕ) (o : Option ℕ)
     → MatchOption o ((s : ℕ) → Lists h.order number s → ⊥) (Lists h.order number)

@@ -14,6 +14,11 @@ use Rattle.spool_kept.specs.Records.{IsUnpacked, said_of}
 use Rattle.spool_kept.proofs.slots.ChangedSlots.{one_value}
 use Rattle.spool_kept.proofs.commits.CommitRefusals.{length_refused}
 
+-- the count of a slot that has the draft's
+pub has_count : {slots : List (Option SlotRecord)} {o : SpoolDraft} {s slot : ℕ} {r : SlotRecord}
+    → HasSameCount slots o s → s ≡ slot → get_or slots slot None ≡ Some r → r.accepted ≡ offset_of o
+has_count has at there = cc (has.there, has.count)
+
 -- the slot's record was read, and it has the count that the draft began at
 module _ {slots : List (Option SlotRecord)} (o : SpoolDraft) {slot : ℕ} (r : Record)
     (there : get_or slots slot None ≡ Some (said_of r)) (used : IsUsedBy slots slot (number_of o))

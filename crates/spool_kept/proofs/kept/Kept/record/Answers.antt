@@ -20,13 +20,9 @@ returns-in_err-slot-clause-told c v m kept shows =
 
 pub returns-clause-kept : goal.returns-clause-kept
 returns-clause-kept c v m kept shows =
-    let h = c.args.self.now in
-    let q = c.in_ok-kept.kept.now in
     let n = c.args.number in
-    let same : c.deref.result.now ≡ h.slots = search rules in
-    let here : get_or h.slots c.in_ok-slot.slot None ≡ Some q =
-    ap (λ (xs : List (Option SlotRecord)). get_or xs c.in_ok-slot.slot None) (sym same) ∙ sym c.in_ok-kept.ensures in
-    let told = found kept shows here c.in_ok-slot.ensures.used c.record.ensures.said c.record.ensures.unpacked in
+    let told = found kept shows (sym c.in_ok-kept.ensures.kept) c.in_ok-slot.ensures.used c.record.ensures.said
+    c.record.ensures.unpacked in
     kept_some m.indexes n (upload_of m n) told.0 c.record.result.now told.1 told.2
 
 pub returns-clause-told : goal.returns-clause-told
