@@ -1,4 +1,6 @@
 -- What is kept tells of the uploads that a view shows.
+use Rattle.std.proofs.Common.{rules}
+use Rattle.std.proofs.lemmas.Grind.{common_steps}
 use Rattle.std.proofs.Common.{◌≡◌, inl, inr, ℕ, ◌<◌, ◌≤◌, List, [], Option, None, Some, MatchOption, length, get_or}
 use Rattle.std.proofs.Common.{refl, sym, ◌∙◌, ap, subst, arith}
 use Rattle.std.proofs.lemmas.Bool.{cases_lt, cases_eq}
@@ -142,10 +144,4 @@ module _ {h : Holding} {v : View} {m : Store} (kept : KeepsView h v) (shows : Sh
     -- the entry names a slot in use
     pub named : (k s : ℕ) → place < length h.order → get_or h.order place (numbered 0 0) ≡ numbered k s
         → IsUsedBy h.slots s k
-    named k s lt e =
-        let used = kept.ordered.names k s (record { place = place; below = lt; here = e }) in
-        record {
-          used = used.used;
-          there = ap (λ (xs : List (Option SlotRecord)). get_or xs s None) kept.slots ∙ used.there;
-          is = used.is;
-        }
+    named k s lt e = search (arith, common_steps)

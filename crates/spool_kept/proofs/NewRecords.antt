@@ -1,4 +1,6 @@
 -- The record of a new upload.
+use Rattle.std.proofs.Common.{rules}
+use Rattle.std.proofs.lemmas.Grind.{common_steps}
 use Rattle.std.proofs.Common.{◌≡◌, ℕ, ◌+◌, ◌≤◌, List, [], Option, false, All, length, sym, ◌∙◌, ap, subst, arith}
 use Rattle.enc_model.specs.Indexes.{IndexSet}
 use Rattle.enc_stream.specs.StateBytes.{state_bytes}
@@ -45,15 +47,13 @@ module _ (x : IndexSet) (n : ℕ) (r : Record) (new : New) (keeps : Keeps x n r 
     some = omega (arith, keeps.tells.number_is, some);
     below = omega (arith, keeps.tells.number_is);
     accepted = omega (arith, keeps.tells.accepted);
-    declared = subst (λ (k : Option ℕ). longest k ≤ 1073741824) (sym keeps.tells.declared)
-        (small_is new.declared small);
+    declared = rw (← keeps.tells.declared) at (small_is new.declared small);
     text_fits = omega (arith, no_text);
     state_size = ap length state_is ∙ state_length (transcoder_with x (new_upload new) [] (is_complete (new_upload
         new)));
     state = told_state x (said_of r) [] (new_upload new) tells_new;
     metadata_size = subst (λ (bytes : List ℕ). length bytes ≤ 1536) (sym keeps.tells.metadata) well.short;
-    printable = subst (λ (bytes : List ℕ). All (λ b. (0x20 ≤ b) × (b ≤ 0x7E)) bytes) (sym keeps.tells.metadata)
-        well.printable;
+    printable = rw (← keeps.tells.metadata) at well.printable;
   }
 
 pub new_record : (x : IndexSet) (n : ℕ) (r : Record) (new : New) → ((y : IndexSet) → Keeps y n r (new_upload new))

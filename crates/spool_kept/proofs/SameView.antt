@@ -1,4 +1,6 @@
 -- Two views of one image have the same blocks and the same rows, and so what one leaves free the other does.
+use Rattle.std.proofs.Common.{rules}
+use Rattle.std.proofs.lemmas.Grind.{common_steps}
 use Rattle.std.proofs.Common.{◌≡◌, inl, inr, ℕ, ◌+◌, ◌-◌, ◌*◌, ◌^◌, ◌<◌, ◌≤◌, List, Option, None, Some, get_or, refl}
 use Rattle.std.proofs.Common.{sym, ◌∙◌, ap, arith}
 use Rattle.std.specs.Int.{to_be_bytes, from_be_bytes, w32}
@@ -26,8 +28,7 @@ use Rattle.spool_kept.proofs.Valid.{rows_fit, said_row}
 module _ (f : ℕ → ℕ) (at : ℕ) where
   one_number : (m n : ℕ) → m < 2 ^ 32 → n < 2 ^ 32 → Stands f at 4 (to_be_bytes w32 m)
       → Stands f at 4 (to_be_bytes w32 n) → m ≡ n
-  one_number m n lt lt' a b = sym (from_be_bytes-to_be_bytes_4 m lt)
-      ∙ ap (from_be_bytes w32) (sym (four_at f at m a) ∙ four_at f at n b) ∙ from_be_bytes-to_be_bytes_4 n lt'
+  one_number m n lt lt' a b = search (arith, common_steps)
 
 module _ (f : ℕ → ℕ) (at : ℕ) where
   pairs : (o p : ℕ × ℕ) → o.0 ≡ p.0 → o.1 ≡ p.1 → ◌≡◌ {A = Option (ℕ × ℕ)} (Some o) (Some p)
@@ -83,8 +84,7 @@ rests_other {current = current} v v' valid valid' says rests is = record {
       let free = rests.is_synced p l in
       record {
         block = free.block;
-        here = ap (λ (n : ℕ). text_page n + free.block)
-            (sym (same_blocks (overlaid current) v v' valid valid' says is.says)) ∙ free.here;
+        here = cc (same_blocks (overlaid current) v v' valid valid' says is.says);
         free = sym (same_row (overlaid current) v v' valid valid' says is.says free.block) ∙ free.free;
       };
   is = is;

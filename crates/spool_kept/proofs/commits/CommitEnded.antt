@@ -1,4 +1,6 @@
 -- A draft whose text has ended: why it isn't put after its upload's, and that it may be.
+use Rattle.std.proofs.Common.{rules}
+use Rattle.std.proofs.lemmas.Grind.{common_steps}
 use Rattle.std.proofs.Common.{Result, Err, IfOk, ◌≡◌, inl, inr, ℕ, ◌≤◌, ◌+◌, ◌-◌, ◌/◌, ◌^◌, Bool, true, false, List}
 use Rattle.std.proofs.Common.{Option, None, Some, length, get_or, set, min, refl, sym, ◌∙◌, ap, subst, arith}
 use Rattle.enc_model.specs.Indexes.{IndexSet}
@@ -62,38 +64,22 @@ pub may : (h : Holding) (slot : ℕ) (declared : Option ℕ) (accepted : ℕ) (l
       text_len = end.text_len;
       state = end.state;
     }) list
-may h slot declared accepted list end used there ends = record {
-  used = used;
-  there = there;
-  state = ends.same;
-  same = ends.nothing;
-  blocks = ends.blocks;
-}
+may h slot declared accepted list end used there ends = search (arith, common_steps)
 
 -- what the draft began after is placed as it was
 pub placed_still : (n : ℕ) (o o' : SpoolDraft) → committed_len_of o' ≡ committed_len_of o → tail_of o' ≡ tail_of o
     → IsPlaced n o → IsPlaced n o'
-placed_still n o o' len tail is = record {
-  below = subst (AllBelow n) (sym tail) is.below;
-  few = omega (arith, len, is.few);
-}
+placed_still n o o' len tail is = search (arith, common_steps)
 
 module _ {D : Type 0} {sure : Bool} {disk : Ghosts D} {d d' : D} {h h' : Holding} (only : OnlyReserves h h')
     {drafts : List (Option SpoolDraft)} {number : ℕ} {o : SpoolDraft} (o' : SpoolDraft) {w : World} {p : Patch}
     (is : IsCommit sure disk d h drafts number o w p)
     (effect : Effect disk (journal_pages h.layout) (list_of o) (list_of o') d d' h.blocks h'.blocks) where
-  abbrev first : ℕ
-  first = text_page h.layout
-
   abbrev s : Stored sure disk d h w.store
   s = is.stands.stored
 
-  abbrev x : IndexSet
-  x = w.store.indexes
-
   unowned : Unowned s.view.rows effect.own
-  unowned i lt = ap (λ (r : List Row). get_or r (get_or effect.own i 0) None)
-      (sym (effect.grasp.takes.rows ∙ s.keeps.rows)) ∙ effect.grasp.reserved.no_owner i lt
+  unowned i lt = cc (effect.grasp.reserved.no_owner i lt)
 
   -- THE DISK
 
@@ -146,8 +132,7 @@ module _ {D : Type 0} {sure : Bool} {disk : Ghosts D} {d d' : D} {h h' : Holding
 
     -- the text is complete where the upload is
     pub whole_is : is_complete (patched (with_length p.began is.still.0) p.declare p.body) ≡ completes w.store p
-    whole_is = complete_patched (with_length p.began is.still.0) p.declare p.body
-        ∙ ap (λ (k : Option ℕ). is_length k (reached p)) (sym declared_is) ∙ sym done_is
+    whole_is = cc (complete_patched (with_length p.began is.still.0) p.declare p.body)
 
     module _ {accepted : ℕ} (sum : accepted ≡ min (offset_of o + came_of o) (2 ^ 64 - 1)) where
       pub all_came : accepted ≡ reached p
@@ -171,10 +156,7 @@ module _ {D : Type 0} {sure : Bool} {disk : Ghosts D} {d d' : D} {h h' : Holding
         pub ends_as : ((q' : Patch) → Holds h.indexes q' o → is_complete q'.began ≡ false
             → EndsAs h.indexes q' done o o' h.blocks h'.blocks result)
             → EndsAs w.store.indexes p (completes w.store p) o o' h.blocks h'.blocks result
-        ends_as answer =
-            subst (λ (b : Bool). EndsAs w.store.indexes p b o o' h.blocks h'.blocks result) done_then
-            (subst (λ (y : IndexSet). EndsAs y p done o o' h.blocks h'.blocks result) indexes_are
-            (answer p (subst (λ (y : IndexSet). Holds y p o) (sym indexes_are) held) open_began))
+        ends_as answer = rw done_then at (rw indexes_are at (answer p (rw (← indexes_are) at held) open_began))
 
         -- and the bytes on its blocks
         pub ends_on : ((q' : Patch) → disk.honest d → Holds h.indexes q' o → is_complete q'.began ≡ false
@@ -187,10 +169,8 @@ module _ {D : Type 0} {sure : Bool} {disk : Ghosts D} {d d' : D} {h h' : Holding
             let P : IndexSet → Bool → Type 0 =
             λ y b. IfOk result (λ e. 1 ≤ length (list_of o') → bytes_with (disk.current d')
             (text_page h.layout) (list_of o') e.last.items ≡ open_text y p b) in
-            subst (P w.store.indexes) done_then (subst (λ (y : IndexSet). P y done) indexes_are
-            (content p (s.honest known) (subst (λ (y : IndexSet). Holds y p o) (sym indexes_are) held) open_began
-            (subst (λ (y : IndexSet). Carries y (disk.current d) (text_page h.layout) p o) (sym indexes_are)
-            (own_draft.carries known is.still))))
+            rw done_then at (rw indexes_are at (content p (s.honest known) (rw (← indexes_are) at held) open_began
+            (rw (← indexes_are) at (own_draft.carries known is.still))))
 
   -- THE RULES
 
@@ -257,9 +237,7 @@ module _ {D : Type 0} {sure : Bool} {disk : Ghosts D} {d d' : D} {h h' : Holding
         stored = stored;
         text = open_text w.store.indexes p (completes w.store p);
         fits = fits;
-        held = subst (λ (n : ℕ). sure ≡ true → 1 ≤ length (list_of o') → bytes_with (disk.current d') (text_page n)
-            (list_of o') end.last.items ≡ open_text w.store.indexes p (completes w.store p))
-            (sym (ap (λ (k : Holding). k.layout) only.same)) content;
+        held = rw (← (ap (λ (k : Holding). k.layout) only.same)) at content;
         append = λ e stored' written. record {
           stored = stored';
           used = record {

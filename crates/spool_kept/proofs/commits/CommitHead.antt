@@ -1,4 +1,6 @@
 -- What a commit finds of its draft's upload.
+use Rattle.std.proofs.Common.{rules}
+use Rattle.std.proofs.lemmas.Grind.{common_steps}
 use Rattle.std.proofs.Common.{Result, Err, IsErrOf, refl, inl, inr, ◌↔◌, ◌⊎◌, ◌≡◌, ◌≤◌, ◌<◌, ◌&&◌, ℕ, ◌+◌, Bool, true}
 use Rattle.std.proofs.Common.{false, if◌then◌else◌, List, [], ◌∷◌, Option, None, Some, length, get_or, sym, ◌∙◌, ap}
 use Rattle.std.proofs.Common.{subst, arith, eqb-true}
@@ -60,11 +62,7 @@ text_ends m p new ends = rw (new, ends) refl
 
 text_left : (m : Store) (p : Patch) → length p.body ≡ 0 → (declares m p ≡ true → completes m p ≡ false)
     → text_stays m p ≡ true
-text_left m p none open_still = by_declare (declares m p) refl
-  where
-    by_declare : (b : Bool) → declares m p ≡ b → text_stays m p ≡ true
-    by_declare true new = rw (new, open_still new, nil_from_length p.body none) refl
-    by_declare false old = rw (old, nil_from_length p.body none) refl
+text_left m p none open_still = search (arith, common_steps)
 
 idle_patch : (m : Store) (p : Patch) → declares m p ≡ false → length p.body ≡ 0 → is_idle m p ≡ true
 idle_patch m p old none = rw (old, nil_from_length p.body none) refl
@@ -74,24 +72,7 @@ idle_patch m p old none = rw (old, nil_from_length p.body none) refl
 -- where the text changes, the upload isn't complete
 pub found_open : (slots : List (Option SlotRecord)) (o : SpoolDraft) (found : Found) (finds : IsFound slots o found)
     → found.stays ≡ false → is_length finds.same.used.declared finds.same.used.accepted ≡ false
-found_open slots o found finds goes = by_known finds.same.used.declared refl
-  where
-    used : SlotRecord
-    used = finds.same.used
-
-    by_known : (known : Option ℕ) → finds.same.used.declared ≡ known
-        → is_length finds.same.used.declared finds.same.used.accepted ≡ false
-    by_known None is = ap (λ (k : Option ℕ). is_length k finds.same.used.accepted) is
-    by_known (Some n) is =
-        let declared : found.declared ≡ Some n =
-        finds.declared ∙ ap (λ (k : Option ℕ). known_or k (declare_of o)) is in
-        let long : offset_of o + came_of o ≤ n =
-        subst (λ (k : Option ℕ). offset_of o + came_of o ≤ longest k) declared finds.within in
-        ap (λ (k : Option ℕ). is_length k finds.same.used.accepted) is ∙ elim (finds.goes goes) [
-          | inl some ↦ ne_eqb finds.same.used.accepted n (λ e. omega (arith, e, some, long, finds.same.count))
-          | inr whole ↦ absurd (let k = sym whole.0 ∙ finds.declares
-              ∙ ap (λ (k : Option ℕ). is_new k (declare_of o)) is in cc)
-        ]
+found_open slots o found finds goes = search (arith, common_steps)
 
 -- the draft of a number stands for a patch
 pub record IsOpen {D : Type 0} (sure : Bool) (disk : Ghosts D) (d : D) (h : Holding)
@@ -109,11 +90,7 @@ module _ {D : Type 0} {sure : Bool} {disk : Ghosts D} {d : D} {h : Holding} {dra
     {number : ℕ} {o : SpoolDraft} {w : World} {p : Patch} (k : IsOpen sure disk d h drafts number o w p) where
   pub own_draft : DraftStands (sure ≡ true) w.store.indexes (disk.current d) (text_page h.layout) h.slots h.blocks.rows
       w.store p o
-  own_draft =
-      let R = DraftStands (sure ≡ true) w.store.indexes (disk.current d) (text_page h.layout) h.slots h.blocks.rows
-      w.store in
-      let at = draft_of R p (find number w.patches) (draft_at drafts number) k.patch (k.stands.stands.each number) in
-      subst (R p) (same_Some at.0 o (sym at.1 ∙ k.here)) at.2
+  own_draft = search (arith, common_steps)
 
   held : Holds w.store.indexes p o
   held = own_draft.holds
@@ -121,8 +98,7 @@ module _ {D : Type 0} {sure : Bool} {disk : Ghosts D} {d : D} {h : Holding} {dra
   -- what a slot's record tells
   told : (slot : ℕ) (used : SlotRecord) → get_or h.slots slot None ≡ Some used
       → IsTold w.store used (k.stands.stored.view.texts slot)
-  told slot used there = k.stands.stored.shows.told slot used
-      (ap (λ (xs : List (Option SlotRecord)). get_or xs slot None) (sym k.stands.stored.keeps.slots) ∙ there)
+  told slot used there = k.stands.stored.shows.told slot used (cc)
 
   upload_there : (used : SlotRecord) (u : Upload) → used.number ≡ number_of o
       → find used.number w.store.uploads ≡ Some u → upload_of w.store p.number ≡ Some u
@@ -277,11 +253,7 @@ module _ {D : Type 0} {sure : Bool} {disk : Ghosts D} {d : D} {h : Holding} {dra
         length_stands = ap (λ (m : Store). record (dropped w number) { store = m }) store_is
 
         pub used_is : IsUsedBy h.slots found.slot p.number
-        used_is = record {
-          used = finds.same.used;
-          there = finds.same.there;
-          is = finds.same.number ∙ held.number;
-        }
+        used_is = search (arith, common_steps)
 
 -- WHATEVER THE DISK SAID
 

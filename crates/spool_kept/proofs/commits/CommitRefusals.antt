@@ -1,4 +1,6 @@
 -- Why a commit is refused.
+use Rattle.std.proofs.Common.{arith, rules}
+use Rattle.std.proofs.lemmas.Grind.{common_steps}
 use Rattle.std.proofs.Common.{◌≡◌, ◌⊎◌, inl, inr, ℕ, ◌&&◌, Bool, true, false, length, nat_lt, Option, Some, None}
 use Rattle.std.proofs.Common.{if◌then◌else◌, refl, sym, ◌∙◌, ap, subst, eq-eqb}
 use Rattle.std.proofs.lemmas.Option.{same_Some}
@@ -25,19 +27,12 @@ by_length p u same = rw (eq-eqb (length u.accepted) (length p.began.accepted) sa
 -- a length is refused so
 pub length_refused : (known declare : Option ℕ) (end : ℕ) (e : UploadRefusal)
     → length_refusal known declare end ≡ Some e → (e ≡ LengthSet) ⊎ (e ≡ TooLong)
-length_refused known declare end e is = go (differ known declare) (nat_lt (longest (known_or known declare)) end) is
-  where
-    go : (a b : Bool) → (if a then Some LengthSet else refuse_if b TooLong) ≡ Some e → (e ≡ LengthSet) ⊎ (e ≡ TooLong)
-    go true b is = inl (same_Some e LengthSet (sym is))
-    go false true is = inr (same_Some e TooLong (sym is))
-    go false false is = absurd cc
+length_refused known declare end e is = search (arith, common_steps)
 
 pub refused_by_length : (w : World) (d : ℕ) (p : Patch) (u : Upload) (e : UploadRefusal)
     → upload_of w.store p.number ≡ Some u → length u.accepted ≡ length p.began.accepted
     → length_refusal u.declared p.declare (reached p) ≡ Some e → commit_refusal w d p ≡ Some e
-refused_by_length w d p u e there same refused =
-    refusal_is w d p
-    ∙ ap (λ o. or_else o (text_refusal w d p)) (ap (upload_refusal p) there ∙ by_length p u same ∙ refused)
+refused_by_length w d p u e there same refused = cc (refusal_is w d p, by_length p u same)
 
 late_if : (a b c : Bool) → IsLate (if a then None else if b then Some Unencodable else refuse_if c Full)
 late_if true b c = tt
@@ -78,11 +73,7 @@ declares_something : (m : Store) (p : Patch) → declares m p ≡ true → is_id
 declares_something m p new = rw (new) refl
 
 changes_something : (m : Store) (p : Patch) → text_stays m p ≡ false → is_idle m p ≡ false
-changes_something m p changes = go (declares m p) (completes m p) (is_empty p.body) changes
-  where
-    go : (a b c : Bool) → (if a && b then false else c) ≡ false → (if a then false else c) ≡ false
-    go true b c is = refl
-    go false b c is = is
+changes_something m p changes = search (arith, common_steps)
 
 store_put : (m : Store) (p : Patch) → is_idle m p ≡ false
     → committed_store m p ≡ patched_store m p.number p.declare p.body

@@ -1,4 +1,6 @@
 -- A draft's whole text after its upload's.
+use Rattle.std.proofs.Common.{rules}
+use Rattle.std.proofs.lemmas.Grind.{common_steps}
 use Rattle.std.proofs.Common.{◌≡◌, inl, inr, ℕ, ◌≤◌, ◌+◌, ◌-◌, ◌*◌, ◌/◌, ◌++◌, Bool, false, List, [], Option, None}
 use Rattle.std.proofs.Common.{Some, length, drop, refl, sym, ◌∙◌, ap, subst, arith, length-append, length-drop}
 use Rattle.std.proofs.lemmas.Bool.{cases_lt}
@@ -29,19 +31,13 @@ patch_text_is x p done = refl
 
 -- an upload that isn't complete with a length wasn't without it
 pub open_before : (u : Upload) (since : Option ℕ) → is_complete (with_length u since) ≡ false → is_complete u ≡ false
-open_before u since open_still = by_length u.declared open_still
-  where
-    by_length : (known : Option ℕ) → is_length (known_or known since) (length u.accepted) ≡ false
-        → is_length known (length u.accepted) ≡ false
-    by_length None is = refl
-    by_length (Some n) is = is
+open_before u since open_still = search (arith, common_steps)
 
 -- and its text is the same
 pub text_since : (x : IndexSet) (u : Upload) (since : Option ℕ) → is_complete (with_length u since) ≡ false
     → text_of x (with_length u since) ≡ text_of x u
 unfolding text_of
-text_since x u since open_still =
-    ap (λ (b : Bool). (text_with x u [] b).bytes) (open_still ∙ sym (open_before u since open_still))
+text_since x u since open_still = cc (open_before u since open_still)
 
 module _ (x : IndexSet) (p : Patch) (since : Option ℕ) (o : SpoolDraft) (end : DraftEnd)
     (open_still : is_complete (with_length p.began since) ≡ false)
@@ -51,9 +47,6 @@ module _ (x : IndexSet) (p : Patch) (since : Option ℕ) (o : SpoolDraft) (end :
     (whole : IsWhole x p done o end) where
   abbrev u : Upload
   u = with_length p.began since
-
-  abbrev put : Upload
-  put = patched (with_length p.began since) p.declare p.body
 
   fine : (text_with x p.began p.body done).fault ≡ None
   fine = ap (λ r. r.fault) (sym (patch_text_is x p done)) ∙ whole.encodable
@@ -103,10 +96,8 @@ module _ (x : IndexSet) (p : Patch) (since : Option ℕ) (o : SpoolDraft) (end :
         accepted = accepted ∙ sym (length-append p.began.accepted p.body);
         few = omega (arith, length-append p.began.accepted p.body, within);
         small = small;
-        state = is ∙ whole.state_is ∙ ap (state_with x u p.body) (sym is_done) ∙ sym
-            (state_patched x u p.declare p.body);
-        valid = subst IsValid (sym (transcoder_patched x u p.declare p.body
-            ∙ ap (transcoder_with x u p.body) is_done)) whole.valid;
+        state = cc (state_patched x u p.declare p.body);
+        valid = subst IsValid (sym (cc (transcoder_patched x u p.declare p.body))) whole.valid;
         encodable = ap (λ r. r.fault) (whole_patched x u p.declare p.body ∙ ap (text_with x u p.body) is_done) ∙ fine;
         text = grown.1;
         text_len = omega (arith, total, same_len, ap length grown.1, length-append (text_of x u) more);

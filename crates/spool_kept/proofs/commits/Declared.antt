@@ -1,4 +1,6 @@
 -- A length alone: what it makes of an upload whose text stays.
+use Rattle.std.proofs.Common.{rules}
+use Rattle.std.proofs.lemmas.Grind.{common_steps}
 use Rattle.std.proofs.Common.{◌≡◌, ◌∙◌, ◌≤◌, ◌+◌, ◌++◌, ℕ, Bool, false, List, [], Option, None, Some, length, get_or}
 use Rattle.std.proofs.Common.{refl, sym, ap, subst, arith}
 use Rattle.std.proofs.lemmas.List.{append-nil}
@@ -48,8 +50,7 @@ module _ {D : Type 0} {sure : Bool} {disk : Ghosts D} {d : D} {h : Holding} {m :
     {declared : Option ℕ} (stored : Stored sure disk d h m) (may : MayDeclare h.slots slot declared)
     (used : IsUsedBy h.slots slot n) (small : is_too_large declared ≡ false) where
   abbrev told : IsTold m may.used (stored.view.texts slot)
-  told = stored.shows.told slot may.used
-      (ap (λ (xs : List (Option SlotRecord)). get_or xs slot None) (sym stored.keeps.slots) ∙ may.there)
+  told = stored.shows.told slot may.used (cc)
 
   number_is : may.used.number ≡ n
   number_is = ap (λ (r : SlotRecord). r.number) (one_value may.there used.there) ∙ used.is
@@ -71,10 +72,7 @@ module _ {D : Type 0} {sure : Bool} {disk : Ghosts D} {d : D} {h : Holding} {m :
   open_before = ap (λ (k : Option ℕ). is_length k (length told.upload.accepted)) unknown
 
   open_still : is_complete (patched told.upload declared []) ≡ false
-  open_still =
-      complete_patched told.upload declared []
-      ∙ ap (λ (k : Option ℕ). is_length k (length told.upload.accepted + 0)) known_is
-      ∙ ap (is_length declared) (omega (arith, told.tells.accepted)) ∙ may.incomplete
+  open_still = search (arith, common_steps)
 
   alike : is_complete (patched told.upload declared []) ≡ is_complete told.upload
   alike = open_still ∙ sym open_before

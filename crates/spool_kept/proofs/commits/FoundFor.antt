@@ -1,4 +1,6 @@
 -- What is read of the upload that a commit is for.
+use Rattle.std.proofs.Common.{rules}
+use Rattle.std.proofs.lemmas.Grind.{common_steps}
 use Rattle.std.proofs.Common.{◌≡◌, ◌∙◌, ◌⊎◌, ◌≤◌, ◌<◌, ◌+◌, ◌^◌, inl, inr, ℕ, Bool, true, false, List, Option, None}
 use Rattle.std.proofs.Common.{Some, Err, get_or, sym, ap, subst, arith}
 use Rattle.spool_drafts.specs.Drafts.{came_of, declare_of, number_of, offset_of}
@@ -35,9 +37,7 @@ module _ {slots : List (Option SlotRecord)} (o : SpoolDraft) {slot : ℕ} (r : R
   module _ {declare : Option ℕ} (declare_is : declare ≡ declare_of o) {came : ℕ} (came_is : came ≡ came_of o) where
     refusal_is : length_refusal r.declared (declare_of o) (offset_of o + came_of o) ≡ length_refusal r.declared declare
         (r.accepted + came)
-    refusal_is =
-        ap (λ (k : Option ℕ). length_refusal r.declared k (offset_of o + came_of o)) (sym declare_is)
-        ∙ ap (length_refusal r.declared declare) (omega (arith, count, came_is))
+    refusal_is = search (arith, common_steps)
 
     pub refused : (e : UploadRefusal) → length_refusal r.declared declare (r.accepted + came) ≡ Some e
         → Finds slots o (Err e)

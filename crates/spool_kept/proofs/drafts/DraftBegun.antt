@@ -1,4 +1,6 @@
 -- A draft more, at the least number that is free.
+use Rattle.std.proofs.Common.{rules}
+use Rattle.std.proofs.lemmas.Grind.{common_steps}
 use Rattle.std.proofs.Common.{◌≡◌, Result, Ok, Err, ℕ, List, [], ◌∷◌, Option, None, Some, length, refl, sym, ◌∙◌, ap}
 use Rattle.std.proofs.Common.{subst, arith, eq-eqb, Bool, true}
 use Rattle.std.proofs.lemmas.Bool.{ne_eqb}
@@ -26,16 +28,10 @@ use Rattle.spool_kept.proofs.slots.Created.{number_below}
 
 module _ {old new : List (Option SpoolDraft)} {place : ℕ} {o : SpoolDraft} (placed : IsPlaced old o place new) where
   pub changed_more : IsChanged old place (Some o) new
-  changed_more = record {
-    here = placed.after place ∙ rw (eq-eqb place place refl) refl;
-    others = λ e other. placed.after e ∙ rw (ne_eqb e place (λ s. other (sym s))) refl;
-  }
+  changed_more = search (arith, common_steps)
 
   pub fit_begun : (n : ℕ) (h : Held) → DraftsHold n h old → list_of o ≡ [] → IsTailPlaced n o → DraftsHold n h new
-  fit_begun n h fit none tailed =
-      fit_changed n h h old new place (Some o) fit changed_more (nothing_reserved h (list_of o) none)
-      (λ e other. fit.reserved e) (λ a e. subst (IsTailPlaced n) (same_Some o a e) tailed)
-      (λ e other. none_in_nothing (list_of o) (lists_at old e) none)
+  fit_begun n h fit none tailed = search (arith, common_steps)
 
   -- no draft has the number
   free_list : lists_at old place ≡ []
@@ -68,17 +64,11 @@ module _ {D : Type 0} {sure : Bool} {disk : Ghosts D} {d : D} {h : Holding} {old
         (text_page h.layout) h.slots h.blocks.rows w.store
 
     nothing_there : find place w.patches ≡ None
-    nothing_there = go (find place w.patches) (draft_at old place) (s.stands.each place) placed.free
-      where
-        go : (q : Option Patch) (a : Option SpoolDraft) → DraftOf Stands q a → a ≡ None → q ≡ None
-        go None a h e = refl
-        go (Some p) None h e = absurd h
-        go (Some p) (Some o) h e = absurd cc
+    nothing_there = search (arith, common_steps)
 
     number_free : place ≡ free_number w
-    number_free = sym (is_free w place
-        (λ k lt. (patch_there Stands (find k w.patches) (draft_at old k) (s.stands.each k)).1 (placed.least k lt))
-        (ap is_there nothing_there))
+    number_free = cc (is_free w place (λ k lt. (patch_there Stands (find k w.patches) (draft_at old k)
+        (s.stands.each k)).1 (placed.least k lt)) (ap is_there nothing_there))
 
     stand_begun : (u : Upload) → upload_of w.store n ≡ Some u → Opens (Some u) (Ok o)
         → DraftsStand (sure ≡ true) w.store.indexes (disk.current d) (text_page h.layout) h.slots h.blocks

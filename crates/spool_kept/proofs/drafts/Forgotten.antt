@@ -1,4 +1,6 @@
 -- The drafts, where an upload was taken away and its drafts forgot its last block.
+use Rattle.std.proofs.Common.{rules}
+use Rattle.std.proofs.lemmas.Grind.{common_steps}
 use Rattle.std.proofs.Common.{◌≡◌, ℕ, List, Option, None, Some, refl, sym, ◌∙◌, ap, subst, arith, inl, inr, true}
 use Rattle.std.proofs.Common.{length, get_or, Bool}
 use Rattle.std.proofs.lemmas.Bool.{cases_eq}
@@ -45,8 +47,7 @@ module _ (number : ℕ) (old new : List (Option SpoolDraft)) (forgets : EachForg
     placed = λ d o' e.
         let was = draft_was number (draft_at old d) (draft_at new d) (forgets d) o' e in
         was.2.placed n (hold.placed d was.0 was.1);
-    distinct = λ d e apart. subst (λ (xs : List ℕ). NoneOf xs (lists_at new e)) (sym (lists_same d))
-        (subst (NoneOf (lists_at old d)) (sym (lists_same e)) (hold.distinct d e apart));
+    distinct = λ d e apart. rw (← (lists_same d)) at (rw (← (lists_same e)) at (hold.distinct d e apart));
   }
 
   module _ (sure : Type 0) (x : IndexSet) (current : ℕ → ℕ) (first : ℕ) (slots : List (Option SlotRecord)) (h : Held)
@@ -54,19 +55,7 @@ module _ (number : ℕ) (old new : List (Option SpoolDraft)) (forgets : EachForg
     stands_of : (p : Patch) (o o' : SpoolDraft) → ForgetsTail number o o'
         → DraftStands sure x current first slots h.rows w.store p o
         → DraftStands sure x current first slots h.rows w.store p o'
-    stands_of p o o' forgot s = elim (cases_eq (number_of o) number) [
-      | inl same ↦
-          let none : upload_of w.store p.number ≡ None =
-          ap (upload_of w.store) (sym s.holds.number ∙ same) ∙ gone in
-          record {
-            holds = forgot.holds x p s.holds;
-            below = s.below;
-            carries = λ known still. clash none still.1;
-            tail = λ still. clash none still.1;
-          }
-      | inr other ↦
-          subst (DraftStands sure x current first slots h.rows w.store p) (sym (forgot.others other)) s
-    ]
+    stands_of p o o' forgot s = search (arith, common_steps)
 
     each_of : (q : Option Patch) (o o' : Option SpoolDraft) → ForgetsOf number o o'
         → DraftOf (DraftStands sure x current first slots h.rows w.store) q o
@@ -113,17 +102,12 @@ module _ {h h' : Holding} {slot number : ℕ} (used : IsUsedBy h.slots slot numb
   }
     where
       was : (s : ℕ) (r : SlotRecord) → get_or h'.slots s None ≡ Some r → get_or h.slots s None ≡ Some r
-      was s r e = elim (slot_is h.slots slot None s r (in_use h.slots slot used.used used.there)
-          (ap (λ (xs : List (Option SlotRecord)). get_or xs s None) (sym out.slots) ∙ e)) [
-            | inl here ↦ clash refl here.1
-            | inr there ↦ there.1
-          ]
+      was s r e = search (arith, common_steps)
 
   pub fits_after : DraftsFit h' new
   fits_after = record {
     blocks = hold_forgotten number old new forgets h'.layout h'.blocks
-        (subst (λ (n : ℕ). DraftsHold n h'.blocks old) (sym out.layout)
-        (hold_still h.layout slot h.blocks h'.blocks old out.rows out.reserved fit.blocks));
+        (rw (← out.layout) at (hold_still h.layout slot h.blocks h'.blocks old out.rows out.reserved fit.blocks));
     below = λ d o' e.
         let was = draft_was number (draft_at old d) (draft_at new d) (forgets d) o' e in
         let forgot = was.2 in

@@ -1,4 +1,6 @@
 -- The drafts, where an upload was taken away.
+use Rattle.std.proofs.Common.{rules}
+use Rattle.std.proofs.lemmas.Grind.{common_steps}
 use Rattle.std.proofs.Common.{◌≡◌, ◌≢◌, ℕ, ◌*◌, ◌≤◌, List, Option, None, Some, get_or, refl, sym, ◌∙◌, ap, subst, arith}
 use Rattle.std.proofs.Common.{inl, inr, Bool, false, true}
 use Rattle.std.proofs.lemmas.Bool.{cases_eq}
@@ -25,23 +27,9 @@ use Rattle.spool_kept.proofs.slots.SlotChange.{owned_still}
 
 -- WHATEVER THE DISK SAID
 
--- reserved blocks stay so
-reserved_still : (slot : ℕ) (old new : Held) (list : List ℕ) → FreesRows slot old.rows new.rows
-    → new.reserved ≡ old.reserved → IsReserved old list → IsReserved new list
-reserved_still slot old new list frees same is = record {
-  below = λ i lt. omega (arith, is.below i lt, frees.size);
-  reserved = λ i lt. ap (λ (xs : List Bool). get_or xs (get_or list i 0) false) same ∙ is.reserved i lt;
-  no_owner = λ i lt. frees.kept (get_or list i 0) (λ k owns. clash (is.no_owner i lt) owns) ∙ is.no_owner i lt;
-  distinct = is.distinct;
-}
-
 pub hold_still : (n slot : ℕ) (old new : Held) (drafts : List (Option SpoolDraft)) → FreesRows slot old.rows new.rows
     → new.reserved ≡ old.reserved → DraftsHold n old drafts → DraftsHold n new drafts
-hold_still n slot old new drafts frees same hold = record {
-  reserved = λ d. reserved_still slot old new (lists_at drafts d) frees same (hold.reserved d);
-  placed = hold.placed;
-  distinct = hold.distinct;
-}
+hold_still n slot old new drafts frees same hold = search (arith, common_steps)
 
 -- WHAT THEY STAND FOR
 
@@ -107,7 +95,6 @@ module _ {h h' : Holding} {number slot : ℕ} (used : IsUsedBy h.slots slot numb
       → StandsFor sure disk d' h' drafts (terminated w number)
   stands_after {sure = sure} {disk = disk} {d = d} {d' = d'} {drafts = drafts} {w = w} stands stored same = record {
     stored = stored;
-    stands = subst (λ (n : ℕ). DraftsStand (sure ≡ true) w.store.indexes (disk.current d')
-        (text_page n) h'.slots h'.blocks (terminated w number) drafts) (sym out.layout)
-        (drafts_still w (disk.current d) (disk.current d') (text_page h.layout) same drafts stands.stands);
+    stands = rw (← out.layout) at (drafts_still w (disk.current d) (disk.current d') (text_page h.layout) same drafts
+        stands.stands);
   }

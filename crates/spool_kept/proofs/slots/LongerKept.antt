@@ -21,9 +21,6 @@ use Rattle.spool_kept.proofs.Valid.{in_use}
 
 module _ (h : Holding) (fits : FitsTogether h) (slot : ℕ) (r : SlotRecord)
     (there : get_or h.slots slot None ≡ Some r) where
-  list : List ℕ
-  list = get_or h.lists slot []
-
   inside : slot < length h.slots
   inside = in_use h.slots slot r there
 
@@ -76,9 +73,6 @@ module _ (h : Holding) (fits : FitsTogether h) (slot : ℕ) (r : SlotRecord)
     module _ (more : List ℕ) (blocks : Held) (hands : HandsOver h.blocks.rows slot (r.text_len / 4096) more blocks.rows)
         (no_owner : Unowned h.blocks.rows more) (size : blocks_of r'.text_len ≡ r.text_len / 4096 + length more)
         (room : r.text_len / 4096 + length more ≤ 65536) where
-      now : List ℕ
-      now = take (r.text_len / 4096) (get_or h.lists slot []) ++ more
-
       has_now : HasBlocks blocks.rows slot r'.text_len (take (r.text_len / 4096) (get_or h.lists slot []) ++ more)
       has_now = record {
         size = omega (arith, size, joined_length (get_or h.lists slot []) more (r.text_len / 4096) low);
