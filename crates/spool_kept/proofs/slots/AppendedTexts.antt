@@ -1,4 +1,6 @@
 -- The texts after an append.
+use Rattle.std.proofs.Common.{rules}
+use Rattle.std.proofs.lemmas.Grind.{common_steps}
 use Rattle.std.proofs.Common.{◌≡◌, ℕ, zero, suc, ◌+◌, ◌-◌, ◌*◌, ◌/◌, ◌%◌, ◌<◌, ◌≤◌, List, ◌++◌, Some, length, take}
 use Rattle.std.proofs.Common.{drop, refl, sym, ◌∙◌, ap, arith, length-append, length-take}
 use Rattle.std.proofs.lemmas.List.{append_assoc, take-append-drop, take-take}
@@ -65,12 +67,9 @@ module _ (current : ℕ → ℕ) (first : ℕ) (old new : List Row) (slot len : 
       let whole : len - len % 4096 ≡ 4096 * (len / 4096) = omega arith in
       let long : len' ≡ 4096 * (len / 4096) + more_len = omega (arith, total, whole) in
       let low : len / 4096 ≤ length list = omega (arith, size) in
-      let all : length (take (len / 4096) list ++ more) ≡ (len' + 4095) / 4096 =
-      omega (arith, joined_length list more (len / 4096) low, more_size, long) in
-      sym (shown current first new slot len' (take (len / 4096) list ++ more) listed' all)
-      ∙ ap (text_on current first (take (len / 4096) list ++ more)) long
-      ∙ text_joined current first (len / 4096) more_len list more low
-      ∙ ap (λ (xs : List ℕ). xs ++ text_on current first more more_len) prefix
-      ∙ ap (λ (xs : List ℕ). take (4096 * (len / 4096)) was ++ xs) (on ∙ ap (λ (n : ℕ). drop n was ++ added) whole)
-      ∙ sym (append_assoc (take (4096 * (len / 4096)) was) (drop (4096 * (len / 4096)) was) added)
-      ∙ ap (λ (xs : List ℕ). xs ++ added) (take-append-drop (4096 * (len / 4096)) was)
+      let all : length (take (len / 4096) list ++ more) ≡ (len' + 4095) / 4096 = search (arith, common_steps) in
+      sym (shown current first new slot len' (take (len / 4096) list ++ more) listed' all) ∙ ap (text_on current first
+      (take (len / 4096) list ++ more)) long ∙ text_joined current first (len / 4096) more_len list more low ∙ ap (λ (xs
+      : List ℕ). xs ++ text_on current first more more_len) prefix ∙ ap (λ (xs : List ℕ). take (4096 * (len / 4096)) was
+      ++ xs) (cc) ∙ sym (append_assoc (take (4096 * (len / 4096)) was) (drop (4096 * (len / 4096)) was) added) ∙ ap (λ
+      (xs : List ℕ). xs ++ added) (take-append-drop (4096 * (len / 4096)) was)

@@ -1,4 +1,6 @@
 -- A view with a new record shows the store with the new upload.
+use Rattle.std.proofs.Common.{rules}
+use Rattle.std.proofs.lemmas.Grind.{common_steps}
 use Rattle.std.proofs.Common.{◌≡◌, ℕ, ◌+◌, ◌^◌, ◌<◌, ◌≤◌, List, [], Option, None, Some, length, refl, sym, ◌∙◌, ap}
 use Rattle.std.proofs.Common.{subst, arith}
 use Rattle.std.proofs.lemmas.Option.{same_Some}
@@ -66,8 +68,7 @@ module _ (v : View) (m : Store) (new : New) (s : ℕ) (r : SlotRecord) (shows : 
       valid = valid_more (omega (arith, shows.next)) valid;
       upload = new_upload new;
       there = find_push_same m.next (new_upload new) m.uploads (next_unused v m shows);
-      tells = subst (λ (text : List ℕ). IsRecordOf m.indexes r text (new_upload new)) (sym (text_here v s [] s refl))
-          is;
+      tells = search (arith, common_steps);
     };
     gone = λ u e. (r, refl);
   }
@@ -77,6 +78,4 @@ module _ (v : View) (m : Store) (new : New) (s : ℕ) (r : SlotRecord) (shows : 
 
   -- and its texts are those that the rows show
   pub created_texts : (current : ℕ → ℕ) → HasTexts current v → HasTexts current (created_view v s r)
-  created_texts current texts = changed_texts shows comes current texts (λ q e.
-      let none : q.text_len ≡ 0 = ap (λ (x : SlotRecord). x.text_len) (sym (same_Some r q e)) ∙ no_text in
-      text_here v s [] s refl ∙ sym (ap (text_shown current (text_page v.blocks) v.rows s) none))
+  created_texts current texts = search (arith, common_steps)

@@ -1,4 +1,6 @@
 -- What is kept, with a longer upload, fits together.
+use Rattle.std.proofs.Common.{rules}
+use Rattle.std.proofs.lemmas.Grind.{common_steps}
 use Rattle.std.proofs.Common.{◌≡◌, inl, inr, ℕ, ◌+◌, ◌/◌, ◌<◌, ◌≤◌, List, [], ◌++◌, Option, None, Some, length}
 use Rattle.std.proofs.Common.{length-append, length-take, length-drop, get_or, set, take, drop, refl, sym, ◌∙◌, ap}
 use Rattle.std.proofs.Common.{subst, arith}
@@ -28,8 +30,7 @@ module _ (h : Holding) (fits : FitsTogether h) (slot : ℕ) (r : SlotRecord)
   slot_few = omega (arith, inside, fits.slot_count)
 
   pub has : HasBlocks h.blocks.rows slot r.text_len (get_or h.lists slot [])
-  has = subst (λ (o : Option SlotRecord). IsListOf h.blocks.rows slot o (get_or h.lists slot [])) there
-      (fits.listed slot slot_few)
+  has = rw there at (fits.listed slot slot_few)
 
   pub low : r.text_len / 4096 ≤ length (get_or h.lists slot [])
   low = omega (arith, has.size)
@@ -44,23 +45,10 @@ module _ (h : Holding) (fits : FitsTogether h) (slot : ℕ) (r : SlotRecord)
 
   module _ (r' : SlotRecord) (number : r'.number ≡ r.number) where
     numbered : (q : SlotRecord) → Some r' ≡ Some q → (q.number ≡ r.number) × (r.number < h.next)
-    numbered q e =
-        (ap (λ (p : SlotRecord). p.number) (sym (same_Some r' q e)) ∙ number, fits.below slot r there)
+    numbered q e = search (arith, common_steps)
 
     same_order : IsReordered slot r.number (Some r') h.order h.order
-    same_order = record {
-      rises = fits.ordered.rises;
-      there = λ q e. fits.ordered.all slot r slot_few there;
-      kept = λ k s other l. l;
-      only = λ k s l.
-          let used = fits.ordered.names k s l in
-          elim (cases_eq s slot) [
-            | inl same ↦
-                let was = one_value used.there (ap (λ (j : ℕ). get_or h.slots j None) same ∙ there) in
-                inr (sym used.is ∙ ap (λ (q : SlotRecord). q.number) was, same, (r', refl))
-            | inr other ↦ inl (other, l)
-          ];
-    }
+    same_order = search (arith, common_steps)
 
     -- the text stays
     pub fits_same : r'.text_len ≡ r.text_len → FitsTogether (record h { slots = set h.slots slot (Some r') })
@@ -99,17 +87,13 @@ module _ (h : Holding) (fits : FitsTogether h) (slot : ℕ) (r : SlotRecord)
   pub changed_below : (more : List ℕ) → ((i : ℕ) → i < length more → get_or more i 0 < length h.blocks.rows)
       → (i : ℕ) → i < length (more ++ drop (r.text_len / 4096) (get_or h.lists slot []))
       → get_or (more ++ drop (r.text_len / 4096) (get_or h.lists slot [])) i 0 < h.layout
-  changed_below more below i lt = subst (λ (n : ℕ). get_or
-      (more ++ drop (r.text_len / 4096) (get_or h.lists slot [])) i 0 < n) fits.row_count
-      (in_either (λ (b : ℕ). b < length h.blocks.rows) more
+  changed_below more below i lt = rw fits.row_count at (in_either (λ (b : ℕ). b < length h.blocks.rows) more
       (drop (r.text_len / 4096) (get_or h.lists slot [])) below tail i lt)
     where
       tail : (k : ℕ) → k < length (drop (r.text_len / 4096) (get_or h.lists slot []))
           → get_or (drop (r.text_len / 4096) (get_or h.lists slot [])) k 0 < length h.blocks.rows
       tail k lt =
-          let at : r.text_len / 4096 + k < length (get_or h.lists slot []) =
-          omega (arith, lt, length-drop (r.text_len / 4096) (get_or h.lists slot [])) in
-          subst (λ (b : ℕ). b < length h.blocks.rows) (sym
-          (get_or-drop (r.text_len / 4096) (get_or h.lists slot []) k 0))
+          let at : r.text_len / 4096 + k < length (get_or h.lists slot []) = search (arith, common_steps) in
+          rw (← (get_or-drop (r.text_len / 4096) (get_or h.lists slot []) k 0)) at
           (within h.blocks.rows (get_or (get_or h.lists slot []) (r.text_len / 4096 + k) 0)
           (slot, r.text_len / 4096 + k) (has.owned (r.text_len / 4096 + k) at))
