@@ -110,8 +110,7 @@ module _ {h : Holding} {v : View} {m : Store} (kept : KeepsView h v) (shows : Sh
       → (i : ℕ) × (i < length h.order) × (number_at h.order i ≡ j)
   listed j w e =
       let has = shows.all j w e in
-      let lt : has.slot < 512 = let inside =
-      in_use v.slots has.slot has.used has.there in omega (arith, inside, shows.valid.slot_count) in
+      let lt : has.slot < 512 = search (arith, common_steps) in
       let l = kept.ordered.all has.slot has.used lt has.there in
       (l.place, l.below, ap (λ (p : NumberedSlot). p.number) l.here ∙ has.number)
 

@@ -166,9 +166,7 @@ module _ {D : Type 0} {sure : Bool} {disk : Ghosts D} {d d' : D} {h h' : Holding
             → IfOk result (λ e. 1 ≤ length (list_of o') → bytes_with (disk.current d') (text_page h.layout) (list_of o')
             e.last.items ≡ open_text w.store.indexes p (completes w.store p))
         ends_on content known =
-            let P : IndexSet → Bool → Type 0 =
-            λ y b. IfOk result (λ e. 1 ≤ length (list_of o') → bytes_with (disk.current d')
-            (text_page h.layout) (list_of o') e.last.items ≡ open_text y p b) in
+            let P : IndexSet → Bool → Type 0 = search (arith, common_steps) in
             rw done_then at (rw indexes_are at (content p (s.honest known) (rw (← indexes_are) at held) open_began
             (rw (← indexes_are) at (own_draft.carries known is.still))))
 

@@ -179,9 +179,7 @@ module _ {D : Type 0} {sure : Bool} {disk : Ghosts D} {d : D} {h : Holding} {dra
       changes = elim (finds.goes goes) [
         | inl some ↦ text_changes w.store p (omega (arith, held.came, some))
         | inr whole ↦
-            let all : reached p ≡ offset_of o =
-            all_there found.declared (offset_of o) (reached p) whole.1 (omega (arith, reached_is, finds.within))
-            (omega (arith, reached_is)) in
+            let all : reached p ≡ offset_of o = search (arith, common_steps) in
             text_ends w.store p (declares_is ∙ whole.0) (completes_is ∙ ap (is_length found.declared) all ∙ whole.1)
       ]
 

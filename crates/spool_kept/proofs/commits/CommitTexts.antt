@@ -106,8 +106,7 @@ module _ (x : IndexSet) (p : Patch) (since : Option ℕ) (o : SpoolDraft) (end :
             subst (λ (xs : List ℕ). text_on current first (list_of o) (longer.text_len - full_bytes (length xs)) ≡ drop
             (full_bytes (length xs)) xs ++ more) (sym same_text) (
             let prefix : 4096 * (t / 4096) ≡ full_bytes t = omega arith in
-            let size : longer.text_len - full_bytes t ≡ length (open_text x p done) =
-            omega (arith, total, all_len, length-drop (4096 * (t / 4096)) (patch_text x p done).bytes) in
+            let size : longer.text_len - full_bytes t ≡ length (open_text x p done) = search (arith, common_steps) in
             let bytes : open_text x p done ≡ drop (full_bytes t) (text_of x p.began) ++ more =
             ap (λ (xs : List ℕ). drop (4096 * (t / 4096)) xs) all_is ∙ drop-append-le (4096 * (t / 4096))
             (text_of x p.began) more (omega arith) ∙ ap (λ (n : ℕ). drop n (text_of x p.began) ++ more) prefix in

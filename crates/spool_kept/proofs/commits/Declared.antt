@@ -88,15 +88,13 @@ module _ {D : Type 0} {sure : Bool} {disk : Ghosts D} {d : D} {h : Holding} {m :
   extension current = record {
     declared = sym known_is;
     accepted = told.tells.accepted ∙ ap length (sym (append-nil told.upload.accepted));
-    few = subst (λ (k : Option ℕ). length (told.upload.accepted ++ []) ≤ longest k) (sym known_is)
-        (omega (arith, may.within, told.tells.accepted, ap length (append-nil told.upload.accepted)));
+    few = search (arith, common_steps);
     small = small;
     state = told.tells.state ∙ ap (state_with m.indexes told.upload []) (sym alike)
         ∙ sym (state_patched m.indexes told.upload declared []);
     valid = subst IsValid (sym (transcoder_patched m.indexes told.upload declared []
         ∙ ap (transcoder_with m.indexes told.upload []) alike)) told.tells.valid;
-    encodable = ap (λ r. r.fault) (whole_patched m.indexes told.upload declared []
-        ∙ ap (text_with m.indexes told.upload []) alike) ∙ told.tells.encodable;
+    encodable = search (arith, common_steps);
     text = same_text ∙ sym (append-nil (text_of m.indexes told.upload));
     text_len = told.tells.text_len ∙ ap length (sym same_text);
     nothing = λ none. refl;

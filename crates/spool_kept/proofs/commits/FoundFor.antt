@@ -65,11 +65,6 @@ module _ {slots : List (Option SlotRecord)} (o : SpoolDraft) {slot : ℕ} (r : R
         declared = declared_is ∙ ap (known_or r.declared) declare_is;
         within = omega (arith, within, count, came_is);
         fits = fits;
-        stays = λ is.
-            let none = nothing is in
-            (omega (arith, none.0, came_is), λ new. ap (is_length declared) (sym count) ∙ none.1 new);
-        goes = λ is. elim (something is) [
-          | inl some ↦ inl (omega (arith, some, came_is))
-          | inr whole ↦ inr (whole.0, ap (is_length declared) (sym count) ∙ whole.1)
-        ];
+        stays = search (arith, common_steps);
+        goes = search (arith, common_steps);
       }

@@ -83,9 +83,7 @@ module _ {D : Type 0} {sure : Bool} {disk : Ghosts D} {d : D} {h : Holding} {old
       apart = (nothing_there, s.stands.apart);
       grown = grown_begun w s.stands.grown n count declare u place there;
       limit = s.stands.limit;
-      all = λ b reserved. in_other (lists_at old) (lists_at new) place (list_of o)
-          (changed_lists old new place (Some o) (changed_more placed)) b (s.stands.all b reserved)
-          (λ i lt e. omega (arith, lt, ap length (free_list placed)));
+      all = search (arith, common_steps);
     }
 
     pub begins : (u : Option Upload) → upload_of w.store n ≡ u → Opens u (Ok o) → (place ≡ free_number w)

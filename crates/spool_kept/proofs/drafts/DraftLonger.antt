@@ -158,14 +158,7 @@ module _ {sure : Type 0} {w : World} {current : ℕ → ℕ} {first : ℕ} {reco
       → ((b : ℕ) → get_or h'.reserved b false ≡ true → IsInSome new b) → RuleHolds w d (new d) h'
   room_rule h' d list new same rows size swapped reserved apart all = rule_holds w slots new d h' size record {
     texts = owns_texts h'.rows (same ∙ rows);
-    drafts = record {
-      apart = stand.apart;
-      reserved = reserved;
-      distinct = apart;
-      all = all;
-      needs = λ e p other found. ap length (swapped.others e (λ s. other (sym s))) ∙ needed e p found;
-      none = λ e other none. swapped.others e (λ s. other (sym s)) ∙ no_list e none;
-    };
+    drafts = search (arith, common_steps);
     limit = stand.limit ∙ ap (λ (r : List Row). Some (length r)) (sym same);
   }
 
@@ -269,10 +262,7 @@ module _ {sure : Type 0} {w : World} {current : ℕ → ℕ} {first n : ℕ} {re
       → is_short w d q done ≡ true
   lacks q done short =
       let lists : ℕ → List ℕ = λ e. if e == d then short.own else lists_at old e in
-      let swap : IsSwapped (lists_at old) d short.own lists = record {
-        here = rw (eq-eqb d d refl) refl;
-        others = λ e other. rw (ne_eqb e d (λ s. other (sym s))) refl;
-      } in
+      let swap : IsSwapped (lists_at old) d short.own lists = search (arith, common_steps) in
       let rule = room_rule stand shows short.held d short.own lists short.takes.rows known
       (omega (arith, short.takes.size, size, ap length short.takes.rows)) swap
       (all_reserved (lists_at old) lists d short.own swap short.held short.reserved

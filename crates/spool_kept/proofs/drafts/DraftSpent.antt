@@ -93,8 +93,7 @@ module _ {n : ℕ} {h h' : Held} {old : List (Option SpoolDraft)} {d : ℕ} {o o
     pub all_handed : (h'' : Held) → HandsOn h'.reserved h''.reserved (list_of o') → (b : ℕ)
         → get_or h''.reserved b false ≡ true → IsInSome (lists_at (set old d None)) b
     all_handed h'' hands b is =
-        let out : IsOut (list_of o') b =
-        λ i lt e. both_ways (get_or h''.reserved b false) (rw e at (hands.handed i lt)) is in
+        let out : IsOut (list_of o') b = search (arith, common_steps) in
         still_in b out (sym (hands.others b out) ∙ is)
 
 -- THE OTHER DRAFTS

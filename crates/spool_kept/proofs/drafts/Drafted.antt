@@ -52,8 +52,7 @@ changed_lists old new d o is = record { here = ap list_in is.here; others = λ e
 pub changed_out : (old new : List (Option SpoolDraft)) (d : ℕ) → new ≡ set old d None → IsChanged old d None new
 changed_out old new d is = record {
   here = ap (λ (xs : List (Option SpoolDraft)). draft_at xs d) is ∙ gone;
-  others = λ e other. ap (λ (xs : List (Option SpoolDraft)). draft_at xs e) is
-      ∙ get_or-set_other old d e None None (λ s. other (sym s));
+  others = search (arith, common_steps);
 }
   where
     gone : draft_at (set old d None) d ≡ None

@@ -44,9 +44,7 @@ module _ (number : ℕ) (old new : List (Option SpoolDraft)) (forgets : EachForg
   pub hold_forgotten : (n : ℕ) (h : Held) → DraftsHold n h old → DraftsHold n h new
   hold_forgotten n h hold = record {
     reserved = λ d. subst (IsReserved h) (sym (lists_same d)) (hold.reserved d);
-    placed = λ d o' e.
-        let was = draft_was number (draft_at old d) (draft_at new d) (forgets d) o' e in
-        was.2.placed n (hold.placed d was.0 was.1);
+    placed = search (arith, common_steps);
     distinct = λ d e apart. rw (← (lists_same d)) at (rw (← (lists_same e)) at (hold.distinct d e apart));
   }
 
@@ -97,8 +95,7 @@ module _ {h h' : Holding} {slot number : ℕ} (used : IsUsedBy h.slots slot numb
   still_of : (o o' : SpoolDraft) → ForgetsTail number o o' → IsOfUpload h.slots o → IsOfUpload h'.slots o'
   still_of o o' forgot is = record {
     grown = λ s r e at. omega (arith, is.grown s r (was s r e) (at ∙ forgot.same_number), forgot.same_offset);
-    after = λ s r e at count open_still. forgot.after r.text_len r.state
-        (is.after s r (was s r e) (at ∙ forgot.same_number) (count ∙ forgot.same_offset) open_still);
+    after = search (arith, common_steps);
   }
     where
       was : (s : ℕ) (r : SlotRecord) → get_or h'.slots s None ≡ Some r → get_or h.slots s None ≡ Some r
@@ -108,10 +105,7 @@ module _ {h h' : Holding} {slot number : ℕ} (used : IsUsedBy h.slots slot numb
   fits_after = record {
     blocks = hold_forgotten number old new forgets h'.layout h'.blocks
         (rw (← out.layout) at (hold_still h.layout slot h.blocks h'.blocks old out.rows out.reserved fit.blocks));
-    below = λ d o' e.
-        let was = draft_was number (draft_at old d) (draft_at new d) (forgets d) o' e in
-        let forgot = was.2 in
-        omega (arith, fit.below d was.0 was.1, forgot.same_number, out.next);
+    below = search (arith, common_steps);
     uploads = λ d o' e.
         let was = draft_was number (draft_at old d) (draft_at new d) (forgets d) o' e in
         still_of was.0 o' was.2 (fit.uploads d was.0 was.1);

@@ -46,8 +46,7 @@ of_begun : (slots : List (Option SlotRecord)) (r : Record) (o : SpoolDraft) → 
     → number_of o ≡ r.number → offset_of o ≡ r.accepted → IsAfter r.text_len r.state o → IsOfUpload slots o
 of_begun slots r o kept number offset after = record {
   grown = λ s q there is. omega (arith, offset, ap (λ (p : SlotRecord). p.accepted) (kept.only s q there (cc)));
-  after = λ s q there is same open_still.
-      subst (λ (p : SlotRecord). IsAfter p.text_len p.state o) (sym (kept.only s q there (is ∙ number))) after;
+  after = search (arith, common_steps);
 }
 
 pub begins_kept : (slots : List (Option SlotRecord)) (r : Record) (declare : Option ℕ)
@@ -116,8 +115,7 @@ pub fits_spent : (h h' : Holding) (old new : List (Option SpoolDraft)) (d : ℕ)
     → h'.next ≡ h.next → h'.slots ≡ h.slots → DraftsHold h'.layout h'.blocks new → DraftsFit h old → DraftsFit h' new
 fits_spent h h' old new d is next slots blocks fit = record {
   blocks = blocks;
-  below = each_dropped (λ (o : SpoolDraft). number_of o < h'.next) old new d is
-      (λ e o at. omega (arith, fit.below e o at, next));
+  below = search (arith, common_steps);
   uploads = each_dropped (IsOfUpload h'.slots) old new d is (λ e o at. rw (← slots) at (fit.uploads e o at));
 }
 
@@ -143,8 +141,7 @@ pub fits_put : (h h' : Holding) (drafts : List (Option SpoolDraft)) (d : ℕ) (l
     → DraftsHold h'.layout h'.blocks (set drafts d None) → DraftsFit h drafts → DraftsFit h' (set drafts d None)
 fits_put h h' drafts d longer used there more next slots blocks fit = record {
   blocks = blocks;
-  below = each_dropped (λ (o : SpoolDraft). number_of o < h'.next) drafts (set drafts d None) d refl
-      (λ e o at. omega (arith, fit.below e o at, next));
+  below = search (arith, common_steps);
   uploads = each_dropped (IsOfUpload h'.slots) drafts (set drafts d None) d refl
       (λ e o at. rw (← slots) at (of_extended h.slots longer used o there (fit.uploads e o at) more));
 }

@@ -63,6 +63,7 @@ above_is (x ∷ xs) rising n k u lt found least = elim (cases_lt n x.0) [
       let past : x.0 ≡ j → ⊥ = λ same. omega (arith, under, over, same) in
       least j w over (find_past x xs j past ∙ here))
 ]
+
 pub above_none : (xs : List (ℕ × Upload)) (n : ℕ) → ((j : ℕ) (w : Upload) → n < j → find j xs ≡ Some w → ⊥)
     → IsRising (numbers xs) → above n xs ≡ None
 above_none [] n free rising = refl

@@ -35,6 +35,7 @@ pigeons (suc n) (suc k) P there one =
       | inr other ↦ search (arith, common_steps)
     ]) (λ a b j p q. one a b (if j == last.0 then k else j) p q) in
     omega (arith, rest)
+
 -- where no slot is free there are 512 in the order
 pub all_listed : (slots : List (Option SlotRecord)) (order : List NumberedSlot) → Orders slots order 512
     → ((s : ℕ) → s < 512 → IsSome (get_or slots s None)) → 512 ≤ length order

@@ -12,5 +12,4 @@ pub returns : goal.returns
 returns c =
     let made = new_record c.args.self.now.indexes c.self.inside.next c.first.result c.args.new c.first.ensures.kept
     c.requires in
-    subst (λ (n : ℕ). IsNewRecord n c.args.new c.new.result) (ap (λ (k : Holding). k.next) c.self.view_is)
-    (subst (IsNewRecord c.self.inside.next c.args.new) (sym c.new.ensures) made)
+    rw (ap (λ (k : Holding). k.next) c.self.view_is) at (rw (← c.new.ensures) at made)

@@ -25,8 +25,7 @@ pub returns-clause-distinct : goal.returns-clause-distinct
 returns-clause-distinct c =
     let same : c.deref.result.now ≡ c.args.slots.items = search rules in
     orders_distinct c.args.slots.items c.in_ok-order.order.items c.requires.slots
-    (subst (λ (xs : List (Option SlotRecord)). Orders xs c.in_ok-order.order.items 512) same
-    c.in_ok-order.ensures.orders)
+    (rw same at c.in_ok-order.ensures.orders)
 
 pub returns-clause-whole : goal.returns-clause-whole
 returns-clause-whole c s r here =

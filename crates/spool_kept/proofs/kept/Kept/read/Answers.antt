@@ -35,10 +35,7 @@ returns-in-Ok-clause-answer g c honest m v kept shows says =
     let layout : c.self.inside.layout ≡ c.args.self.now.layout = ap (λ (k : Holding). k.layout) c.self.view_is in
     let read = same_read _ c.args.at c.in-Ok.count c.args.buf.now c.read_text.new.buf (c.in-Ok.ensures.read honest) in (
       there.0,
-      subst (λ (text : List ℕ). IsRead text c.args.at c.in-Ok.count c.args.buf.now c.read_text.new.buf) (sym there.1)
-          (subst (λ (n : ℕ). IsRead
-          (text_on current (text_page n) c.in-Some.found.list.now c.in-Some.found.upload.now.text_len)
-          c.args.at c.in-Ok.count c.args.buf.now c.read_text.new.buf) layout read),
+      rw (← there.1) at (rw layout at read),
     )
 
 pub returns-in-Err-clause-answer : goal.returns-in-Err-clause-answer

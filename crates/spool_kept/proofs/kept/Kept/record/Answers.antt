@@ -10,8 +10,7 @@ pub returns-in_err-slot-clause-kept : goal.returns-in_err-slot-clause-kept
 returns-in_err-slot-clause-kept c v m kept shows =
     let none : option_copied c.from_residual.result ≡ None = search rules in
     let empty = no_upload kept shows c.args.number c.in_err-slot.ensures.used in
-    subst (λ (o : Option Record). KeepsOf m.indexes c.args.number (upload_of m c.args.number) o) (sym none)
-    (kept_none m.indexes c.args.number (upload_of m c.args.number) empty)
+    rw (← none) at (kept_none m.indexes c.args.number (upload_of m c.args.number) empty)
 
 pub returns-in_err-slot-clause-told : goal.returns-in_err-slot-clause-told
 returns-in_err-slot-clause-told c v m kept shows =

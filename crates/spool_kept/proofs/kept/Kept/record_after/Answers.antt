@@ -33,11 +33,9 @@ returns-in_err-kept c v m kept shows =
     let entry = c.in_ok-slot.field-0.now in
     let first : c.deref.result.now ≡ h.order = search rules in
     let second : c.deref-2.result.now ≡ h.order = search rules in
-    let is = subst (λ (order : List NumberedSlot). IsPlaceFor order n place) first
-    (c.places_to-place.ensures.place (subst Rises (sym first) kept.ordered.rises)) in
+    let is = rw first at (c.places_to-place.ensures.place (subst Rises (sym first) kept.ordered.rises)) in
     let inside = subst (λ (order : List NumberedSlot). place < length order) second c.in_ok-slot.ensures.lookup.3.0 in
-    let here = subst (λ (order : List NumberedSlot). entry ≡ get_or order place entry) second
-    c.in_ok-slot.ensures.lookup.1 in
+    let here = rw second at c.in_ok-slot.ensures.lookup.1 in
     let used = named kept shows n place is entry.number entry.slot inside
     (sym (here ∙ get_or_default h.order place entry (numbered 0 0) inside)) in
     clash (sym c.in_err-kept.ensures.kept) used.there
@@ -51,11 +49,9 @@ returns c v m kept shows =
     let r = c.record.result.now in
     let first : c.deref.result.now ≡ h.order = search rules in
     let second : c.deref-2.result.now ≡ h.order = search rules in
-    let is = subst (λ (order : List NumberedSlot). IsPlaceFor order n place) first
-    (c.places_to-place.ensures.place (subst Rises (sym first) kept.ordered.rises)) in
+    let is = rw first at (c.places_to-place.ensures.place (subst Rises (sym first) kept.ordered.rises)) in
     let inside = subst (λ (order : List NumberedSlot). place < length order) second c.in_ok-slot.ensures.lookup.3.0 in
-    let here = subst (λ (order : List NumberedSlot). entry ≡ get_or order place entry) second
-    c.in_ok-slot.ensures.lookup.1 in
+    let here = rw second at c.in_ok-slot.ensures.lookup.1 in
     let at = sym (here ∙ get_or_default h.order place entry (numbered 0 0) inside) in
     let used = named kept shows n place is entry.number entry.slot inside at in
     let told = found kept shows (sym c.in_ok-kept.ensures.kept) used c.record.ensures.said c.record.ensures.unpacked in
