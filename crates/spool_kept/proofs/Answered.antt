@@ -1,5 +1,4 @@
 -- What is kept tells of the uploads that a view shows.
-use Rattle.std.proofs.Common.{rules}
 use Rattle.std.proofs.lemmas.Grind.{common_steps}
 use Rattle.std.proofs.Common.{◌≡◌, inl, inr, ℕ, ◌<◌, ◌≤◌, List, [], Option, None, Some, MatchOption, length, get_or}
 use Rattle.std.proofs.Common.{refl, sym, ◌∙◌, ap, subst, arith}
@@ -116,11 +115,7 @@ module _ {h : Holding} {v : View} {m : Store} (kept : KeepsView h v) (shows : Sh
 
   module _ (n place : ℕ) (is : IsPlaceFor h.order n place) where
     pub none_after : length h.order ≤ place → above n m.uploads ≡ None
-    none_after le = above_none m.uploads n (λ j w over e.
-        let at = listed j w e in
-        let lt = at.1 in
-        let up = is.before at.0 (omega (arith, lt, le)) in
-        omega (arith, up, at.2, over)) shows.rising
+    none_after le = grind (arith, common_steps, above_none, listed)
 
     pub some_after : (k s : ℕ) → place < length h.order → get_or h.order place (numbered 0 0) ≡ numbered k s
         → (u : Upload) → upload_of m k ≡ Some u → above n m.uploads ≡ Some (k, u)
@@ -133,10 +128,8 @@ module _ {h : Holding} {v : View} {m : Store} (kept : KeepsView h v) (shows : Sh
         elim (cases_lt at.0 place) [
           | inl low ↦ let up = is.before at.0 low in absurd (omega (arith, up, at.2, over))
           | inr high ↦ elim (cases_eq at.0 place) [
-            | inl same ↦ let e' : number_at h.order at.0 ≡ number_at h.order place =
-                ap (number_at h.order) same in omega (arith, e', here, at.2)
-            | inr other ↦ let less = kept.ordered.rises place at.0 (omega (arith, high, other)) inside in omega
-                (arith, less, here, at.2)
+            | inl same ↦ search (arith, common_steps)
+            | inr other ↦ search (arith, common_steps)
           ]
         ])
 

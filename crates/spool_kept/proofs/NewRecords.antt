@@ -1,10 +1,9 @@
 -- The record of a new upload.
-use Rattle.std.proofs.Common.{rules}
 use Rattle.std.proofs.lemmas.Grind.{common_steps}
-use Rattle.std.proofs.Common.{◌≡◌, ℕ, ◌+◌, ◌≤◌, List, [], Option, false, All, length, sym, ◌∙◌, ap, subst, arith}
+use Rattle.std.proofs.Common.{◌≡◌, ℕ, ◌+◌, ◌≤◌, List, [], false, length, sym, ◌∙◌, ap, subst, arith}
 use Rattle.enc_model.specs.Indexes.{IndexSet}
 use Rattle.enc_stream.specs.StateBytes.{state_bytes}
-use Rattle.upload_rules.specs.Lengths.{is_too_large, longest}
+use Rattle.upload_rules.specs.Lengths.{is_too_large}
 use Rattle.upload_rules.specs.Records.{Keeps, IsWellFormed}
 use Rattle.upload_rules.specs.States.{state_with, transcoder_with}
 use Rattle.upload_rules.specs.Store.{New, new_upload, is_complete}
@@ -22,19 +21,7 @@ module _ (x : IndexSet) (n : ℕ) (r : Record) (new : New) (keeps : Keeps x n r 
   state_is = keeps.tells.state
 
   pub new_fits : IsWellFormed new → FitsMemory r
-  new_fits well =
-      let u = new_upload new in
-      record {
-        unpacked = record {
-          transcoder = transcoder_with x u [] (is_complete u);
-          valid = keeps.valid;
-          is = state_is;
-          from = keeps.tells.from ∙ sym (with_from x u (is_complete u));
-          to = keeps.tells.to ∙ sym (with_to x u (is_complete u));
-          mode = keeps.tells.mode ∙ sym (with_mode x u (is_complete u));
-        };
-        short = subst (λ (bytes : List ℕ). length bytes ≤ 1536) (sym keeps.tells.metadata) well.short;
-      }
+  new_fits well = grind (arith, common_steps, state_is, with_from, with_to, with_mode)
 
   tells_new : IsRecordOf x (said_of r) [] (new_upload new)
   tells_new = let text = sym (new_text x new) in assumption (text, keeps, keeps.tells)

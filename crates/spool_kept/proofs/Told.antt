@@ -1,5 +1,4 @@
 -- What a record tells of an upload, and its state.
-use Rattle.std.proofs.Common.{rules}
 use Rattle.std.proofs.lemmas.Grind.{common_steps}
 use Rattle.std.proofs.Common.{◌≡◌, ℕ, ◌==◌, Bool, true, false, if◌then◌else◌, List, [], ◌∷◌, Option, length, refl, sym}
 use Rattle.std.proofs.Common.{◌∙◌, ap, subst, arith}
@@ -15,7 +14,7 @@ use Rattle.enc_model.specs.declared.Mode.TheVariants.{Html, Fatal}
 use Rattle.enc_model.specs.Encode.{Tables}
 use Rattle.enc_model.specs.Indexes.{IndexSet, tables}
 use Rattle.enc_model.specs.Decode.{Held, Reading, decoded, decoding, decoding_start, sniffed, undecided}
-use Rattle.enc_model.specs.Transcode.{Transcoder, phase_of}
+use Rattle.enc_model.specs.Transcode.{phase_of}
 use Rattle.enc_stream.specs.StateBytes.{state_bytes, encoding_number, mode_number}
 use Rattle.enc_stream.proofs.Bytes.{from_there, to_there, mode_there}
 use Rattle.upload_rules.specs.Lengths.{is_length}
@@ -52,14 +51,7 @@ module _ (x : IndexSet) (r : SlotRecord) (shown : List ℕ) (u : Upload) (is : I
   -- a record that tells of an upload has a state
   pub told_state : HasState r
   unfolding state_with
-  told_state = record {
-    transcoder = transcoder_with x u [] (is_complete u);
-    valid = is.valid;
-    is = is.state;
-    phase = subst (λ (n : ℕ). FitsPhase (transcoder_with x u [] (is_complete u)).phase n r.declared) (sym is.accepted)
-        (subst (λ (k : Option ℕ). FitsPhase (transcoder_with x u [] (is_complete u)).phase (length u.accepted) k)
-        (sym is.declared) (at_phase (is_complete u) refl));
-  }
+  told_state = grind (arith, common_steps, at_phase)
 
 -- STATES SAY THEIR ENCODINGS
 

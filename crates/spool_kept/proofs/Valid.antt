@@ -1,23 +1,18 @@
 -- What a valid view says of a slot and of a row.
-use Rattle.std.proofs.Common.{rules}
 use Rattle.std.proofs.lemmas.Grind.{common_steps}
-use Rattle.std.proofs.Common.{◌≡◌, inl, inr, ℕ, ◌+◌, ◌-◌, ◌*◌, ◌^◌, ◌<◌, ◌≤◌, refl, subst, List, Option, None, Some}
+use Rattle.std.proofs.Common.{◌≡◌, ℕ, ◌+◌, ◌-◌, ◌*◌, ◌^◌, ◌<◌, ◌≤◌, refl, subst, List, Option, None, Some}
 use Rattle.std.proofs.Common.{length, get_or, ltb, true, sym, ◌∙◌, ap, arith}
 use Rattle.std.proofs.lemmas.Bool.Decides.{nat_tests}
-use Rattle.upload_rules.specs.Lengths.{longest}
 use Rattle.upload_rules.specs.Room.{blocks_of}
 use Rattle.spool_pages.specs.View.{View, SlotRecord, Says, Stands, slot_at, slot_bytes, row_bytes, index_place}
 use Rattle.spool_pages.specs.View.{slot_place, row_place}
-use Rattle.spool_pages.specs.Fits.{FitsLength, FitsSlotOf, FitsRow}
+use Rattle.spool_pages.specs.Fits.{FitsSlotOf, FitsRow}
 use Rattle.enc_index.specs.Area.{area_byte}
 use Rattle.spool_journal.specs.Image.{journal_pages}
-use Rattle.std.proofs.Math.ListN.{get_or-eq_default}
-use Rattle.std.proofs.lemmas.Bool.{cases_lt}
 use Rattle.spool_kept.specs.Records.{FitsKept}
 use Rattle.spool_kept.specs.Holding.{AreDistinct}
 use Rattle.spool_blocks.specs.Chains.{OwnsOneEach}
 use Rattle.spool_kept.specs.Shows.{IsValid, IsValidRecord, IsOwned}
-use Rattle.spool_kept.proofs.slots.ChangedSlots.{clash}
 
 module _ (v : View) (valid : IsValid v) (slots : List (Option SlotRecord)) (same : slots ≡ v.slots) where
   there : (s : ℕ) (o : Option SlotRecord) → get_or slots s None ≡ o → slot_at v s ≡ o

@@ -1,10 +1,9 @@
 -- A draft whose text has ended: why it isn't put after its upload's, and that it may be.
-use Rattle.std.proofs.Common.{rules}
 use Rattle.std.proofs.lemmas.Grind.{common_steps}
 use Rattle.std.proofs.Common.{Result, Err, IfOk, ◌≡◌, inl, inr, ℕ, ◌≤◌, ◌+◌, ◌-◌, ◌/◌, ◌^◌, Bool, true, false, List}
 use Rattle.std.proofs.Common.{Option, None, Some, length, get_or, set, min, refl, sym, ◌∙◌, ap, subst, arith}
 use Rattle.enc_model.specs.Indexes.{IndexSet}
-use Rattle.spool_blocks.specs.Blocks.{Row, Held}
+use Rattle.spool_blocks.specs.Blocks.{Held}
 use Rattle.spool_disk.specs.declared.disk.Disk.{Ghosts}
 use Rattle.spool_disk.specs.Views.{Lasts}
 use Rattle.spool_disk.proofs.Firm.{lasts_more}
@@ -18,13 +17,12 @@ use Rattle.spool_pages.proofs.Resting.{rests_aside}
 use Rattle.spool_pages.specs.Rests.{Unowned}
 use Rattle.spool_pages.specs.View.{SlotRecord}
 use Rattle.spool_texts.specs.Drafts.{IsReserved, bytes_with}
-use Rattle.spool_texts.specs.TextOn.{AllBelow}
 use Rattle.upload_rules.specs.Answers.{Answers}
 use Rattle.upload_rules.specs.Calls.{commit_refusal}
 use Rattle.upload_rules.specs.Lengths.{is_length, known_or, longest}
 use Rattle.upload_rules.specs.Room.{is_short, wants}
-use Rattle.upload_rules.specs.Store.{Upload, find, is_complete, patched, with_length}
-use Rattle.upload_rules.specs.World.{Patch, World, completes, length_then, reached}
+use Rattle.upload_rules.specs.Store.{find, is_complete, patched, with_length}
+use Rattle.upload_rules.specs.World.{Patch, World, completes, reached}
 use Rattle.upload_rules.proofs.Commits.{complete_patched}
 use Rattle.upload_rules.specs.declared.errors.UploadError.{UploadError}
 use Rattle.upload_rules.specs.declared.errors.UploadError.TheVariants.{NoMemory, DiskFault, Refused}
@@ -127,8 +125,7 @@ module _ {D : Type 0} {sure : Bool} {disk : Ghosts D} {d d' : D} {h h' : Holding
     within = subst (λ (k : Option ℕ). reached p ≤ longest k) declared_is (omega (arith, reached_is, finds.within))
 
     done_is : completes w.store p ≡ is_length found.declared (reached p)
-    done_is = ap (λ (v : Option Upload). is_length (length_then p v) (reached p)) is.still.1
-        ∙ ap (λ (k : Option ℕ). is_length k (reached p)) (sym declared_is)
+    done_is = grind (arith, common_steps, declared_is)
 
     -- the text is complete where the upload is
     pub whole_is : is_complete (patched (with_length p.began is.still.0) p.declare p.body) ≡ completes w.store p
@@ -210,10 +207,7 @@ module _ {D : Type 0} {sure : Bool} {disk : Ghosts D} {d d' : D} {h h' : Holding
         → (ended : Result DraftEnd UploadError) → ended ≡ Err e
         → EndsAs w.store.indexes p (completes w.store p) o o' h.blocks h'.blocks ended
         → Answers (commit_refusal w number p) r done (Unit {0})
-    not_ended {T = T} done r e is_err ended was ends =
-        subst (λ (q : Result T UploadError). Answers (commit_refusal w number p) q done (Unit {0})) (sym is_err)
-        (refused done e (subst (λ (q : Result DraftEnd UploadError). EndsAs w.store.indexes p (completes w.store p) o o'
-        h.blocks h'.blocks q) was ends))
+    not_ended {T = T} done r e is_err ended was ends = grind (arith, common_steps, refused)
 
     module _ (end : DraftEnd) (whole : IsWhole w.store.indexes p (completes w.store p) o' end) {found : Found}
         (finds : IsFound h.slots o found) where

@@ -1,14 +1,12 @@
 -- The drafts that a commit leaves fit what is kept.
-use Rattle.std.proofs.Common.{arith, rules}
-use Rattle.std.proofs.lemmas.Grind.{common_steps}
-use Rattle.std.proofs.Common.{◌≡◌, ℕ, List, Option, None, Some, get_or, set, refl, sym, ◌∙◌, ap, subst}
+use Rattle.std.proofs.Common.{◌≡◌, ℕ, List, Option, None, Some, get_or, set, refl, ◌∙◌, ap}
 use Rattle.spool_blocks.specs.Blocks.{Held}
 use Rattle.spool_drafts.specs.Drafts.{IsPlaced, list_of}
 use Rattle.spool_drafts.specs.declared.draft.SpoolDraft.{SpoolDraft}
 use Rattle.spool_pages.specs.View.{SlotRecord}
 use Rattle.spool_texts.specs.Drafts.{GivesBack, IsReserved}
-use Rattle.spool_kept.specs.Drafting.{DraftsFit, DraftsHold, OnlyReserves}
-use Rattle.spool_kept.specs.Extending.{Advances, HandsOn, IsLonger, longer_record}
+use Rattle.spool_kept.specs.Drafting.{DraftsFit, OnlyReserves}
+use Rattle.spool_kept.specs.Extending.{Advances, HandsOn, IsLonger}
 use Rattle.spool_kept.specs.Holding.{Holding}
 use Rattle.spool_kept.specs.declared.extending.Longer.{Longer}
 use Rattle.spool_kept.proofs.drafts.DraftSpent.{fit_given, fit_handed, rows_handed}

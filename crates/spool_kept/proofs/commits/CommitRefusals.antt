@@ -1,15 +1,13 @@
 -- Why a commit is refused.
-use Rattle.std.proofs.Common.{arith, rules}
+use Rattle.std.proofs.Common.{arith}
 use Rattle.std.proofs.lemmas.Grind.{common_steps}
-use Rattle.std.proofs.Common.{◌≡◌, ◌⊎◌, inl, inr, ℕ, ◌&&◌, Bool, true, false, length, nat_lt, Option, Some, None}
-use Rattle.std.proofs.Common.{if◌then◌else◌, refl, sym, ◌∙◌, ap, subst, eq-eqb}
-use Rattle.std.proofs.lemmas.Option.{same_Some}
+use Rattle.std.proofs.Common.{◌≡◌, ◌⊎◌, ℕ, Bool, true, false, length, Option, Some, None}
+use Rattle.std.proofs.Common.{if◌then◌else◌, refl, ◌∙◌, ap, eq-eqb}
 use Rattle.upload_rules.specs.declared.errors.UploadRefusal.{UploadRefusal}
 use Rattle.upload_rules.specs.declared.errors.UploadRefusal.TheVariants.{Unencodable, Full, LengthSet, TooLong}
 use Rattle.upload_rules.specs.Answers.{IsLate}
-use Rattle.upload_rules.specs.Calls.{commit_refusal, committed, committed_store, declares, dropped, is_empty, is_idle}
+use Rattle.upload_rules.specs.Calls.{commit_refusal, committed, committed_store, declares, dropped, is_idle}
 use Rattle.upload_rules.specs.Calls.{length_refusal, or_else, refuse_if, text_refusal, text_stays, upload_refusal}
-use Rattle.upload_rules.specs.Lengths.{differ, known_or, longest}
 use Rattle.upload_rules.specs.Room.{is_short}
 use Rattle.upload_rules.specs.Store.{Upload, Store, patched_store, upload_of}
 use Rattle.upload_rules.specs.World.{Patch, World, completes, is_there, patch_text, reached}
@@ -46,9 +44,7 @@ module _ (w : World) (d : ℕ) (p : Patch) (allows : upload_refusal p (upload_of
   by_text = refusal_is w d p ∙ ap (λ o. or_else o (text_refusal w d p)) allows
 
   pub late : IsLate (commit_refusal w d p)
-  late = subst IsLate (sym by_text)
-      (late_if (text_stays w.store p) (is_there (patch_text w.store.indexes p (completes w.store p)).fault)
-      (is_short w d p (completes w.store p)))
+  late = grind (arith, common_steps, by_text, late_if)
 
   pub nothing_refused : text_stays w.store p ≡ true → commit_refusal w d p ≡ None
   nothing_refused stays = by_text ∙ rw (stays) refl

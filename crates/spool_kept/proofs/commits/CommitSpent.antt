@@ -1,38 +1,32 @@
 -- A commit's draft is spent: what the disk and what is kept stand for then.
-use Rattle.std.proofs.Common.{rules}
 use Rattle.std.proofs.lemmas.Grind.{common_steps}
-use Rattle.std.proofs.Common.{Result, Ok, Err, IfOk, ◌≡◌, ◌≢◌, ◌⊎◌, inl, inr, Bool, true, false, ◌&&◌, if◌then◌else◌, ℕ}
-use Rattle.std.proofs.Common.{◌*◌, ◌<◌, ◌≤◌, List, [], ◌∷◌, Option, None, Some, length, get_or, set, refl, sym, ◌∙◌, ap}
+use Rattle.std.proofs.Common.{Result, Ok, Err, IfOk, ◌≡◌, ◌≢◌, ◌⊎◌, Bool, true, false, ℕ}
+use Rattle.std.proofs.Common.{◌*◌, ◌<◌, ◌≤◌, List, [], Option, None, Some, length, get_or, set, refl, sym, ◌∙◌, ap}
 use Rattle.std.proofs.Common.{subst, arith}
-use Rattle.enc_model.specs.Indexes.{IndexSet}
 use Rattle.spool_blocks.specs.Blocks.{Held}
 use Rattle.spool_disk.specs.declared.disk.Disk.{Ghosts}
 use Rattle.spool_disk.specs.Views.{Lasts}
-use Rattle.spool_disk.proofs.Firm.{lasts_more, lasts_on}
 use Rattle.spool_journal.specs.Image.{journal_pages, text_page}
 use Rattle.spool_drafts.specs.Drafts.{IsPlaced, list_of, tail_of}
 use Rattle.spool_drafts.specs.Effect.{Effect, OnlyWrites}
 use Rattle.spool_drafts.specs.declared.draft.SpoolDraft.{SpoolDraft}
 use Rattle.spool_drafts.proofs.Stays.{bytes_same}
 use Rattle.spool_pages.specs.View.{SlotRecord}
-use Rattle.spool_room.specs.Holdings.{IsInSome}
 use Rattle.spool_texts.specs.Drafts.{GivesBack, IsReserved}
 use Rattle.upload_rules.specs.Answers.{Answers, IsLate}
-use Rattle.upload_rules.specs.Calls.{commit_outcome, commit_refusal, committed, committed_store, declares, dropped}
-use Rattle.upload_rules.specs.Calls.{is_empty, outcome, text_stays}
+use Rattle.upload_rules.specs.Calls.{commit_outcome, commit_refusal, committed, committed_store, dropped}
+use Rattle.upload_rules.specs.Calls.{text_stays}
 use Rattle.upload_rules.specs.Drafts.{DraftOf, draft_at}
 use Rattle.upload_rules.specs.Grown.{IsGrown}
-use Rattle.upload_rules.specs.Lengths.{is_length}
-use Rattle.upload_rules.specs.Store.{Store, Upload, find, is_complete, patched, patched_at, patched_store, replaced}
+use Rattle.upload_rules.specs.Store.{Store, find, is_complete, patched, patched_at, patched_store, replaced}
 use Rattle.upload_rules.specs.Store.{with_length, without}
-use Rattle.upload_rules.specs.World.{Patch, World, completes, length_then, reached}
+use Rattle.upload_rules.specs.World.{Patch, World}
 use Rattle.upload_rules.specs.declared.errors.UploadError.{UploadError}
 use Rattle.upload_rules.specs.declared.errors.UploadError.TheVariants.{NoMemory, DiskFault, Refused}
 use Rattle.upload_rules.specs.declared.errors.UploadRefusal.{UploadRefusal}
-use Rattle.upload_rules.proofs.Commits.{complete_patched}
 use Rattle.upload_rules.proofs.Growing.{grown_dropped, grown_put}
 use Rattle.spool_kept.specs.Committing.{IsCommit, with_length_at}
-use Rattle.spool_kept.specs.Drafting.{DraftStands, DraftsStand, IsOwnedBy, OnlyReserves, StandsFor, lists_at}
+use Rattle.spool_kept.specs.Drafting.{DraftStands, DraftsStand, OnlyReserves, StandsFor}
 use Rattle.spool_kept.specs.Extending.{HandsOn, IsAppend, IsLonger, longer_record}
 use Rattle.spool_kept.specs.Holding.{Holding}
 use Rattle.spool_kept.specs.Shows.{ImageShows}
@@ -224,16 +218,4 @@ module _ {D : Type 0} {sure : Bool} {disk : Ghosts D} {d d' d'' : D} {h h' : Hol
       }) (stands.stands.each e)
 
   pub stands_declared : StandsFor sure disk d'' h' drafts (with_length_at w n declare)
-  stands_declared = subst (λ (m : Store). StandsFor sure disk d'' h' drafts (record w { store = m })) (sym named_is)
-      record {
-        stored = subst (Stored sure disk d'' h') named_is stored;
-        stands = subst (λ (k : ℕ). DraftsStand (sure ≡ true) w.store.indexes (disk.current d'') (text_page k) h'.slots
-            h'.blocks
-            (record w { store = named }) drafts) (sym is_longer.layout) record {
-              each = each_named;
-              apart = stands.stands.apart;
-              grown = grown_put w stands.stands.grown n append.upload declare [] append.there;
-              limit = stands.stands.limit ∙ ap (λ (b : Held). Some (length b.rows)) (sym (is_longer.same refl));
-              all = rw (← (is_longer.same refl)) at stands.stands.all;
-            };
-      }
+  stands_declared = grind (arith, common_steps, named_is, each_named, grown, grown_put)

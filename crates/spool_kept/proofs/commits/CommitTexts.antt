@@ -1,14 +1,13 @@
 -- A draft's whole text after its upload's.
-use Rattle.std.proofs.Common.{rules}
 use Rattle.std.proofs.lemmas.Grind.{common_steps}
-use Rattle.std.proofs.Common.{◌≡◌, inl, inr, ℕ, ◌≤◌, ◌+◌, ◌-◌, ◌*◌, ◌/◌, ◌++◌, Bool, false, List, [], Option, None}
-use Rattle.std.proofs.Common.{Some, length, drop, refl, sym, ◌∙◌, ap, subst, arith, length-append, length-drop}
+use Rattle.std.proofs.Common.{◌≡◌, ℕ, ◌≤◌, ◌+◌, ◌-◌, ◌*◌, ◌/◌, ◌++◌, Bool, false, List, [], Option, None}
+use Rattle.std.proofs.Common.{length, drop, refl, sym, ◌∙◌, ap, subst, arith, length-append}
 use Rattle.std.proofs.lemmas.Bool.{cases_lt}
 use Rattle.std.proofs.lemmas.List.{drop-append-le, nil_from_length}
 use Rattle.enc_model.specs.Indexes.{IndexSet}
 use Rattle.enc_stream.specs.StateBytes.{IsValid}
-use Rattle.upload_rules.specs.Lengths.{is_length, is_too_large, known_or, longest}
-use Rattle.upload_rules.specs.States.{state_with, transcoder_with}
+use Rattle.upload_rules.specs.Lengths.{is_too_large, known_or, longest}
+use Rattle.upload_rules.specs.States.{state_with}
 use Rattle.upload_rules.specs.Store.{Upload, text_of, text_with, with_length, patched, is_complete}
 use Rattle.upload_rules.specs.World.{Patch, reached, patch_text}
 use Rattle.upload_rules.proofs.Commits.{state_patched, text_patched, transcoder_patched, whole_patched}
@@ -60,10 +59,7 @@ module _ (x : IndexSet) (p : Patch) (since : Option ℕ) (o : SpoolDraft) (end :
   more = grown.0
 
   all_is : (patch_text x p done).bytes ≡ text_of x p.began ++ more
-  all_is =
-      ap (λ r. r.bytes) (patch_text_is x p done) ∙ ap (λ (b : Bool). (text_with x u p.body b).bytes) (sym is_done)
-      ∙ sym (text_patched x u p.declare p.body) ∙ grown.1
-      ∙ ap (λ (xs : List ℕ). xs ++ more) (text_since x p.began since open_still)
+  all_is = grind (arith, common_steps, patch_text_is, text_patched, grown, text_since)
 
   all_len : length (patch_text x p done).bytes ≡ length (text_of x p.began) + length more
   all_len = omega (arith, ap length all_is, length-append (text_of x p.began) more)
@@ -72,11 +68,7 @@ module _ (x : IndexSet) (p : Patch) (since : Option ℕ) (o : SpoolDraft) (end :
   added_is = omega (arith, all_len)
 
   none_added : length (list_of o) ≡ 0 → length more ≡ 0
-  none_added none = elim (cases_lt 0 (length more)) [
-    | inl lt ↦ absurd (let wanted = wants_some x p done whole.encodable (omega (arith, added_is, lt)) in omega
-        (arith, wanted, added_is, lt, none, whole.listed))
-    | inr none' ↦ omega (arith, none')
-  ]
+  none_added none = grind (arith, common_steps, cases_lt, wants_some, added_is)
 
   -- THE BYTES
 

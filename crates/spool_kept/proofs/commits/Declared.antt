@@ -1,18 +1,16 @@
 -- A length alone: what it makes of an upload whose text stays.
-use Rattle.std.proofs.Common.{rules}
 use Rattle.std.proofs.lemmas.Grind.{common_steps}
-use Rattle.std.proofs.Common.{◌≡◌, ◌∙◌, ◌≤◌, ◌+◌, ◌++◌, ℕ, Bool, false, List, [], Option, None, Some, length, get_or}
+use Rattle.std.proofs.Common.{◌≡◌, ◌∙◌, ℕ, Bool, false, List, [], Option, None, Some, length}
 use Rattle.std.proofs.Common.{refl, sym, ap, subst, arith}
 use Rattle.std.proofs.lemmas.List.{append-nil}
 use Rattle.enc_stream.specs.StateBytes.{IsValid}
 use Rattle.spool_disk.specs.declared.disk.Disk.{Ghosts}
 use Rattle.spool_journal.specs.Image.{text_page}
 use Rattle.spool_pages.specs.View.{SlotRecord}
-use Rattle.upload_rules.specs.Lengths.{is_length, is_too_large, known_or, longest}
+use Rattle.upload_rules.specs.Lengths.{is_length, is_too_large, known_or}
 use Rattle.upload_rules.specs.States.{state_with, transcoder_with}
-use Rattle.upload_rules.specs.Store.{Store, Upload, find, is_complete, patched, text_of, text_with, upload_of}
-use Rattle.upload_rules.proofs.Commits.{complete_patched, state_patched, text_of_is, text_patched, transcoder_patched}
-use Rattle.upload_rules.proofs.Commits.{whole_patched}
+use Rattle.upload_rules.specs.Store.{Store, Upload, find, is_complete, patched, text_of, upload_of}
+use Rattle.upload_rules.proofs.Commits.{state_patched, text_of_is, text_patched, transcoder_patched}
 use Rattle.spool_kept.specs.Committing.{MayDeclare}
 use Rattle.spool_kept.specs.Extending.{IsExtension, IsPending, OnlyDeclares}
 use Rattle.spool_kept.specs.Holding.{Holding, IsUsedBy}
@@ -78,9 +76,7 @@ module _ {D : Type 0} {sure : Bool} {disk : Ghosts D} {d : D} {h : Holding} {m :
   alike = open_still ∙ sym open_before
 
   same_text : text_of m.indexes (patched told.upload declared []) ≡ text_of m.indexes told.upload
-  same_text =
-      text_patched m.indexes told.upload declared []
-      ∙ ap (λ (b : Bool). (text_with m.indexes told.upload [] b).bytes) alike ∙ sym (text_of_is m.indexes told.upload)
+  same_text = grind (arith, common_steps, text_patched, alike, text_of_is)
 
   extension : {known : Type 0} (current : ℕ → ℕ) → IsExtension known m.indexes told.upload declared [] []
       (named may.used slot declared) [] current (text_page h.layout)

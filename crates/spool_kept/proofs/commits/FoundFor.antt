@@ -1,8 +1,7 @@
 -- What is read of the upload that a commit is for.
-use Rattle.std.proofs.Common.{rules}
 use Rattle.std.proofs.lemmas.Grind.{common_steps}
 use Rattle.std.proofs.Common.{◌≡◌, ◌∙◌, ◌⊎◌, ◌≤◌, ◌<◌, ◌+◌, ◌^◌, inl, inr, ℕ, Bool, true, false, List, Option, None}
-use Rattle.std.proofs.Common.{Some, Err, get_or, sym, ap, subst, arith}
+use Rattle.std.proofs.Common.{Some, Err, get_or, ap, subst, arith}
 use Rattle.spool_drafts.specs.Drafts.{came_of, declare_of, number_of, offset_of}
 use Rattle.spool_drafts.specs.declared.draft.SpoolDraft.{SpoolDraft}
 use Rattle.spool_pages.specs.View.{SlotRecord}

@@ -1,9 +1,7 @@
 -- A draft more, at the least number that is free.
-use Rattle.std.proofs.Common.{rules}
 use Rattle.std.proofs.lemmas.Grind.{common_steps}
-use Rattle.std.proofs.Common.{◌≡◌, Result, Ok, Err, ℕ, List, [], ◌∷◌, Option, None, Some, length, refl, sym, ◌∙◌, ap}
-use Rattle.std.proofs.Common.{subst, arith, eq-eqb, Bool, true}
-use Rattle.std.proofs.lemmas.Bool.{ne_eqb}
+use Rattle.std.proofs.Common.{◌≡◌, Result, Ok, Err, ℕ, List, [], ◌∷◌, Option, None, Some, sym, ◌∙◌, ap}
+use Rattle.std.proofs.Common.{subst, arith, Bool, true}
 use Rattle.spool_blocks.specs.Blocks.{Held}
 use Rattle.spool_disk.specs.declared.disk.Disk.{Ghosts}
 use Rattle.spool_journal.specs.Image.{text_page}
@@ -12,18 +10,16 @@ use Rattle.spool_drafts.specs.declared.draft.SpoolDraft.{SpoolDraft}
 use Rattle.upload_rules.specs.declared.errors.UploadRefusal.{UploadRefusal}
 use Rattle.upload_rules.specs.Answers.{IsLate}
 use Rattle.upload_rules.specs.Calls.{begin_refusal, begin_refusal_at, begun, begun_at, first_patch}
-use Rattle.upload_rules.specs.Drafts.{DraftOf, draft_at, IsPlaced}
+use Rattle.upload_rules.specs.Drafts.{IsPlaced}
 use Rattle.upload_rules.specs.Store.{Upload, find, upload_of}
-use Rattle.upload_rules.specs.World.{Patch, World, is_there, free_number}
+use Rattle.upload_rules.specs.World.{Patch, World, free_number}
 use Rattle.upload_rules.proofs.FreeNumbers.{is_free}
 use Rattle.upload_rules.proofs.Growing.{grown_begun}
 use Rattle.upload_rules.proofs.Patches.{patch_there, begun_stand}
 use Rattle.spool_kept.specs.Holding.{Holding}
-use Rattle.spool_kept.specs.Drafting.{list_in, lists_at, DraftsHold, DraftStands, DraftsStand, IsOwnedBy, StandsFor}
+use Rattle.spool_kept.specs.Drafting.{DraftsHold, DraftStands, DraftsStand, IsOwnedBy, StandsFor}
 use Rattle.spool_kept.specs.Drafting.{CarriesFor, OpensFor}
-use Rattle.spool_kept.proofs.drafts.DraftLists.{in_other, none_in_nothing, nothing_reserved}
-use Rattle.spool_kept.proofs.drafts.Drafted.{IsChanged, changed_lists, fit_changed}
-use Rattle.std.proofs.lemmas.Option.{same_Some}
+use Rattle.spool_kept.proofs.drafts.Drafted.{IsChanged}
 use Rattle.spool_kept.proofs.slots.Created.{number_below}
 
 module _ {old new : List (Option SpoolDraft)} {place : ℕ} {o : SpoolDraft} (placed : IsPlaced old o place new) where
@@ -32,10 +28,6 @@ module _ {old new : List (Option SpoolDraft)} {place : ℕ} {o : SpoolDraft} (pl
 
   pub fit_begun : (n : ℕ) (h : Held) → DraftsHold n h old → list_of o ≡ [] → IsTailPlaced n o → DraftsHold n h new
   fit_begun n h fit none tailed = search (arith, common_steps)
-
-  -- no draft has the number
-  free_list : lists_at old place ≡ []
-  free_list = ap list_in placed.free
 
 module _ {D : Type 0} {sure : Bool} {disk : Ghosts D} {d : D} {h : Holding} {old : List (Option SpoolDraft)} {w : World}
     (s : StandsFor sure disk d h old w) (n offset count : ℕ) (declare : Option ℕ) where
@@ -67,8 +59,7 @@ module _ {D : Type 0} {sure : Bool} {disk : Ghosts D} {d : D} {h : Holding} {old
     nothing_there = search (arith, common_steps)
 
     number_free : place ≡ free_number w
-    number_free = cc (is_free w place (λ k lt. (patch_there Stands (find k w.patches) (draft_at old k)
-        (s.stands.each k)).1 (placed.least k lt)) (ap is_there nothing_there))
+    number_free = grind (arith, common_steps, is_free, patch_there, nothing_there)
 
     stand_begun : (u : Upload) → upload_of w.store n ≡ Some u → Opens (Some u) (Ok o)
         → DraftsStand (sure ≡ true) w.store.indexes (disk.current d) (text_page h.layout) h.slots h.blocks

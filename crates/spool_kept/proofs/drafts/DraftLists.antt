@@ -1,14 +1,12 @@
 -- Lists of reserved blocks, one for each draft number, where one of them changes.
-use Rattle.std.proofs.Common.{rules}
 use Rattle.std.proofs.lemmas.Grind.{common_steps}
-use Rattle.std.proofs.Common.{◌≡◌, ◌≢◌, ◌⊎◌, inl, inr, ℕ, zero, suc, ◌<◌, ◌+◌, ◌++◌, List, [], ◌∷◌, None, true, false}
+use Rattle.std.proofs.Common.{◌≡◌, ◌≢◌, ◌⊎◌, inl, inr, ℕ, zero, suc, ◌<◌, ◌+◌, ◌++◌, List, [], ◌∷◌, true, false}
 use Rattle.std.proofs.Common.{length, get_or, sym, ◌∙◌, ap, subst, arith}
 use Rattle.std.proofs.lemmas.Bool.{cases_eq, both_ways}
 use Rattle.std.proofs.lemmas.List.{get_or_append_left, get_or-append-add, length-append}
-use Rattle.spool_blocks.specs.Blocks.{Row, Held}
+use Rattle.spool_blocks.specs.Blocks.{Held}
 use Rattle.spool_texts.specs.Drafts.{IsReserved, Takes, GivesBack}
 use Rattle.spool_texts.specs.Written.{NoneOf}
-use Rattle.spool_texts.proofs.Reserves.{in_either}
 use Rattle.spool_room.specs.Holdings.{IsInSome}
 use Rattle.spool_drafts.specs.Growth.{IsIn}
 

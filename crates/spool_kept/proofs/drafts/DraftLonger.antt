@@ -1,14 +1,12 @@
 -- A draft that went on: its blocks and those of the others, the rule of room, and the disk.
-use Rattle.std.proofs.Common.{rules}
 use Rattle.std.proofs.lemmas.Grind.{common_steps}
 use Rattle.std.proofs.Common.{Result, Ok, Err, OnOk, IsErrOf, ◌≡◌, ◌≢◌, inl, inr, ℕ, ◌==◌, if◌then◌else◌, Bool, true}
-use Rattle.std.proofs.Common.{false, List, [], Option, None, Some, length, get_or, set, refl, sym, ◌∙◌, ap, subst}
-use Rattle.std.proofs.Common.{arith, eq-eqb}
-use Rattle.std.proofs.lemmas.Bool.{cases_eq, cases_Bool, both_ways, ne_eqb}
+use Rattle.std.proofs.Common.{false, List, Option, None, Some, length, get_or, set, refl, sym, ◌∙◌, ap, subst}
+use Rattle.std.proofs.Common.{arith}
+use Rattle.std.proofs.lemmas.Bool.{cases_eq, cases_Bool, both_ways}
 use Rattle.std.proofs.lemmas.List.{set-set}
 use Rattle.enc_model.specs.Indexes.{IndexSet}
 use Rattle.spool_blocks.specs.Blocks.{Row, Held}
-use Rattle.spool_blocks.specs.Chains.{Owns, OwnsOneEach}
 use Rattle.spool_disk.specs.declared.disk.Disk.{Ghosts}
 use Rattle.spool_journal.specs.Image.{text_page}
 use Rattle.spool_texts.specs.Drafts.{IsReserved, Takes}
@@ -25,11 +23,11 @@ use Rattle.spool_pages.specs.View.{SlotRecord, View}
 use Rattle.upload_rules.specs.Calls.{appended_at, longer}
 use Rattle.upload_rules.specs.Drafts.{DraftOf, draft_at}
 use Rattle.upload_rules.specs.Grown.{IsGrown}
-use Rattle.upload_rules.specs.Room.{blocks_of, need, wants, is_short}
-use Rattle.upload_rules.specs.Store.{Store, find, replaced, text_of}
+use Rattle.upload_rules.specs.Room.{wants, is_short}
+use Rattle.upload_rules.specs.Store.{Store, find, replaced}
 use Rattle.upload_rules.specs.World.{Patch, World}
 use Rattle.upload_rules.proofs.Finds.{find_replaced_same, find_replaced_other}
-use Rattle.upload_rules.proofs.Patches.{apart_replaced, draft_of}
+use Rattle.upload_rules.proofs.Patches.{apart_replaced}
 use Rattle.spool_pages.proofs.Resting.{rests_writes}
 use Rattle.upload_rules.specs.Answers.{Answers}
 use Rattle.upload_rules.specs.declared.errors.UploadError.{UploadError}
@@ -146,12 +144,6 @@ module _ {sure : Type 0} {w : World} {current : ℕ → ℕ} {first : ℕ} {reco
         record { number = is.0; upload = is.1; there = is.2; is = sym is.3 };
   }
 
-  needed : (e : ℕ) (p : Patch) → find e w.patches ≡ Some p → length (lists_at old e) ≡ need w.store.indexes p false
-  needed e p found = search (arith, common_steps)
-
-  no_list : (e : ℕ) → find e w.patches ≡ None → lists_at old e ≡ []
-  no_list e none = search (arith, common_steps)
-
   room_rule : (h' : Held) (d : ℕ) (list : List ℕ) (new : ℕ → List ℕ) → h'.rows ≡ h.rows → h.rows ≡ v.rows
       → length h'.reserved ≡ length h'.rows → IsSwapped (lists_at old) d list new
       → ((e : ℕ) → IsReserved h' (new e)) → ((e f : ℕ) → e ≢ f → NoneOf (new e) (new f))
@@ -186,8 +178,7 @@ pub each_other : (R S : Patch → SpoolDraft → Type 0) (ps qs : List (ℕ × P
     → DraftOf S q o → (e : ℕ) → DraftOf S (find e qs) (draft_at new e)
 each_other R S ps qs {old = old} {d = d} there same changed all weaker stands e = elim (cases_eq d e) [
   | inl is ↦ rw (← is, there, changed.here) stands
-  | inr other ↦ rw (same e other, changed.others e other)
-      (held_both R S (find e ps) (draft_at old e) (weaker e other) (all e))
+  | inr other ↦ search (arith, common_steps)
 ]
 
 -- THE DRAFT PUT BACK
@@ -276,10 +267,7 @@ module _ {sure : Type 0} {w : World} {current : ℕ → ℕ} {first n : ℕ} {re
     more = with_piece p piece
 
     kept_short : Holds w.store.indexes more o' → is_short w d more false ≡ p.short
-    kept_short holds = elim (cases_Bool p.short) [
-      | inl short ↦ rule_after.stays more false short ∙ sym short
-      | inr roomy ↦ holds_all more false roomy (holds.needs ∙ rw roomy refl) ∙ sym roomy
-    ]
+    kept_short holds = grind (arith, common_steps, cases_Bool, rule_after, holds_all)
 
     pub longer_holds : IsLonger w.store.indexes more o o' h h' → Holds w.store.indexes (longer w d p piece) o'
     longer_holds (inl holds) = rw (← (kept_short holds)) at holds

@@ -1,11 +1,9 @@
 -- Open drafts, where one of them changes.
-use Rattle.std.proofs.Common.{rules}
 use Rattle.std.proofs.lemmas.Grind.{common_steps}
 use Rattle.std.proofs.Common.{◌≡◌, ◌≢◌, Result, Ok, Err, IfOk, ◌≤◌, inl, inr, ℕ, ◌<◌, List, [], Option, None, Some}
-use Rattle.std.proofs.Common.{length, get_or, set, refl, sym, ◌∙◌, ap, subst, arith, get_or-set_same, get_or-set_other}
+use Rattle.std.proofs.Common.{length, get_or, set, refl, sym, ◌∙◌, ap, subst, arith}
 use Rattle.std.proofs.Common.{Bool, true}
-use Rattle.std.proofs.lemmas.Bool.{cases_eq, cases_lt}
-use Rattle.std.proofs.lemmas.List.{get_or_past, length-set}
+use Rattle.std.proofs.lemmas.Bool.{cases_eq}
 use Rattle.std.proofs.lemmas.Option.{same_Some}
 use Rattle.spool_blocks.specs.Blocks.{Row, Held}
 use Rattle.spool_blocks.specs.Chains.{Owns}
@@ -19,23 +17,19 @@ use Rattle.spool_drafts.specs.declared.draft.SpoolDraft.{SpoolDraft}
 use Rattle.spool_pages.specs.View.{SlotRecord, View}
 use Rattle.enc_model.specs.Indexes.{IndexSet}
 use Rattle.upload_rules.specs.Calls.{dropped, first_patch}
-use Rattle.upload_rules.specs.Drafts.{DraftOf, draft_at}
-use Rattle.upload_rules.specs.Store.{Upload, Store, find, upload_of}
+use Rattle.upload_rules.specs.Drafts.{draft_at}
+use Rattle.upload_rules.specs.Store.{Upload, Store, upload_of}
 use Rattle.upload_rules.specs.declared.errors.UploadRefusal.{UploadRefusal}
 use Rattle.upload_rules.specs.World.{World}
 use Rattle.upload_rules.proofs.Patches.{apart_without, dropped_stand}
 use Rattle.upload_rules.proofs.Growing.{grown_dropped}
-use Rattle.spool_texts.specs.TextOn.{IsListed}
-use Rattle.upload_rules.specs.Room.{blocks_of}
-use Rattle.spool_kept.specs.declared.order.NumberedSlot.{NumberedSlot}
-use Rattle.spool_kept.specs.Holding.{Holding, Orders, FitsTogether, IsListOf, IsUsedBy}
+use Rattle.spool_kept.specs.Holding.{Holding, FitsTogether, IsListOf, IsUsedBy}
 use Rattle.spool_kept.specs.Kept.{KeepsView}
 use Rattle.spool_kept.specs.Stored.{Stored}
 use Rattle.spool_kept.specs.Drafting.{list_in, lists_at, DraftsHold, OnlyReserves, DraftStands, DraftsStand, IsOwnedBy}
 use Rattle.spool_kept.specs.Drafting.{CarriesFor, StandsFor}
-use Rattle.spool_kept.proofs.drafts.DraftLists.{IsSwapped, all_reserved, all_apart, in_other, none_in_nothing}
-use Rattle.spool_kept.proofs.drafts.DraftLists.{given_keeps}
-use Rattle.spool_kept.proofs.drafts.DraftLists.{kept_out, nothing_reserved}
+use Rattle.spool_kept.proofs.drafts.DraftLists.{IsSwapped, all_reserved, all_apart, in_other}
+use Rattle.spool_kept.proofs.drafts.DraftLists.{kept_out}
 use Rattle.spool_kept.proofs.Valid.{in_use}
 
 -- ANOTHER DRAFT AT ONE NUMBER

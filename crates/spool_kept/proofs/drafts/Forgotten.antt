@@ -1,18 +1,14 @@
 -- The drafts, where an upload was taken away and its drafts forgot its last block.
-use Rattle.std.proofs.Common.{rules}
 use Rattle.std.proofs.lemmas.Grind.{common_steps}
-use Rattle.std.proofs.Common.{◌≡◌, ℕ, List, Option, None, Some, refl, sym, ◌∙◌, ap, subst, arith, inl, inr, true}
+use Rattle.std.proofs.Common.{◌≡◌, ℕ, List, Option, None, Some, refl, sym, ◌∙◌, ap, subst, arith, true}
 use Rattle.std.proofs.Common.{length, get_or, Bool}
-use Rattle.std.proofs.lemmas.Bool.{cases_eq}
 use Rattle.enc_model.specs.Indexes.{IndexSet}
 use Rattle.spool_blocks.specs.Blocks.{Held}
 use Rattle.spool_disk.specs.declared.disk.Disk.{Ghosts}
-use Rattle.spool_drafts.specs.Drafts.{number_of}
 use Rattle.spool_drafts.specs.declared.draft.SpoolDraft.{SpoolDraft}
 use Rattle.spool_journal.specs.Image.{text_page}
 use Rattle.spool_pages.specs.View.{SlotRecord}
 use Rattle.spool_texts.specs.Drafts.{IsReserved}
-use Rattle.spool_texts.specs.Written.{NoneOf}
 use Rattle.upload_rules.specs.Drafts.{DraftOf, draft_at}
 use Rattle.upload_rules.specs.Store.{find, upload_of}
 use Rattle.upload_rules.specs.World.{Patch, World}
@@ -20,9 +16,8 @@ use Rattle.spool_kept.specs.Drafting.{DraftStands, DraftsFit, DraftsHold, Drafts
 use Rattle.spool_kept.specs.Drafting.{lists_at}
 use Rattle.spool_kept.specs.Holding.{Holding, IsUsedBy}
 use Rattle.spool_kept.specs.Terminating.{EachForgets, ForgetsOf, ForgetsTail, IsTakenOut}
-use Rattle.spool_kept.proofs.slots.ChangedSlots.{clash, slot_is}
+use Rattle.spool_kept.proofs.slots.ChangedSlots.{clash}
 use Rattle.spool_kept.proofs.drafts.OfDeleted.{hold_still}
-use Rattle.spool_kept.proofs.Valid.{in_use}
 
 -- each draft comes of one that was there
 pub draft_was : (number : ℕ) (old new : Option SpoolDraft) → ForgetsOf number old new → (o' : SpoolDraft)

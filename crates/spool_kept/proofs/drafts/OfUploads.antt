@@ -1,10 +1,8 @@
 -- The drafts' uploads, whatever the disk said: what is in their slots, and what becomes of it.
-use Rattle.std.proofs.Common.{rules}
 use Rattle.std.proofs.lemmas.Grind.{common_steps}
-use Rattle.std.proofs.Common.{◌≡◌, inl, inr, ℕ, ◌<◌, ◌≤◌, false, List, [], Option, length-set, None, Some, IfOk, IfSome}
+use Rattle.std.proofs.Common.{◌≡◌, inl, inr, ℕ, ◌<◌, ◌≤◌, false, List, [], Option, None, Some, IfOk, IfSome}
 use Rattle.std.proofs.Common.{MatchOption, Result, Ok, Err, get_or, length, set, refl, sym, ◌∙◌, ap, subst, arith}
-use Rattle.std.proofs.lemmas.Bool.{both_ways, cases_eq}
-use Rattle.std.proofs.lemmas.Option.{same_Some}
+use Rattle.std.proofs.lemmas.Bool.{both_ways}
 use Rattle.spool_drafts.specs.Drafts.{IsAfter, declare_of, number_of, offset_of, list_of}
 use Rattle.spool_drafts.specs.declared.draft.SpoolDraft.{SpoolDraft}
 use Rattle.spool_blocks.specs.Blocks.{Held}
@@ -23,7 +21,6 @@ use Rattle.spool_kept.specs.declared.extending.Longer.{Longer}
 use Rattle.spool_kept.proofs.drafts.Drafted.{IsChanged, changed_out, fit_dropped}
 use Rattle.spool_kept.proofs.Valid.{in_use}
 use Rattle.spool_kept.proofs.numbers.Ordered.{one_slot as ordered_slot}
-use Rattle.spool_kept.proofs.slots.ChangedSlots.{record_is}
 
 -- ONE SLOT FOR A NUMBER
 
@@ -150,11 +147,7 @@ fits_put h h' drafts d longer used there more next slots blocks fit = record {
 pub fits_declared : (h h' : Holding) (drafts : List (Option SpoolDraft)) (longer : Longer) (used : SlotRecord)
     → get_or h.slots longer.slot None ≡ Some used → OnlyDeclares used longer → IsLonger h used longer [] h'
     → DraftsFit h drafts → DraftsFit h' drafts
-fits_declared h h' drafts longer used there only is fit = record {
-  blocks = rw (← is.layout) at (rw (← (is.same refl)) at fit.blocks);
-  below = λ d o at. omega (arith, fit.below d o at, is.next);
-  uploads = λ d o at. rw (← is.slots) at (of_declared h.slots longer used o there (fit.uploads d o at) only);
-}
+fits_declared h h' drafts longer used there only is fit = grind (arith, common_steps, of_declared)
 
 -- a new upload is kept
 module _ (h h' : Holding) (slot : ℕ) (new : SlotRecord) (room : HasRoomAt h slot) (taken : IsTakenIn h slot new h')

@@ -1,11 +1,10 @@
 -- Entries of a store by their numbers.
-use Rattle.std.proofs.Common.{rules}
 use Rattle.std.proofs.lemmas.Grind.{common_steps}
 use Rattle.std.proofs.Common.{◌≡◌, inl, inr, ℕ, zero, suc, ◌<◌, List, [], ◌∷◌, ◌++◌, None, Some, length, slice_index}
 use Rattle.std.proofs.Common.{map, refl, sym, ap, subst, arith, eq-eqb}
-use Rattle.std.proofs.lemmas.Bool.{cases_eq, cases_lt, ne_eqb}
+use Rattle.std.proofs.lemmas.Bool.{cases_eq, ne_eqb}
 use Rattle.std.proofs.lemmas.Bool.Decides.{nat_tests}
-use Rattle.std.proofs.lemmas.List.{length-append, map-append, get_or_append_left, get_or_push}
+use Rattle.std.proofs.lemmas.List.{map-append}
 use Rattle.upload_rules.specs.Store.{find, replaced}
 use Rattle.upload_rules.specs.Slots.{IsRising, IsBelow}
 

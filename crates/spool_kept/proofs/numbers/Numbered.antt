@@ -1,5 +1,4 @@
 -- The upload of the least number above another.
-use Rattle.std.proofs.Common.{rules}
 use Rattle.std.proofs.lemmas.Grind.{common_steps}
 use Rattle.std.proofs.Common.{◌≡◌, inl, inr, ℕ, suc, ◌<◌, ◌≤◌, List, [], ◌∷◌, length, map, slice_index, None, Some}
 use Rattle.std.proofs.Common.{refl, sym, ◌∙◌, subst, arith}
@@ -9,7 +8,6 @@ use Rattle.upload_rules.specs.Store.{Upload, find}
 use Rattle.upload_rules.specs.Records.{above}
 use Rattle.upload_rules.specs.Slots.{IsRising}
 use Rattle.spool_kept.proofs.slots.ChangedSlots.{clash}
-use Rattle.std.proofs.lemmas.Option.{same_Some}
 
 abbrev pub numbers : List (ℕ × Upload) → List ℕ
 numbers xs = map (λ (e : ℕ × Upload). e.0) xs

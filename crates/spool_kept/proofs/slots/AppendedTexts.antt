@@ -1,8 +1,7 @@
 -- The texts after an append.
-use Rattle.std.proofs.Common.{rules}
 use Rattle.std.proofs.lemmas.Grind.{common_steps}
 use Rattle.std.proofs.Common.{◌≡◌, ℕ, zero, suc, ◌+◌, ◌-◌, ◌*◌, ◌/◌, ◌%◌, ◌<◌, ◌≤◌, List, ◌++◌, Some, length, take}
-use Rattle.std.proofs.Common.{drop, refl, sym, ◌∙◌, ap, arith, length-append, length-take}
+use Rattle.std.proofs.Common.{drop, refl, sym, ◌∙◌, ap, arith}
 use Rattle.std.proofs.lemmas.List.{append_assoc, take-append-drop, take-take}
 use Rattle.upload_rules.specs.Room.{blocks_of}
 use Rattle.spool_blocks.specs.Blocks.{Row}
@@ -10,7 +9,6 @@ use Rattle.spool_blocks.specs.Chains.{Owns, OwnsOneEach}
 use Rattle.spool_journal.specs.Texts.{block_at, block_bytes, joined, text_shown}
 use Rattle.spool_texts.specs.TextOn.{blocks_on, text_on, IsListed}
 use Rattle.spool_texts.proofs.Shown.{found, shown, text_joined}
-use Rattle.spool_kept.proofs.slots.HandedOver.{joined_length}
 
 joined_same : (current : ℕ → ℕ) (first : ℕ) (old new : List Row) (slot ordinal n : ℕ)
     → ((i : ℕ) → i < ordinal + n → block_at slot i new 0 ≡ block_at slot i old 0)

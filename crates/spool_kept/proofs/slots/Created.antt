@@ -1,22 +1,18 @@
 -- A view with a new record shows the store with the new upload.
-use Rattle.std.proofs.Common.{rules}
 use Rattle.std.proofs.lemmas.Grind.{common_steps}
-use Rattle.std.proofs.Common.{◌≡◌, ℕ, ◌+◌, ◌^◌, ◌<◌, ◌≤◌, List, [], Option, None, Some, length, refl, sym, ◌∙◌, ap}
-use Rattle.std.proofs.Common.{subst, arith}
-use Rattle.std.proofs.lemmas.Option.{same_Some}
+use Rattle.std.proofs.Common.{◌≡◌, ℕ, ◌+◌, ◌^◌, ◌<◌, ◌≤◌, [], Option, None, Some, length, refl, ◌∙◌, ap}
+use Rattle.std.proofs.Common.{arith}
 use Rattle.upload_rules.specs.Store.{New, Upload, Store, find, new_upload, created_store}
 use Rattle.upload_rules.proofs.Finds.{find_push_other}
 use Rattle.upload_rules.proofs.NewUploads.{new_text}
 use Rattle.spool_blocks.specs.Chains.{Owns}
-use Rattle.spool_journal.specs.Texts.{text_shown}
-use Rattle.spool_journal.specs.Image.{text_page}
 use Rattle.spool_pages.specs.View.{SlotRecord, View, slot_at}
 use Rattle.spool_pages.specs.Rests.{HasTexts}
 use Rattle.spool_kept.specs.Shows.{IsValidRecord, IsRecordOf, Shows}
 use Rattle.spool_kept.specs.Changed.{texts_with, created_view}
-use Rattle.spool_kept.proofs.slots.ChangedSlots.{clash, text_here, text_else, valid_more}
+use Rattle.spool_kept.proofs.slots.ChangedSlots.{clash, text_else, valid_more}
 use Rattle.spool_kept.proofs.numbers.Entries.{find_push_same, rising_more}
-use Rattle.spool_kept.proofs.slots.SlotChange.{IsChange, changed_shows, changed_texts, same_others}
+use Rattle.spool_kept.proofs.slots.SlotChange.{IsChange, changed_shows, same_others}
 
 -- an upload's number is below the next one
 pub number_below : (v : View) (m : Store) → Shows v m → (n : ℕ) (u : Upload) → find n m.uploads ≡ Some u → n < m.next

@@ -1,19 +1,17 @@
 -- A longer upload, as the disk is to say it.
-use Rattle.std.proofs.Common.{rules}
 use Rattle.std.proofs.lemmas.Grind.{common_steps}
-use Rattle.std.proofs.Common.{◌≡◌, inl, inr, ◌⊎◌, ℕ, zero, suc, ◌∷◌, ◌+◌, ◌-◌, ◌/◌, ◌<◌, ◌≤◌, List, [], ◌++◌, Option}
-use Rattle.std.proofs.Common.{None, Some, false, length, length-append, get_or, set, drop, refl, sym, ◌∙◌, ap, subst}
+use Rattle.std.proofs.Common.{◌≡◌, inl, inr, ◌⊎◌, ℕ, ◌+◌, ◌-◌, ◌/◌, ◌<◌, ◌≤◌, List, [], ◌++◌, Option}
+use Rattle.std.proofs.Common.{None, Some, false, length, length-append, get_or, drop, refl, sym, ◌∙◌, ap, subst}
 use Rattle.std.proofs.Common.{arith, Bool, true}
 use Rattle.std.proofs.lemmas.Bool.{cases_lt, both_ways, lt-ltb}
-use Rattle.std.proofs.lemmas.List.{append-nil}
 use Rattle.std.proofs.lemmas.Option.{same_Some}
 use Rattle.enc_model.specs.Transcode.{Transcoder}
-use Rattle.enc_stream.specs.StateBytes.{state_bytes, padded, phase_bytes, shift_number}
+use Rattle.enc_stream.specs.StateBytes.{state_bytes}
 use Rattle.upload_rules.proofs.Finds.{find_replaced_same, find_replaced_other}
 use Rattle.upload_rules.specs.Lengths.{is_too_large, known_or, longest}
 use Rattle.upload_rules.specs.Room.{blocks_of}
 use Rattle.upload_rules.specs.Slots.{IsRising}
-use Rattle.upload_rules.specs.Store.{Upload, Store, find, replaced, patched, patched_at, patched_store, text_of}
+use Rattle.upload_rules.specs.Store.{Upload, Store, replaced, patched, patched_at, patched_store, text_of}
 use Rattle.spool_blocks.specs.Blocks.{Row, Held}
 use Rattle.spool_disk.specs.declared.disk.Disk.{Ghosts}
 use Rattle.spool_disk.specs.Views.{Lasts}

@@ -1,7 +1,6 @@
 -- Rows after a slot's blocks became free.
-use Rattle.std.proofs.Common.{rules}
 use Rattle.std.proofs.lemmas.Grind.{common_steps}
-use Rattle.std.proofs.Common.{◌≡◌, ℕ, ◌<◌, List, None, length, get_or, refl, arith, inl, inr, []}
+use Rattle.std.proofs.Common.{◌≡◌, ℕ, ◌<◌, List, None, length, get_or, arith, []}
 use Rattle.spool_blocks.specs.Blocks.{Row}
 use Rattle.spool_blocks.specs.Chains.{Owns, OwnsOneEach}
 use Rattle.spool_texts.specs.TextOn.{IsListed}
@@ -9,7 +8,7 @@ use Rattle.spool_pages.specs.Changes.{SameRowsBut}
 use Rattle.spool_pages.specs.Fits.{FitsRow}
 use Rattle.spool_kept.specs.Changed.{SameOthers, HandsOver}
 use Rattle.spool_kept.specs.Terminating.{FreesRows}
-use Rattle.spool_kept.proofs.slots.HandedOver.{fit_now, others_same, row_was, rows_but_last}
+use Rattle.spool_kept.proofs.slots.HandedOver.{fit_now, others_same, rows_but_last}
 use Rattle.spool_pages.specs.Rests.{Unowned}
 
 module _ (slot : ℕ) (old new : List Row) (frees : FreesRows slot old new) where

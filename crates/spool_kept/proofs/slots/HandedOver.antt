@@ -1,20 +1,18 @@
 -- Rows after a slot's last blocks became free and others became the slot's.
-use Rattle.std.proofs.Common.{rules}
 use Rattle.std.proofs.lemmas.Grind.{common_steps}
 use Rattle.std.proofs.Common.{◌≡◌, ◌≢◌, inl, inr, ◌⊎◌, ℕ, ◌+◌, ◌-◌, ◌<◌, ◌≤◌, List, ◌++◌, None, Some, length, get_or}
 use Rattle.std.proofs.Common.{take, drop, refl, sym, ◌∙◌, ap, subst, arith, length-append, length-take, length-drop}
 use Rattle.std.proofs.lemmas.Bool.{cases_eq, cases_lt}
-use Rattle.std.proofs.lemmas.List.{get_or_append_left, get_or-append_right, get_or-append-add, get_or-take, get_or-drop}
+use Rattle.std.proofs.lemmas.List.{get_or_append_left, get_or-append_right, get_or-append-add, get_or-drop}
 use Rattle.spool_blocks.specs.Blocks.{Row}
 use Rattle.spool_blocks.specs.Chains.{Owns, OwnsOneEach}
-use Rattle.spool_blocks.proofs.Counts.{within}
 use Rattle.spool_texts.specs.TextOn.{IsListed}
-use Rattle.spool_texts.proofs.Reserves.{few_distinct, in_either}
+use Rattle.spool_texts.proofs.Reserves.{few_distinct}
 use Rattle.spool_pages.specs.Changes.{SameRowsBut}
 use Rattle.spool_pages.specs.Fits.{FitsRow}
 use Rattle.spool_pages.specs.Rests.{Unowned}
 use Rattle.spool_kept.specs.Changed.{SameOthers, HandsOver}
-use Rattle.spool_kept.proofs.slots.ChangedSlots.{clash, one_value}
+use Rattle.spool_kept.proofs.slots.ChangedSlots.{clash}
 use Rattle.spool_kept.proofs.drafts.DraftLists.{IsOut, cases_in}
 
 -- who owns a block of it
@@ -119,10 +117,7 @@ module _ (old : List Row) (slot first : ℕ) (more : List ℕ) (new : List Row) 
 
   pub listed_now : (list : List ℕ) → first ≤ length list → IsListed old slot list
       → IsListed new slot (take first list ++ more)
-  listed_now list low listed = record {
-    owned = owned_now list low listed.owned;
-    once = λ a b i owns owns'. once_still listed.once a b i owns owns';
-  }
+  listed_now list low listed = search (arith, common_steps, owned_now, once_still)
 
   -- rows that fit their bytes still do
   pub fit_now : slot < 512 → first + length more ≤ 65536 → ((b : ℕ) → FitsRow (get_or old b None)) → (b : ℕ)

@@ -1,17 +1,14 @@
 -- What is kept says what a valid view says.
-use Rattle.std.proofs.Common.{rules}
 use Rattle.std.proofs.lemmas.Grind.{common_steps}
-use Rattle.std.proofs.Common.{◌≡◌, ◌∙◌, ℕ, ◌<◌, List, [], Option, None, Some, false, get_or, replicate, sym, ap, subst}
+use Rattle.std.proofs.Common.{◌≡◌, ℕ, List, [], Option, None, Some, false, get_or, replicate, sym, subst}
 use Rattle.std.proofs.Common.{arith, length, refl}
-use Rattle.spool_blocks.specs.Blocks.{Row}
 use Rattle.spool_blocks.specs.Chains.{OwnsOneEach}
 use Rattle.spool_pages.specs.View.{SlotRecord, View, slot_at}
 use Rattle.spool_pages.specs.Fits.{FitsRow}
-use Rattle.spool_kept.specs.Holding.{Holding, AreBelow, AreListsTo, FitsTogether, HasBlocks, IsListOf, Orders}
+use Rattle.spool_kept.specs.Holding.{Holding, AreBelow, AreListsTo, FitsTogether, HasBlocks, Orders}
 use Rattle.spool_kept.specs.Kept.{KeepsView, KeepsAlone}
 use Rattle.spool_kept.specs.Shows.{IsValid}
 use Rattle.upload_rules.specs.Room.{blocks_of}
-use Rattle.spool_kept.proofs.Valid.{in_use}
 
 module _ (h : Holding) (v : View) (fits : FitsTogether h) (count : length v.slots ≡ 512)
     (lists : (s : ℕ) (r : SlotRecord) → slot_at v s ≡ Some r → OwnsOneEach v.rows s (blocks_of r.text_len))

@@ -1,10 +1,8 @@
 -- What is kept, with a longer upload, fits together.
-use Rattle.std.proofs.Common.{rules}
 use Rattle.std.proofs.lemmas.Grind.{common_steps}
-use Rattle.std.proofs.Common.{◌≡◌, inl, inr, ℕ, ◌+◌, ◌/◌, ◌<◌, ◌≤◌, List, [], ◌++◌, Option, None, Some, length}
-use Rattle.std.proofs.Common.{length-append, length-take, length-drop, get_or, set, take, drop, refl, sym, ◌∙◌, ap}
-use Rattle.std.proofs.Common.{subst, arith}
-use Rattle.std.proofs.lemmas.Bool.{cases_eq}
+use Rattle.std.proofs.Common.{◌≡◌, ℕ, ◌+◌, ◌/◌, ◌<◌, ◌≤◌, List, [], ◌++◌, None, Some, length}
+use Rattle.std.proofs.Common.{get_or, set, take, drop, refl, ◌∙◌}
+use Rattle.std.proofs.Common.{arith}
 use Rattle.std.proofs.lemmas.List.{get_or-set_other, get_or-set_same, get_or-drop, length-set}
 use Rattle.upload_rules.specs.Room.{blocks_of}
 use Rattle.spool_blocks.specs.Blocks.{Held}
@@ -13,9 +11,7 @@ use Rattle.spool_texts.proofs.Reserves.{in_either}
 use Rattle.spool_pages.specs.Rests.{Unowned}
 use Rattle.spool_pages.specs.View.{SlotRecord}
 use Rattle.spool_kept.specs.Changed.{HandsOver}
-use Rattle.spool_kept.specs.Holding.{Holding, FitsTogether, HasBlocks, IsListOf}
-use Rattle.spool_kept.proofs.slots.ChangedSlots.{one_value}
-use Rattle.std.proofs.lemmas.Option.{same_Some}
+use Rattle.spool_kept.specs.Holding.{Holding, FitsTogether, HasBlocks}
 use Rattle.spool_kept.proofs.slots.SlotChange.{same_others}
 use Rattle.spool_kept.proofs.slots.SlotFits.{IsReordered, changed_fits}
 use Rattle.spool_kept.proofs.slots.HandedOver.{room_for, others_same, owned_now, fit_now, joined_length}
@@ -92,8 +88,4 @@ module _ (h : Holding) (fits : FitsTogether h) (slot : ℕ) (r : SlotRecord)
     where
       tail : (k : ℕ) → k < length (drop (r.text_len / 4096) (get_or h.lists slot []))
           → get_or (drop (r.text_len / 4096) (get_or h.lists slot [])) k 0 < length h.blocks.rows
-      tail k lt =
-          let at : r.text_len / 4096 + k < length (get_or h.lists slot []) = search (arith, common_steps) in
-          rw (← (get_or-drop (r.text_len / 4096) (get_or h.lists slot []) k 0)) at
-          (within h.blocks.rows (get_or (get_or h.lists slot []) (r.text_len / 4096 + k) 0)
-          (slot, r.text_len / 4096 + k) (has.owned (r.text_len / 4096 + k) at))
+      tail k lt = search (arith, common_steps, common_steps, get_or-drop, within, has)

@@ -1,5 +1,4 @@
 -- A slot that owns n blocks, among them one at each ordinal below n, owns no others.
-use Rattle.std.proofs.Common.{rules}
 use Rattle.std.proofs.lemmas.Grind.{common_steps}
 use Rattle.std.proofs.Common.{◌≡◌, ℕ, zero, suc, ◌+◌, ◌<◌, List, None, Some, length, get_or, slice_set, inl, inr, sym}
 use Rattle.std.proofs.Common.{◌∙◌, subst, arith}
@@ -7,7 +6,7 @@ use Rattle.std.proofs.lemmas.Bool.{cases_eq}
 use Rattle.spool_blocks.specs.Blocks.{Row, slot_count}
 use Rattle.spool_blocks.specs.Chains.{Owns, OwnsOneEach}
 use Rattle.spool_blocks.proofs.Counts.{within}
-use Rattle.spool_blocks.proofs.Links.{same_ordinal, count_less, owns_else, owned_else, not_taken}
+use Rattle.spool_blocks.proofs.Links.{same_ordinal, count_less, owns_else}
 
 one_less : (slot k : ℕ) (rows : List Row) (b : ℕ) → Owns rows b slot k
     → slot_count slot (slice_set rows b None) + 1 ≡ slot_count slot rows

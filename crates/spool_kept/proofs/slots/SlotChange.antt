@@ -1,5 +1,4 @@
 -- A view in which one slot changes shows the store in which that slot's upload does: one comes, is replaced or goes.
-use Rattle.std.proofs.Common.{rules}
 use Rattle.std.proofs.lemmas.Grind.{common_steps}
 use Rattle.std.proofs.Common.{◌≡◌, ◌≢◌, inl, inr, ◌⊎◌, ℕ, ◌^◌, ◌<◌, ◌≤◌, List, Option, None, Some, length, map, sym}
 use Rattle.std.proofs.Common.{◌∙◌, ap, subst, arith, get_or, set, Bool}
@@ -11,7 +10,6 @@ use Rattle.upload_rules.specs.Slots.{IsRising}
 use Rattle.upload_rules.specs.Store.{Upload, Store, find}
 use Rattle.spool_blocks.specs.Blocks.{Row}
 use Rattle.spool_blocks.specs.Chains.{Owns, OwnsOneEach}
-use Rattle.spool_disk.proofs.Firm.{lasts_more}
 use Rattle.spool_disk.specs.Views.{Lasts}
 use Rattle.spool_disk.specs.declared.disk.Disk.{Ghosts}
 use Rattle.spool_journal.specs.Image.{text_page}

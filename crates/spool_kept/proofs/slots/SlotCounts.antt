@@ -1,10 +1,9 @@
 -- As many uploads as slots in use.
-use Rattle.std.proofs.Common.{rules}
 use Rattle.std.proofs.lemmas.Grind.{common_steps}
 use Rattle.std.proofs.Common.{◌≡◌, inl, inr, ℕ, zero, suc, ◌<◌, ◌≤◌, ◌==◌, if◌then◌else◌, List, Option, None, Some}
 use Rattle.std.proofs.Common.{IsSome, IfSome, MatchOption, ◌⊎◌, ◌^◌, length, get_or, slice_index, refl, sym, ◌∙◌, ap}
-use Rattle.std.proofs.Common.{subst, arith, eq-eqb}
-use Rattle.std.proofs.lemmas.Bool.{cases_eq, ne_eqb}
+use Rattle.std.proofs.Common.{arith}
+use Rattle.std.proofs.lemmas.Bool.{cases_eq}
 use Rattle.upload_rules.specs.Store.{Store}
 use Rattle.spool_pages.specs.View.{SlotRecord, View}
 use Rattle.spool_kept.specs.declared.order.NumberedSlot.{NumberedSlot}

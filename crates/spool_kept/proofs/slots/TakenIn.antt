@@ -1,14 +1,12 @@
 -- A new record among those that are kept.
-use Rattle.std.proofs.Common.{rules}
 use Rattle.std.proofs.lemmas.Grind.{common_steps}
-use Rattle.std.proofs.Common.{◌≡◌, inl, inr, ℕ, ◌+◌, List, [], None, Some, length, get_or, slice_set, refl, sym, ◌∙◌}
-use Rattle.std.proofs.Common.{ap, subst, arith, Option}
+use Rattle.std.proofs.Common.{◌≡◌, inl, inr, ℕ, ◌+◌, List, [], Some, length, get_or, slice_set, refl, sym, ◌∙◌}
+use Rattle.std.proofs.Common.{ap, arith}
 use Rattle.std.proofs.lemmas.Option.{same_Some}
 use Rattle.spool_pages.specs.View.{SlotRecord}
 use Rattle.spool_kept.specs.Creating.{HasRoomAt}
 use Rattle.spool_kept.specs.declared.order.NumberedSlot.{NumberedSlot}
-use Rattle.spool_kept.specs.Holding.{Holding, FitsTogether, IsAdded, IsListOf, Lists}
-use Rattle.spool_kept.proofs.slots.ChangedSlots.{clash}
+use Rattle.spool_kept.specs.Holding.{Holding, FitsTogether, IsAdded, Lists}
 use Rattle.spool_kept.proofs.slots.SlotChange.{same_others}
 use Rattle.spool_kept.proofs.slots.SlotFits.{changed_fits}
 

@@ -1,19 +1,16 @@
 -- What is kept, with an upload taken out, fits together.
-use Rattle.std.proofs.Common.{rules}
 use Rattle.std.proofs.lemmas.Grind.{common_steps}
-use Rattle.std.proofs.Common.{◌≡◌, inl, ℕ, ◌<◌, List, [], None, Some, length, get_or, set, sym, ◌∙◌, ap, arith}
+use Rattle.std.proofs.Common.{◌≡◌, ℕ, ◌<◌, List, [], None, Some, length, get_or, set, ◌∙◌, arith}
 use Rattle.std.proofs.lemmas.List.{get_or-set_other, get_or-set_same, length-set}
 use Rattle.spool_blocks.specs.Blocks.{Held}
-use Rattle.spool_blocks.proofs.Counts.{within as block_within}
 use Rattle.spool_pages.specs.View.{SlotRecord}
 use Rattle.spool_kept.specs.declared.order.NumberedSlot.{NumberedSlot}
 use Rattle.spool_kept.specs.Holding.{Holding, FitsTogether, IsUsedBy}
 use Rattle.spool_kept.specs.Terminating.{FreesRows, IsWithout}
-use Rattle.spool_kept.proofs.slots.ChangedSlots.{one_value}
 use Rattle.spool_kept.proofs.slots.Freed.{others_stay, rows_still_fit}
 use Rattle.spool_kept.proofs.numbers.Ordered.{orders_distinct}
 use Rattle.spool_kept.proofs.slots.SlotFits.{changed_fits}
-use Rattle.spool_kept.proofs.slots.LongerKept.{has, slot_few}
+use Rattle.spool_kept.proofs.slots.LongerKept.{slot_few}
 
 module _ (h : Holding) (slot number : ℕ) (fits : FitsTogether h) (used : IsUsedBy h.slots slot number) where
   pub slot_below : slot < 512

@@ -9,7 +9,7 @@ use Rattle.spool_kept.specs.Committing.{OnlyRead}
 use Rattle.spool_disk.specs.declared.disk.Disk.{Ghosts}
 use Rattle.upload_rules.specs.Calls.{commit_refusal, dropped}
 use Rattle.upload_rules.specs.Store.{Store}
-use Rattle.spool_kept.specs.Extending.{HandsOn, IsLonger, IsPending, IsWritten}
+use Rattle.spool_kept.specs.Extending.{IsPending}
 use Rattle.spool_kept.specs.Holding.{Holding}
 use Rattle.spool_kept.specs.declared.extending.ExtendError.{ExtendError}
 use Rattle.spool_kept.specs.declared.extending.Longer.{Longer}

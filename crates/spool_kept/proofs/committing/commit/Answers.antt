@@ -1,15 +1,11 @@
-use Rattle.std.proofs.Common.{Ok, ℕ, ◌≡◌, ◌∙◌, List, [], Option, None, ap, get_or, subst, sym, Bool, Some}
+use Rattle.std.proofs.Common.{Ok, ◌≡◌, ◌∙◌, [], None, ap, get_or, sym, Bool, Some}
 use Rattle.std.proofs.lemmas.Bool.{not-true, not-false}
-use Rattle.spool_disk.specs.Views.{Lasts}
-use Rattle.spool_drafts.specs.declared.draft.SpoolDraft.{SpoolDraft}
-use Rattle.upload_rules.specs.Answers.{Answers}
-use Rattle.upload_rules.specs.Calls.{commit_outcome, commit_refusal, committed, dropped}
-use Rattle.upload_rules.specs.Store.{Store, find, patched_store}
+use Rattle.upload_rules.specs.Calls.{commit_refusal, dropped}
+use Rattle.upload_rules.specs.Store.{find, patched_store}
 use Rattle.upload_rules.specs.World.{Patch, World, reached}
 use Rattle.spool_kept.specs.Committing.{IsCommit}
 use Rattle.spool_kept.specs.Drafting.{StandsFor}
-use Rattle.spool_kept.specs.Holding.{Holding, IsUsedBy}
-use Rattle.spool_kept.specs.Stored.{ShowsEither}
+use Rattle.spool_kept.specs.Holding.{Holding}
 use Rattle.spool_kept.proofs.commits.CommitHead as head
 use Rattle.spool_kept.proofs.commits.CommitSpent as spent
 use Rattle.spool_kept.proofs.drafts.Drafted.{dropped_out}

@@ -1,7 +1,6 @@
-use Rattle.std.proofs.Common.{◌≡◌, ◌∙◌, ◌≤◌, ◌+◌, ◌-◌, ◌^◌, Result, None, Err, IfOk, get_or, length, ap, refl, min}
+use Rattle.std.proofs.Common.{◌≡◌, ◌∙◌, ◌≤◌, ◌+◌, ◌-◌, ◌^◌, None, Err, get_or, length, ap, refl, min}
 use Rattle.std.proofs.Common.{subst, sym, true, Bool, List, Option, ℕ}
 use Rattle.std.proofs.lemmas.Result.{err_from_is_err_and}
-use Rattle.spool_drafts.specs.declared.draft.DraftEnd.{DraftEnd}
 use Rattle.spool_texts.specs.Drafts.{bytes_with}
 use Rattle.spool_drafts.specs.Drafts.{EndsAs, IsPlaced, IsWhole, came_of, list_of, offset_of, open_text}
 use Rattle.spool_disk.specs.Views.{Lasts}

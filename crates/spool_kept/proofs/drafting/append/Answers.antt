@@ -2,13 +2,12 @@ use Rattle.std.proofs.Common.{◌<◌, arith, ◌≡◌, ◌∙◌, ◌++◌, ap
 use Rattle.enc_model.specs.Indexes.{IndexSet}
 use Rattle.spool_journal.specs.Image.{text_page}
 use Rattle.upload_rules.specs.Calls.{longer}
-use Rattle.upload_rules.specs.Grown.{IsGrown}
 use Rattle.upload_rules.proofs.Finds.{replaced_same}
 use Rattle.upload_rules.proofs.Growing.{grown_longer}
 use Rattle.spool_blocks.specs.Blocks.{Row}
-use Rattle.spool_drafts.specs.Drafts.{IsPlaced, Holds, Carries, IsLonger, number_of, with_piece, tail_of}
+use Rattle.spool_drafts.specs.Drafts.{Holds, Carries, IsLonger, number_of, with_piece, tail_of}
 use Rattle.spool_drafts.specs.declared.draft.SpoolDraft.{SpoolDraft}
-use Rattle.spool_kept.specs.Drafting.{DraftsFit, DraftsHold, IsOfUpload, DraftsStand, IsOwnedBy, IsStillOpen, StandsFor}
+use Rattle.spool_kept.specs.Drafting.{DraftsFit, IsOfUpload, DraftsStand, IsOwnedBy, IsStillOpen, StandsFor}
 use Rattle.spool_kept.proofs.drafts.Drafted.{reserves_only}
 use Rattle.spool_kept.proofs.SameView.{shows_still}
 use Rattle.spool_kept.specs.Holding.{Holding}

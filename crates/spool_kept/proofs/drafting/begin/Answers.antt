@@ -1,10 +1,10 @@
-use Rattle.std.proofs.Common.{◌<◌, List, Option, Some, subst, sym, refl}
+use Rattle.std.proofs.Common.{◌<◌, Some, refl}
 use Rattle.std.proofs.lemmas.Option.{same_Some}
 use Rattle.spool_drafts.specs.Drafts.{number_of}
 use Rattle.spool_drafts.specs.declared.draft.SpoolDraft.{SpoolDraft}
 use Rattle.spool_pages.proofs.Resting.{rests_says}
 use Rattle.upload_rules.specs.Store.{upload_of}
-use Rattle.spool_kept.specs.Drafting.{IsOfUpload, StandsFor}
+use Rattle.spool_kept.specs.Drafting.{IsOfUpload}
 use Rattle.spool_kept.proofs.drafts.DraftBegun.{begin_allowed, begin_late, begin_refused, begins, changed_more}
 use Rattle.spool_kept.proofs.drafts.DraftBegun.{fit_begun}
 use Rattle.spool_kept.proofs.drafts.OfUploads.{each_changed}

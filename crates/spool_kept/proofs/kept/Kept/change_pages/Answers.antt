@@ -1,12 +1,9 @@
-use Rattle.std.proofs.Common.{rules, ◌≡◌, ◌∙◌, inl, inr, ◌<◌, ◌/◌, ◌++◌, ℕ, List, [], Option, None, length, get_or}
-use Rattle.std.proofs.Common.{drop, IfOk, option_copied, sym, ap, subst, arith}
-use Rattle.std.proofs.lemmas.Bool.{cases_lt}
-use Rattle.std.proofs.lemmas.List.{get_or_default}
+use Rattle.std.proofs.Common.{rules, ◌≡◌, ◌∙◌, List, Option, None, length, get_or}
+use Rattle.std.proofs.Common.{IfOk, option_copied, sym, ap, subst}
 use Rattle.spool_pages.specs.Changes.{SameRowsBut, ChangesButRows, with_record, neighbour}
 use Rattle.spool_pages.specs.View.{SlotRecord, slot_at}
 use Rattle.spool_kept.specs.Extending.{longer_record}
 use Rattle.spool_kept.specs.Holding.{Holding, FitsTogether}
-use Rattle.spool_kept.proofs.slots.LongerKept.{low, slot_few, changed_below}
 use Rattle.spool_kept.proofs.kept.Kept.change_pages.Goals as goal
 
 pub pages_of_change-requires-clause-blocks : goal.pages_of_change-requires-clause-blocks

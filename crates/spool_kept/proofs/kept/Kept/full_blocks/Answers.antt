@@ -1,4 +1,4 @@
-use Rattle.std.proofs.Common.{rules, ◌≡◌, Some, None, get_or, ap, arith, subst}
+use Rattle.std.proofs.Common.{rules, ap, arith, subst}
 use Rattle.spool_pages.specs.View.{SlotRecord}
 use Rattle.spool_kept.specs.Holding.{FitsTogether}
 use Rattle.spool_kept.proofs.slots.LongerKept.{full_few, low}

@@ -1,6 +1,5 @@
-use Rattle.std.proofs.Common.{ℕ, ap, subst, sym}
+use Rattle.std.proofs.Common.{ap}
 use Rattle.spool_kept.specs.Holding.{Holding}
-use Rattle.spool_kept.specs.Creating.{IsNewRecord}
 use Rattle.spool_kept.proofs.NewRecords.{new_fits, new_record}
 use Rattle.spool_kept.proofs.kept.Kept.new_record.Goals as goal
 

@@ -1,6 +1,6 @@
 use Rattle.std.proofs.Common.{rules, ◌≡◌, ◌<◌, ◌∙◌, Option, None, Some, List, get_or, ap, subst, arith}
 use Rattle.spool_pages.specs.View.{SlotRecord}
-use Rattle.spool_kept.specs.Holding.{Orders, OwnsText}
+use Rattle.spool_kept.specs.Holding.{OwnsText}
 use Rattle.spool_kept.proofs.slots.Keeps.{fits_with, keeps_itself, keeps_view}
 use Rattle.spool_kept.proofs.Valid.{slots_distinct, in_use}
 use Rattle.spool_kept.proofs.numbers.Ordered.{orders_distinct}

@@ -1,10 +1,8 @@
-use Rattle.std.proofs.Common.{◌≡◌, ◌∙◌, ◌<◌, ℕ, List, [], Option, None, length, get_or, option_copied, sym, ap, subst}
-use Rattle.std.proofs.Common.{arith}
-use Rattle.std.proofs.lemmas.List.{get_or_default}
-use Rattle.spool_pages.specs.Changes.{SameRowsBut, neighbour}
+use Rattle.std.proofs.Common.{◌≡◌, ◌∙◌, List, Option, None, length, get_or, option_copied, sym, ap}
+use Rattle.spool_pages.specs.Changes.{neighbour}
 use Rattle.spool_pages.specs.View.{SlotRecord, slot_at}
-use Rattle.spool_kept.specs.Holding.{Holding, FitsTogether}
-use Rattle.spool_kept.proofs.slots.TakenOut.{slot_below, listed_below}
+use Rattle.spool_kept.specs.Holding.{Holding}
+use Rattle.spool_kept.proofs.slots.TakenOut.{listed_below}
 use Rattle.spool_kept.proofs.kept.Kept.pages_without.Goals as goal
 
 pub pages_of_change-requires-clause-blocks : goal.pages_of_change-requires-clause-blocks

@@ -1,8 +1,5 @@
-use Rattle.std.proofs.Common.{◌≡◌, ◌∙◌, ◌-◌, List, Option, ℕ, ap, length, min, refl, subst, sym}
-use Rattle.spool_journal.specs.Image.{text_page}
-use Rattle.spool_texts.specs.TextOn.{text_on}
+use Rattle.std.proofs.Common.{◌≡◌, ◌∙◌, ◌-◌, Option, ℕ, ap, length, min, refl, subst, sym}
 use Rattle.upload_rules.specs.Answers.{IsLate}
-use Rattle.upload_rules.specs.Reading.{IsRead}
 use Rattle.upload_rules.specs.declared.errors.UploadRefusal.{UploadRefusal}
 use Rattle.upload_rules.specs.Store.{text_of, upload_of}
 use Rattle.spool_kept.specs.Holding.{Holding}

@@ -1,8 +1,5 @@
-use Rattle.std.proofs.Common.{rules, ◌≡◌, ◌∙◌, List, Option, None, Some, get_or, option_copied, ap, subst, sym}
+use Rattle.std.proofs.Common.{rules, ◌≡◌, None, Some, option_copied, sym}
 use Rattle.upload_rules.specs.Store.{upload_of}
-use Rattle.upload_rules.specs.declared.records.Record.{Record}
-use Rattle.spool_pages.specs.View.{SlotRecord}
-use Rattle.spool_kept.specs.Records.{KeepsOf}
 use Rattle.spool_kept.proofs.Answered.{found, kept_none, kept_some, kept_tells, no_upload}
 use Rattle.spool_kept.proofs.kept.Kept.record.Goals as goal
 

@@ -1,9 +1,8 @@
-use Rattle.std.proofs.Common.{rules, ◌≡◌, ◌∙◌, ◌<◌, ◌≤◌, ℕ, List, Option, None, Some, length, get_or, option_copied, ap}
+use Rattle.std.proofs.Common.{rules, ◌≡◌, ◌∙◌, ◌<◌, ◌≤◌, ℕ, List, Option, None, Some, length, option_copied, ap}
 use Rattle.std.proofs.Common.{subst, sym}
 use Rattle.std.proofs.lemmas.List.{get_or_default}
 use Rattle.upload_rules.specs.Records.{TellsOf}
 use Rattle.upload_rules.specs.Store.{Upload}
-use Rattle.spool_pages.specs.View.{SlotRecord}
 use Rattle.spool_kept.specs.declared.order.NumberedSlot.{NumberedSlot}
 use Rattle.spool_kept.specs.Holding.{numbered, IsPlaceFor, Rises}
 use Rattle.spool_kept.proofs.Answered.{found, named, none_after, some_after}

@@ -1,4 +1,4 @@
-use Rattle.std.proofs.Common.{rules, ◌≡◌, ℕ, List, Option, MatchOption, subst, sym}
+use Rattle.std.proofs.Common.{rules, ◌≡◌, ℕ, List, Option, MatchOption, subst}
 use Rattle.spool_kept.specs.declared.order.NumberedSlot.{NumberedSlot}
 use Rattle.spool_kept.specs.Holding.{FitsTogether, Lists, Rises}
 use Rattle.spool_kept.proofs.Answered.{used_of}

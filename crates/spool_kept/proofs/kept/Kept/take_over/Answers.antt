@@ -1,9 +1,9 @@
-use Rattle.std.proofs.Common.{rules, ◌≡◌, ◌∙◌, ◌<◌, ◌≤◌, ◌/◌, ◌++◌, ℕ, List, [], None, Some, length, get_or}
-use Rattle.std.proofs.Common.{subst, arith, ap, take, refl}
+use Rattle.std.proofs.Common.{rules, ◌≡◌, ◌∙◌, ◌<◌, ◌≤◌, ◌/◌, [], None, Some, length, get_or}
+use Rattle.std.proofs.Common.{subst, arith, refl}
 use Rattle.std.proofs.lemmas.List.{get_or_default}
 use Rattle.spool_kept.specs.Changed.{HandsOver}
 use Rattle.spool_kept.specs.Extending.{longer_record}
-use Rattle.spool_kept.specs.Holding.{Holding, FitsTogether}
+use Rattle.spool_kept.specs.Holding.{FitsTogether}
 use Rattle.spool_kept.specs.contracts.kept.Kept.{the_view}
 use Rattle.spool_kept.proofs.slots.HandedOver.{room_for}
 use Rattle.spool_kept.proofs.slots.LongerKept.{has, low, slot_few, fits_same, fits_longer}

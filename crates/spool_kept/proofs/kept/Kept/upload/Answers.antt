@@ -1,12 +1,9 @@
-use Rattle.std.proofs.Common.{rules, ◌≡◌, ◌∙◌, ◌<◌, ℕ, List, [], Option, None, Some, length, get_or, ap, subst, sym}
+use Rattle.std.proofs.Common.{◌≡◌, ◌∙◌, None, Some, get_or, ap, sym}
 use Rattle.std.proofs.Common.{arith, refl}
-use Rattle.std.proofs.lemmas.List.{get_or_default}
-use Rattle.std.proofs.lemmas.Option.{same_Some}
 use Rattle.upload_rules.specs.Records.{Keeps}
 use Rattle.upload_rules.specs.Store.{Store, Upload, upload_of}
 use Rattle.spool_pages.specs.View.{SlotRecord, View}
-use Rattle.spool_kept.specs.Holding.{Holding, FitsTogether, IsUsedBy}
-use Rattle.spool_kept.specs.Drafting.{IsOwnedBy}
+use Rattle.spool_kept.specs.Holding.{Holding}
 use Rattle.spool_kept.specs.Kept.{KeepsView}
 use Rattle.spool_kept.specs.Records.{said_of}
 use Rattle.spool_kept.specs.Shows.{Shows}
