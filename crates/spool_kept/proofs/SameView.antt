@@ -63,8 +63,8 @@ module _ (f : ℕ → ℕ) (v v' : View) (valid : IsValid v) (valid' : IsValid v
       (number_at v.blocks says.first) (number_at v'.blocks says'.first)
 
   same_row : (b : ℕ) → get_or v.rows b None ≡ get_or v'.rows b None
-  same_row b = grind (arith, common_steps, cases_lt, rows_cover, one_row, rows_fit, said_row, same_blocks,
-      get_or-eq_default)
+  same_row b =
+      grind (arith, common_steps, cases_lt, rows_cover, one_row, rows_fit, said_row, same_blocks, get_or-eq_default)
 
 -- a spool at rest rests with whatever view its bytes have
 pub rests_other : {current : ℕ → ℕ} {unsynced : ℕ → Type 0} (v v' : View) → IsValid v → IsValid v'

@@ -171,8 +171,8 @@ module _ {D : Type 0} {sure : Bool} {disk : Ghosts D} {d : D} {h : Holding} {dra
 
     module _ (goes : found.stays ≡ false) where
       changes : text_stays w.store p ≡ false
-      changes = grind (arith, common_steps, text_changes, held, all_there, reached_is, text_ends, declares_is,
-          completes_is)
+      changes =
+          grind (arith, common_steps, text_changes, held, all_there, reached_is, text_ends, declares_is, completes_is)
 
       still : IsStillOpen w.store p
       still =

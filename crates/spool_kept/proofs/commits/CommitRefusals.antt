@@ -1,8 +1,7 @@
 -- Why a commit is refused.
-use Rattle.std.proofs.Common.{arith}
+use Rattle.std.proofs.Common.{arith, ◌≡◌, ◌⊎◌, ℕ, Bool, true, false, length, Option, Some, None, if◌then◌else◌, refl}
+use Rattle.std.proofs.Common.{◌∙◌, ap, eq-eqb}
 use Rattle.std.proofs.lemmas.Grind.{common_steps}
-use Rattle.std.proofs.Common.{◌≡◌, ◌⊎◌, ℕ, Bool, true, false, length, Option, Some, None}
-use Rattle.std.proofs.Common.{if◌then◌else◌, refl, ◌∙◌, ap, eq-eqb}
 use Rattle.upload_rules.specs.declared.errors.UploadRefusal.{UploadRefusal}
 use Rattle.upload_rules.specs.declared.errors.UploadRefusal.TheVariants.{Unencodable, Full, LengthSet, TooLong}
 use Rattle.upload_rules.specs.Answers.{IsLate}

@@ -1,8 +1,7 @@
 -- A commit's draft is spent: what the disk and what is kept stand for then.
 use Rattle.std.proofs.lemmas.Grind.{common_steps}
-use Rattle.std.proofs.Common.{Result, Ok, Err, IfOk, ◌≡◌, ◌≢◌, ◌⊎◌, Bool, true, false, ℕ}
-use Rattle.std.proofs.Common.{◌*◌, ◌<◌, ◌≤◌, List, [], Option, None, Some, length, get_or, set, refl, sym, ◌∙◌, ap}
-use Rattle.std.proofs.Common.{subst, arith}
+use Rattle.std.proofs.Common.{Result, Ok, Err, IfOk, ◌≡◌, ◌≢◌, ◌⊎◌, Bool, true, false, ℕ, ◌*◌, ◌<◌, ◌≤◌, List, []}
+use Rattle.std.proofs.Common.{Option, None, Some, length, get_or, set, refl, sym, ◌∙◌, ap, subst, arith}
 use Rattle.spool_blocks.specs.Blocks.{Held}
 use Rattle.spool_disk.specs.declared.disk.Disk.{Ghosts}
 use Rattle.spool_disk.specs.Views.{Lasts}
@@ -14,8 +13,7 @@ use Rattle.spool_drafts.proofs.Stays.{bytes_same}
 use Rattle.spool_pages.specs.View.{SlotRecord}
 use Rattle.spool_texts.specs.Drafts.{GivesBack, IsReserved}
 use Rattle.upload_rules.specs.Answers.{Answers, IsLate}
-use Rattle.upload_rules.specs.Calls.{commit_outcome, commit_refusal, committed, committed_store, dropped}
-use Rattle.upload_rules.specs.Calls.{text_stays}
+use Rattle.upload_rules.specs.Calls.{commit_outcome, commit_refusal, committed, committed_store, dropped, text_stays}
 use Rattle.upload_rules.specs.Drafts.{DraftOf, draft_at}
 use Rattle.upload_rules.specs.Grown.{IsGrown}
 use Rattle.upload_rules.specs.Store.{Store, find, is_complete, patched, patched_at, patched_store, replaced}
@@ -35,8 +33,7 @@ use Rattle.spool_kept.specs.declared.extending.Longer.{Longer}
 use Rattle.spool_kept.proofs.commits.CommitRefusals as rules
 use Rattle.spool_kept.proofs.drafts.DraftLonger.{WentOn, held_both, other_stands, put_on}
 use Rattle.spool_kept.proofs.drafts.DraftSpent.{all_given, all_handed, open_before, other_upload, owned_declared}
-use Rattle.spool_kept.proofs.drafts.DraftSpent.{rows_handed}
-use Rattle.spool_kept.proofs.drafts.DraftSpent.{stand_spent, others_longer}
+use Rattle.spool_kept.proofs.drafts.DraftSpent.{rows_handed, stand_spent, others_longer}
 use Rattle.spool_kept.proofs.drafts.Drafted.{stored_on, reserves_only}
 use Rattle.spool_kept.proofs.slots.SlotChange.{owned_still}
 
@@ -176,8 +173,9 @@ module _ {D : Type 0} {sure : Bool} {disk : Ghosts D} {d d' : D} {h h' : Holding
 
     pub stands_committed : StandsFor sure disk d'' h'' (set drafts number None) (committed w number p)
     stands_committed =
-        subst (λ (m : Store). StandsFor sure disk d'' h'' (set drafts number None) (record w { store = m; patches =
-        without number w.patches })) (sym (cc (rules.store_changed w.store p is.changes))) record {
+        subst (λ (m : Store). StandsFor sure disk d'' h'' (set drafts number None)
+        (record w { store = m; patches = without number w.patches }))
+        (sym (cc (rules.store_changed w.store p is.changes))) record {
           stored = subst (Stored sure disk d'' h'') after_is stored;
           stands = rw (← layout) at here;
         }

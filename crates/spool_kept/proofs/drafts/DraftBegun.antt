@@ -17,8 +17,7 @@ use Rattle.upload_rules.proofs.FreeNumbers.{is_free}
 use Rattle.upload_rules.proofs.Growing.{grown_begun}
 use Rattle.upload_rules.proofs.Patches.{patch_there, begun_stand}
 use Rattle.spool_kept.specs.Holding.{Holding}
-use Rattle.spool_kept.specs.Drafting.{DraftsHold, DraftStands, DraftsStand, IsOwnedBy, StandsFor}
-use Rattle.spool_kept.specs.Drafting.{CarriesFor, OpensFor}
+use Rattle.spool_kept.specs.Drafting.{DraftsHold, DraftStands, DraftsStand, IsOwnedBy, StandsFor, CarriesFor, OpensFor}
 use Rattle.spool_kept.proofs.drafts.Drafted.{IsChanged}
 use Rattle.spool_kept.proofs.slots.Created.{number_below}
 

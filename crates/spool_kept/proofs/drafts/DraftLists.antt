@@ -53,9 +53,10 @@ taken_apart {old = old} {list = list} {list' = list'} other takes is apart i k l
 -- a block that was not taken was reserved before
 pub reserved_before : {old new : Held} {list list' : List ℕ} (b : ℕ) → Takes old new list list'
     → get_or new.reserved b false ≡ true → IsOut list' b → get_or old.reserved b false ≡ true
-reserved_before {list =
-    list} b takes is out = sym (takes.others b (λ i lt e. out (length list + i) (omega (arith, lt, ap length
-    takes.grown, length-append list takes.more)) (cc (get_or-append-add list takes.more i 0)))) ∙ is
+reserved_before {list = list} b takes is out =
+    sym (takes.others b (λ i lt e. out (length list + i)
+    (omega (arith, lt, ap length takes.grown, length-append list takes.more))
+    (cc (get_or-append-add list takes.more i 0)))) ∙ is
 
 pub given_keeps : {old new : Held} {list : List ℕ} (other : List ℕ) → GivesBack old new list → IsReserved old other
     → NoneOf list other → IsReserved new other

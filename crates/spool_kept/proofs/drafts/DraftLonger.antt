@@ -1,8 +1,7 @@
 -- A draft that went on: its blocks and those of the others, the rule of room, and the disk.
 use Rattle.std.proofs.lemmas.Grind.{common_steps}
 use Rattle.std.proofs.Common.{Result, Ok, Err, OnOk, IsErrOf, ◌≡◌, ◌≢◌, inl, inr, ℕ, ◌==◌, if◌then◌else◌, Bool, true}
-use Rattle.std.proofs.Common.{false, List, Option, None, Some, length, get_or, set, refl, sym, ◌∙◌, ap, subst}
-use Rattle.std.proofs.Common.{arith}
+use Rattle.std.proofs.Common.{false, List, Option, None, Some, length, get_or, set, refl, sym, ◌∙◌, ap, subst, arith}
 use Rattle.std.proofs.lemmas.Bool.{cases_eq, cases_Bool, both_ways}
 use Rattle.std.proofs.lemmas.List.{set-set}
 use Rattle.enc_model.specs.Indexes.{IndexSet}
@@ -41,8 +40,7 @@ use Rattle.spool_kept.specs.Drafting.{list_in, lists_at, DraftsHold, DraftStands
 use Rattle.spool_kept.specs.Drafting.{StandsFor}
 use Rattle.spool_kept.proofs.drafts.DraftLists.{IsOut, IsSwapped, all_reserved, all_apart, cases_in, in_other, in_own}
 use Rattle.spool_kept.proofs.drafts.DraftLists.{kept_out, given_keeps, none_in_nothing, none_sym, out_of_more}
-use Rattle.spool_kept.proofs.drafts.DraftLists.{reserved_before}
-use Rattle.spool_kept.proofs.drafts.DraftLists.{taken_apart, taken_keeps}
+use Rattle.spool_kept.proofs.drafts.DraftLists.{reserved_before, taken_apart, taken_keeps}
 use Rattle.spool_kept.proofs.drafts.Drafted.{IsChanged, changed_lists, fit_changed, keeps_on, changed_in}
 use Rattle.spool_kept.proofs.slots.SlotsOf.{upload_slot, slots_apart, owner_upload}
 use Rattle.std.proofs.lemmas.Option.{same_Some}
@@ -118,8 +116,8 @@ module _ {n : ℕ} {h h' : Held} {old new : List (Option SpoolDraft)} {d : ℕ} 
   pub all_longer : ((b : ℕ) → get_or h.reserved b false ≡ true → IsInSome (lists_at old) b) → (b : ℕ)
       → get_or h'.reserved b false ≡ true → IsInSome (lists_at new) b
   all_longer all b is = elim on.grasp.holds [
-    | inl holds ↦ taken_in (lists_at new) on.grasp.takes (record { here = swapped.here ∙ holds.1; others =
-        swapped.others }) all b (rw (← holds.0) at is)
+    | inl holds ↦ taken_in (lists_at new) on.grasp.takes
+        (record { here = swapped.here ∙ holds.1; others = swapped.others }) all b (rw (← holds.0) at is)
     | inr given ↦
         let out = kept_out b given.0 is in
         let before = reserved_before b on.grasp.takes (sym (given.0.others b out) ∙ is) out in

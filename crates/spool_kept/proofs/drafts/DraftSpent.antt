@@ -105,8 +105,8 @@ pub stand_spent : {sure : Type 0} {x : IndexSet} {current : ℕ → ℕ} (curren
     → DraftsStand sure x current' first records' h' (record w { store = m; patches = without d w.patches })
     (set old d None)
 stand_spent {sure = sure} {x = x} {current = current} current' {first = first} {records = records} records' {h = h} h'
-    {w = w} m {old = old} d stand weaker grown size all = grind (arith, common_steps, each_other, find_without_same,
-    find_without_other, changed_out, apart_without)
+    {w = w} m {old = old} d stand weaker grown size all =
+    grind (arith, common_steps, each_other, find_without_same, find_without_other, changed_out, apart_without)
 
 -- WHERE AN UPLOAD HAS MORE
 
@@ -138,8 +138,8 @@ module _ (w : World) (grown : IsGrown w) (n : ℕ) (u : Upload) (upload : upload
       → find e w.patches ≡ Some r
       → IsStillOpen (record w.store { uploads = replaced n (patched u declare body) w.store.uploads }) r
       → (n ≢ r.number) × IsStillOpen w.store r
-  other_upload more e r found still = grind (arith, common_steps, cases_eq, same_number, longer_by, shorter, both_ways,
-      other_number)
+  other_upload more e r found still =
+      grind (arith, common_steps, cases_eq, same_number, longer_by, shorter, both_ways, other_number)
 
   -- where an upload got its length alone, what is still open was so
   pub open_before : u.declared ≡ None → body ≡ [] → (e : ℕ) (r : Patch) → find e w.patches ≡ Some r

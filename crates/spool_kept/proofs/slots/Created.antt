@@ -1,7 +1,6 @@
 -- A view with a new record shows the store with the new upload.
 use Rattle.std.proofs.lemmas.Grind.{common_steps}
-use Rattle.std.proofs.Common.{◌≡◌, ℕ, ◌+◌, ◌^◌, ◌<◌, ◌≤◌, [], Option, None, Some, length, refl, ◌∙◌, ap}
-use Rattle.std.proofs.Common.{arith}
+use Rattle.std.proofs.Common.{◌≡◌, ℕ, ◌+◌, ◌^◌, ◌<◌, ◌≤◌, [], Option, None, Some, length, refl, ◌∙◌, ap, arith}
 use Rattle.upload_rules.specs.Store.{New, Upload, Store, find, new_upload, created_store}
 use Rattle.upload_rules.proofs.Finds.{find_push_other}
 use Rattle.upload_rules.proofs.NewUploads.{new_text}

@@ -1,8 +1,7 @@
 -- A longer upload, as the disk is to say it.
 use Rattle.std.proofs.lemmas.Grind.{common_steps}
-use Rattle.std.proofs.Common.{◌≡◌, inl, inr, ◌⊎◌, ℕ, ◌+◌, ◌-◌, ◌/◌, ◌<◌, ◌≤◌, List, [], ◌++◌, Option}
-use Rattle.std.proofs.Common.{None, Some, false, length, length-append, get_or, drop, refl, sym, ◌∙◌, ap, subst}
-use Rattle.std.proofs.Common.{arith, Bool, true}
+use Rattle.std.proofs.Common.{◌≡◌, inl, inr, ◌⊎◌, ℕ, ◌+◌, ◌-◌, ◌/◌, ◌<◌, ◌≤◌, List, [], ◌++◌, Option, None, Some, false}
+use Rattle.std.proofs.Common.{length, length-append, get_or, drop, refl, sym, ◌∙◌, ap, subst, arith, Bool, true}
 use Rattle.std.proofs.lemmas.Bool.{cases_lt, both_ways, lt-ltb}
 use Rattle.std.proofs.lemmas.Option.{same_Some}
 use Rattle.enc_model.specs.Transcode.{Transcoder}
@@ -35,8 +34,7 @@ use Rattle.spool_kept.proofs.numbers.Entries.{numbers_replaced}
 use Rattle.spool_kept.proofs.slots.HandedOver.{listed_now, others_same, owns_one_each, room_for, rows_but_last}
 use Rattle.spool_kept.proofs.slots.Keeps.{keeps_said}
 use Rattle.spool_kept.proofs.slots.SlotChange.{HasRows, IsChange, changed_shows, changed_texts, lasts_either}
-use Rattle.spool_kept.proofs.slots.SlotChange.{same_others}
-use Rattle.spool_kept.proofs.slots.SlotChange.{told_upload}
+use Rattle.spool_kept.proofs.slots.SlotChange.{same_others, told_upload}
 use Rattle.spool_kept.proofs.Told.{told_state}
 use Rattle.spool_kept.proofs.Valid.{in_use}
 use Rattle.spool_blocks.specs.Chains.{OwnsOneEach}

@@ -1,17 +1,17 @@
 -- What is kept, with a longer upload, fits together.
 use Rattle.std.proofs.lemmas.Grind.{common_steps}
-use Rattle.std.proofs.Common.{◌≡◌, ℕ, ◌+◌, ◌/◌, ◌<◌, ◌≤◌, List, [], ◌++◌, None, Some, length}
-use Rattle.std.proofs.Common.{get_or, set, take, drop, refl, ◌∙◌}
-use Rattle.std.proofs.Common.{arith}
+use Rattle.std.proofs.Common.{◌≡◌, ℕ, ◌+◌, ◌/◌, ◌<◌, ◌≤◌, List, [], ◌++◌, None, Some, length, get_or, set, take, drop}
+use Rattle.std.proofs.Common.{refl, ◌∙◌, arith}
 use Rattle.std.proofs.lemmas.List.{get_or-set_other, get_or-set_same, get_or-drop, length-set}
 use Rattle.upload_rules.specs.Room.{blocks_of}
 use Rattle.spool_blocks.specs.Blocks.{Held}
 use Rattle.spool_blocks.proofs.Counts.{within}
 use Rattle.spool_texts.proofs.Reserves.{in_either}
-use Rattle.spool_pages.specs.Rests.{Unowned}
+use Rattle.spool_texts.specs.Drafts.{IsReserved}
 use Rattle.spool_pages.specs.View.{SlotRecord}
 use Rattle.spool_kept.specs.Changed.{HandsOver}
 use Rattle.spool_kept.specs.Holding.{Holding, FitsTogether, HasBlocks}
+use Rattle.spool_kept.proofs.drafts.DraftLists.{nothing_reserved}
 use Rattle.spool_kept.proofs.slots.SlotChange.{same_others}
 use Rattle.spool_kept.proofs.slots.SlotFits.{IsReordered, changed_fits}
 use Rattle.spool_kept.proofs.slots.HandedOver.{room_for, others_same, owned_now, fit_now, joined_length}
@@ -31,13 +31,13 @@ module _ (h : Holding) (fits : FitsTogether h) (slot : ℕ) (r : SlotRecord)
   pub low : r.text_len / 4096 ≤ length (get_or h.lists slot [])
   low = omega (arith, has.size)
 
-  -- the ordinals of full blocks are few
+  -- there are ordinals for reserved blocks after the full ones
+  pub room_of : {more : List ℕ} → IsReserved h.blocks more → r.text_len / 4096 + length more ≤ length h.blocks.rows
+  room_of {more = more} held = room_for h.blocks.rows slot (r.text_len / 4096) (get_or h.lists slot []) more has.owned
+      low held.no_owner held.below held.distinct
+
   pub full_few : length h.blocks.rows ≤ 65536 → r.text_len / 4096 ≤ 65536
-  full_few few =
-      let none : (i : ℕ) → i < length {A = ℕ} [] → ⊥ = λ i lt. omega (arith, lt) in
-      let all = room_for h.blocks.rows slot (r.text_len / 4096) (get_or h.lists slot []) [] has.owned low
-      (λ i lt. absurd (none i lt)) (λ i lt. absurd (none i lt)) (λ i k lt more. absurd (none k more)) in
-      omega (arith, all, few)
+  full_few few = omega (arith, room_of (nothing_reserved h.blocks [] refl), few)
 
   module _ (r' : SlotRecord) (number : r'.number ≡ r.number) where
     numbered : (q : SlotRecord) → Some r' ≡ Some q → (q.number ≡ r.number) × (r.number < h.next)
@@ -55,26 +55,26 @@ module _ (h : Holding) (fits : FitsTogether h) (slot : ℕ) (r : SlotRecord)
 
     -- blocks are handed over
     module _ (more : List ℕ) (blocks : Held) (hands : HandsOver h.blocks.rows slot (r.text_len / 4096) more blocks.rows)
-        (no_owner : Unowned h.blocks.rows more) (size : blocks_of r'.text_len ≡ r.text_len / 4096 + length more)
-        (room : r.text_len / 4096 + length more ≤ 65536) where
+        (held : IsReserved h.blocks more) (size : blocks_of r'.text_len ≡ r.text_len / 4096 + length more)
+        (few : length h.blocks.rows ≤ 65536) where
       has_now : HasBlocks blocks.rows slot r'.text_len (take (r.text_len / 4096) (get_or h.lists slot []) ++ more)
       has_now = record {
         size = omega (arith, size, joined_length (get_or h.lists slot []) more (r.text_len / 4096) low);
-        owned = owned_now h.blocks.rows slot (r.text_len / 4096) more blocks.rows hands no_owner
+        owned = owned_now h.blocks.rows slot (r.text_len / 4096) more blocks.rows hands held.no_owner
             (get_or h.lists slot []) low has.owned;
       }
 
       pub fits_longer : FitsTogether (record h {
         slots = set h.slots slot (Some r');
-        lists =
-            set h.lists slot (take (r.text_len / 4096) (get_or h.lists slot []) ++ more);
+        lists = set h.lists slot (take (r.text_len / 4096) (get_or h.lists slot []) ++ more);
         blocks = blocks;
       })
       fits_longer =
           let xs = take (r.text_len / 4096) (get_or h.lists slot []) ++ more in
           changed_fits h fits slot r.number (Some r') slot_few h.next (omega arith) numbered h.order same_order blocks
-          hands.size (others_same h.blocks.rows slot (r.text_len / 4096) more blocks.rows hands no_owner)
-          (fit_now h.blocks.rows slot (r.text_len / 4096) more blocks.rows hands no_owner slot_few room fits.rows_fit)
+          hands.size (others_same h.blocks.rows slot (r.text_len / 4096) more blocks.rows hands held.no_owner)
+          (fit_now h.blocks.rows slot (r.text_len / 4096) more blocks.rows hands held.no_owner slot_few
+          (omega (arith, room_of held, few)) fits.rows_fit)
           (set h.lists slot xs) (length-set h.lists slot xs ∙ fits.list_count)
           (λ s other. get_or-set_other h.lists slot s xs [] other)
           (rw (get_or-set_same h.lists slot xs [] (omega (arith, slot_few, fits.list_count))) has_now)

@@ -28,9 +28,10 @@ returns-in_err-declared c =
     let err = err_from_is_err_and c.from_residual.result c.from_residual.ensures.1 in
     let is : c.from_residual.result ≡ Err c.in_err-declared.field-0.0 =
     err.1 ∙ ap (λ (e : UploadRefusal). Err e) err.2 in
-    rw is (lemmas.refused c.args.draft.now c.record.result.now (there c.in-Some-in_slot.ensures.kept c.record.ensures.said)
-    (rw c.number.ensures at c.in-Some.ensures.used) (c.if-accepted-offset.false ∙ c.offset.ensures)
-    c.declare-declare.ensures c.came-came.ensures c.in_err-declared.field-0.0 c.in_err-declared.ensures)
+    rw is (lemmas.refused c.args.draft.now c.record.result.now
+    (there c.in-Some-in_slot.ensures.kept c.record.ensures.said) (rw c.number.ensures at c.in-Some.ensures.used)
+    (c.if-accepted-offset.false ∙ c.offset.ensures) c.declare-declare.ensures c.came-came.ensures
+    c.in_err-declared.field-0.0 c.in_err-declared.ensures)
 
 pub returns : goal.returns
 returns c =

@@ -12,8 +12,7 @@ use Rattle.spool_kept.proofs.drafts.Drafted.{reserves_only}
 use Rattle.spool_kept.proofs.SameView.{shows_still}
 use Rattle.spool_kept.specs.Holding.{Holding}
 use Rattle.spool_kept.proofs.drafts.DraftLonger.{answered, fit_longer, longer_carries, longer_holds, longer_world}
-use Rattle.spool_kept.proofs.drafts.DraftLonger.{moved}
-use Rattle.spool_kept.proofs.drafts.DraftLonger.{ok_more, stand_longer, went_back}
+use Rattle.spool_kept.proofs.drafts.DraftLonger.{moved, ok_more, stand_longer, went_back}
 use Rattle.spool_kept.proofs.drafts.OfUploads.{each_changed, of_longer}
 use Rattle.spool_kept.proofs.drafting.append.Goals as goal
 use Rattle.std.proofs.lemmas.Option.{same_Some}
@@ -110,12 +109,13 @@ returns-clause-answer g c sure w p s there fits =
     })))
     (λ e. record {
       stored = stored;
-      stands = subst (λ ps. DraftsStand (sure ≡ true) w.store.indexes current' first records h' (record w { patches = ps
-          }) after) same_patches (longer_stands p p there (rw (← same_patches) at s'.stands.grown) record {
-            holds = subst (λ (x : IndexSet). Holds x p new) ix (c.append-answer.ensures.holds_on p held e);
-            below = is.below;
-            carries = λ known still. rw ix at (c.append-answer.ensures.content_on p (honest known) e
-                (rw (← ix) at (is.carries known still)));
-            tail = tail;
-          });
+      stands = subst (λ ps. DraftsStand (sure ≡ true) w.store.indexes current' first records h' (record w {
+        patches = ps;
+      }) after) same_patches (longer_stands p p there (rw (← same_patches) at s'.stands.grown) record {
+        holds = subst (λ (x : IndexSet). Holds x p new) ix (c.append-answer.ensures.holds_on p held e);
+        below = is.below;
+        carries = λ known still. rw ix at (c.append-answer.ensures.content_on p (honest known) e
+            (rw (← ix) at (is.carries known still)));
+        tail = tail;
+      });
     }) c.append-answer.ensures.no_refusal

@@ -1,5 +1,4 @@
-use Rattle.std.proofs.Common.{rules, ◌≡◌, ◌∙◌, List, Option, None, length, get_or}
-use Rattle.std.proofs.Common.{IfOk, option_copied, sym, ap, subst}
+use Rattle.std.proofs.Common.{rules, ◌≡◌, ◌∙◌, List, Option, None, length, get_or, IfOk, option_copied, sym, ap, subst}
 use Rattle.spool_pages.specs.Changes.{SameRowsBut, ChangesButRows, with_record, neighbour}
 use Rattle.spool_pages.specs.View.{SlotRecord, slot_at}
 use Rattle.spool_kept.specs.Extending.{longer_record}

@@ -1,26 +1,18 @@
-use Rattle.std.proofs.Common.{rules, ◌≡◌, ◌∙◌, ◌<◌, ◌≤◌, ◌/◌, [], None, Some, length, get_or}
-use Rattle.std.proofs.Common.{subst, arith, refl}
+use Rattle.std.proofs.Common.{rules, ◌≡◌, ◌∙◌, ◌<◌, ◌≤◌, ◌/◌, [], None, Some, length, get_or, subst, arith, refl}
 use Rattle.std.proofs.lemmas.List.{get_or_default}
 use Rattle.spool_kept.specs.Changed.{HandsOver}
 use Rattle.spool_kept.specs.Extending.{longer_record}
 use Rattle.spool_kept.specs.Holding.{FitsTogether}
 use Rattle.spool_kept.specs.contracts.kept.Kept.{the_view}
-use Rattle.spool_kept.proofs.slots.HandedOver.{room_for}
-use Rattle.spool_kept.proofs.slots.LongerKept.{has, low, slot_few, fits_same, fits_longer}
+use Rattle.spool_kept.proofs.slots.LongerKept.{room_of, slot_few, fits_same, fits_longer}
 use Rattle.spool_kept.proofs.kept.Kept.take_over.Goals as goal
 
 pub own-requires-clause-room : goal.own-requires-clause-room
 own-requires-clause-room c =
-    let h = c.args.self.now in
     let fits = subst FitsTogether c.self.view_is c.self.invariant in
     let may = c.requires.may in
-    let slot = c.args.longer.now.slot in
-    let first = may.used.text_len / 4096 in
-    let is : c.full_blocks-full.result ≡ first = c.full_blocks-full.ensures.full may.used may.there in
-    let all = room_for h.blocks.rows slot first (get_or h.lists slot []) c.args.more.now
-    (has h fits slot may.used may.there).owned (low h fits slot may.used may.there)
-    c.requires.reserved.no_owner c.requires.reserved.below c.requires.reserved.distinct in
-    omega (arith, is, all, c.full_blocks-full.ensures.few)
+    let room = room_of c.args.self.now fits c.args.longer.now.slot may.used may.there c.requires.reserved in
+    omega (arith, c.full_blocks-full.ensures.full may.used may.there, room, c.full_blocks-full.ensures.few)
 
 pub invariant_of-self : goal.invariant_of-self
 invariant_of-self c =
@@ -42,16 +34,12 @@ invariant_of-self-2 c =
     c.index_mut.ensures.value ∙ get_or_default h.lists slot c.index_mut.result.now []
     (omega (arith, slot_few h c.self.invariant slot may.used there, c.self.invariant.list_count)) in
     let held = rw (← c.self.view_is) at c.requires.reserved in
-    let all = room_for h.blocks.rows slot first (get_or h.lists slot []) c.args.more.now
-    (has h c.self.invariant slot may.used there).owned (low h c.self.invariant slot may.used there)
-    held.no_owner held.below held.distinct in
-    let few : length h.blocks.rows ≤ 65536 =
-    rw (← c.self.view_is) at c.full_blocks-full.ensures.few in
+    let few : length h.blocks.rows ≤ 65536 = rw (← c.self.view_is) at c.full_blocks-full.ensures.few in
     let hands : HandsOver h.blocks.rows slot first c.args.more.now c.own.new.self.rows =
     rw (← full) (assumption c.own.ensures) in
     rw (c.set_record-2.ensures may.used there, c.in_ok-replace_from.ensures.done, here, full)
     (fits_longer h c.self.invariant slot may.used there (longer_record may.used c.args.longer.now) refl c.args.more.now
-    c.own.new.self hands held.no_owner (may.blocks (search rules)) (omega (arith, all, few)))
+    c.own.new.self hands held (may.blocks (search rules)) few)
 
 pub returns-then-is_empty-clause-longer : goal.returns-then-is_empty-clause-longer
 returns-then-is_empty-clause-longer c r there =

@@ -1,5 +1,4 @@
-use Rattle.std.proofs.Common.{◌≡◌, ◌∙◌, None, Some, get_or, ap, sym}
-use Rattle.std.proofs.Common.{arith, refl}
+use Rattle.std.proofs.Common.{◌≡◌, ◌∙◌, None, Some, get_or, ap, sym, arith, refl}
 use Rattle.upload_rules.specs.Records.{Keeps}
 use Rattle.upload_rules.specs.Store.{Store, Upload, upload_of}
 use Rattle.spool_pages.specs.View.{SlotRecord, View}
@@ -31,7 +30,8 @@ record_there : (c : goal.After-record)
 record_there c = sym c.in_ok-used.ensures.kept ∙ ap (λ (q : SlotRecord). Some q) (sym c.record.ensures.said)
 
 pub returns-clause-numbered : goal.returns-clause-numbered
-returns-clause-numbered c = c.list-list.ensures.fits.below c.in_ok-slot.slot (said_of c.record.result.now) (record_there c)
+returns-clause-numbered c =
+    c.list-list.ensures.fits.below c.in_ok-slot.slot (said_of c.record.result.now) (record_there c)
 
 pub returns-clause-kept : goal.returns-clause-kept
 returns-clause-kept c = record {
