@@ -1,4 +1,5 @@
 -- What is kept tells of the uploads that a view shows.
+use Rattle.std.proofs.lemmas.Grind.{common_steps}
 use Rattle.std.proofs.Common.{◌≡◌, inl, inr, ℕ, ◌<◌, ◌≤◌, List, [], Option, None, Some, MatchOption, length, get_or}
 use Rattle.std.proofs.Common.{refl, sym, ◌∙◌, ap, subst, arith}
 use Rattle.std.proofs.lemmas.Bool.{cases_lt, cases_eq}
@@ -47,6 +48,14 @@ text_there m (Some w) u text there is = (refl, ap (text_of m.indexes) (same_Some
 
 pub same_read : (text : List ℕ) (at n : ℕ) (old new : List ℕ) → IsPieceRead text at n old new → IsRead text at n old new
 same_read text at n old new is = record { count = is.count; bytes = is.bytes }
+
+-- the record of the only slot of a number
+pub only_record : {slots : List (Option SlotRecord)} {s n : ℕ} {q r : SlotRecord} (t : ℕ)
+    → ((k : ℕ) → IsUsedBy slots k n → k ≡ s) → get_or slots s None ≡ Some r → IsUsedBy slots s n
+    → get_or slots t None ≡ Some q → q.number ≡ r.number → q ≡ r
+only_record {q = q} t only there used e is =
+    let at = only t (record { used = q; there = e; is = cc (used.there, used.is) }) in
+    cc
 
 -- the slot of a number, by the order
 pub used_of : (h : Holding) → FitsTogether h → (number : ℕ) (o : Option ℕ)
@@ -100,18 +109,13 @@ module _ {h : Holding} {v : View} {m : Store} (kept : KeepsView h v) (shows : Sh
       → (i : ℕ) × (i < length h.order) × (number_at h.order i ≡ j)
   listed j w e =
       let has = shows.all j w e in
-      let lt : has.slot < 512 = let inside =
-      in_use v.slots has.slot has.used has.there in omega (arith, inside, shows.valid.slot_count) in
+      let lt : has.slot < 512 = search (arith, common_steps) in
       let l = kept.ordered.all has.slot has.used lt has.there in
       (l.place, l.below, ap (λ (p : NumberedSlot). p.number) l.here ∙ has.number)
 
   module _ (n place : ℕ) (is : IsPlaceFor h.order n place) where
     pub none_after : length h.order ≤ place → above n m.uploads ≡ None
-    none_after le = above_none m.uploads n (λ j w over e.
-        let at = listed j w e in
-        let lt = at.1 in
-        let up = is.before at.0 (omega (arith, lt, le)) in
-        omega (arith, up, at.2, over)) shows.rising
+    none_after le = grind (arith, common_steps, above_none, listed)
 
     pub some_after : (k s : ℕ) → place < length h.order → get_or h.order place (numbered 0 0) ≡ numbered k s
         → (u : Upload) → upload_of m k ≡ Some u → above n m.uploads ≡ Some (k, u)
@@ -124,20 +128,12 @@ module _ {h : Holding} {v : View} {m : Store} (kept : KeepsView h v) (shows : Sh
         elim (cases_lt at.0 place) [
           | inl low ↦ let up = is.before at.0 low in absurd (omega (arith, up, at.2, over))
           | inr high ↦ elim (cases_eq at.0 place) [
-            | inl same ↦ let e' : number_at h.order at.0 ≡ number_at h.order place =
-                ap (number_at h.order) same in omega (arith, e', here, at.2)
-            | inr other ↦ let less = kept.ordered.rises place at.0 (omega (arith, high, other)) inside in omega
-                (arith, less, here, at.2)
+            | inl same ↦ search (arith, common_steps)
+            | inr other ↦ search (arith, common_steps)
           ]
         ])
 
     -- the entry names a slot in use
     pub named : (k s : ℕ) → place < length h.order → get_or h.order place (numbered 0 0) ≡ numbered k s
         → IsUsedBy h.slots s k
-    named k s lt e =
-        let used = kept.ordered.names k s (record { place = place; below = lt; here = e }) in
-        record {
-          used = used.used;
-          there = ap (λ (xs : List (Option SlotRecord)). get_or xs s None) kept.slots ∙ used.there;
-          is = used.is;
-        }
+    named k s lt e = search (arith, common_steps)

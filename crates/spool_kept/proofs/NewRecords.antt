@@ -1,8 +1,9 @@
 -- The record of a new upload.
-use Rattle.std.proofs.Common.{◌≡◌, ℕ, ◌+◌, ◌≤◌, List, [], Option, false, All, length, sym, ◌∙◌, ap, subst, arith}
+use Rattle.std.proofs.lemmas.Grind.{common_steps}
+use Rattle.std.proofs.Common.{◌≡◌, ℕ, ◌+◌, ◌≤◌, List, [], false, length, sym, ◌∙◌, ap, subst, arith}
 use Rattle.enc_model.specs.Indexes.{IndexSet}
 use Rattle.enc_stream.specs.StateBytes.{state_bytes}
-use Rattle.upload_rules.specs.Lengths.{is_too_large, longest}
+use Rattle.upload_rules.specs.Lengths.{is_too_large}
 use Rattle.upload_rules.specs.Records.{Keeps, IsWellFormed}
 use Rattle.upload_rules.specs.States.{state_with, transcoder_with}
 use Rattle.upload_rules.specs.Store.{New, new_upload, is_complete}
@@ -20,19 +21,7 @@ module _ (x : IndexSet) (n : ℕ) (r : Record) (new : New) (keeps : Keeps x n r 
   state_is = keeps.tells.state
 
   pub new_fits : IsWellFormed new → FitsMemory r
-  new_fits well =
-      let u = new_upload new in
-      record {
-        unpacked = record {
-          transcoder = transcoder_with x u [] (is_complete u);
-          valid = keeps.valid;
-          is = state_is;
-          from = keeps.tells.from ∙ sym (with_from x u (is_complete u));
-          to = keeps.tells.to ∙ sym (with_to x u (is_complete u));
-          mode = keeps.tells.mode ∙ sym (with_mode x u (is_complete u));
-        };
-        short = subst (λ (bytes : List ℕ). length bytes ≤ 1536) (sym keeps.tells.metadata) well.short;
-      }
+  new_fits well = grind (arith, common_steps, state_is, with_from, with_to, with_mode)
 
   tells_new : IsRecordOf x (said_of r) [] (new_upload new)
   tells_new = let text = sym (new_text x new) in assumption (text, keeps, keeps.tells)
@@ -45,15 +34,13 @@ module _ (x : IndexSet) (n : ℕ) (r : Record) (new : New) (keeps : Keeps x n r 
     some = omega (arith, keeps.tells.number_is, some);
     below = omega (arith, keeps.tells.number_is);
     accepted = omega (arith, keeps.tells.accepted);
-    declared = subst (λ (k : Option ℕ). longest k ≤ 1073741824) (sym keeps.tells.declared)
-        (small_is new.declared small);
+    declared = rw (← keeps.tells.declared) at (small_is new.declared small);
     text_fits = omega (arith, no_text);
     state_size = ap length state_is ∙ state_length (transcoder_with x (new_upload new) [] (is_complete (new_upload
         new)));
     state = told_state x (said_of r) [] (new_upload new) tells_new;
     metadata_size = subst (λ (bytes : List ℕ). length bytes ≤ 1536) (sym keeps.tells.metadata) well.short;
-    printable = subst (λ (bytes : List ℕ). All (λ b. (0x20 ≤ b) × (b ≤ 0x7E)) bytes) (sym keeps.tells.metadata)
-        well.printable;
+    printable = rw (← keeps.tells.metadata) at well.printable;
   }
 
 pub new_record : (x : IndexSet) (n : ℕ) (r : Record) (new : New) → ((y : IndexSet) → Keeps y n r (new_upload new))

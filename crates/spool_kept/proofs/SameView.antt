@@ -1,10 +1,10 @@
 -- Two views of one image have the same blocks and the same rows, and so what one leaves free the other does.
-use Rattle.std.proofs.Common.{◌≡◌, inl, inr, ℕ, ◌+◌, ◌-◌, ◌*◌, ◌^◌, ◌<◌, ◌≤◌, List, Option, None, Some, get_or, refl}
-use Rattle.std.proofs.Common.{sym, ◌∙◌, ap, arith}
-use Rattle.std.specs.Int.{to_be_bytes, from_be_bytes, w32}
+use Rattle.std.proofs.lemmas.Grind.{common_steps}
+use Rattle.std.proofs.Common.{◌≡◌, ℕ, ◌+◌, ◌-◌, ◌*◌, ◌^◌, ◌<◌, ◌≤◌, List, Option, None, Some, get_or, refl}
+use Rattle.std.proofs.Common.{sym, ◌∙◌, arith}
+use Rattle.std.specs.Int.{to_be_bytes, w32}
 use Rattle.std.proofs.Math.ListN.{get_or-eq_default}
 use Rattle.std.proofs.lemmas.Bool.{cases_lt}
-use Rattle.std.proofs.lemmas.Nat.{from_be_bytes-to_be_bytes_4}
 use Rattle.spool_disk.specs.Disk.{IsImage}
 use Rattle.spool_disk.specs.Views.{Lasts}
 use Rattle.spool_disk.specs.declared.disk.Disk.{Ghosts}
@@ -15,7 +15,6 @@ use Rattle.spool_texts.specs.Written.{aside_blocks}
 use Rattle.spool_pages.specs.Fits.{FitsRow}
 use Rattle.spool_pages.specs.Rests.{Rests, Unowned}
 use Rattle.spool_pages.specs.View.{View, Says, Stands, magic, first_page, row_bytes, IsViewOf}
-use Rattle.spool_pages.proofs.Numbers.{four_at}
 use Rattle.spool_pages.proofs.RecordBytes.{stands_beyond}
 use Rattle.spool_pages.proofs.Resting.{rests_aside}
 use Rattle.spool_pages.proofs.RowBytes.{slot_at, ordinal_at, free_at}
@@ -26,8 +25,7 @@ use Rattle.spool_kept.proofs.Valid.{rows_fit, said_row}
 module _ (f : ℕ → ℕ) (at : ℕ) where
   one_number : (m n : ℕ) → m < 2 ^ 32 → n < 2 ^ 32 → Stands f at 4 (to_be_bytes w32 m)
       → Stands f at 4 (to_be_bytes w32 n) → m ≡ n
-  one_number m n lt lt' a b = sym (from_be_bytes-to_be_bytes_4 m lt)
-      ∙ ap (from_be_bytes w32) (sym (four_at f at m a) ∙ four_at f at n b) ∙ from_be_bytes-to_be_bytes_4 n lt'
+  one_number m n lt lt' a b = search (arith, common_steps)
 
 module _ (f : ℕ → ℕ) (at : ℕ) where
   pairs : (o p : ℕ × ℕ) → o.0 ≡ p.0 → o.1 ≡ p.1 → ◌≡◌ {A = Option (ℕ × ℕ)} (Some o) (Some p)
@@ -65,30 +63,13 @@ module _ (f : ℕ → ℕ) (v v' : View) (valid : IsValid v) (valid' : IsValid v
       (number_at v.blocks says.first) (number_at v'.blocks says'.first)
 
   same_row : (b : ℕ) → get_or v.rows b None ≡ get_or v'.rows b None
-  same_row b = elim (cases_lt b v.blocks) [
-    | inl lt ↦
-        let within : b < 512 * (journal_pages v.blocks - 257) = omega (arith, lt, rows_cover v.blocks) in
-        one_row f _ (get_or v.rows b None) (get_or v'.rows b None) (rows_fit v valid b) (rows_fit v' valid' b)
-        (says.rows b within) (said_row f v' v.blocks (sym same_blocks) says' b within)
-    | inr over ↦ get_or-eq_default v.rows None (omega (arith, over, valid.row_count))
-        ∙ sym (get_or-eq_default v'.rows None (omega (arith, over, valid'.row_count, same_blocks)))
-  ]
+  same_row b =
+      grind (arith, common_steps, cases_lt, rows_cover, one_row, rows_fit, said_row, same_blocks, get_or-eq_default)
 
 -- a spool at rest rests with whatever view its bytes have
 pub rests_other : {current : ℕ → ℕ} {unsynced : ℕ → Type 0} (v v' : View) → IsValid v → IsValid v'
     → Says (overlaid current) v → Rests v current unsynced → IsViewOf current v' → Rests v' current unsynced
-rests_other {current = current} v v' valid valid' says rests is = record {
-  closed = rests.closed;
-  is_synced = λ p l.
-      let free = rests.is_synced p l in
-      record {
-        block = free.block;
-        here = ap (λ (n : ℕ). text_page n + free.block)
-            (sym (same_blocks (overlaid current) v v' valid valid' says is.says)) ∙ free.here;
-        free = sym (same_row (overlaid current) v v' valid valid' says is.says free.block) ∙ free.free;
-      };
-  is = is;
-}
+rests_other {current = current} v v' valid valid' says rests is = grind (arith, common_steps, same_blocks, same_row)
 
 -- Whatever the resting bytes show, an image shows that differs from them only in blocks that no row owns.
 pub shows_aside : {current : ℕ → ℕ} {unsynced : ℕ → Type 0} (v : View) (own : List ℕ) (n : ℕ) (image : ℕ

@@ -1,4 +1,5 @@
 -- What a record tells of an upload, and its state.
+use Rattle.std.proofs.lemmas.Grind.{common_steps}
 use Rattle.std.proofs.Common.{◌≡◌, ℕ, ◌==◌, Bool, true, false, if◌then◌else◌, List, [], ◌∷◌, Option, length, refl, sym}
 use Rattle.std.proofs.Common.{◌∙◌, ap, subst, arith}
 use Rattle.std.proofs.lemmas.List.{append-nil}
@@ -13,7 +14,7 @@ use Rattle.enc_model.specs.declared.Mode.TheVariants.{Html, Fatal}
 use Rattle.enc_model.specs.Encode.{Tables}
 use Rattle.enc_model.specs.Indexes.{IndexSet, tables}
 use Rattle.enc_model.specs.Decode.{Held, Reading, decoded, decoding, decoding_start, sniffed, undecided}
-use Rattle.enc_model.specs.Transcode.{Transcoder, phase_of}
+use Rattle.enc_model.specs.Transcode.{phase_of}
 use Rattle.enc_stream.specs.StateBytes.{state_bytes, encoding_number, mode_number}
 use Rattle.enc_stream.proofs.Bytes.{from_there, to_there, mode_there}
 use Rattle.upload_rules.specs.Lengths.{is_length}
@@ -50,14 +51,7 @@ module _ (x : IndexSet) (r : SlotRecord) (shown : List ℕ) (u : Upload) (is : I
   -- a record that tells of an upload has a state
   pub told_state : HasState r
   unfolding state_with
-  told_state = record {
-    transcoder = transcoder_with x u [] (is_complete u);
-    valid = is.valid;
-    is = is.state;
-    phase = subst (λ (n : ℕ). FitsPhase (transcoder_with x u [] (is_complete u)).phase n r.declared) (sym is.accepted)
-        (subst (λ (k : Option ℕ). FitsPhase (transcoder_with x u [] (is_complete u)).phase (length u.accepted) k)
-        (sym is.declared) (at_phase (is_complete u) refl));
-  }
+  told_state = grind (arith, common_steps, at_phase)
 
 -- STATES SAY THEIR ENCODINGS
 
@@ -103,9 +97,6 @@ with_mode x u false = refl
 -- what its slot says tells of the upload, and so does the record
 module _ (x : IndexSet) (q : SlotRecord) (shown : List ℕ) (u : Upload) (is : IsRecordOf x q shown u) (r : Record)
     (said : said_of r ≡ q) (unpacked : IsUnpacked r) where
-  ends : Transcoder
-  ends = transcoder_with x u [] (is_complete u)
-
   states : state_bytes unpacked.transcoder ≡ state_bytes (transcoder_with x u [] (is_complete u))
   unfolding state_with
   states = sym unpacked.is ∙ ap (λ (p : SlotRecord). p.state) said ∙ is.state
@@ -120,11 +111,9 @@ module _ (x : IndexSet) (q : SlotRecord) (shown : List ℕ) (u : Upload) (is : I
           declared = ap (λ (p : SlotRecord). p.declared) said ∙ is.declared;
           accepted = ap (λ (p : SlotRecord). p.accepted) said ∙ is.accepted;
           text_len = ap (λ (p : SlotRecord). p.text_len) said ∙ is.text_len;
-          from = unpacked.from ∙ same_encoding s.from t.from (from_there s (state_bytes t) states)
-              ∙ with_from x u (is_complete u);
+          from = cc (same_encoding s.from t.from (from_there s (state_bytes t) states), with_from x u (is_complete u));
           to = unpacked.to ∙ same_encoding s.to t.to (to_there s (state_bytes t) states) ∙ with_to x u (is_complete u);
-          mode = unpacked.mode ∙ same_mode s.mode t.mode (mode_there s (state_bytes t) states)
-              ∙ with_mode x u (is_complete u);
+          mode = cc (same_mode s.mode t.mode (mode_there s (state_bytes t) states), with_mode x u (is_complete u));
           state = ap (λ (p : SlotRecord). p.state) said ∙ is.state;
           metadata = ap (λ (p : SlotRecord). p.metadata) said ∙ is.metadata;
         };

@@ -1,21 +1,18 @@
 -- What a valid view says of a slot and of a row.
-use Rattle.std.proofs.Common.{◌≡◌, inl, inr, ℕ, ◌+◌, ◌-◌, ◌*◌, ◌^◌, ◌<◌, ◌≤◌, refl, subst, List, Option, None, Some}
+use Rattle.std.proofs.lemmas.Grind.{common_steps}
+use Rattle.std.proofs.Common.{◌≡◌, ℕ, ◌+◌, ◌-◌, ◌*◌, ◌^◌, ◌<◌, ◌≤◌, refl, subst, List, Option, None, Some}
 use Rattle.std.proofs.Common.{length, get_or, ltb, true, sym, ◌∙◌, ap, arith}
 use Rattle.std.proofs.lemmas.Bool.Decides.{nat_tests}
-use Rattle.upload_rules.specs.Lengths.{longest}
 use Rattle.upload_rules.specs.Room.{blocks_of}
 use Rattle.spool_pages.specs.View.{View, SlotRecord, Says, Stands, slot_at, slot_bytes, row_bytes, index_place}
 use Rattle.spool_pages.specs.View.{slot_place, row_place}
-use Rattle.spool_pages.specs.Fits.{FitsLength, FitsSlotOf, FitsRow}
+use Rattle.spool_pages.specs.Fits.{FitsSlotOf, FitsRow}
 use Rattle.enc_index.specs.Area.{area_byte}
 use Rattle.spool_journal.specs.Image.{journal_pages}
-use Rattle.std.proofs.Math.ListN.{get_or-eq_default}
-use Rattle.std.proofs.lemmas.Bool.{cases_lt}
 use Rattle.spool_kept.specs.Records.{FitsKept}
 use Rattle.spool_kept.specs.Holding.{AreDistinct}
 use Rattle.spool_blocks.specs.Chains.{OwnsOneEach}
 use Rattle.spool_kept.specs.Shows.{IsValid, IsValidRecord, IsOwned}
-use Rattle.spool_kept.proofs.slots.ChangedSlots.{clash}
 
 module _ (v : View) (valid : IsValid v) (slots : List (Option SlotRecord)) (same : slots ≡ v.slots) where
   there : (s : ℕ) (o : Option SlotRecord) → get_or slots s None ≡ o → slot_at v s ≡ o
@@ -41,8 +38,7 @@ module _ (bytes : ℕ → ℕ) (v : View) (n : ℕ) (blocks : v.blocks ≡ n) (s
   said_area i lt = subst (λ (m : ℕ). bytes (index_place m + i) ≡ area_byte v.indexes i) blocks (says.area i lt)
 
   pub said_slot : (s : ℕ) → s < 512 → Stands bytes (slot_place n s) 2048 (slot_bytes v.version (slot_at v s))
-  said_slot s lt = subst (λ (m : ℕ). Stands bytes (slot_place m s) 2048 (slot_bytes v.version (slot_at v s)))
-      blocks (says.slots s lt)
+  said_slot s lt = rw blocks at (says.slots s lt)
 
   pub said_row : (b : ℕ) → b < 512 * (journal_pages n - 257) → Stands bytes (row_place n b) 8
       (row_bytes (get_or v.rows b None))
@@ -65,35 +61,14 @@ pub fits_slot : (o : Option SlotRecord) → FitsKept o → FitsSlotOf o
 fits_slot None fits = tt
 fits_slot (Some r) fits = fits.0
 
-length_fits : (declared : Option ℕ) → longest declared ≤ 1073741824 → FitsLength declared
-length_fits None small = tt
-length_fits (Some n) small = omega (arith, small)
-
 record_fits : (next : ℕ) → next ≤ 10 ^ 18 → (r : SlotRecord) → IsValidRecord next r → FitsKept (Some r)
-record_fits next most r is = (
-  (
-    record {
-      some = is.some;
-      number = omega (arith, is.below, most);
-      declared = length_fits r.declared is.declared;
-      accepted = omega (arith, is.accepted, is.declared);
-      text_len = is.text_fits;
-      state = is.state_size;
-      metadata = is.metadata_size;
-    },
-    is.printable,
-  ),
-  is.state,
-)
+record_fits next most r is = search (arith, common_steps)
 
 pub slots_fit : (v : View) → IsValid v → (s : ℕ) → FitsKept (slot_at v s)
 slots_fit v valid s = slot_from (slot_at v s) (λ r e. record_fits v.next valid.next_most r (valid.records s r e))
 
 pub in_use : {A : Type 0} (xs : List (Option A)) (s : ℕ) (r : A) → get_or xs s None ≡ Some r → s < length xs
-in_use xs s r e = elim (cases_lt s (length xs)) [
-  | inl lt ↦ lt
-  | inr over ↦ clash (get_or-eq_default xs None over) e
-]
+in_use xs s r e = search (arith, common_steps)
 
 pub rows_fit : (v : View) → IsValid v → (b : ℕ) → FitsRow (get_or v.rows b None)
 rows_fit v valid b = row_from (get_or v.rows b None) (λ p e.

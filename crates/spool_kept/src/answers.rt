@@ -18,7 +18,6 @@ ghost use Rattle.spool_pages.specs.View.{View, Says};
 
 use crate::kept::Kept;
 use crate::order::{NumberedSlot, places_to, slot_of};
-use crate::records::record_at;
 use enc_index::IndexSet;
 use spool_blocks::BlockNo;
 use spool_disk::Disk;
@@ -54,7 +53,7 @@ impl Kept {
             → TellsOf m.indexes (with_number number (upload_of m number)) (option_copied result) }
     {
         let slot = self.slot_of(number)?;
-        let kept = record_at(&self.slots, slot as usize)?;
+        let kept = self.in_slot(slot)?;
         Some(kept.record())
     }
 
@@ -72,8 +71,8 @@ impl Kept {
             → IfSome result (λ u. HasTextOn m number bytes (text_page self.now.layout) u.upload.now u.list.now) }
     {
         let slot = self.slot_of(number)?;
-        let used = record_at(&self.slots, slot as usize)?;
-        let list = self.lists[slot as usize].blocks();
+        let used = self.in_slot(slot)?;
+        let list = self.list(slot);
         let _few = self.layout.blocks();
         Some(KeptUpload {
             upload: used.record(),
@@ -130,7 +129,7 @@ impl Kept {
     {
         let place = places_to(&self.order, number);
         let NumberedSlot { slot, .. } = *self.order.get(place)?;
-        let kept = record_at(&self.slots, slot as usize)?;
+        let kept = self.in_slot(slot)?;
         Some(kept.record())
     }
 

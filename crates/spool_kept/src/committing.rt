@@ -13,7 +13,7 @@ ghost use Rattle.spool_texts.specs.Drafts.{IsReserved};
 ghost use Rattle.upload_rules.specs.Answers.{Answers};
 ghost use Rattle.upload_rules.specs.Calls.{commit_outcome, commit_refusal, committed, dropped};
 ghost use Rattle.upload_rules.specs.Drafts.{draft_at};
-ghost use Rattle.upload_rules.specs.Lengths.{is_too_large};
+ghost use Rattle.upload_rules.specs.Lengths.{is_length as length_is, is_too_large};
 ghost use Rattle.upload_rules.specs.Store.{Store, find, patched_store};
 ghost use Rattle.upload_rules.specs.World.{Patch, World, reached};
 ghost use Rattle.upload_rules.specs.declared.errors.UploadRefusal.{UploadRefusal as Refusal};
@@ -27,7 +27,6 @@ ghost use Rattle.spool_kept.specs.Stored.{ShowsEither, Stored};
 
 use crate::extending::{ExtendError, Longer, extend};
 use crate::kept::Kept;
-use crate::records::record_at;
 use spool_disk::Disk;
 use spool_drafts::{DraftEnd, SpoolDraft};
 use std::alloc::Global;
@@ -46,6 +45,14 @@ struct Found {
     stays: bool,
 }
 
+// Whether a text stays: no bytes came, and no new length says that the accepted ones are all.
+fn stays(declares: bool, declared: Option<u64>, accepted: u64, came: u64) -> bool
+    ensures stays { result ≡ true → (came ≡ 0) × (declares ≡ true → length_is declared accepted ≡ false) }
+    ensures goes { result ≡ false → (0 < came) ⊎ ((declares ≡ true) × (length_is declared accepted ≡ true)) }
+{
+    came == 0 && !(declares && is_length(declared, accepted))
+}
+
 // What a commit finds of a draft's upload, which has as many bytes as when the draft began: refused with `NoSuch`,
 // `Offset`, `LengthSet`, `TooLong`.
 fn found_for(kept: &Kept, draft: &SpoolDraft) -> Result<Found, UploadRefusal>
@@ -54,7 +61,7 @@ fn found_for(kept: &Kept, draft: &SpoolDraft) -> Result<Found, UploadRefusal>
     let Some(slot) = kept.slot_of(draft.number()) else {
         return Err(UploadRefusal::NoSuch);
     };
-    let Some(used) = record_at(&kept.slots, slot as usize) else {
+    let Some(used) = kept.in_slot(slot) else {
         return Err(UploadRefusal::NoSuch);
     };
     let Record {
@@ -69,12 +76,11 @@ fn found_for(kept: &Kept, draft: &SpoolDraft) -> Result<Found, UploadRefusal>
     let declare = draft.declare();
     let declared = length_then(known, declare, accepted, came)?;
     let declares = is_new(known, declare);
-    let completes = declares && is_length(declared, accepted);
     Ok(Found {
         slot,
         declares,
         declared,
-        stays: came == 0 && !completes,
+        stays: stays(declares, declared, accepted, came),
     })
 }
 
@@ -235,7 +241,7 @@ fn set_length<D: Disk>(
         → Lasts D.Disk disk.old disk.new (ShowsEither kept.old.layout m (patched_store m n declared [])) }
     ensures unmade { IsErrOf result UploadError.NoMemory → (disk.new ≡ disk.old) × (kept.new ≡ kept.old) }
 {
-    let used = record_at(&kept.slots, slot as usize).unwrap().record();
+    let used = kept.in_slot(slot).unwrap().record();
     let longer = Longer {
         slot,
         declared,

@@ -9,6 +9,7 @@ ghost use Rattle.spool_blocks.specs.Blocks.{Row as HeldRow};
 ghost use Rattle.spool_pages.specs.Changes.{ChangesButRows, with_record, SameRowsBut};
 ghost use Rattle.spool_pages.specs.View.{View};
 ghost use Rattle.spool_texts.specs.Drafts.{IsReserved};
+ghost use Rattle.spool_texts.specs.TextOn.{AllBelow};
 ghost use Rattle.upload_rules.specs.States.{SameEncodings};
 ghost use Rattle.upload_rules.specs.Store.{Store, patched_store};
 ghost use Rattle.spool_kept.specs.Extending.{MayExtend, HandsOn, IsLonger, IsPending, IsWritten, longer_record};
@@ -16,7 +17,8 @@ ghost use Rattle.spool_kept.specs.Stored.{Stored, ShowsEither};
 ghost use Rattle.spool_pages.specs.View.{SlotRecord as Said};
 
 use crate::kept::Kept;
-use crate::records::{KeptRecord, record_at};
+use crate::lists::blocks_from;
+use crate::records::KeptRecord;
 use spool_blocks::BlockNo;
 use spool_disk::{Disk, DiskFault};
 use spool_journal::{Layout, Pages};
@@ -68,23 +70,6 @@ impl From<DiskFault> for ExtendError {
     }
 }
 
-// The blocks whose rows change: the new ones, and those that they replace. None where there are no new ones.
-fn changed_blocks(
-    alloc: Global,
-    replaced: &[BlockNo],
-    more: &[BlockNo],
-) -> Result<Vec<BlockNo>, AllocError>
-    ensures none { length more.now ≡ 0 → IfOk result (λ blocks. blocks.items ≡ []) }
-    ensures some { 0 < length more.now → IfOk result (λ blocks. blocks.items ≡ more.now ++ replaced.now) }
-{
-    let mut blocks = Vec::new(alloc);
-    if !more.is_empty() {
-        blocks.extend_from_slice(more)?;
-        blocks.extend_from_slice(replaced)?;
-    }
-    Ok(blocks)
-}
-
 // The slot's upload gets longer.
 fn set_record(slots: &mut Vec<Option<KeptRecord>>, longer: &Longer)
     requires used { IsSome (get_or slots.old.items longer.now.slot None) }
@@ -104,10 +89,39 @@ impl Kept {
         requires { IsSome (get_or self.now.slots slot None) }
         ensures full { (r : Said) → get_or self.now.slots slot None ≡ Some r → result ≡ r.text_len / 4096 }
         ensures few { length self.now.blocks.rows ≤ 65536 }
+        ensures listed { result ≤ length (get_or self.now.lists slot []) }
     {
         let _few = self.blocks.rows();
-        let kept = record_at(&self.slots, slot as usize).unwrap();
+        let kept = self.in_slot(slot).unwrap();
         (kept.record().text_len / 4096) as u32
+    }
+
+    // The blocks whose rows change: the new ones, and the slot's last ones, which they replace. None where there are no
+    // new ones.
+    fn changed_blocks(
+        &self,
+        alloc: Global,
+        slot: u32,
+        more: &[BlockNo],
+    ) -> Result<Vec<BlockNo>, AllocError>
+        requires used { IsSome (get_or self.now.slots slot None) }
+        requires reserved { IsReserved self.now.blocks more.now }
+        ensures below { (r : Said) → get_or self.now.slots slot None ≡ Some r
+            → IfOk result (λ blocks. AllBelow self.now.layout blocks.items) }
+        ensures differ { (r : Said) → get_or self.now.slots slot None ≡ Some r → (old new : List HeldRow)
+            → (length more.now ≡ 0 → SameRowsBut [] old new)
+            → (0 < length more.now
+            → SameRowsBut (more.now ++ drop (r.text_len / 4096) (get_or self.now.lists slot [])) old new)
+            → IfOk result (λ blocks. SameRowsBut blocks.items old new) }
+    {
+        let mut blocks = Vec::new(alloc);
+        if more.is_empty() {
+            return Ok(blocks);
+        }
+        let full = self.full_blocks(slot) as usize;
+        blocks.extend_from_slice(more)?;
+        blocks.extend_from_slice(blocks_from(self.list(slot), full))?;
+        Ok(blocks)
     }
 
     // The pages that the change writes. Those with rows are blank.
@@ -130,9 +144,8 @@ impl Kept {
             (with_record v longer.now.slot (longer_record r longer.now)) { rows = rows })) }
     {
         let slot = longer.slot;
-        let full = self.full_blocks(slot) as usize;
-        let blocks = changed_blocks(alloc, self.lists[slot as usize].blocks_from(full), more)?;
-        let kept = record_at(&self.slots, slot as usize).unwrap();
+        let blocks = self.changed_blocks(alloc, slot, more)?;
+        let kept = self.in_slot(slot).unwrap();
         let next = SlotRecord {
             declared: longer.declared,
             accepted: longer.accepted,
@@ -156,16 +169,20 @@ impl Kept {
     fn take_over(&mut self, longer: &Longer, more: &[BlockNo]) -> Result<(), AllocError>
         requires may { MayExtend self.old longer.now more.now }
         requires reserved { IsReserved self.old.blocks more.now }
+        ensures layout { self.new.layout ≡ self.old.layout }
+        ensures version { self.new.version ≡ self.old.version }
         ensures longer { OnOk result ((r : Said) → get_or self.old.slots longer.now.slot None ≡ Some r
             → IsLonger self.old r longer.now more.now self.new) }
         ensures reserved { OnOk result (HandsOn self.old.blocks.reserved self.new.blocks.reserved more.now) }
         ensures unmade { OnErr result (self.new ≡ self.old) }
     {
-        if !more.is_empty() {
-            let full = self.full_blocks(longer.slot);
-            self.lists[longer.slot as usize].replace_from(full as usize, more)?;
-            self.blocks.own(longer.slot, full, more);
+        if more.is_empty() {
+            set_record(&mut self.slots, longer);
+            return Ok(());
         }
+        let full = self.full_blocks(longer.slot);
+        self.lists[longer.slot as usize].replace_from(full as usize, more)?;
+        self.blocks.own(longer.slot, full, more);
         set_record(&mut self.slots, longer);
         Ok(())
     }

@@ -1,9 +1,9 @@
 //! What is kept of a spool in memory.
 ghost use Rattle.std.specs.Prelude.{◌≡◌, ◌≤◌, ◌<◌, ℕ, None, Some, false, IfOk, OnOk, IfSome, MatchResult};
-ghost use Rattle.std.specs.Prelude.{replicate, length, get_or};
+ghost use Rattle.std.specs.Prelude.{[], IsSome, replicate, length, get_or, option_copied};
 ghost use Rattle.spool_blocks.specs.Chains.{OwnsOneEach};
 ghost use Rattle.upload_rules.specs.Room.{blocks_of};
-ghost use Rattle.spool_kept.specs.Holding.{AreBelow, AreDistinct};
+ghost use Rattle.spool_kept.specs.Holding.{AreBelow, AreDistinct, FitsTogether};
 ghost use Rattle.spool_kept.specs.Kept.{KeepsAlone};
 ghost use Rattle.spool_kept.specs.Shows.{IsValid};
 ghost use Rattle.spool_pages.specs.Changes.{neighbour};
@@ -13,9 +13,9 @@ ghost use Rattle.spool_pages.specs.View.{SlotRecord as Said, View};
 use crate::CheckError;
 use crate::lists::{BlockList, lists_of};
 use crate::order::{NumberedSlot, order_of};
-use crate::records::{KeptRecord, slot_record_at};
+use crate::records::{KeptRecord, record_at, slot_record_at};
 use enc_index::IndexSet;
-use spool_blocks::Blocks;
+use spool_blocks::{BlockNo, Blocks};
 use spool_journal::Layout;
 use spool_pages::{SlotRecord, Version};
 use std::alloc::Global;
@@ -114,6 +114,24 @@ impl Kept {
         ensures { result ≡ self.now.version }
     {
         self.version
+    }
+
+    /// The record of a slot, none where the slot is free or isn't there.
+    pub(crate) fn in_slot(&self, slot: u32) -> Option<&KeptRecord>
+        ensures kept { option_copied result ≡ get_or self.now.slots slot None }
+        ensures below { IfSome (option_copied result) (λ r. slot < 512) }
+    {
+        record_at(&self.slots, slot as usize)
+    }
+
+    /// The blocks of a slot's text by ordinal.
+    pub(crate) fn list(&self, slot: u32) -> &[BlockNo]
+        requires { IsSome (get_or self.now.slots slot None) }
+        ensures blocks { result.now ≡ get_or self.now.lists slot [] }
+        ensures below { slot < 512 }
+        ensures fits { FitsTogether self.now }
+    {
+        self.lists[slot as usize].blocks()
     }
 
     /// The record of the other slot on a slot's page.

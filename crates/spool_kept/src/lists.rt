@@ -36,14 +36,6 @@ impl BlockList {
         self.blocks.as_slice()
     }
 
-    /// The block numbers from one on.
-    pub(crate) fn blocks_from(&self, first: usize) -> &[BlockNo]
-        requires { first ≤ length self.now }
-        ensures { result.now ≡ drop first self.now }
-    {
-        &self.blocks[first..]
-    }
-
     /// Leaves no block.
     pub(crate) fn clear(&mut self)
         ensures { self.new ≡ [] }
@@ -60,6 +52,14 @@ impl BlockList {
         self.blocks.truncate(first);
         self.blocks.extend_from_slice(more)
     }
+}
+
+/// The block numbers from one on.
+pub(crate) fn blocks_from(list: &[BlockNo], first: usize) -> &[BlockNo]
+    requires { first ≤ length list.now }
+    ensures { result.now ≡ drop first list.now }
+{
+    &list[first..]
 }
 
 /// How many blocks a text of this length has.

@@ -66,7 +66,7 @@ impl Kept {
             → v.slots ≡ self.now.slots → (rows : List HeldRow) → SameRowsBut (get_or self.now.lists slot []) v.rows rows
             → IfOk result (λ pages. ChangesButRows pages v (record (with_slot v slot None) { rows = rows })) }
     {
-        let list = self.lists[slot as usize].blocks();
+        let list = self.list(slot);
         let beside = self.beside(slot);
         pages_of_change(
             alloc,

@@ -1,8 +1,9 @@
 -- A draft whose text has ended: why it isn't put after its upload's, and that it may be.
+use Rattle.std.proofs.lemmas.Grind.{common_steps}
 use Rattle.std.proofs.Common.{Result, Err, IfOk, ◌≡◌, inl, inr, ℕ, ◌≤◌, ◌+◌, ◌-◌, ◌/◌, ◌^◌, Bool, true, false, List}
 use Rattle.std.proofs.Common.{Option, None, Some, length, get_or, set, min, refl, sym, ◌∙◌, ap, subst, arith}
 use Rattle.enc_model.specs.Indexes.{IndexSet}
-use Rattle.spool_blocks.specs.Blocks.{Row, Held}
+use Rattle.spool_blocks.specs.Blocks.{Held}
 use Rattle.spool_disk.specs.declared.disk.Disk.{Ghosts}
 use Rattle.spool_disk.specs.Views.{Lasts}
 use Rattle.spool_disk.proofs.Firm.{lasts_more}
@@ -16,13 +17,12 @@ use Rattle.spool_pages.proofs.Resting.{rests_aside}
 use Rattle.spool_pages.specs.Rests.{Unowned}
 use Rattle.spool_pages.specs.View.{SlotRecord}
 use Rattle.spool_texts.specs.Drafts.{IsReserved, bytes_with}
-use Rattle.spool_texts.specs.TextOn.{AllBelow}
 use Rattle.upload_rules.specs.Answers.{Answers}
 use Rattle.upload_rules.specs.Calls.{commit_refusal}
 use Rattle.upload_rules.specs.Lengths.{is_length, known_or, longest}
 use Rattle.upload_rules.specs.Room.{is_short, wants}
-use Rattle.upload_rules.specs.Store.{Upload, find, is_complete, patched, with_length}
-use Rattle.upload_rules.specs.World.{Patch, World, completes, length_then, reached}
+use Rattle.upload_rules.specs.Store.{find, is_complete, patched, with_length}
+use Rattle.upload_rules.specs.World.{Patch, World, completes, reached}
 use Rattle.upload_rules.proofs.Commits.{complete_patched}
 use Rattle.upload_rules.specs.declared.errors.UploadError.{UploadError}
 use Rattle.upload_rules.specs.declared.errors.UploadError.TheVariants.{NoMemory, DiskFault, Refused}
@@ -62,38 +62,22 @@ pub may : (h : Holding) (slot : ℕ) (declared : Option ℕ) (accepted : ℕ) (l
       text_len = end.text_len;
       state = end.state;
     }) list
-may h slot declared accepted list end used there ends = record {
-  used = used;
-  there = there;
-  state = ends.same;
-  same = ends.nothing;
-  blocks = ends.blocks;
-}
+may h slot declared accepted list end used there ends = search (arith, common_steps)
 
 -- what the draft began after is placed as it was
 pub placed_still : (n : ℕ) (o o' : SpoolDraft) → committed_len_of o' ≡ committed_len_of o → tail_of o' ≡ tail_of o
     → IsPlaced n o → IsPlaced n o'
-placed_still n o o' len tail is = record {
-  below = subst (AllBelow n) (sym tail) is.below;
-  few = omega (arith, len, is.few);
-}
+placed_still n o o' len tail is = search (arith, common_steps)
 
 module _ {D : Type 0} {sure : Bool} {disk : Ghosts D} {d d' : D} {h h' : Holding} (only : OnlyReserves h h')
     {drafts : List (Option SpoolDraft)} {number : ℕ} {o : SpoolDraft} (o' : SpoolDraft) {w : World} {p : Patch}
     (is : IsCommit sure disk d h drafts number o w p)
     (effect : Effect disk (journal_pages h.layout) (list_of o) (list_of o') d d' h.blocks h'.blocks) where
-  abbrev first : ℕ
-  first = text_page h.layout
-
   abbrev s : Stored sure disk d h w.store
   s = is.stands.stored
 
-  abbrev x : IndexSet
-  x = w.store.indexes
-
   unowned : Unowned s.view.rows effect.own
-  unowned i lt = ap (λ (r : List Row). get_or r (get_or effect.own i 0) None)
-      (sym (effect.grasp.takes.rows ∙ s.keeps.rows)) ∙ effect.grasp.reserved.no_owner i lt
+  unowned i lt = cc (effect.grasp.reserved.no_owner i lt)
 
   -- THE DISK
 
@@ -141,13 +125,11 @@ module _ {D : Type 0} {sure : Bool} {disk : Ghosts D} {d d' : D} {h h' : Holding
     within = subst (λ (k : Option ℕ). reached p ≤ longest k) declared_is (omega (arith, reached_is, finds.within))
 
     done_is : completes w.store p ≡ is_length found.declared (reached p)
-    done_is = ap (λ (v : Option Upload). is_length (length_then p v) (reached p)) is.still.1
-        ∙ ap (λ (k : Option ℕ). is_length k (reached p)) (sym declared_is)
+    done_is = grind (arith, common_steps, declared_is)
 
     -- the text is complete where the upload is
     pub whole_is : is_complete (patched (with_length p.began is.still.0) p.declare p.body) ≡ completes w.store p
-    whole_is = complete_patched (with_length p.began is.still.0) p.declare p.body
-        ∙ ap (λ (k : Option ℕ). is_length k (reached p)) (sym declared_is) ∙ sym done_is
+    whole_is = cc (complete_patched (with_length p.began is.still.0) p.declare p.body)
 
     module _ {accepted : ℕ} (sum : accepted ≡ min (offset_of o + came_of o) (2 ^ 64 - 1)) where
       pub all_came : accepted ≡ reached p
@@ -171,10 +153,7 @@ module _ {D : Type 0} {sure : Bool} {disk : Ghosts D} {d d' : D} {h h' : Holding
         pub ends_as : ((q' : Patch) → Holds h.indexes q' o → is_complete q'.began ≡ false
             → EndsAs h.indexes q' done o o' h.blocks h'.blocks result)
             → EndsAs w.store.indexes p (completes w.store p) o o' h.blocks h'.blocks result
-        ends_as answer =
-            subst (λ (b : Bool). EndsAs w.store.indexes p b o o' h.blocks h'.blocks result) done_then
-            (subst (λ (y : IndexSet). EndsAs y p done o o' h.blocks h'.blocks result) indexes_are
-            (answer p (subst (λ (y : IndexSet). Holds y p o) (sym indexes_are) held) open_began))
+        ends_as answer = rw done_then at (rw indexes_are at (answer p (rw (← indexes_are) at held) open_began))
 
         -- and the bytes on its blocks
         pub ends_on : ((q' : Patch) → disk.honest d → Holds h.indexes q' o → is_complete q'.began ≡ false
@@ -184,13 +163,9 @@ module _ {D : Type 0} {sure : Bool} {disk : Ghosts D} {d d' : D} {h h' : Holding
             → IfOk result (λ e. 1 ≤ length (list_of o') → bytes_with (disk.current d') (text_page h.layout) (list_of o')
             e.last.items ≡ open_text w.store.indexes p (completes w.store p))
         ends_on content known =
-            let P : IndexSet → Bool → Type 0 =
-            λ y b. IfOk result (λ e. 1 ≤ length (list_of o') → bytes_with (disk.current d')
-            (text_page h.layout) (list_of o') e.last.items ≡ open_text y p b) in
-            subst (P w.store.indexes) done_then (subst (λ (y : IndexSet). P y done) indexes_are
-            (content p (s.honest known) (subst (λ (y : IndexSet). Holds y p o) (sym indexes_are) held) open_began
-            (subst (λ (y : IndexSet). Carries y (disk.current d) (text_page h.layout) p o) (sym indexes_are)
-            (own_draft.carries known is.still))))
+            let P : IndexSet → Bool → Type 0 = search (arith, common_steps) in
+            rw done_then at (rw indexes_are at (content p (s.honest known) (rw (← indexes_are) at held) open_began
+            (rw (← indexes_are) at (own_draft.carries known is.still))))
 
   -- THE RULES
 
@@ -232,10 +207,7 @@ module _ {D : Type 0} {sure : Bool} {disk : Ghosts D} {d d' : D} {h h' : Holding
         → (ended : Result DraftEnd UploadError) → ended ≡ Err e
         → EndsAs w.store.indexes p (completes w.store p) o o' h.blocks h'.blocks ended
         → Answers (commit_refusal w number p) r done (Unit {0})
-    not_ended {T = T} done r e is_err ended was ends =
-        subst (λ (q : Result T UploadError). Answers (commit_refusal w number p) q done (Unit {0})) (sym is_err)
-        (refused done e (subst (λ (q : Result DraftEnd UploadError). EndsAs w.store.indexes p (completes w.store p) o o'
-        h.blocks h'.blocks q) was ends))
+    not_ended {T = T} done r e is_err ended was ends = grind (arith, common_steps, refused)
 
     module _ (end : DraftEnd) (whole : IsWhole w.store.indexes p (completes w.store p) o' end) {found : Found}
         (finds : IsFound h.slots o found) where
@@ -257,9 +229,7 @@ module _ {D : Type 0} {sure : Bool} {disk : Ghosts D} {d d' : D} {h h' : Holding
         stored = stored;
         text = open_text w.store.indexes p (completes w.store p);
         fits = fits;
-        held = subst (λ (n : ℕ). sure ≡ true → 1 ≤ length (list_of o') → bytes_with (disk.current d') (text_page n)
-            (list_of o') end.last.items ≡ open_text w.store.indexes p (completes w.store p))
-            (sym (ap (λ (k : Holding). k.layout) only.same)) content;
+        held = rw (← (ap (λ (k : Holding). k.layout) only.same)) at content;
         append = λ e stored' written. record {
           stored = stored';
           used = record {

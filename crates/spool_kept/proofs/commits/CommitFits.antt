@@ -1,12 +1,12 @@
 -- The drafts that a commit leaves fit what is kept.
-use Rattle.std.proofs.Common.{◌≡◌, ℕ, List, Option, None, Some, get_or, set, refl, sym, ◌∙◌, ap, subst}
+use Rattle.std.proofs.Common.{◌≡◌, ℕ, List, Option, None, Some, get_or, set, refl, ◌∙◌, ap}
 use Rattle.spool_blocks.specs.Blocks.{Held}
 use Rattle.spool_drafts.specs.Drafts.{IsPlaced, list_of}
 use Rattle.spool_drafts.specs.declared.draft.SpoolDraft.{SpoolDraft}
 use Rattle.spool_pages.specs.View.{SlotRecord}
 use Rattle.spool_texts.specs.Drafts.{GivesBack, IsReserved}
-use Rattle.spool_kept.specs.Drafting.{DraftsFit, DraftsHold, OnlyReserves}
-use Rattle.spool_kept.specs.Extending.{Advances, HandsOn, IsLonger, longer_record}
+use Rattle.spool_kept.specs.Drafting.{DraftsFit, OnlyReserves}
+use Rattle.spool_kept.specs.Extending.{Advances, HandsOn, IsLonger}
 use Rattle.spool_kept.specs.Holding.{Holding}
 use Rattle.spool_kept.specs.declared.extending.Longer.{Longer}
 use Rattle.spool_kept.proofs.drafts.DraftSpent.{fit_given, fit_handed, rows_handed}
@@ -22,11 +22,9 @@ module _ {h mid : Holding} (only : OnlyReserves h mid) {drafts : List (Option Sp
       → DraftsFit (record h' { blocks = blocks }) (set drafts number None)
   fits_given h' blocks same gives =
       let is = same ∙ only.same in
-      fits_spent h (record h' { blocks = blocks }) drafts (set drafts number None) number refl
-      (ap (λ (k : Holding). k.next) is) (ap (λ (k : Holding). k.slots) is)
-      (subst (λ (n : ℕ). DraftsHold n blocks (set drafts number None)) (sym (ap (λ (k : Holding). k.layout) is))
-      (fit_given fit.blocks on reserved placed blocks
-      (subst (λ (k : Holding). GivesBack k.blocks blocks (list_of o')) same gives))) fit
+      fits_spent h (record h' { blocks = blocks }) drafts (set drafts number None) number refl (cc) (cc)
+      (rw (← (ap (λ (k : Holding). k.layout) is)) at
+      (fit_given fit.blocks on reserved placed blocks (rw same at gives))) fit
 
   -- they are the longer upload's
   pub fits_handed : (h' : Holding) (longer : Longer) (used : SlotRecord) (more : List ℕ) → more ≡ list_of o'
@@ -34,12 +32,7 @@ module _ {h mid : Holding} (only : OnlyReserves h mid) {drafts : List (Option Sp
       → HandsOn mid.blocks.reserved h'.blocks.reserved more → IsLonger mid used longer more h'
       → DraftsFit h' (set drafts number None)
   fits_handed h' longer used more list there grows hands_more longer_more =
-      let slots = ap (λ (k : Holding). k.slots) only.same in
-      let is = subst (λ (xs : List ℕ). IsLonger mid used longer xs h') list longer_more in
-      fits_put h h' drafts number longer used (ap (λ (xs : List (Option SlotRecord)). get_or xs longer.slot None)
-      (sym slots) ∙ there) grows (is.next ∙ ap (λ (k : Holding). k.next) only.same)
-      (is.slots ∙ ap (λ (xs : List (Option SlotRecord)). set xs longer.slot (Some (longer_record used longer))) slots)
-      (subst (λ (n : ℕ). DraftsHold n h'.blocks (set drafts number None))
-      (sym (is.layout ∙ ap (λ (k : Holding). k.layout) only.same)) (fit_handed fit.blocks on reserved placed h'.blocks
-      (subst (HandsOn mid.blocks.reserved h'.blocks.reserved) list hands_more)
-      (rows_handed mid h' used longer (list_of o') is))) fit
+      let is : IsLonger mid used longer (list_of o') h' = rw list at longer_more in
+      fits_put h h' drafts number longer used (cc) grows (cc) (cc)
+      (rw (← (is.layout ∙ ap (λ (k : Holding). k.layout) only.same)) at (fit_handed fit.blocks on reserved placed
+      h'.blocks (rw list at hands_more) (rows_handed mid h' used longer (list_of o') is))) fit

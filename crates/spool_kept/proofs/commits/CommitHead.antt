@@ -1,8 +1,8 @@
 -- What a commit finds of its draft's upload.
+use Rattle.std.proofs.lemmas.Grind.{common_steps}
 use Rattle.std.proofs.Common.{Result, Err, IsErrOf, refl, inl, inr, ◌↔◌, ◌⊎◌, ◌≡◌, ◌≤◌, ◌<◌, ◌&&◌, ℕ, ◌+◌, Bool, true}
 use Rattle.std.proofs.Common.{false, if◌then◌else◌, List, [], ◌∷◌, Option, None, Some, length, get_or, sym, ◌∙◌, ap}
 use Rattle.std.proofs.Common.{subst, arith, eqb-true}
-use Rattle.std.proofs.lemmas.Bool.{ne_eqb}
 use Rattle.spool_disk.specs.declared.disk.Disk.{Ghosts}
 use Rattle.spool_journal.specs.Image.{text_page}
 use Rattle.spool_drafts.specs.Drafts.{Holds, came_of, declare_of, number_of, offset_of}
@@ -13,13 +13,12 @@ use Rattle.upload_rules.specs.Calls.{is_empty, is_idle, length_refusal, text_sta
 use Rattle.upload_rules.specs.Drafts.{draft_at}
 use Rattle.upload_rules.specs.Lengths.{is_length, is_new, is_too_large, known_or, longest}
 use Rattle.upload_rules.specs.Store.{Upload, Store, find, is_complete, patched_store, upload_of}
-use Rattle.upload_rules.specs.World.{Patch, World, completes, length_then, reached}
+use Rattle.upload_rules.specs.World.{Patch, World, completes, reached}
 use Rattle.upload_rules.specs.declared.errors.UploadError.{UploadError}
 use Rattle.upload_rules.specs.declared.errors.UploadError.TheVariants.{Refused}
 use Rattle.upload_rules.specs.declared.errors.UploadRefusal.{UploadRefusal}
 use Rattle.upload_rules.specs.declared.errors.UploadRefusal.TheVariants.{NoSuch, Offset, TooLong, Unencodable, Full}
 use Rattle.upload_rules.specs.declared.errors.UploadRefusal.TheVariants.{LengthSet}
-use Rattle.upload_rules.proofs.Patches.{draft_of}
 use Rattle.upload_rules.proofs.Refusals.{no_such_upload, other_offset}
 use Rattle.upload_rules.proofs.Same.{same_upload}
 use Rattle.spool_kept.specs.Committing.{Finds, HasOtherCount, HasSameCount, IsCommit, IsFound, with_length_at}
@@ -60,11 +59,7 @@ text_ends m p new ends = rw (new, ends) refl
 
 text_left : (m : Store) (p : Patch) → length p.body ≡ 0 → (declares m p ≡ true → completes m p ≡ false)
     → text_stays m p ≡ true
-text_left m p none open_still = by_declare (declares m p) refl
-  where
-    by_declare : (b : Bool) → declares m p ≡ b → text_stays m p ≡ true
-    by_declare true new = rw (new, open_still new, nil_from_length p.body none) refl
-    by_declare false old = rw (old, nil_from_length p.body none) refl
+text_left m p none open_still = search (arith, common_steps)
 
 idle_patch : (m : Store) (p : Patch) → declares m p ≡ false → length p.body ≡ 0 → is_idle m p ≡ true
 idle_patch m p old none = rw (old, nil_from_length p.body none) refl
@@ -74,24 +69,7 @@ idle_patch m p old none = rw (old, nil_from_length p.body none) refl
 -- where the text changes, the upload isn't complete
 pub found_open : (slots : List (Option SlotRecord)) (o : SpoolDraft) (found : Found) (finds : IsFound slots o found)
     → found.stays ≡ false → is_length finds.same.used.declared finds.same.used.accepted ≡ false
-found_open slots o found finds goes = by_known finds.same.used.declared refl
-  where
-    used : SlotRecord
-    used = finds.same.used
-
-    by_known : (known : Option ℕ) → finds.same.used.declared ≡ known
-        → is_length finds.same.used.declared finds.same.used.accepted ≡ false
-    by_known None is = ap (λ (k : Option ℕ). is_length k finds.same.used.accepted) is
-    by_known (Some n) is =
-        let declared : found.declared ≡ Some n =
-        finds.declared ∙ ap (λ (k : Option ℕ). known_or k (declare_of o)) is in
-        let long : offset_of o + came_of o ≤ n =
-        subst (λ (k : Option ℕ). offset_of o + came_of o ≤ longest k) declared finds.within in
-        ap (λ (k : Option ℕ). is_length k finds.same.used.accepted) is ∙ elim (finds.goes goes) [
-          | inl some ↦ ne_eqb finds.same.used.accepted n (λ e. omega (arith, e, some, long, finds.same.count))
-          | inr whole ↦ absurd (let k = sym whole.0 ∙ finds.declares
-              ∙ ap (λ (k : Option ℕ). is_new k (declare_of o)) is in cc)
-        ]
+found_open slots o found finds goes = search (arith, common_steps)
 
 -- the draft of a number stands for a patch
 pub record IsOpen {D : Type 0} (sure : Bool) (disk : Ghosts D) (d : D) (h : Holding)
@@ -109,11 +87,7 @@ module _ {D : Type 0} {sure : Bool} {disk : Ghosts D} {d : D} {h : Holding} {dra
     {number : ℕ} {o : SpoolDraft} {w : World} {p : Patch} (k : IsOpen sure disk d h drafts number o w p) where
   pub own_draft : DraftStands (sure ≡ true) w.store.indexes (disk.current d) (text_page h.layout) h.slots h.blocks.rows
       w.store p o
-  own_draft =
-      let R = DraftStands (sure ≡ true) w.store.indexes (disk.current d) (text_page h.layout) h.slots h.blocks.rows
-      w.store in
-      let at = draft_of R p (find number w.patches) (draft_at drafts number) k.patch (k.stands.stands.each number) in
-      subst (R p) (same_Some at.0 o (sym at.1 ∙ k.here)) at.2
+  own_draft = search (arith, common_steps)
 
   held : Holds w.store.indexes p o
   held = own_draft.holds
@@ -121,8 +95,7 @@ module _ {D : Type 0} {sure : Bool} {disk : Ghosts D} {d : D} {h : Holding} {dra
   -- what a slot's record tells
   told : (slot : ℕ) (used : SlotRecord) → get_or h.slots slot None ≡ Some used
       → IsTold w.store used (k.stands.stored.view.texts slot)
-  told slot used there = k.stands.stored.shows.told slot used
-      (ap (λ (xs : List (Option SlotRecord)). get_or xs slot None) (sym k.stands.stored.keeps.slots) ∙ there)
+  told slot used there = k.stands.stored.shows.told slot used (cc)
 
   upload_there : (used : SlotRecord) (u : Upload) → used.number ≡ number_of o
       → find used.number w.store.uploads ≡ Some u → upload_of w.store p.number ≡ Some u
@@ -180,8 +153,7 @@ module _ {D : Type 0} {sure : Bool} {disk : Ghosts D} {d : D} {h : Holding} {dra
     here_is = there finds.same
 
     allows : upload_refusal p (upload_of w.store p.number) ≡ None
-    allows = ap (upload_refusal p) here_is ∙ by_length p u (as_long finds.same) ∙ sym (length_is finds.same)
-        ∙ finds.allowed
+    allows = grind (arith, common_steps, here_is, by_length, as_long, length_is)
 
     declares_is : declares w.store p ≡ found.declares
     declares_is = ap (declares_at p) here_is ∙ sym (finds.declares
@@ -193,21 +165,14 @@ module _ {D : Type 0} {sure : Bool} {disk : Ghosts D} {d : D} {h : Holding} {dra
         ∙ ap (known_or u.declared) held.declare
 
     completes_is : completes w.store p ≡ is_length found.declared (reached p)
-    completes_is = ap (λ (v : Option Upload). is_length (length_then p v) (reached p)) here_is
-        ∙ ap (λ (k : Option ℕ). is_length k (reached p)) (sym declared_is)
+    completes_is = grind (arith, common_steps, here_is, declared_is)
 
     -- THE TEXT CHANGES
 
     module _ (goes : found.stays ≡ false) where
       changes : text_stays w.store p ≡ false
-      changes = elim (finds.goes goes) [
-        | inl some ↦ text_changes w.store p (omega (arith, held.came, some))
-        | inr whole ↦
-            let all : reached p ≡ offset_of o =
-            all_there found.declared (offset_of o) (reached p) whole.1 (omega (arith, reached_is, finds.within))
-            (omega (arith, reached_is)) in
-            text_ends w.store p (declares_is ∙ whole.0) (completes_is ∙ ap (is_length found.declared) all ∙ whole.1)
-      ]
+      changes =
+          grind (arith, common_steps, text_changes, held, all_there, reached_is, text_ends, declares_is, completes_is)
 
       still : IsStillOpen w.store p
       still =
@@ -220,15 +185,7 @@ module _ {D : Type 0} {sure : Bool} {disk : Ghosts D} {d : D} {h : Holding} {dra
           )
 
       pub commits : DraftsHold h.layout h.blocks drafts → IsCommit sure disk d h drafts number o w p
-      commits fits = record {
-        stands = k.stands;
-        fits = fits;
-        here = k.here;
-        patch = k.patch;
-        still = still;
-        allowed = allows;
-        changes = changes;
-      }
+      commits fits = grind (arith, common_steps, still, allows, changes)
 
     -- THE TEXT STAYS
 
@@ -240,9 +197,7 @@ module _ {D : Type 0} {sure : Bool} {disk : Ghosts D} {d : D} {h : Holding} {dra
       no_body = omega (arith, held.came, none)
 
       stays_so : text_stays w.store p ≡ true
-      stays_so = text_left w.store p no_body (λ new. completes_is
-          ∙ ap (is_length found.declared) (omega (arith, reached_is, none))
-          ∙ (finds.stays stays).1 (sym declares_is ∙ new))
+      stays_so = grind (arith, common_steps, text_left, no_body, completes_is, reached_is, none, declares_is)
 
       pub left_allowed : commit_refusal w number p ≡ None
       left_allowed = nothing_refused w number p allows stays_so
@@ -260,28 +215,19 @@ module _ {D : Type 0} {sure : Bool} {disk : Ghosts D} {d : D} {h : Holding} {dra
       -- a length is
       module _ (new : found.declares ≡ true) where
         length_declared : found.declared ≡ p.declare
-        length_declared =
-            let unknown = (new_length finds.same.used.declared (declare_of o) (sym finds.declares ∙ new)).0 in
-            finds.declared ∙ ap (λ (k : Option ℕ). known_or k (declare_of o)) unknown ∙ held.declare
+        length_declared = grind (arith, common_steps, new_length, held)
 
         pub length_small : is_too_large found.declared ≡ false
         length_small = ap is_too_large length_declared ∙ held.small
 
         pub store_is : committed_store w.store p ≡ patched_store w.store p.number found.declared []
-        store_is =
-            store_declared w.store p (declares_is ∙ new)
-            ∙ ap (λ (k : Option ℕ). patched_store w.store p.number k p.body) (sym length_declared)
-            ∙ ap (patched_store w.store p.number found.declared) (nil_from_length p.body no_body)
+        store_is = grind (arith, common_steps, store_declared, declares_is, length_declared, nil_from_length, no_body)
 
         pub length_stands : committed w number p ≡ with_length_at (dropped w number) p.number found.declared
         length_stands = ap (λ (m : Store). record (dropped w number) { store = m }) store_is
 
         pub used_is : IsUsedBy h.slots found.slot p.number
-        used_is = record {
-          used = finds.same.used;
-          there = finds.same.there;
-          is = finds.same.number ∙ held.number;
-        }
+        used_is = search (arith, common_steps)
 
 -- WHATEVER THE DISK SAID
 

@@ -1,13 +1,12 @@
 -- Why a commit is refused.
-use Rattle.std.proofs.Common.{◌≡◌, ◌⊎◌, inl, inr, ℕ, ◌&&◌, Bool, true, false, length, nat_lt, Option, Some, None}
-use Rattle.std.proofs.Common.{if◌then◌else◌, refl, sym, ◌∙◌, ap, subst, eq-eqb}
-use Rattle.std.proofs.lemmas.Option.{same_Some}
+use Rattle.std.proofs.Common.{arith, ◌≡◌, ◌⊎◌, ℕ, Bool, true, false, length, Option, Some, None, if◌then◌else◌, refl}
+use Rattle.std.proofs.Common.{◌∙◌, ap, eq-eqb}
+use Rattle.std.proofs.lemmas.Grind.{common_steps}
 use Rattle.upload_rules.specs.declared.errors.UploadRefusal.{UploadRefusal}
 use Rattle.upload_rules.specs.declared.errors.UploadRefusal.TheVariants.{Unencodable, Full, LengthSet, TooLong}
 use Rattle.upload_rules.specs.Answers.{IsLate}
-use Rattle.upload_rules.specs.Calls.{commit_refusal, committed, committed_store, declares, dropped, is_empty, is_idle}
+use Rattle.upload_rules.specs.Calls.{commit_refusal, committed, committed_store, declares, dropped, is_idle}
 use Rattle.upload_rules.specs.Calls.{length_refusal, or_else, refuse_if, text_refusal, text_stays, upload_refusal}
-use Rattle.upload_rules.specs.Lengths.{differ, known_or, longest}
 use Rattle.upload_rules.specs.Room.{is_short}
 use Rattle.upload_rules.specs.Store.{Upload, Store, patched_store, upload_of}
 use Rattle.upload_rules.specs.World.{Patch, World, completes, is_there, patch_text, reached}
@@ -25,19 +24,12 @@ by_length p u same = rw (eq-eqb (length u.accepted) (length p.began.accepted) sa
 -- a length is refused so
 pub length_refused : (known declare : Option ℕ) (end : ℕ) (e : UploadRefusal)
     → length_refusal known declare end ≡ Some e → (e ≡ LengthSet) ⊎ (e ≡ TooLong)
-length_refused known declare end e is = go (differ known declare) (nat_lt (longest (known_or known declare)) end) is
-  where
-    go : (a b : Bool) → (if a then Some LengthSet else refuse_if b TooLong) ≡ Some e → (e ≡ LengthSet) ⊎ (e ≡ TooLong)
-    go true b is = inl (same_Some e LengthSet (sym is))
-    go false true is = inr (same_Some e TooLong (sym is))
-    go false false is = absurd cc
+length_refused known declare end e is = search (arith, common_steps)
 
 pub refused_by_length : (w : World) (d : ℕ) (p : Patch) (u : Upload) (e : UploadRefusal)
     → upload_of w.store p.number ≡ Some u → length u.accepted ≡ length p.began.accepted
     → length_refusal u.declared p.declare (reached p) ≡ Some e → commit_refusal w d p ≡ Some e
-refused_by_length w d p u e there same refused =
-    refusal_is w d p
-    ∙ ap (λ o. or_else o (text_refusal w d p)) (ap (upload_refusal p) there ∙ by_length p u same ∙ refused)
+refused_by_length w d p u e there same refused = cc (refusal_is w d p, by_length p u same)
 
 late_if : (a b c : Bool) → IsLate (if a then None else if b then Some Unencodable else refuse_if c Full)
 late_if true b c = tt
@@ -51,9 +43,7 @@ module _ (w : World) (d : ℕ) (p : Patch) (allows : upload_refusal p (upload_of
   by_text = refusal_is w d p ∙ ap (λ o. or_else o (text_refusal w d p)) allows
 
   pub late : IsLate (commit_refusal w d p)
-  late = subst IsLate (sym by_text)
-      (late_if (text_stays w.store p) (is_there (patch_text w.store.indexes p (completes w.store p)).fault)
-      (is_short w d p (completes w.store p)))
+  late = grind (arith, common_steps, by_text, late_if)
 
   pub nothing_refused : text_stays w.store p ≡ true → commit_refusal w d p ≡ None
   nothing_refused stays = by_text ∙ rw (stays) refl
@@ -78,11 +68,7 @@ declares_something : (m : Store) (p : Patch) → declares m p ≡ true → is_id
 declares_something m p new = rw (new) refl
 
 changes_something : (m : Store) (p : Patch) → text_stays m p ≡ false → is_idle m p ≡ false
-changes_something m p changes = go (declares m p) (completes m p) (is_empty p.body) changes
-  where
-    go : (a b c : Bool) → (if a && b then false else c) ≡ false → (if a then false else c) ≡ false
-    go true b c is = refl
-    go false b c is = is
+changes_something m p changes = search (arith, common_steps)
 
 store_put : (m : Store) (p : Patch) → is_idle m p ≡ false
     → committed_store m p ≡ patched_store m p.number p.declare p.body

@@ -1,36 +1,30 @@
 -- A commit's draft is spent: what the disk and what is kept stand for then.
-use Rattle.std.proofs.Common.{Result, Ok, Err, IfOk, ◌≡◌, ◌≢◌, ◌⊎◌, inl, inr, Bool, true, false, ◌&&◌, if◌then◌else◌, ℕ}
-use Rattle.std.proofs.Common.{◌*◌, ◌<◌, ◌≤◌, List, [], ◌∷◌, Option, None, Some, length, get_or, set, refl, sym, ◌∙◌, ap}
-use Rattle.std.proofs.Common.{subst, arith}
-use Rattle.enc_model.specs.Indexes.{IndexSet}
+use Rattle.std.proofs.lemmas.Grind.{common_steps}
+use Rattle.std.proofs.Common.{Result, Ok, Err, IfOk, ◌≡◌, ◌≢◌, ◌⊎◌, Bool, true, false, ℕ, ◌*◌, ◌<◌, ◌≤◌, List, []}
+use Rattle.std.proofs.Common.{Option, None, Some, length, get_or, set, refl, sym, ◌∙◌, ap, subst, arith}
 use Rattle.spool_blocks.specs.Blocks.{Held}
 use Rattle.spool_disk.specs.declared.disk.Disk.{Ghosts}
 use Rattle.spool_disk.specs.Views.{Lasts}
-use Rattle.spool_disk.proofs.Firm.{lasts_more, lasts_on}
 use Rattle.spool_journal.specs.Image.{journal_pages, text_page}
 use Rattle.spool_drafts.specs.Drafts.{IsPlaced, list_of, tail_of}
 use Rattle.spool_drafts.specs.Effect.{Effect, OnlyWrites}
 use Rattle.spool_drafts.specs.declared.draft.SpoolDraft.{SpoolDraft}
 use Rattle.spool_drafts.proofs.Stays.{bytes_same}
 use Rattle.spool_pages.specs.View.{SlotRecord}
-use Rattle.spool_room.specs.Holdings.{IsInSome}
 use Rattle.spool_texts.specs.Drafts.{GivesBack, IsReserved}
 use Rattle.upload_rules.specs.Answers.{Answers, IsLate}
-use Rattle.upload_rules.specs.Calls.{commit_outcome, commit_refusal, committed, committed_store, declares, dropped}
-use Rattle.upload_rules.specs.Calls.{is_empty, outcome, text_stays}
+use Rattle.upload_rules.specs.Calls.{commit_outcome, commit_refusal, committed, committed_store, dropped, text_stays}
 use Rattle.upload_rules.specs.Drafts.{DraftOf, draft_at}
 use Rattle.upload_rules.specs.Grown.{IsGrown}
-use Rattle.upload_rules.specs.Lengths.{is_length}
-use Rattle.upload_rules.specs.Store.{Store, Upload, find, is_complete, patched, patched_at, patched_store, replaced}
+use Rattle.upload_rules.specs.Store.{Store, find, is_complete, patched, patched_at, patched_store, replaced}
 use Rattle.upload_rules.specs.Store.{with_length, without}
-use Rattle.upload_rules.specs.World.{Patch, World, completes, length_then, reached}
+use Rattle.upload_rules.specs.World.{Patch, World}
 use Rattle.upload_rules.specs.declared.errors.UploadError.{UploadError}
 use Rattle.upload_rules.specs.declared.errors.UploadError.TheVariants.{NoMemory, DiskFault, Refused}
 use Rattle.upload_rules.specs.declared.errors.UploadRefusal.{UploadRefusal}
-use Rattle.upload_rules.proofs.Commits.{complete_patched}
 use Rattle.upload_rules.proofs.Growing.{grown_dropped, grown_put}
 use Rattle.spool_kept.specs.Committing.{IsCommit, with_length_at}
-use Rattle.spool_kept.specs.Drafting.{DraftStands, DraftsStand, IsOwnedBy, OnlyReserves, StandsFor, lists_at}
+use Rattle.spool_kept.specs.Drafting.{DraftStands, DraftsStand, OnlyReserves, StandsFor}
 use Rattle.spool_kept.specs.Extending.{HandsOn, IsAppend, IsLonger, longer_record}
 use Rattle.spool_kept.specs.Holding.{Holding}
 use Rattle.spool_kept.specs.Shows.{ImageShows}
@@ -39,8 +33,7 @@ use Rattle.spool_kept.specs.declared.extending.Longer.{Longer}
 use Rattle.spool_kept.proofs.commits.CommitRefusals as rules
 use Rattle.spool_kept.proofs.drafts.DraftLonger.{WentOn, held_both, other_stands, put_on}
 use Rattle.spool_kept.proofs.drafts.DraftSpent.{all_given, all_handed, open_before, other_upload, owned_declared}
-use Rattle.spool_kept.proofs.drafts.DraftSpent.{rows_handed}
-use Rattle.spool_kept.proofs.drafts.DraftSpent.{stand_spent, others_longer}
+use Rattle.spool_kept.proofs.drafts.DraftSpent.{rows_handed, stand_spent, others_longer}
 use Rattle.spool_kept.proofs.drafts.Drafted.{stored_on, reserves_only}
 use Rattle.spool_kept.proofs.slots.SlotChange.{owned_still}
 
@@ -48,8 +41,7 @@ use Rattle.spool_kept.proofs.slots.SlotChange.{owned_still}
 
 pub outcome_is : (w : World) (d : ℕ) (p : Patch) → commit_refusal w d p ≡ None → (m : Store)
     → committed_store w.store p ≡ m → commit_outcome w d p ≡ m
-outcome_is w d p allowed m is =
-    ap (λ (e : Option UploadRefusal). outcome e w.store (committed_store w.store p)) allowed ∙ is
+outcome_is w d p allowed m is = cc
 
 -- a call that leaves the old store, and after it one that leaves the old or the new one
 pub crash_then : {D : Type 0} {disk : Ghosts D} {d d' d'' : D} {n n' : ℕ} (w : World) (number : ℕ) (p : Patch)
@@ -57,20 +49,10 @@ pub crash_then : {D : Type 0} {disk : Ghosts D} {d d' d'' : D} {n n' : ℕ} (w :
     → Lasts disk d d' (λ image. ImageShows n image w.store) → n' ≡ n
     → Lasts disk d' d'' (ShowsEither n' w.store (patched_store w.store p.number p.declare p.body))
     → Lasts disk d d'' (ShowsEither n w.store (commit_outcome w number p))
-crash_then {disk = disk} {d = d} {d' = d'} {d'' = d''} {n = n} w number p allowed changes lasts size next =
-    let after = patched_store w.store p.number p.declare p.body in
-    subst (λ (m : Store). Lasts disk d d'' (ShowsEither n w.store m))
-    (sym (outcome_is w number p allowed after (rules.store_changed w.store p changes)))
-    (lasts_on (lasts_more lasts (λ image is. inl is))
-    (subst (λ (k : ℕ). Lasts disk d' d'' (ShowsEither k w.store after)) size next))
+crash_then {disk = disk} {d = d} {d' = d'} {d'' = d''} {n = n} w number p allowed changes lasts size next = search
+    (arith, common_steps)
 
 -- THE TEXT CHANGES
-
-some_or_all : (declared done : Bool) (body : List ℕ) → (if declared && done then false else is_empty body) ≡ false
-    → (0 < length body) ⊎ (done ≡ true)
-some_or_all true true body changes = inr refl
-some_or_all declared done (b ∷ body) changes = inl (omega arith)
-some_or_all declared done [] changes = absurd cc
 
 -- THE ANSWER
 
@@ -102,12 +84,6 @@ module _ {D : Type 0} {sure : Bool} {disk : Ghosts D} {d d' : D} {h h' : Holding
     (is : IsCommit sure disk d h drafts number o w p)
     (effect : Effect disk (journal_pages h.layout) (list_of o) (list_of o') d d' h.blocks h'.blocks)
     (reserved : IsReserved h'.blocks (list_of o')) (placed : IsPlaced h.layout o') where
-  abbrev first : ℕ
-  first = text_page h.layout
-
-  abbrev x : IndexSet
-  x = w.store.indexes
-
   abbrev on : WentOn h.blocks h'.blocks drafts number o o' (set drafts number (Some o'))
   on = put_on number o' is.here effect.grasp
 
@@ -126,8 +102,7 @@ module _ {D : Type 0} {sure : Bool} {disk : Ghosts D} {d d' : D} {h h' : Holding
       → StandsFor sure disk d' (record inside { blocks = blocks }) (set drafts number None) (dropped w number)
   stands_dropped {inside = inside} {blocks = blocks} same given stored =
       let h'' : Holding = record inside { blocks = blocks } in
-      let gives : GivesBack h'.blocks blocks (list_of o') =
-      subst (λ (k : Holding). GivesBack k.blocks blocks (list_of o')) same given in
+      let gives : GivesBack h'.blocks blocks (list_of o') = rw same at given in
       let here : DraftsStand (sure ≡ true) w.store.indexes (disk.current d') (text_page h.layout) h.slots blocks
       (dropped w number) (set drafts number None) = stand_spent (disk.current d') h.slots blocks w.store number
       is.stands.stands (λ e other r a found there s. rw gives.rows (others e other r a there s))
@@ -142,13 +117,8 @@ module _ {D : Type 0} {sure : Bool} {disk : Ghosts D} {d d' : D} {h h' : Holding
             (disk.current d') (text_page k.0) k.1 blocks (dropped w number) (set drafts number None)) (sym fields) here;
       }
 
-  completes_is : completes w.store p ≡ is_complete (patched (with_length p.began is.still.0) p.declare p.body)
-  completes_is = ap (λ (v : Option Upload). is_length (length_then p v) (reached p)) is.still.1
-      ∙ sym (complete_patched (with_length p.began is.still.0) p.declare p.body)
-
   brings : (0 < length p.body) ⊎ (is_complete (patched (with_length p.began is.still.0) p.declare p.body) ≡ true)
-  brings = elim (some_or_all (declares w.store p) (completes w.store p) p.body is.changes)
-      [ inl some ↦ inl some | inr all ↦ inr (sym completes_is ∙ all) ]
+  brings = search (arith, common_steps)
 
   -- its blocks are its upload's
   module _ {longer : Longer} (append : IsAppend sure disk d' h' w.store p.number p.declare p.body longer (list_of o'))
@@ -182,8 +152,7 @@ module _ {D : Type 0} {sure : Bool} {disk : Ghosts D} {d d' : D} {h h' : Holding
         let other_number = other_upload w is.stands.stands.grown p.number (with_length p.began is.still.0) is.still.1
         p.declare p.body brings e r found in
         let same : sure ≡ true → (q : ℕ) → 4096 * text_page h.layout ≤ q → disk.current d'' q ≡ disk.current d' q =
-        λ known q from. texts known q (subst (λ (n : ℕ). 4096 * text_page n ≤ q)
-        (sym (ap (λ (k : Holding). k.layout) only.same)) from) in
+        λ known q from. texts known q (rw (← (ap (λ (k : Holding). k.layout) only.same)) at from) in
         record {
           holds = mid.holds;
           below = mid.below;
@@ -191,10 +160,8 @@ module _ {D : Type 0} {sure : Bool} {disk : Ghosts D} {d d' : D} {h h' : Holding
               a.growth.on (same known) ∙ mid.carries known (other_number still).1 kept;
           tail = λ still.
               let away = other_number still in
-              owned_still (Some (longer_record used longer)) is_longer.slots
-              (others_longer is_longer reserved.no_owner) append.used away.0
-              (subst (λ (k : List (Option SlotRecord)). IsOwnedBy k h'.blocks.rows r.number (tail_of a))
-              (sym slots_same) (mid.tail away.1));
+              owned_still (Some (longer_record used longer)) is_longer.slots (others_longer is_longer reserved.no_owner)
+              append.used away.0 (rw (← slots_same) at (mid.tail away.1));
         }
 
     here : DraftsStand (sure ≡ true) w.store.indexes (disk.current d'') (text_page h.layout) h''.slots h''.blocks
@@ -207,13 +174,10 @@ module _ {D : Type 0} {sure : Bool} {disk : Ghosts D} {d d' : D} {h h' : Holding
     pub stands_committed : StandsFor sure disk d'' h'' (set drafts number None) (committed w number p)
     stands_committed =
         subst (λ (m : Store). StandsFor sure disk d'' h'' (set drafts number None)
-        (record w { store = m; patches = without number w.patches })) (sym
-        (rules.store_changed w.store p is.changes ∙ after_is)) record {
+        (record w { store = m; patches = without number w.patches }))
+        (sym (cc (rules.store_changed w.store p is.changes))) record {
           stored = subst (Stored sure disk d'' h'') after_is stored;
-          stands = subst (λ (n : ℕ). DraftsStand (sure ≡ true) w.store.indexes (disk.current d'')
-              (text_page n) h''.slots
-              h''.blocks (record w { store = after; patches = without number w.patches }) (set drafts number None))
-              (sym layout) here;
+          stands = rw (← layout) at here;
         }
 
 -- ITS LENGTH ALONE
@@ -252,17 +216,4 @@ module _ {D : Type 0} {sure : Bool} {disk : Ghosts D} {d d' d'' : D} {h h' : Hol
       }) (stands.stands.each e)
 
   pub stands_declared : StandsFor sure disk d'' h' drafts (with_length_at w n declare)
-  stands_declared = subst (λ (m : Store). StandsFor sure disk d'' h' drafts (record w { store = m })) (sym named_is)
-      record {
-        stored = subst (Stored sure disk d'' h') named_is stored;
-        stands = subst (λ (k : ℕ). DraftsStand (sure ≡ true) w.store.indexes (disk.current d'') (text_page k) h'.slots
-            h'.blocks
-            (record w { store = named }) drafts) (sym is_longer.layout) record {
-              each = each_named;
-              apart = stands.stands.apart;
-              grown = grown_put w stands.stands.grown n append.upload declare [] append.there;
-              limit = stands.stands.limit ∙ ap (λ (b : Held). Some (length b.rows)) (sym (is_longer.same refl));
-              all = subst (λ (b : Held). (k : ℕ) → get_or b.reserved k false ≡ true → IsInSome (lists_at drafts) k)
-                  (sym (is_longer.same refl)) stands.stands.all;
-            };
-      }
+  stands_declared = grind (arith, common_steps, named_is, each_named, grown, grown_put)

@@ -1,12 +1,13 @@
 -- A draft's whole text after its upload's.
-use Rattle.std.proofs.Common.{◌≡◌, inl, inr, ℕ, ◌≤◌, ◌+◌, ◌-◌, ◌*◌, ◌/◌, ◌++◌, Bool, false, List, [], Option, None}
-use Rattle.std.proofs.Common.{Some, length, drop, refl, sym, ◌∙◌, ap, subst, arith, length-append, length-drop}
+use Rattle.std.proofs.lemmas.Grind.{common_steps}
+use Rattle.std.proofs.Common.{◌≡◌, ℕ, ◌≤◌, ◌+◌, ◌-◌, ◌*◌, ◌/◌, ◌++◌, Bool, false, List, [], Option, None}
+use Rattle.std.proofs.Common.{length, drop, refl, sym, ◌∙◌, ap, subst, arith, length-append}
 use Rattle.std.proofs.lemmas.Bool.{cases_lt}
 use Rattle.std.proofs.lemmas.List.{drop-append-le, nil_from_length}
 use Rattle.enc_model.specs.Indexes.{IndexSet}
 use Rattle.enc_stream.specs.StateBytes.{IsValid}
-use Rattle.upload_rules.specs.Lengths.{is_length, is_too_large, known_or, longest}
-use Rattle.upload_rules.specs.States.{state_with, transcoder_with}
+use Rattle.upload_rules.specs.Lengths.{is_too_large, known_or, longest}
+use Rattle.upload_rules.specs.States.{state_with}
 use Rattle.upload_rules.specs.Store.{Upload, text_of, text_with, with_length, patched, is_complete}
 use Rattle.upload_rules.specs.World.{Patch, reached, patch_text}
 use Rattle.upload_rules.proofs.Commits.{state_patched, text_patched, transcoder_patched, whole_patched}
@@ -29,19 +30,13 @@ patch_text_is x p done = refl
 
 -- an upload that isn't complete with a length wasn't without it
 pub open_before : (u : Upload) (since : Option ℕ) → is_complete (with_length u since) ≡ false → is_complete u ≡ false
-open_before u since open_still = by_length u.declared open_still
-  where
-    by_length : (known : Option ℕ) → is_length (known_or known since) (length u.accepted) ≡ false
-        → is_length known (length u.accepted) ≡ false
-    by_length None is = refl
-    by_length (Some n) is = is
+open_before u since open_still = search (arith, common_steps)
 
 -- and its text is the same
 pub text_since : (x : IndexSet) (u : Upload) (since : Option ℕ) → is_complete (with_length u since) ≡ false
     → text_of x (with_length u since) ≡ text_of x u
 unfolding text_of
-text_since x u since open_still =
-    ap (λ (b : Bool). (text_with x u [] b).bytes) (open_still ∙ sym (open_before u since open_still))
+text_since x u since open_still = cc (open_before u since open_still)
 
 module _ (x : IndexSet) (p : Patch) (since : Option ℕ) (o : SpoolDraft) (end : DraftEnd)
     (open_still : is_complete (with_length p.began since) ≡ false)
@@ -51,9 +46,6 @@ module _ (x : IndexSet) (p : Patch) (since : Option ℕ) (o : SpoolDraft) (end :
     (whole : IsWhole x p done o end) where
   abbrev u : Upload
   u = with_length p.began since
-
-  abbrev put : Upload
-  put = patched (with_length p.began since) p.declare p.body
 
   fine : (text_with x p.began p.body done).fault ≡ None
   fine = ap (λ r. r.fault) (sym (patch_text_is x p done)) ∙ whole.encodable
@@ -67,10 +59,7 @@ module _ (x : IndexSet) (p : Patch) (since : Option ℕ) (o : SpoolDraft) (end :
   more = grown.0
 
   all_is : (patch_text x p done).bytes ≡ text_of x p.began ++ more
-  all_is =
-      ap (λ r. r.bytes) (patch_text_is x p done) ∙ ap (λ (b : Bool). (text_with x u p.body b).bytes) (sym is_done)
-      ∙ sym (text_patched x u p.declare p.body) ∙ grown.1
-      ∙ ap (λ (xs : List ℕ). xs ++ more) (text_since x p.began since open_still)
+  all_is = grind (arith, common_steps, patch_text_is, text_patched, grown, text_since)
 
   all_len : length (patch_text x p done).bytes ≡ length (text_of x p.began) + length more
   all_len = omega (arith, ap length all_is, length-append (text_of x p.began) more)
@@ -79,11 +68,7 @@ module _ (x : IndexSet) (p : Patch) (since : Option ℕ) (o : SpoolDraft) (end :
   added_is = omega (arith, all_len)
 
   none_added : length (list_of o) ≡ 0 → length more ≡ 0
-  none_added none = elim (cases_lt 0 (length more)) [
-    | inl lt ↦ absurd (let wanted = wants_some x p done whole.encodable (omega (arith, added_is, lt)) in omega
-        (arith, wanted, added_is, lt, none, whole.listed))
-    | inr none' ↦ omega (arith, none')
-  ]
+  none_added none = grind (arith, common_steps, cases_lt, wants_some, added_is)
 
   -- THE BYTES
 
@@ -103,10 +88,8 @@ module _ (x : IndexSet) (p : Patch) (since : Option ℕ) (o : SpoolDraft) (end :
         accepted = accepted ∙ sym (length-append p.began.accepted p.body);
         few = omega (arith, length-append p.began.accepted p.body, within);
         small = small;
-        state = is ∙ whole.state_is ∙ ap (state_with x u p.body) (sym is_done) ∙ sym
-            (state_patched x u p.declare p.body);
-        valid = subst IsValid (sym (transcoder_patched x u p.declare p.body
-            ∙ ap (transcoder_with x u p.body) is_done)) whole.valid;
+        state = cc (state_patched x u p.declare p.body);
+        valid = subst IsValid (sym (cc (transcoder_patched x u p.declare p.body))) whole.valid;
         encodable = ap (λ r. r.fault) (whole_patched x u p.declare p.body ∙ ap (text_with x u p.body) is_done) ∙ fine;
         text = grown.1;
         text_len = omega (arith, total, same_len, ap length grown.1, length-append (text_of x u) more);
@@ -115,8 +98,7 @@ module _ (x : IndexSet) (p : Patch) (since : Option ℕ) (o : SpoolDraft) (end :
             subst (λ (xs : List ℕ). text_on current first (list_of o) (longer.text_len - full_bytes (length xs)) ≡ drop
             (full_bytes (length xs)) xs ++ more) (sym same_text) (
             let prefix : 4096 * (t / 4096) ≡ full_bytes t = omega arith in
-            let size : longer.text_len - full_bytes t ≡ length (open_text x p done) =
-            omega (arith, total, all_len, length-drop (4096 * (t / 4096)) (patch_text x p done).bytes) in
+            let size : longer.text_len - full_bytes t ≡ length (open_text x p done) = search (arith, common_steps) in
             let bytes : open_text x p done ≡ drop (full_bytes t) (text_of x p.began) ++ more =
             ap (λ (xs : List ℕ). drop (4096 * (t / 4096)) xs) all_is ∙ drop-append-le (4096 * (t / 4096))
             (text_of x p.began) more (omega arith) ∙ ap (λ (n : ℕ). drop n (text_of x p.began) ++ more) prefix in

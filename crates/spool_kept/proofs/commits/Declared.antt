@@ -1,16 +1,16 @@
 -- A length alone: what it makes of an upload whose text stays.
-use Rattle.std.proofs.Common.{◌≡◌, ◌∙◌, ◌≤◌, ◌+◌, ◌++◌, ℕ, Bool, false, List, [], Option, None, Some, length, get_or}
+use Rattle.std.proofs.lemmas.Grind.{common_steps}
+use Rattle.std.proofs.Common.{◌≡◌, ◌∙◌, ℕ, Bool, false, List, [], Option, None, Some, length}
 use Rattle.std.proofs.Common.{refl, sym, ap, subst, arith}
 use Rattle.std.proofs.lemmas.List.{append-nil}
 use Rattle.enc_stream.specs.StateBytes.{IsValid}
 use Rattle.spool_disk.specs.declared.disk.Disk.{Ghosts}
 use Rattle.spool_journal.specs.Image.{text_page}
 use Rattle.spool_pages.specs.View.{SlotRecord}
-use Rattle.upload_rules.specs.Lengths.{is_length, is_too_large, known_or, longest}
+use Rattle.upload_rules.specs.Lengths.{is_length, is_too_large, known_or}
 use Rattle.upload_rules.specs.States.{state_with, transcoder_with}
-use Rattle.upload_rules.specs.Store.{Store, Upload, find, is_complete, patched, text_of, text_with, upload_of}
-use Rattle.upload_rules.proofs.Commits.{complete_patched, state_patched, text_of_is, text_patched, transcoder_patched}
-use Rattle.upload_rules.proofs.Commits.{whole_patched}
+use Rattle.upload_rules.specs.Store.{Store, Upload, find, is_complete, patched, text_of, upload_of}
+use Rattle.upload_rules.proofs.Commits.{state_patched, text_of_is, text_patched, transcoder_patched}
 use Rattle.spool_kept.specs.Committing.{MayDeclare}
 use Rattle.spool_kept.specs.Extending.{IsExtension, IsPending, OnlyDeclares}
 use Rattle.spool_kept.specs.Holding.{Holding, IsUsedBy}
@@ -48,8 +48,7 @@ module _ {D : Type 0} {sure : Bool} {disk : Ghosts D} {d : D} {h : Holding} {m :
     {declared : Option ℕ} (stored : Stored sure disk d h m) (may : MayDeclare h.slots slot declared)
     (used : IsUsedBy h.slots slot n) (small : is_too_large declared ≡ false) where
   abbrev told : IsTold m may.used (stored.view.texts slot)
-  told = stored.shows.told slot may.used
-      (ap (λ (xs : List (Option SlotRecord)). get_or xs slot None) (sym stored.keeps.slots) ∙ may.there)
+  told = stored.shows.told slot may.used (cc)
 
   number_is : may.used.number ≡ n
   number_is = ap (λ (r : SlotRecord). r.number) (one_value may.there used.there) ∙ used.is
@@ -71,18 +70,13 @@ module _ {D : Type 0} {sure : Bool} {disk : Ghosts D} {d : D} {h : Holding} {m :
   open_before = ap (λ (k : Option ℕ). is_length k (length told.upload.accepted)) unknown
 
   open_still : is_complete (patched told.upload declared []) ≡ false
-  open_still =
-      complete_patched told.upload declared []
-      ∙ ap (λ (k : Option ℕ). is_length k (length told.upload.accepted + 0)) known_is
-      ∙ ap (is_length declared) (omega (arith, told.tells.accepted)) ∙ may.incomplete
+  open_still = search (arith, common_steps)
 
   alike : is_complete (patched told.upload declared []) ≡ is_complete told.upload
   alike = open_still ∙ sym open_before
 
   same_text : text_of m.indexes (patched told.upload declared []) ≡ text_of m.indexes told.upload
-  same_text =
-      text_patched m.indexes told.upload declared []
-      ∙ ap (λ (b : Bool). (text_with m.indexes told.upload [] b).bytes) alike ∙ sym (text_of_is m.indexes told.upload)
+  same_text = grind (arith, common_steps, text_patched, alike, text_of_is)
 
   extension : {known : Type 0} (current : ℕ → ℕ) → IsExtension known m.indexes told.upload declared [] []
       (named may.used slot declared) [] current (text_page h.layout)
@@ -90,15 +84,13 @@ module _ {D : Type 0} {sure : Bool} {disk : Ghosts D} {d : D} {h : Holding} {m :
   extension current = record {
     declared = sym known_is;
     accepted = told.tells.accepted ∙ ap length (sym (append-nil told.upload.accepted));
-    few = subst (λ (k : Option ℕ). length (told.upload.accepted ++ []) ≤ longest k) (sym known_is)
-        (omega (arith, may.within, told.tells.accepted, ap length (append-nil told.upload.accepted)));
+    few = search (arith, common_steps);
     small = small;
     state = told.tells.state ∙ ap (state_with m.indexes told.upload []) (sym alike)
         ∙ sym (state_patched m.indexes told.upload declared []);
     valid = subst IsValid (sym (transcoder_patched m.indexes told.upload declared []
         ∙ ap (transcoder_with m.indexes told.upload []) alike)) told.tells.valid;
-    encodable = ap (λ r. r.fault) (whole_patched m.indexes told.upload declared []
-        ∙ ap (text_with m.indexes told.upload []) alike) ∙ told.tells.encodable;
+    encodable = search (arith, common_steps);
     text = same_text ∙ sym (append-nil (text_of m.indexes told.upload));
     text_len = told.tells.text_len ∙ ap length (sym same_text);
     nothing = λ none. refl;

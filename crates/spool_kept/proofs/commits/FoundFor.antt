@@ -1,6 +1,7 @@
 -- What is read of the upload that a commit is for.
+use Rattle.std.proofs.lemmas.Grind.{common_steps}
 use Rattle.std.proofs.Common.{◌≡◌, ◌∙◌, ◌⊎◌, ◌≤◌, ◌<◌, ◌+◌, ◌^◌, inl, inr, ℕ, Bool, true, false, List, Option, None}
-use Rattle.std.proofs.Common.{Some, Err, get_or, sym, ap, subst, arith}
+use Rattle.std.proofs.Common.{Some, Err, get_or, ap, subst, arith}
 use Rattle.spool_drafts.specs.Drafts.{came_of, declare_of, number_of, offset_of}
 use Rattle.spool_drafts.specs.declared.draft.SpoolDraft.{SpoolDraft}
 use Rattle.spool_pages.specs.View.{SlotRecord}
@@ -13,6 +14,11 @@ use Rattle.spool_kept.specs.Holding.{IsUsedBy}
 use Rattle.spool_kept.specs.Records.{IsUnpacked, said_of}
 use Rattle.spool_kept.proofs.slots.ChangedSlots.{one_value}
 use Rattle.spool_kept.proofs.commits.CommitRefusals.{length_refused}
+
+-- the count of a slot that has the draft's
+pub has_count : {slots : List (Option SlotRecord)} {o : SpoolDraft} {s slot : ℕ} {r : SlotRecord}
+    → HasSameCount slots o s → s ≡ slot → get_or slots slot None ≡ Some r → r.accepted ≡ offset_of o
+has_count has at there = cc (has.there, has.count)
 
 -- the slot's record was read, and it has the count that the draft began at
 module _ {slots : List (Option SlotRecord)} (o : SpoolDraft) {slot : ℕ} (r : Record)
@@ -30,9 +36,7 @@ module _ {slots : List (Option SlotRecord)} (o : SpoolDraft) {slot : ℕ} (r : R
   module _ {declare : Option ℕ} (declare_is : declare ≡ declare_of o) {came : ℕ} (came_is : came ≡ came_of o) where
     refusal_is : length_refusal r.declared (declare_of o) (offset_of o + came_of o) ≡ length_refusal r.declared declare
         (r.accepted + came)
-    refusal_is =
-        ap (λ (k : Option ℕ). length_refusal r.declared k (offset_of o + came_of o)) (sym declare_is)
-        ∙ ap (length_refusal r.declared declare) (omega (arith, count, came_is))
+    refusal_is = search (arith, common_steps)
 
     pub refused : (e : UploadRefusal) → length_refusal r.declared declare (r.accepted + came) ≡ Some e
         → Finds slots o (Err e)
@@ -60,11 +64,6 @@ module _ {slots : List (Option SlotRecord)} (o : SpoolDraft) {slot : ℕ} (r : R
         declared = declared_is ∙ ap (known_or r.declared) declare_is;
         within = omega (arith, within, count, came_is);
         fits = fits;
-        stays = λ is.
-            let none = nothing is in
-            (omega (arith, none.0, came_is), λ new. ap (is_length declared) (sym count) ∙ none.1 new);
-        goes = λ is. elim (something is) [
-          | inl some ↦ inl (omega (arith, some, came_is))
-          | inr whole ↦ inr (whole.0, ap (is_length declared) (sym count) ∙ whole.1)
-        ];
+        stays = search (arith, common_steps);
+        goes = search (arith, common_steps);
       }

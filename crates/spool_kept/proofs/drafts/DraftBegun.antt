@@ -1,7 +1,7 @@
 -- A draft more, at the least number that is free.
-use Rattle.std.proofs.Common.{◌≡◌, Result, Ok, Err, ℕ, List, [], ◌∷◌, Option, None, Some, length, refl, sym, ◌∙◌, ap}
-use Rattle.std.proofs.Common.{subst, arith, eq-eqb, Bool, true}
-use Rattle.std.proofs.lemmas.Bool.{ne_eqb}
+use Rattle.std.proofs.lemmas.Grind.{common_steps}
+use Rattle.std.proofs.Common.{◌≡◌, Result, Ok, Err, ℕ, List, [], ◌∷◌, Option, None, Some, sym, ◌∙◌, ap}
+use Rattle.std.proofs.Common.{subst, arith, Bool, true}
 use Rattle.spool_blocks.specs.Blocks.{Held}
 use Rattle.spool_disk.specs.declared.disk.Disk.{Ghosts}
 use Rattle.spool_journal.specs.Image.{text_page}
@@ -10,36 +10,23 @@ use Rattle.spool_drafts.specs.declared.draft.SpoolDraft.{SpoolDraft}
 use Rattle.upload_rules.specs.declared.errors.UploadRefusal.{UploadRefusal}
 use Rattle.upload_rules.specs.Answers.{IsLate}
 use Rattle.upload_rules.specs.Calls.{begin_refusal, begin_refusal_at, begun, begun_at, first_patch}
-use Rattle.upload_rules.specs.Drafts.{DraftOf, draft_at, IsPlaced}
+use Rattle.upload_rules.specs.Drafts.{IsPlaced}
 use Rattle.upload_rules.specs.Store.{Upload, find, upload_of}
-use Rattle.upload_rules.specs.World.{Patch, World, is_there, free_number}
+use Rattle.upload_rules.specs.World.{Patch, World, free_number}
 use Rattle.upload_rules.proofs.FreeNumbers.{is_free}
 use Rattle.upload_rules.proofs.Growing.{grown_begun}
 use Rattle.upload_rules.proofs.Patches.{patch_there, begun_stand}
 use Rattle.spool_kept.specs.Holding.{Holding}
-use Rattle.spool_kept.specs.Drafting.{list_in, lists_at, DraftsHold, DraftStands, DraftsStand, IsOwnedBy, StandsFor}
-use Rattle.spool_kept.specs.Drafting.{CarriesFor, OpensFor}
-use Rattle.spool_kept.proofs.drafts.DraftLists.{in_other, none_in_nothing, nothing_reserved}
-use Rattle.spool_kept.proofs.drafts.Drafted.{IsChanged, changed_lists, fit_changed}
-use Rattle.std.proofs.lemmas.Option.{same_Some}
+use Rattle.spool_kept.specs.Drafting.{DraftsHold, DraftStands, DraftsStand, IsOwnedBy, StandsFor, CarriesFor, OpensFor}
+use Rattle.spool_kept.proofs.drafts.Drafted.{IsChanged}
 use Rattle.spool_kept.proofs.slots.Created.{number_below}
 
 module _ {old new : List (Option SpoolDraft)} {place : ℕ} {o : SpoolDraft} (placed : IsPlaced old o place new) where
   pub changed_more : IsChanged old place (Some o) new
-  changed_more = record {
-    here = placed.after place ∙ rw (eq-eqb place place refl) refl;
-    others = λ e other. placed.after e ∙ rw (ne_eqb e place (λ s. other (sym s))) refl;
-  }
+  changed_more = search (arith, common_steps)
 
   pub fit_begun : (n : ℕ) (h : Held) → DraftsHold n h old → list_of o ≡ [] → IsTailPlaced n o → DraftsHold n h new
-  fit_begun n h fit none tailed =
-      fit_changed n h h old new place (Some o) fit changed_more (nothing_reserved h (list_of o) none)
-      (λ e other. fit.reserved e) (λ a e. subst (IsTailPlaced n) (same_Some o a e) tailed)
-      (λ e other. none_in_nothing (list_of o) (lists_at old e) none)
-
-  -- no draft has the number
-  free_list : lists_at old place ≡ []
-  free_list = ap list_in placed.free
+  fit_begun n h fit none tailed = search (arith, common_steps)
 
 module _ {D : Type 0} {sure : Bool} {disk : Ghosts D} {d : D} {h : Holding} {old : List (Option SpoolDraft)} {w : World}
     (s : StandsFor sure disk d h old w) (n offset count : ℕ) (declare : Option ℕ) where
@@ -68,17 +55,10 @@ module _ {D : Type 0} {sure : Bool} {disk : Ghosts D} {d : D} {h : Holding} {old
         (text_page h.layout) h.slots h.blocks.rows w.store
 
     nothing_there : find place w.patches ≡ None
-    nothing_there = go (find place w.patches) (draft_at old place) (s.stands.each place) placed.free
-      where
-        go : (q : Option Patch) (a : Option SpoolDraft) → DraftOf Stands q a → a ≡ None → q ≡ None
-        go None a h e = refl
-        go (Some p) None h e = absurd h
-        go (Some p) (Some o) h e = absurd cc
+    nothing_there = search (arith, common_steps)
 
     number_free : place ≡ free_number w
-    number_free = sym (is_free w place
-        (λ k lt. (patch_there Stands (find k w.patches) (draft_at old k) (s.stands.each k)).1 (placed.least k lt))
-        (ap is_there nothing_there))
+    number_free = grind (arith, common_steps, is_free, patch_there, nothing_there)
 
     stand_begun : (u : Upload) → upload_of w.store n ≡ Some u → Opens (Some u) (Ok o)
         → DraftsStand (sure ≡ true) w.store.indexes (disk.current d) (text_page h.layout) h.slots h.blocks
@@ -93,9 +73,7 @@ module _ {D : Type 0} {sure : Bool} {disk : Ghosts D} {d : D} {h : Holding} {old
       apart = (nothing_there, s.stands.apart);
       grown = grown_begun w s.stands.grown n count declare u place there;
       limit = s.stands.limit;
-      all = λ b reserved. in_other (lists_at old) (lists_at new) place (list_of o)
-          (changed_lists old new place (Some o) (changed_more placed)) b (s.stands.all b reserved)
-          (λ i lt e. omega (arith, lt, ap length (free_list placed)));
+      all = search (arith, common_steps);
     }
 
     pub begins : (u : Option Upload) → upload_of w.store n ≡ u → Opens u (Ok o) → (place ≡ free_number w)

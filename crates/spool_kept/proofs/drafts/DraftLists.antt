@@ -1,12 +1,12 @@
 -- Lists of reserved blocks, one for each draft number, where one of them changes.
-use Rattle.std.proofs.Common.{◌≡◌, ◌≢◌, ◌⊎◌, inl, inr, ℕ, zero, suc, ◌<◌, ◌+◌, ◌++◌, List, [], ◌∷◌, None, true, false}
+use Rattle.std.proofs.lemmas.Grind.{common_steps}
+use Rattle.std.proofs.Common.{◌≡◌, ◌≢◌, ◌⊎◌, inl, inr, ℕ, zero, suc, ◌<◌, ◌+◌, ◌++◌, List, [], ◌∷◌, true, false}
 use Rattle.std.proofs.Common.{length, get_or, sym, ◌∙◌, ap, subst, arith}
 use Rattle.std.proofs.lemmas.Bool.{cases_eq, both_ways}
 use Rattle.std.proofs.lemmas.List.{get_or_append_left, get_or-append-add, length-append}
-use Rattle.spool_blocks.specs.Blocks.{Row, Held}
+use Rattle.spool_blocks.specs.Blocks.{Held}
 use Rattle.spool_texts.specs.Drafts.{IsReserved, Takes, GivesBack}
 use Rattle.spool_texts.specs.Written.{NoneOf}
-use Rattle.spool_texts.proofs.Reserves.{in_either}
 use Rattle.spool_room.specs.Holdings.{IsInSome}
 use Rattle.spool_drafts.specs.Growth.{IsIn}
 
@@ -44,20 +44,11 @@ none_in_nothing a b none i k lt lt' e = omega (arith, lt, ap length none)
 
 pub taken_keeps : {old new : Held} {list list' : List ℕ} (other : List ℕ) → Takes old new list list'
     → IsReserved old other → IsReserved new other
-taken_keeps other takes is = record {
-  below = λ i lt. omega (arith, is.below i lt, ap length takes.rows);
-  reserved = λ i lt. takes.keeps (get_or other i 0) (is.reserved i lt);
-  no_owner = λ i lt. ap (λ (xs : List Row). get_or xs (get_or other i 0) None) takes.rows ∙ is.no_owner i lt;
-  distinct = is.distinct;
-}
+taken_keeps other takes is = search (arith, common_steps)
 
 pub taken_apart : {old new : Held} {list list' : List ℕ} (other : List ℕ) → Takes old new list list'
     → IsReserved old other → NoneOf list other → NoneOf list' other
-taken_apart {old = old} {list = list} {list' = list'} other takes is apart i k lt lt' e =
-    in_either (λ (b : ℕ). (k : ℕ) → k < length other → b ≢ get_or other k 0) list takes.more
-    (λ i lt k lt'. apart i k lt lt') (λ i lt k lt' e. both_ways (get_or old.reserved (get_or other k 0) false)
-    (subst (λ (b : ℕ). get_or old.reserved b false ≡ false) e ((takes.free i lt).not_reserved)) (is.reserved k lt'))
-    i (omega (arith, lt, ap length takes.grown)) k lt' (ap (λ (xs : List ℕ). get_or xs i 0) (sym takes.grown) ∙ e)
+taken_apart {old = old} {list = list} {list' = list'} other takes is apart i k lt lt' e = search (arith, common_steps)
 
 -- a block that was not taken was reserved before
 pub reserved_before : {old new : Held} {list list' : List ℕ} (b : ℕ) → Takes old new list list'
@@ -65,31 +56,19 @@ pub reserved_before : {old new : Held} {list list' : List ℕ} (b : ℕ) → Tak
 reserved_before {list = list} b takes is out =
     sym (takes.others b (λ i lt e. out (length list + i)
     (omega (arith, lt, ap length takes.grown, length-append list takes.more))
-    (ap (λ (xs : List ℕ). get_or xs (length list + i) 0) takes.grown ∙ get_or-append-add list takes.more i 0 ∙ e))) ∙ is
+    (cc (get_or-append-add list takes.more i 0)))) ∙ is
 
 pub given_keeps : {old new : Held} {list : List ℕ} (other : List ℕ) → GivesBack old new list → IsReserved old other
     → NoneOf list other → IsReserved new other
-given_keeps other gives is apart = record {
-  below = λ i lt. omega (arith, is.below i lt, ap length gives.rows);
-  reserved = λ i lt. gives.others (get_or other i 0) (λ k lt' e. apart k i lt' lt e) ∙ is.reserved i lt;
-  no_owner = λ i lt. ap (λ (xs : List Row). get_or xs (get_or other i 0) None) gives.rows ∙ is.no_owner i lt;
-  distinct = is.distinct;
-}
+given_keeps other gives is apart = search (arith, common_steps)
 
 -- a block that is reserved after was not given back, and was reserved
 pub kept_out : {old new : Held} {list : List ℕ} (b : ℕ) → GivesBack old new list → get_or new.reserved b false ≡ true
     → IsOut list b
-kept_out {new = new} b gives is i lt e =
-    both_ways (get_or new.reserved b false)
-    (subst (λ (k : ℕ). get_or new.reserved k false ≡ false) e (gives.given i lt)) is
+kept_out {new = new} b gives is i lt e = both_ways (get_or new.reserved b false) (rw e at (gives.given i lt)) is
 
 pub nothing_reserved : (h : Held) (list : List ℕ) → list ≡ [] → IsReserved h list
-nothing_reserved h list none = record {
-  below = λ i lt. absurd (omega (arith, lt, ap length none));
-  reserved = λ i lt. absurd (omega (arith, lt, ap length none));
-  no_owner = λ i lt. absurd (omega (arith, lt, ap length none));
-  distinct = λ i k lt lt'. absurd (omega (arith, lt', ap length none));
-}
+nothing_reserved h list none = search (arith, common_steps)
 
 -- ANOTHER LIST AT ONE NUMBER
 
@@ -101,11 +80,7 @@ pub record IsSwapped (old : ℕ → List ℕ) (d : ℕ) (list : List ℕ) (new :
 module _ (old new : ℕ → List ℕ) (d : ℕ) (list : List ℕ) (swapped : IsSwapped old d list new) where
   pub all_reserved : (h : Held) → IsReserved h list → ((e : ℕ) → d ≢ e → IsReserved h (old e)) → (e : ℕ)
       → IsReserved h (new e)
-  all_reserved h own is e =
-      elim (cases_eq d e) [
-        | inl same ↦ subst (λ (k : ℕ). IsReserved h (new k)) same (subst (IsReserved h) (sym swapped.here) own)
-        | inr other ↦ subst (IsReserved h) (sym (swapped.others e other)) (is e other)
-      ]
+  all_reserved h own is e = search (arith, common_steps)
 
   pub all_apart : ((e : ℕ) → d ≢ e → NoneOf list (old e)) → ((e f : ℕ) → e ≢ f → NoneOf (old e) (old f)) → (e f : ℕ)
       → e ≢ f → NoneOf (new e) (new f)
@@ -114,33 +89,16 @@ module _ (old new : ℕ → List ℕ) (d : ℕ) (list : List ℕ) (swapped : IsS
         | inl same ↦ subst (λ (k : ℕ). NoneOf (new k) (new f)) same (of_own f (λ g. other (sym same ∙ g)))
         | inr first ↦ elim (cases_eq d f) [
           | inl same ↦ none_sym (new f) (new e) (subst (λ (k : ℕ). NoneOf (new k) (new e)) same (of_own e first))
-          | inr second ↦ subst (λ (xs : List ℕ). NoneOf xs (new f)) (sym (swapped.others e first))
-              (subst (NoneOf (old e)) (sym (swapped.others f second)) (is e f other))
+          | inr second ↦ rw (← (swapped.others e first)) at (rw (← (swapped.others f second)) at (is e f other))
         ]
       ]
     where
       of_own : (f : ℕ) → d ≢ f → NoneOf (new d) (new f)
-      of_own f away = subst (λ (xs : List ℕ). NoneOf xs (new f)) (sym swapped.here)
-          (subst (NoneOf list) (sym (swapped.others f away)) (own f away))
+      of_own f away = rw (← swapped.here) at (rw (← (swapped.others f away)) at (own f away))
 
   pub in_own : (b : ℕ) → IsIn list b → IsInSome new b
-  in_own b is = record {
-    list = d;
-    at = is.at;
-    below = omega (arith, is.below, ap length swapped.here);
-    here = ap (λ (xs : List ℕ). get_or xs is.at 0) swapped.here ∙ is.here;
-  }
+  in_own b is = search (arith, common_steps)
 
   -- a block of another list
   pub in_other : (b : ℕ) → IsInSome old b → IsOut (old d) b → IsInSome new b
-  in_other b is out =
-      elim (cases_eq d is.list) [
-        | inl same ↦ absurd (out is.at (omega (arith, is.below, ap (λ (k : ℕ). length (old k)) same))
-            (ap (λ (k : ℕ). get_or (old k) is.at 0) same ∙ is.here))
-        | inr other ↦ record {
-          list = is.list;
-          at = is.at;
-          below = omega (arith, is.below, ap length (swapped.others is.list other));
-          here = ap (λ (xs : List ℕ). get_or xs is.at 0) (swapped.others is.list other) ∙ is.here;
-        }
-      ]
+  in_other b is out = search (arith, common_steps)

@@ -1,12 +1,11 @@
 -- A draft that went on: its blocks and those of the others, the rule of room, and the disk.
+use Rattle.std.proofs.lemmas.Grind.{common_steps}
 use Rattle.std.proofs.Common.{Result, Ok, Err, OnOk, IsErrOf, ◌≡◌, ◌≢◌, inl, inr, ℕ, ◌==◌, if◌then◌else◌, Bool, true}
-use Rattle.std.proofs.Common.{false, List, [], Option, None, Some, length, get_or, set, refl, sym, ◌∙◌, ap, subst}
-use Rattle.std.proofs.Common.{arith, eq-eqb}
-use Rattle.std.proofs.lemmas.Bool.{cases_eq, cases_Bool, both_ways, ne_eqb}
+use Rattle.std.proofs.Common.{false, List, Option, None, Some, length, get_or, set, refl, sym, ◌∙◌, ap, subst, arith}
+use Rattle.std.proofs.lemmas.Bool.{cases_eq, cases_Bool, both_ways}
 use Rattle.std.proofs.lemmas.List.{set-set}
 use Rattle.enc_model.specs.Indexes.{IndexSet}
 use Rattle.spool_blocks.specs.Blocks.{Row, Held}
-use Rattle.spool_blocks.specs.Chains.{Owns, OwnsOneEach}
 use Rattle.spool_disk.specs.declared.disk.Disk.{Ghosts}
 use Rattle.spool_journal.specs.Image.{text_page}
 use Rattle.spool_texts.specs.Drafts.{IsReserved, Takes}
@@ -23,11 +22,11 @@ use Rattle.spool_pages.specs.View.{SlotRecord, View}
 use Rattle.upload_rules.specs.Calls.{appended_at, longer}
 use Rattle.upload_rules.specs.Drafts.{DraftOf, draft_at}
 use Rattle.upload_rules.specs.Grown.{IsGrown}
-use Rattle.upload_rules.specs.Room.{blocks_of, need, wants, is_short}
-use Rattle.upload_rules.specs.Store.{Store, find, replaced, text_of}
+use Rattle.upload_rules.specs.Room.{wants, is_short}
+use Rattle.upload_rules.specs.Store.{Store, find, replaced}
 use Rattle.upload_rules.specs.World.{Patch, World}
 use Rattle.upload_rules.proofs.Finds.{find_replaced_same, find_replaced_other}
-use Rattle.upload_rules.proofs.Patches.{apart_replaced, draft_of}
+use Rattle.upload_rules.proofs.Patches.{apart_replaced}
 use Rattle.spool_pages.proofs.Resting.{rests_writes}
 use Rattle.upload_rules.specs.Answers.{Answers}
 use Rattle.upload_rules.specs.declared.errors.UploadError.{UploadError}
@@ -41,8 +40,7 @@ use Rattle.spool_kept.specs.Drafting.{list_in, lists_at, DraftsHold, DraftStands
 use Rattle.spool_kept.specs.Drafting.{StandsFor}
 use Rattle.spool_kept.proofs.drafts.DraftLists.{IsOut, IsSwapped, all_reserved, all_apart, cases_in, in_other, in_own}
 use Rattle.spool_kept.proofs.drafts.DraftLists.{kept_out, given_keeps, none_in_nothing, none_sym, out_of_more}
-use Rattle.spool_kept.proofs.drafts.DraftLists.{reserved_before}
-use Rattle.spool_kept.proofs.drafts.DraftLists.{taken_apart, taken_keeps}
+use Rattle.spool_kept.proofs.drafts.DraftLists.{reserved_before, taken_apart, taken_keeps}
 use Rattle.spool_kept.proofs.drafts.Drafted.{IsChanged, changed_lists, fit_changed, keeps_on, changed_in}
 use Rattle.spool_kept.proofs.slots.SlotsOf.{upload_slot, slots_apart, owner_upload}
 use Rattle.std.proofs.lemmas.Option.{same_Some}
@@ -76,13 +74,11 @@ module _ {n : ℕ} {h h' : Held} {old new : List (Option SpoolDraft)} {d : ℕ} 
   own_apart : {held : Held} {own : List ℕ} → Takes h held (list_of o) own → (e : ℕ) → d ≢ e
       → NoneOf own (lists_at old e)
   own_apart takes e other =
-      taken_apart (lists_at old e) takes (fit.reserved e)
-      (subst (λ (xs : List ℕ). NoneOf xs (lists_at old e)) (ap list_in on.here) (fit.distinct d e other))
+      taken_apart (lists_at old e) takes (fit.reserved e) (rw (ap list_in on.here) at (fit.distinct d e other))
 
   out_here : {held : Held} {own : List ℕ} (b : ℕ) → Takes h held (list_of o) own → IsOut own b
       → IsOut (lists_at old d) b
-  out_here b takes out = subst (λ (xs : List ℕ). IsOut xs b) (sym (ap list_in on.here))
-      (out_of_more (list_of o) takes.more b (subst (λ (xs : List ℕ). IsOut xs b) takes.grown out))
+  out_here b takes out = rw (← (ap list_in on.here)) at (out_of_more (list_of o) takes.more b (rw takes.grown at out))
 
   -- after some blocks were taken, whether or not they were given back
   taken_in : {held : Held} {own : List ℕ} (lists : ℕ → List ℕ) → Takes h held (list_of o) own
@@ -121,8 +117,7 @@ module _ {n : ℕ} {h h' : Held} {old new : List (Option SpoolDraft)} {d : ℕ} 
       → get_or h'.reserved b false ≡ true → IsInSome (lists_at new) b
   all_longer all b is = elim on.grasp.holds [
     | inl holds ↦ taken_in (lists_at new) on.grasp.takes
-        (record { here = swapped.here ∙ holds.1; others = swapped.others }) all b
-        (subst (λ (k : Held). get_or k.reserved b false ≡ true) (sym holds.0) is)
+        (record { here = swapped.here ∙ holds.1; others = swapped.others }) all b (rw (← holds.0) at is)
     | inr given ↦
         let out = kept_out b given.0 is in
         let before = reserved_before b on.grasp.takes (sym (given.0.others b out) ∙ is) out in
@@ -140,30 +135,12 @@ module _ {sure : Type 0} {w : World} {current : ℕ → ℕ} {first : ℕ} {reco
   owns_texts : (rows : List Row) → rows ≡ v.rows → OwnsTexts w.store.indexes w.store.uploads slots rows
   owns_texts rows same = record {
     apart = rising_apart w.store.uploads shows.rising;
-    texts = λ n u found. subst
-        (λ (r : List Row). OwnsOneEach r (slots n) (blocks_of (length (text_of w.store.indexes u)))) (sym same)
-        (upload_slot v w.store shows n u found).blocks;
+    texts = λ n u found. rw (← same) at (upload_slot v w.store shows n u found).blocks;
     distinct = λ m n u z found there same. slots_apart v w.store shows m n u z found there same;
     owners = λ b slot ordinal owns.
-        let is = owner_upload v w.store shows b slot ordinal
-        (subst (λ (r : List Row). Owns r b slot ordinal) same owns) in
+        let is = owner_upload v w.store shows b slot ordinal (rw same at owns) in
         record { number = is.0; upload = is.1; there = is.2; is = sym is.3 };
   }
-
-  needed : (e : ℕ) (p : Patch) → find e w.patches ≡ Some p → length (lists_at old e) ≡ need w.store.indexes p false
-  needed e p found =
-      let a = draft_of (DraftStands sure w.store.indexes current first records h.rows w.store) p (find e w.patches)
-      (draft_at old e) found (stand.each e) in
-      ap length (ap list_in a.1) ∙ a.2.holds.needs
-
-  no_list : (e : ℕ) → find e w.patches ≡ None → lists_at old e ≡ []
-  no_list e none = go (find e w.patches) (draft_at old e) none (stand.each e)
-    where
-      go : (q : Option Patch) (a : Option SpoolDraft) → q ≡ None
-          → DraftOf (DraftStands sure w.store.indexes current first records h.rows w.store) q a → list_in a ≡ []
-      go None None e is = refl
-      go None (Some a) e is = absurd is
-      go (Some p) a e is = absurd cc
 
   room_rule : (h' : Held) (d : ℕ) (list : List ℕ) (new : ℕ → List ℕ) → h'.rows ≡ h.rows → h.rows ≡ v.rows
       → length h'.reserved ≡ length h'.rows → IsSwapped (lists_at old) d list new
@@ -171,14 +148,7 @@ module _ {sure : Type 0} {w : World} {current : ℕ → ℕ} {first : ℕ} {reco
       → ((b : ℕ) → get_or h'.reserved b false ≡ true → IsInSome new b) → RuleHolds w d (new d) h'
   room_rule h' d list new same rows size swapped reserved apart all = rule_holds w slots new d h' size record {
     texts = owns_texts h'.rows (same ∙ rows);
-    drafts = record {
-      apart = stand.apart;
-      reserved = reserved;
-      distinct = apart;
-      all = all;
-      needs = λ e p other found. ap length (swapped.others e (λ s. other (sym s))) ∙ needed e p found;
-      none = λ e other none. swapped.others e (λ s. other (sym s)) ∙ no_list e none;
-    };
+    drafts = search (arith, common_steps);
     limit = stand.limit ∙ ap (λ (r : List Row). Some (length r)) (sym same);
   }
 
@@ -206,8 +176,7 @@ pub each_other : (R S : Patch → SpoolDraft → Type 0) (ps qs : List (ℕ × P
     → DraftOf S q o → (e : ℕ) → DraftOf S (find e qs) (draft_at new e)
 each_other R S ps qs {old = old} {d = d} there same changed all weaker stands e = elim (cases_eq d e) [
   | inl is ↦ rw (← is, there, changed.here) stands
-  | inr other ↦ rw (same e other, changed.others e other)
-      (held_both R S (find e ps) (draft_at old e) (weaker e other) (all e))
+  | inr other ↦ search (arith, common_steps)
 ]
 
 -- THE DRAFT PUT BACK
@@ -217,8 +186,7 @@ abbrev pub went_back : {h h' : Held} {old mid new : List (Option SpoolDraft)} (d
     → Regrasps h h' (list_of o) (list_of o') own → WentOn h h' old d o o' new
 went_back {old = old} {mid = mid} {new = new} d {o = o} o' {own = own} there out back grasp = record {
   here = there;
-  changed = changed_in old new d o' (in_use old d o there)
-      (back ∙ ap (λ (xs : List (Option SpoolDraft)). set xs d (Some o')) out ∙ set-set old d None (Some o'));
+  changed = changed_in old new d o' (in_use old d o there) (cc (set-set old d None (Some o')));
   own = own;
   grasp = grasp;
 }
@@ -229,8 +197,7 @@ module _ {sure : Type 0} {x : IndexSet} {current : ℕ → ℕ} (current' : ℕ 
     (on : WentOn h h' old d o o' new) (rows : h'.rows ≡ h.rows)
     (same : sure → SameOutside first on.own current current') where
   unowned : Unowned h.rows on.own
-  unowned i lt = ap (λ (r : List Row). get_or r (get_or on.own i 0) None) (sym on.grasp.takes.rows)
-      ∙ on.grasp.reserved.no_owner i lt
+  unowned i lt = cc (on.grasp.reserved.no_owner i lt)
 
   pub other_stands : (e : ℕ) → d ≢ e → (r : Patch) (a : SpoolDraft) → draft_at old e ≡ Some a
       → DraftStands sure x current first records h.rows w.store r a
@@ -238,11 +205,9 @@ module _ {sure : Type 0} {x : IndexSet} {current : ℕ → ℕ} (current' : ℕ 
   other_stands e other r a there is = rw rows (record {
     holds = is.holds;
     below = is.below;
-    carries = λ known open_still kept. bytes_kept current current' first on.own a.growth a.growth.on (same known)
-        (subst (λ (xs : List ℕ). NoneOf xs on.own) (ap list_in there)
-        (none_sym on.own (lists_at old e) (own_apart fit on on.grasp.takes e other)))
-        (owned_apart records h.rows r.number (tail_of a) on.own (is.tail open_still) unowned)
-        ∙ is.carries known open_still kept;
+    carries = λ known open_still kept. bytes_kept current current' first on.own a.growth a.growth.on (same known) (rw
+        (ap list_in there) at (none_sym on.own (lists_at old e) (own_apart fit on on.grasp.takes e other))) (owned_apart
+        records h.rows r.number (tail_of a) on.own (is.tail open_still) unowned) ∙ is.carries known open_still kept;
     tail = is.tail;
   })
 
@@ -266,11 +231,7 @@ module _ {sure : Type 0} {w : World} {current : ℕ → ℕ} {first n : ℕ} {re
     (on : WentOn h h' old d o o' new) (rows : h'.rows ≡ h.rows) {v : View} (shows : Shows v w.store)
     (known : h.rows ≡ v.rows) (size : length h.reserved ≡ length h.rows) (after : DraftsHold n h' new) where
   size_after : length h'.reserved ≡ length h'.rows
-  size_after = elim on.grasp.holds [
-    | inl holds ↦ subst (λ (k : Held). length k.reserved ≡ length k.rows) holds.0
-        (omega (arith, on.grasp.takes.size, size, ap length on.grasp.takes.rows))
-    | inr given ↦ omega (arith, given.0.size, on.grasp.takes.size, size, ap length rows)
-  ]
+  size_after = search (arith, common_steps)
 
   list_here : lists_at new d ≡ list_of o'
   list_here = ap list_in on.changed.here
@@ -290,10 +251,7 @@ module _ {sure : Type 0} {w : World} {current : ℕ → ℕ} {first n : ℕ} {re
       → is_short w d q done ≡ true
   lacks q done short =
       let lists : ℕ → List ℕ = λ e. if e == d then short.own else lists_at old e in
-      let swap : IsSwapped (lists_at old) d short.own lists = record {
-        here = rw (eq-eqb d d refl) refl;
-        others = λ e other. rw (ne_eqb e d (λ s. other (sym s))) refl;
-      } in
+      let swap : IsSwapped (lists_at old) d short.own lists = search (arith, common_steps) in
       let rule = room_rule stand shows short.held d short.own lists short.takes.rows known
       (omega (arith, short.takes.size, size, ap length short.takes.rows)) swap
       (all_reserved (lists_at old) lists d short.own swap short.held short.reserved
@@ -307,24 +265,16 @@ module _ {sure : Type 0} {w : World} {current : ℕ → ℕ} {first n : ℕ} {re
     more = with_piece p piece
 
     kept_short : Holds w.store.indexes more o' → is_short w d more false ≡ p.short
-    kept_short holds = elim (cases_Bool p.short) [
-      | inl short ↦ rule_after.stays more false short ∙ sym short
-      | inr roomy ↦ holds_all more false roomy (holds.needs ∙ rw roomy refl) ∙ sym roomy
-    ]
+    kept_short holds = grind (arith, common_steps, cases_Bool, rule_after, holds_all)
 
     pub longer_holds : IsLonger w.store.indexes more o o' h h' → Holds w.store.indexes (longer w d p piece) o'
-    longer_holds (inl holds) =
-        subst (λ (b : Bool). Holds w.store.indexes (record more { short = b }) o') (sym (kept_short holds)) holds
-    longer_holds (inr short) =
-        subst (λ (b : Bool). Holds w.store.indexes (record more { short = b }) o') (sym (lacks more false short.1))
-        short.0
+    longer_holds (inl holds) = rw (← (kept_short holds)) at holds
+    longer_holds (inr short) = rw (← (lacks more false short.1)) at short.0
 
     pub longer_carries : (current' : ℕ → ℕ) → IsLonger w.store.indexes more o o' h h'
         → Carries w.store.indexes current' first more o'
         → Carries w.store.indexes current' first (longer w d p piece) o'
-    longer_carries current' (inl holds) carries =
-        subst (λ (b : Bool). Carries w.store.indexes current' first (record more { short = b }) o')
-        (sym (kept_short holds)) carries
+    longer_carries current' (inl holds) carries = rw (← (kept_short holds)) at carries
     longer_carries current' (inr short) carries = λ kept. absurd (both_ways o'.growth.short kept.roomy short.0.short)
 
 -- THE DISK AND THE ANSWER

@@ -1,4 +1,5 @@
 -- A draft that is spent after a call on it: its blocks are given back, or its upload's.
+use Rattle.std.proofs.lemmas.Grind.{common_steps}
 use Rattle.std.proofs.Common.{◌≡◌, ◌≢◌, ◌⊎◌, inl, inr, ℕ, ◌/◌, ◌≤◌, ◌<◌, true, false, List, [], Option, None, Some}
 use Rattle.std.proofs.Common.{length, get_or, set, refl, sym, ◌∙◌, ap, subst, arith, length-append, ◌+◌}
 use Rattle.std.proofs.lemmas.Bool.{both_ways, cases_eq, cases_lt}
@@ -25,7 +26,7 @@ use Rattle.spool_kept.specs.Drafting.{DraftStands, DraftsHold, DraftsStand, IsOw
 use Rattle.spool_kept.specs.Extending.{HandsOn, IsLonger, longer_record}
 use Rattle.spool_kept.specs.Holding.{Holding, IsUsedBy}
 use Rattle.spool_kept.specs.declared.extending.Longer.{Longer}
-use Rattle.spool_kept.proofs.slots.ChangedSlots.{clash, one_value, slot_else, slot_here}
+use Rattle.spool_kept.proofs.slots.ChangedSlots.{one_value, slot_here}
 use Rattle.spool_kept.proofs.drafts.DraftLists.{IsOut, in_other, kept_out, none_in_nothing, nothing_reserved}
 use Rattle.spool_kept.proofs.drafts.DraftLonger.{WentOn, all_longer, each_other, fit_longer}
 use Rattle.spool_kept.proofs.drafts.Drafted.{IsChanged, changed_lists, changed_out, fit_changed, fit_dropped}
@@ -43,23 +44,11 @@ pub record StaysFree (old new : List Row) (list : List ℕ) : Type 0 where
 
 pub rows_handed : (h new : Holding) (used : SlotRecord) (longer : Longer) (more : List ℕ)
     → IsLonger h used longer more new → StaysFree h.blocks.rows new.blocks.rows more
-rows_handed h new used longer more is = elim (cases_lt 0 (length more)) [
-  | inl some ↦
-      let hands = is.rows some in
-      record { size = hands.size; free = λ b out none. hands.kept b out (λ k from owns. clash none owns) ∙ none }
-  | inr none ↦
-      let same = ap (λ (b : Held). b.rows) (is.same (omega (arith, none))) in
-      record { size = ap length same; free = λ b out free. ap (λ (rows : List Row). get_or rows b None) same ∙ free }
-]
+rows_handed h new used longer more is = search (arith, common_steps)
 
 handed_keeps : (h h' : Held) (list other : List ℕ) → HandsOn h.reserved h'.reserved list → StaysFree h.rows h'.rows list
     → IsReserved h other → NoneOf list other → IsReserved h' other
-handed_keeps h h' list other hands rows is apart = record {
-  below = λ i lt. omega (arith, is.below i lt, rows.size);
-  reserved = λ i lt. hands.others (get_or other i 0) (λ k lt' e. apart k i lt' lt e) ∙ is.reserved i lt;
-  no_owner = λ i lt. rows.free (get_or other i 0) (λ k lt' e. apart k i lt' lt e) (is.no_owner i lt);
-  distinct = is.distinct;
-}
+handed_keeps h h' list other hands rows is apart = search (arith, common_steps)
 
 module _ {n : ℕ} {h h' : Held} {old : List (Option SpoolDraft)} {d : ℕ} {o o' : SpoolDraft} (fit : DraftsHold n h old)
     (on : WentOn h h' old d o o' (set old d (Some o'))) (reserved : IsReserved h' (list_of o'))
@@ -77,8 +66,7 @@ module _ {n : ℕ} {h h' : Held} {old : List (Option SpoolDraft)} {d : ℕ} {o o
   mid_out = changed_out (set old d (Some o')) (set old d None) d gone
 
   pub fit_given : (h'' : Held) → GivesBack h' h'' (list_of o') → DraftsHold n h'' (set old d None)
-  fit_given h'' gives = fit_dropped n h' h'' (set old d (Some o')) (set old d None) d gone fit_mid
-      (subst (GivesBack h' h'') (sym list_mid) gives)
+  fit_given h'' gives = grind (arith, common_steps, fit_dropped, gone, fit_mid, list_mid)
 
   pub fit_handed : (h'' : Held) → HandsOn h'.reserved h''.reserved (list_of o')
       → StaysFree h'.rows h''.rows (list_of o') → DraftsHold n h'' (set old d None)
@@ -93,9 +81,8 @@ module _ {n : ℕ} {h h' : Held} {old : List (Option SpoolDraft)} {d : ℕ} {o o
     still_in : (b : ℕ) → IsOut (list_of o') b → get_or h'.reserved b false ≡ true
         → IsInSome (lists_at (set old d None)) b
     still_in b out was =
-        in_other (lists_at (set old d (Some o'))) (lists_at (set old d None)) d []
-        (changed_lists (set old d (Some o')) (set old d None) d None mid_out) b (all_longer fit on all b was)
-        (subst (λ (xs : List ℕ). IsOut xs b) (sym list_mid) out)
+        in_other (lists_at (set old d (Some o'))) (lists_at (set old d None)) d [] (changed_lists (set old d (Some o'))
+        (set old d None) d None mid_out) b (all_longer fit on all b was) (rw (← list_mid) at out)
 
     pub all_given : (h'' : Held) → GivesBack h' h'' (list_of o') → (b : ℕ) → get_or h''.reserved b false ≡ true
         → IsInSome (lists_at (set old d None)) b
@@ -103,11 +90,7 @@ module _ {n : ℕ} {h h' : Held} {old : List (Option SpoolDraft)} {d : ℕ} {o o
 
     pub all_handed : (h'' : Held) → HandsOn h'.reserved h''.reserved (list_of o') → (b : ℕ)
         → get_or h''.reserved b false ≡ true → IsInSome (lists_at (set old d None)) b
-    all_handed h'' hands b is =
-        let out : IsOut (list_of o') b =
-        λ i lt e. both_ways (get_or h''.reserved b false)
-        (subst (λ (k : ℕ). get_or h''.reserved k false ≡ false) e (hands.handed i lt)) is in
-        still_in b out (sym (hands.others b out) ∙ is)
+    all_handed h'' hands b is = grind (arith, common_steps, both_ways, still_in)
 
 -- THE OTHER DRAFTS
 
@@ -122,16 +105,8 @@ pub stand_spent : {sure : Type 0} {x : IndexSet} {current : ℕ → ℕ} (curren
     → DraftsStand sure x current' first records' h' (record w { store = m; patches = without d w.patches })
     (set old d None)
 stand_spent {sure = sure} {x = x} {current = current} current' {first = first} {records = records} records' {h = h} h'
-    {w = w} m {old = old} d stand weaker grown size all = record {
-      each = each_other (DraftStands sure x current first records h.rows w.store)
-          (DraftStands sure x current' first records' h'.rows m) w.patches (without d w.patches)
-          (find_without_same d w.patches stand.apart) (λ e. find_without_other d e w.patches)
-          (changed_out old (set old d None) d refl) stand.each weaker tt;
-      apart = apart_without d w.patches stand.apart;
-      grown = grown;
-      limit = stand.limit ∙ ap (λ (n : ℕ). Some n) (sym size);
-      all = all;
-    }
+    {w = w} m {old = old} d stand weaker grown size all =
+    grind (arith, common_steps, each_other, find_without_same, find_without_other, changed_out, apart_without)
 
 -- WHERE AN UPLOAD HAS MORE
 
@@ -144,19 +119,13 @@ module _ (w : World) (grown : IsGrown w) (n : ℕ) (u : Upload) (upload : upload
   same_number : (r : Patch) → n ≡ r.number
       → (still : IsStillOpen (record w.store { uploads = replaced n (patched u declare body) w.store.uploads }) r)
       → patched u declare body ≡ with_length r.began still.0
-  same_number r same still = same_Some (patched u declare body) (with_length r.began still.0)
-      (sym (subst (λ (k : ℕ). find k (replaced n (patched u declare body) w.store.uploads) ≡ Some (patched u declare
-      body)) same (find_replaced_same n u (patched u declare body) w.store.uploads upload)) ∙ still.1)
+  same_number r same still = grind (arith, common_steps, same_Some, find_replaced_same)
 
   -- and of another one, which is as it was
   other_number : (r : Patch) → n ≢ r.number
       → IsStillOpen (record w.store { uploads = replaced n (patched u declare body) w.store.uploads }) r
       → IsStillOpen w.store r
-  other_number r other still = (
-    still.0,
-    sym (find_replaced_other n r.number (patched u declare body) w.store.uploads other) ∙ still.1,
-    still.2,
-  )
+  other_number r other still = grind (arith, common_steps, find_replaced_other)
 
   longer_by : {v : Upload} → patched u declare body ≡ v → length u.accepted + length body ≡ length v.accepted
   longer_by is = sym (length-append u.accepted body) ∙ ap (λ (z : Upload). length z.accepted) is
@@ -169,17 +138,8 @@ module _ (w : World) (grown : IsGrown w) (n : ℕ) (u : Upload) (upload : upload
       → find e w.patches ≡ Some r
       → IsStillOpen (record w.store { uploads = replaced n (patched u declare body) w.store.uploads }) r
       → (n ≢ r.number) × IsStillOpen w.store r
-  other_upload more e r found still = elim (cases_eq n r.number) [
-    | inl same ↦
-        let is = same_number r same still in
-        let grew = subst (GrewFrom r) (subst (λ (k : ℕ). find k w.store.uploads ≡ Some u) same upload)
-        (grown.each e r found) in
-        absurd (elim more [
-          | inl some ↦ omega (arith, longer_by is, shorter r grew, some)
-          | inr whole ↦ both_ways (is_complete (with_length r.began still.0)) still.2 (ap is_complete (sym is) ∙ whole)
-        ])
-    | inr other ↦ (other, other_number r other still)
-  ]
+  other_upload more e r found still =
+      grind (arith, common_steps, cases_eq, same_number, longer_by, shorter, both_ways, other_number)
 
   -- where an upload got its length alone, what is still open was so
   pub open_before : u.declared ≡ None → body ≡ [] → (e : ℕ) (r : Patch) → find e w.patches ≡ Some r
@@ -193,8 +153,7 @@ module _ (w : World) (grown : IsGrown w) (n : ℕ) (u : Upload) (upload : upload
         let was = same_upload w e r u grown found there same_length in (
           was.0,
           there ∙ ap (λ (v : Upload). Some v) was.1,
-          subst (λ (v : Upload). is_complete v ≡ false) was.1
-              (ap (λ (k : Option ℕ). is_length k (length u.accepted)) unknown),
+          rw was.1 at (ap (λ (k : Option ℕ). is_length k (length u.accepted)) unknown),
         )
     | inr other ↦ other_number r other still
   ]
@@ -207,8 +166,7 @@ others_longer {h = h} {new = new} {used = used} {longer = longer} {more = more} 
     elim (cases_lt 0 (length more)) [
       | inl some ↦ others_same h.blocks.rows longer.slot (used.text_len / 4096) more new.blocks.rows (is.rows some)
           no_owner
-      | inr none ↦ same_others longer.slot h.blocks.rows new.blocks.rows
-          (ap (λ (b : Held). b.rows) (is.same (omega (arith, none))))
+      | inr none ↦ same_others longer.slot h.blocks.rows new.blocks.rows (cc (is.same (omega (arith, none))))
     ]
 
 -- where only its record is another, an upload's blocks stay its own
@@ -229,12 +187,7 @@ owned_declared h new used longer k list there is owned = record {
         used = longer_record used longer;
         there = ap (λ (s : ℕ). get_or (set h.slots longer.slot (Some (longer_record used longer))) s None) same
             ∙ slot_here h.slots longer.slot (Some (longer_record used longer)) (in_use h.slots longer.slot used there);
-        is = ap (λ (r : SlotRecord). r.number)
-            (one_value there (ap (λ (s : ℕ). get_or h.slots s None) (sym same) ∙ owned.used.there)) ∙ owned.used.is;
+        is = cc (one_value there (ap (λ (s : ℕ). get_or h.slots s None) (sym same) ∙ owned.used.there));
       }
-      | inr other ↦ record {
-        used = owned.used.used;
-        there = slot_else h.slots longer.slot (Some (longer_record used longer)) owned.slot other ∙ owned.used.there;
-        is = owned.used.is;
-      }
+      | inr other ↦ search (arith, common_steps)
     ]

@@ -1,9 +1,8 @@
 -- Open drafts, where one of them changes.
+use Rattle.std.proofs.lemmas.Grind.{common_steps}
 use Rattle.std.proofs.Common.{◌≡◌, ◌≢◌, Result, Ok, Err, IfOk, ◌≤◌, inl, inr, ℕ, ◌<◌, List, [], Option, None, Some}
-use Rattle.std.proofs.Common.{length, get_or, set, refl, sym, ◌∙◌, ap, subst, arith, get_or-set_same, get_or-set_other}
-use Rattle.std.proofs.Common.{Bool, true}
-use Rattle.std.proofs.lemmas.Bool.{cases_eq, cases_lt}
-use Rattle.std.proofs.lemmas.List.{get_or_past, length-set}
+use Rattle.std.proofs.Common.{length, get_or, set, refl, sym, ◌∙◌, ap, subst, arith, Bool, true}
+use Rattle.std.proofs.lemmas.Bool.{cases_eq}
 use Rattle.std.proofs.lemmas.Option.{same_Some}
 use Rattle.spool_blocks.specs.Blocks.{Row, Held}
 use Rattle.spool_blocks.specs.Chains.{Owns}
@@ -17,23 +16,18 @@ use Rattle.spool_drafts.specs.declared.draft.SpoolDraft.{SpoolDraft}
 use Rattle.spool_pages.specs.View.{SlotRecord, View}
 use Rattle.enc_model.specs.Indexes.{IndexSet}
 use Rattle.upload_rules.specs.Calls.{dropped, first_patch}
-use Rattle.upload_rules.specs.Drafts.{DraftOf, draft_at}
-use Rattle.upload_rules.specs.Store.{Upload, Store, find, upload_of}
+use Rattle.upload_rules.specs.Drafts.{draft_at}
+use Rattle.upload_rules.specs.Store.{Upload, Store, upload_of}
 use Rattle.upload_rules.specs.declared.errors.UploadRefusal.{UploadRefusal}
 use Rattle.upload_rules.specs.World.{World}
 use Rattle.upload_rules.proofs.Patches.{apart_without, dropped_stand}
 use Rattle.upload_rules.proofs.Growing.{grown_dropped}
-use Rattle.spool_texts.specs.TextOn.{IsListed}
-use Rattle.upload_rules.specs.Room.{blocks_of}
-use Rattle.spool_kept.specs.declared.order.NumberedSlot.{NumberedSlot}
-use Rattle.spool_kept.specs.Holding.{Holding, Orders, FitsTogether, IsListOf, IsUsedBy}
+use Rattle.spool_kept.specs.Holding.{Holding, FitsTogether, IsListOf, IsUsedBy}
 use Rattle.spool_kept.specs.Kept.{KeepsView}
 use Rattle.spool_kept.specs.Stored.{Stored}
 use Rattle.spool_kept.specs.Drafting.{list_in, lists_at, DraftsHold, OnlyReserves, DraftStands, DraftsStand, IsOwnedBy}
 use Rattle.spool_kept.specs.Drafting.{CarriesFor, StandsFor}
-use Rattle.spool_kept.proofs.drafts.DraftLists.{IsSwapped, all_reserved, all_apart, in_other, none_in_nothing}
-use Rattle.spool_kept.proofs.drafts.DraftLists.{given_keeps}
-use Rattle.spool_kept.proofs.drafts.DraftLists.{kept_out, nothing_reserved}
+use Rattle.spool_kept.proofs.drafts.DraftLists.{IsSwapped, all_reserved, all_apart, in_other, kept_out}
 use Rattle.spool_kept.proofs.Valid.{in_use}
 
 -- ANOTHER DRAFT AT ONE NUMBER
@@ -50,23 +44,15 @@ changed_lists old new d o is = record { here = ap list_in is.here; others = λ e
 pub changed_out : (old new : List (Option SpoolDraft)) (d : ℕ) → new ≡ set old d None → IsChanged old d None new
 changed_out old new d is = record {
   here = ap (λ (xs : List (Option SpoolDraft)). draft_at xs d) is ∙ gone;
-  others = λ e other. ap (λ (xs : List (Option SpoolDraft)). draft_at xs e) is
-      ∙ get_or-set_other old d e None None (λ s. other (sym s));
+  others = search (arith, common_steps);
 }
   where
     gone : draft_at (set old d None) d ≡ None
-    gone = elim (cases_lt d (length old)) [
-      | inl lt ↦ get_or-set_same old d None None lt
-      | inr ge ↦ get_or_past (set old d None) d None (let l = length-set old d None in omega (arith, l, ge))
-    ]
+    gone = search (arith, common_steps)
 
 pub changed_in : (old new : List (Option SpoolDraft)) (d : ℕ) (o : SpoolDraft) → d < length old
     → new ≡ set old d (Some o) → IsChanged old d (Some o) new
-changed_in old new d o lt is = record {
-  here = ap (λ (xs : List (Option SpoolDraft)). draft_at xs d) is ∙ get_or-set_same old d (Some o) None lt;
-  others = λ e other. ap (λ (xs : List (Option SpoolDraft)). draft_at xs e) is
-      ∙ get_or-set_other old d e (Some o) None (λ s. other (sym s));
-}
+changed_in old new d o lt is = search (arith, common_steps)
 
 -- the drafts fit where the changed one does
 pub fit_changed : (n : ℕ) (h h' : Held) (old new : List (Option SpoolDraft)) (d : ℕ) (o : Option SpoolDraft)
@@ -107,17 +93,14 @@ module _ (n : ℕ) (h h' : Held) (old new : List (Option SpoolDraft)) (d : ℕ) 
   gone = changed_out old new d is
 
   pub fit_dropped : DraftsHold n h old → GivesBack h h' (lists_at old d) → DraftsHold n h' new
-  fit_dropped fit gives = fit_changed n h h' old new d None fit gone (nothing_reserved h' [] refl)
-      (λ e other. given_keeps (lists_at old e) gives (fit.reserved e) (fit.distinct d e other)) (λ a e. absurd cc)
-      (λ e other. none_in_nothing [] (lists_at old e) refl)
+  fit_dropped fit gives = search (arith, common_steps)
 
   pub stand_dropped : {sure : Type 0} (x : IndexSet) (current : ℕ → ℕ) (first : ℕ) (records : List (Option SlotRecord))
       (w : World) → GivesBack h h' (lists_at old d) → DraftsStand sure x current first records h w old
       → DraftsStand sure x current first records h' (dropped w d) new
   stand_dropped {sure = sure} x current first records w gives stand = record {
     each = dropped_stand (DraftStands sure x current first records h'.rows w.store) w.patches old new
-        (subst (λ (rows : List Row). (e : ℕ) → DraftOf (DraftStands sure x current first records rows w.store)
-        (find e w.patches) (draft_at old e)) (sym gives.rows) stand.each) d stand.apart is;
+        (rw (← gives.rows) at stand.each) d stand.apart is;
     apart = apart_without d w.patches stand.apart;
     grown = grown_dropped w stand.grown d stand.apart;
     limit = stand.limit ∙ ap (λ (rows : List Row). Some (length rows)) (sym gives.rows);
@@ -129,19 +112,11 @@ module _ (n : ℕ) (h h' : Held) (old new : List (Option SpoolDraft)) (d : ℕ) 
 
 -- nothing is given back
 pub gives_nothing : (h : Held) (list : List ℕ) → list ≡ [] → GivesBack h h list
-gives_nothing h list none = record {
-  rows = refl;
-  size = refl;
-  given = λ i lt. absurd (omega (arith, lt, ap length none));
-  others = λ b out. refl;
-}
+gives_nothing h list none = search (arith, common_steps)
 
 pub reserves_only : (old inside new : Holding) → inside ≡ old → new ≡ record inside { blocks = new.blocks }
     → new.blocks.rows ≡ inside.blocks.rows → OnlyReserves old new
-reserves_only old inside new is same rows = record {
-  same = same ∙ ap (λ (h : Holding). record h { blocks = new.blocks }) is;
-  rows = rows ∙ ap (λ (h : Holding). h.blocks.rows) is;
-}
+reserves_only old inside new is same rows = search (arith, common_steps)
 
 pub drops : {D : Type 0} {sure : Bool} {disk : Ghosts D} {d : D} {old new : Holding}
     {drafts drafts' : List (Option SpoolDraft)} (number : ℕ) {w : World} → OnlyReserves old new
@@ -163,10 +138,9 @@ pub dropped_out : {D : Type 0} {sure : Bool} {disk : Ghosts D} {d : D} {old insi
     → Some o ≡ draft_at drafts number → drafts' ≡ set drafts number None → GivesBack inside.blocks blocks (list_of o)
     → StandsFor sure disk d old drafts w
     → StandsFor sure disk d (record inside { blocks = blocks }) drafts' (dropped w number)
-dropped_out {old = old} {inside = inside} {blocks = blocks} {drafts = drafts} number is there after gives =
-    drops number (reserves_only old inside (record inside { blocks = blocks }) is refl gives.rows) after
-    (subst (λ (h : Holding). GivesBack h.blocks blocks (lists_at drafts number)) is
-    (subst (GivesBack inside.blocks blocks) (ap list_in there) gives))
+dropped_out {old =
+    old} {inside = inside} {blocks = blocks} {drafts = drafts} number is there after gives = drops number (reserves_only
+    old inside (record inside { blocks = blocks }) is refl gives.rows) after (rw is at (rw (ap list_in there) at gives))
 
 -- A DRAFT MORE
 
@@ -214,8 +188,7 @@ tail_owned slots rows number k list (Err e) is all = tt
 pub list_owned : (h : Holding) → FitsTogether h → (s : ℕ) → s < 512 → (number : ℕ) → IsUsedBy h.slots s number
     → (list : List ℕ) → list ≡ get_or h.lists s [] → IsOwnedBy h.slots h.blocks.rows number list
 list_owned h fits s lt number used list is =
-    let has = subst (λ (o : Option SlotRecord). IsListOf h.blocks.rows s o (get_or h.lists s [])) used.there
-    (fits.listed s lt) in
+    let has = rw used.there at (fits.listed s lt) in
     record {
       slot = s;
       used = used;
@@ -230,7 +203,5 @@ pub carries_for : (m : Store) (number count : ℕ) (declare : Option ℕ) (curre
     (r : Result SpoolDraft UploadRefusal) → upload_of m number ≡ Some u
     → IfOk r (λ d. Carries m.indexes current first (first_patch number count declare u) d)
     → IfOk r (CarriesFor m number count declare current first)
-carries_for m number count declare current first u (Ok o) there carries = λ w found.
-    subst (λ (k : Upload). Carries m.indexes current first (first_patch number count declare k) o)
-    (same_Some u w (sym there ∙ found)) carries
+carries_for m number count declare current first u (Ok o) there carries = λ w found. rw (same_Some u w (cc)) at carries
 carries_for m number count declare current first u (Err e) there carries = tt

@@ -1,16 +1,14 @@
 -- The drafts, where an upload was taken away and its drafts forgot its last block.
-use Rattle.std.proofs.Common.{◌≡◌, ℕ, List, Option, None, Some, refl, sym, ◌∙◌, ap, subst, arith, inl, inr, true}
+use Rattle.std.proofs.lemmas.Grind.{common_steps}
+use Rattle.std.proofs.Common.{◌≡◌, ℕ, List, Option, None, Some, refl, sym, ◌∙◌, ap, subst, arith, true}
 use Rattle.std.proofs.Common.{length, get_or, Bool}
-use Rattle.std.proofs.lemmas.Bool.{cases_eq}
 use Rattle.enc_model.specs.Indexes.{IndexSet}
 use Rattle.spool_blocks.specs.Blocks.{Held}
 use Rattle.spool_disk.specs.declared.disk.Disk.{Ghosts}
-use Rattle.spool_drafts.specs.Drafts.{number_of}
 use Rattle.spool_drafts.specs.declared.draft.SpoolDraft.{SpoolDraft}
 use Rattle.spool_journal.specs.Image.{text_page}
 use Rattle.spool_pages.specs.View.{SlotRecord}
 use Rattle.spool_texts.specs.Drafts.{IsReserved}
-use Rattle.spool_texts.specs.Written.{NoneOf}
 use Rattle.upload_rules.specs.Drafts.{DraftOf, draft_at}
 use Rattle.upload_rules.specs.Store.{find, upload_of}
 use Rattle.upload_rules.specs.World.{Patch, World}
@@ -18,9 +16,8 @@ use Rattle.spool_kept.specs.Drafting.{DraftStands, DraftsFit, DraftsHold, Drafts
 use Rattle.spool_kept.specs.Drafting.{lists_at}
 use Rattle.spool_kept.specs.Holding.{Holding, IsUsedBy}
 use Rattle.spool_kept.specs.Terminating.{EachForgets, ForgetsOf, ForgetsTail, IsTakenOut}
-use Rattle.spool_kept.proofs.slots.ChangedSlots.{clash, slot_is}
+use Rattle.spool_kept.proofs.slots.ChangedSlots.{clash}
 use Rattle.spool_kept.proofs.drafts.OfDeleted.{hold_still}
-use Rattle.spool_kept.proofs.Valid.{in_use}
 
 -- each draft comes of one that was there
 pub draft_was : (number : ℕ) (old new : Option SpoolDraft) → ForgetsOf number old new → (o' : SpoolDraft)
@@ -42,11 +39,8 @@ module _ (number : ℕ) (old new : List (Option SpoolDraft)) (forgets : EachForg
   pub hold_forgotten : (n : ℕ) (h : Held) → DraftsHold n h old → DraftsHold n h new
   hold_forgotten n h hold = record {
     reserved = λ d. subst (IsReserved h) (sym (lists_same d)) (hold.reserved d);
-    placed = λ d o' e.
-        let was = draft_was number (draft_at old d) (draft_at new d) (forgets d) o' e in
-        was.2.placed n (hold.placed d was.0 was.1);
-    distinct = λ d e apart. subst (λ (xs : List ℕ). NoneOf xs (lists_at new e)) (sym (lists_same d))
-        (subst (NoneOf (lists_at old d)) (sym (lists_same e)) (hold.distinct d e apart));
+    placed = search (arith, common_steps);
+    distinct = λ d e apart. rw (← (lists_same d)) at (rw (← (lists_same e)) at (hold.distinct d e apart));
   }
 
   module _ (sure : Type 0) (x : IndexSet) (current : ℕ → ℕ) (first : ℕ) (slots : List (Option SlotRecord)) (h : Held)
@@ -54,19 +48,7 @@ module _ (number : ℕ) (old new : List (Option SpoolDraft)) (forgets : EachForg
     stands_of : (p : Patch) (o o' : SpoolDraft) → ForgetsTail number o o'
         → DraftStands sure x current first slots h.rows w.store p o
         → DraftStands sure x current first slots h.rows w.store p o'
-    stands_of p o o' forgot s = elim (cases_eq (number_of o) number) [
-      | inl same ↦
-          let none : upload_of w.store p.number ≡ None =
-          ap (upload_of w.store) (sym s.holds.number ∙ same) ∙ gone in
-          record {
-            holds = forgot.holds x p s.holds;
-            below = s.below;
-            carries = λ known still. clash none still.1;
-            tail = λ still. clash none still.1;
-          }
-      | inr other ↦
-          subst (DraftStands sure x current first slots h.rows w.store p) (sym (forgot.others other)) s
-    ]
+    stands_of p o o' forgot s = search (arith, common_steps)
 
     each_of : (q : Option Patch) (o o' : Option SpoolDraft) → ForgetsOf number o o'
         → DraftOf (DraftStands sure x current first slots h.rows w.store) q o
@@ -108,26 +90,17 @@ module _ {h h' : Holding} {slot number : ℕ} (used : IsUsedBy h.slots slot numb
   still_of : (o o' : SpoolDraft) → ForgetsTail number o o' → IsOfUpload h.slots o → IsOfUpload h'.slots o'
   still_of o o' forgot is = record {
     grown = λ s r e at. omega (arith, is.grown s r (was s r e) (at ∙ forgot.same_number), forgot.same_offset);
-    after = λ s r e at count open_still. forgot.after r.text_len r.state
-        (is.after s r (was s r e) (at ∙ forgot.same_number) (count ∙ forgot.same_offset) open_still);
+    after = search (arith, common_steps);
   }
     where
       was : (s : ℕ) (r : SlotRecord) → get_or h'.slots s None ≡ Some r → get_or h.slots s None ≡ Some r
-      was s r e = elim (slot_is h.slots slot None s r (in_use h.slots slot used.used used.there)
-          (ap (λ (xs : List (Option SlotRecord)). get_or xs s None) (sym out.slots) ∙ e)) [
-            | inl here ↦ clash refl here.1
-            | inr there ↦ there.1
-          ]
+      was s r e = search (arith, common_steps)
 
   pub fits_after : DraftsFit h' new
   fits_after = record {
     blocks = hold_forgotten number old new forgets h'.layout h'.blocks
-        (subst (λ (n : ℕ). DraftsHold n h'.blocks old) (sym out.layout)
-        (hold_still h.layout slot h.blocks h'.blocks old out.rows out.reserved fit.blocks));
-    below = λ d o' e.
-        let was = draft_was number (draft_at old d) (draft_at new d) (forgets d) o' e in
-        let forgot = was.2 in
-        omega (arith, fit.below d was.0 was.1, forgot.same_number, out.next);
+        (rw (← out.layout) at (hold_still h.layout slot h.blocks h'.blocks old out.rows out.reserved fit.blocks));
+    below = search (arith, common_steps);
     uploads = λ d o' e.
         let was = draft_was number (draft_at old d) (draft_at new d) (forgets d) o' e in
         still_of was.0 o' was.2 (fit.uploads d was.0 was.1);

@@ -1,19 +1,17 @@
 -- The drafts, where an upload was taken away.
-use Rattle.std.proofs.Common.{◌≡◌, ◌≢◌, ℕ, ◌*◌, ◌≤◌, List, Option, None, Some, get_or, refl, sym, ◌∙◌, ap, subst, arith}
-use Rattle.std.proofs.Common.{inl, inr, Bool, false, true}
+use Rattle.std.proofs.lemmas.Grind.{common_steps}
+use Rattle.std.proofs.Common.{◌≡◌, ◌≢◌, ℕ, ◌*◌, ◌≤◌, List, Option, None, Some, refl, ◌∙◌, subst, arith, Bool, true}
 use Rattle.std.proofs.lemmas.Bool.{cases_eq}
 use Rattle.spool_blocks.specs.Blocks.{Held}
 use Rattle.spool_disk.specs.declared.disk.Disk.{Ghosts}
 use Rattle.spool_drafts.specs.declared.draft.SpoolDraft.{SpoolDraft}
 use Rattle.spool_journal.specs.Image.{text_page}
-use Rattle.spool_texts.specs.Drafts.{IsReserved}
 use Rattle.upload_rules.specs.Calls.{terminated}
-use Rattle.upload_rules.specs.Drafts.{draft_at}
 use Rattle.upload_rules.specs.Grown.{GrewFrom, IsGrown}
-use Rattle.upload_rules.specs.Store.{Upload, deleted_store, find, others, upload_of, with_length}
+use Rattle.upload_rules.specs.Store.{Upload, deleted_store, upload_of}
 use Rattle.upload_rules.specs.World.{Patch, World}
 use Rattle.upload_rules.proofs.Deleted.{find_in_others, none_in_others}
-use Rattle.spool_kept.specs.Drafting.{DraftStands, DraftsHold, DraftsStand, IsStillOpen, StandsFor, lists_at}
+use Rattle.spool_kept.specs.Drafting.{DraftStands, DraftsHold, DraftsStand, IsStillOpen, StandsFor}
 use Rattle.spool_kept.specs.Holding.{Holding, IsUsedBy}
 use Rattle.spool_kept.specs.Stored.{Stored}
 use Rattle.spool_kept.specs.Terminating.{FreesRows, IsTakenOut}
@@ -25,42 +23,21 @@ use Rattle.spool_kept.proofs.slots.SlotChange.{owned_still}
 
 -- WHATEVER THE DISK SAID
 
--- reserved blocks stay so
-reserved_still : (slot : ℕ) (old new : Held) (list : List ℕ) → FreesRows slot old.rows new.rows
-    → new.reserved ≡ old.reserved → IsReserved old list → IsReserved new list
-reserved_still slot old new list frees same is = record {
-  below = λ i lt. omega (arith, is.below i lt, frees.size);
-  reserved = λ i lt. ap (λ (xs : List Bool). get_or xs (get_or list i 0) false) same ∙ is.reserved i lt;
-  no_owner = λ i lt. frees.kept (get_or list i 0) (λ k owns. clash (is.no_owner i lt) owns) ∙ is.no_owner i lt;
-  distinct = is.distinct;
-}
-
 pub hold_still : (n slot : ℕ) (old new : Held) (drafts : List (Option SpoolDraft)) → FreesRows slot old.rows new.rows
     → new.reserved ≡ old.reserved → DraftsHold n old drafts → DraftsHold n new drafts
-hold_still n slot old new drafts frees same hold = record {
-  reserved = λ d. reserved_still slot old new (lists_at drafts d) frees same (hold.reserved d);
-  placed = hold.placed;
-  distinct = hold.distinct;
-}
+hold_still n slot old new drafts frees same hold = search (arith, common_steps)
 
 -- WHAT THEY STAND FOR
 
 -- an upload of the store without the number has another number, and was there
 upload_was : (w : World) (number n : ℕ) (u : Upload) → upload_of (deleted_store w.store number) n ≡ Some u
     → (number ≢ n) × (upload_of w.store n ≡ Some u)
-upload_was w number n u e = elim (cases_eq number n) [
-  | inl same ↦
-      let uploads = others number w.store.uploads in
-      clash (ap (λ (k : ℕ). find k uploads) (sym same) ∙ none_in_others number w.store.uploads) e
-  | inr other ↦ (other, sym (find_in_others number n w.store.uploads other) ∙ e)
-]
+upload_was w number n u e = grind (arith, common_steps, cases_eq, clash, none_in_others, find_in_others)
 
 -- and so was one that is as a patch began, but for a length
 still_was : (w : World) (number : ℕ) (p : Patch) → IsStillOpen (deleted_store w.store number) p
     → (number ≢ p.number) × IsStillOpen w.store p
-still_was w number p still =
-    let was = upload_was w number p.number (with_length p.began still.0) still.1 in
-    (was.0, (still.0, was.1, still.2))
+still_was w number p still = grind (arith, common_steps, upload_was)
 
 still_grown : (w : World) (number : ℕ) → IsGrown w → IsGrown (terminated w number)
 still_grown w number grown = record {
@@ -91,15 +68,7 @@ module _ {h h' : Holding} {number slot : ℕ} (used : IsUsedBy h.slots slot numb
     pub drafts_still : (drafts : List (Option SpoolDraft)) → DraftsStand sure w.store.indexes current first h.slots
         h.blocks w drafts → DraftsStand sure w.store.indexes current' first h'.slots h'.blocks
         (terminated w number) drafts
-    drafts_still drafts stand = record {
-      each = λ d. held_both (DraftStands sure w.store.indexes current first h.slots h.blocks.rows w.store)
-          (DraftStands sure w.store.indexes current' first h'.slots h'.blocks.rows (deleted_store w.store number))
-          (find d w.patches) (draft_at drafts d) (λ p o found there s. stands_still p o s) (stand.each d);
-      apart = stand.apart;
-      grown = still_grown w number stand.grown;
-      limit = stand.limit ∙ ap (λ (n : ℕ). Some n) (sym out.rows.size);
-      all = λ b is. stand.all b (ap (λ (xs : List Bool). get_or xs b false) (sym out.reserved) ∙ is);
-    }
+    drafts_still drafts stand = grind (arith, common_steps, held_both, stands_still, still_grown)
 
   pub stands_after : {D : Type 0} {sure : Bool} {disk : Ghosts D} {d d' : D} {drafts : List (Option SpoolDraft)}
       {w : World} → StandsFor sure disk d h drafts w → Stored sure disk d' h' (deleted_store w.store number)
@@ -107,7 +76,6 @@ module _ {h h' : Holding} {number slot : ℕ} (used : IsUsedBy h.slots slot numb
       → StandsFor sure disk d' h' drafts (terminated w number)
   stands_after {sure = sure} {disk = disk} {d = d} {d' = d'} {drafts = drafts} {w = w} stands stored same = record {
     stored = stored;
-    stands = subst (λ (n : ℕ). DraftsStand (sure ≡ true) w.store.indexes (disk.current d')
-        (text_page n) h'.slots h'.blocks (terminated w number) drafts) (sym out.layout)
-        (drafts_still w (disk.current d) (disk.current d') (text_page h.layout) same drafts stands.stands);
+    stands = rw (← out.layout) at (drafts_still w (disk.current d) (disk.current d') (text_page h.layout) same drafts
+        stands.stands);
   }

@@ -1,8 +1,8 @@
 -- The drafts' uploads, whatever the disk said: what is in their slots, and what becomes of it.
-use Rattle.std.proofs.Common.{◌≡◌, inl, inr, ℕ, ◌<◌, ◌≤◌, false, List, [], Option, length-set, None, Some, IfOk, IfSome}
+use Rattle.std.proofs.lemmas.Grind.{common_steps}
+use Rattle.std.proofs.Common.{◌≡◌, inl, inr, ℕ, ◌<◌, ◌≤◌, false, List, [], Option, None, Some, IfOk, IfSome}
 use Rattle.std.proofs.Common.{MatchOption, Result, Ok, Err, get_or, length, set, refl, sym, ◌∙◌, ap, subst, arith}
-use Rattle.std.proofs.lemmas.Bool.{both_ways, cases_eq}
-use Rattle.std.proofs.lemmas.Option.{same_Some}
+use Rattle.std.proofs.lemmas.Bool.{both_ways}
 use Rattle.spool_drafts.specs.Drafts.{IsAfter, declare_of, number_of, offset_of, list_of}
 use Rattle.spool_drafts.specs.declared.draft.SpoolDraft.{SpoolDraft}
 use Rattle.spool_blocks.specs.Blocks.{Held}
@@ -21,7 +21,6 @@ use Rattle.spool_kept.specs.declared.extending.Longer.{Longer}
 use Rattle.spool_kept.proofs.drafts.Drafted.{IsChanged, changed_out, fit_dropped}
 use Rattle.spool_kept.proofs.Valid.{in_use}
 use Rattle.spool_kept.proofs.numbers.Ordered.{one_slot as ordered_slot}
-use Rattle.spool_kept.proofs.slots.ChangedSlots.{record_is}
 
 -- ONE SLOT FOR A NUMBER
 
@@ -43,10 +42,8 @@ only_of h fits n (Some s) l = one_slot h fits n s l
 of_begun : (slots : List (Option SlotRecord)) (r : Record) (o : SpoolDraft) → IsKept slots r
     → number_of o ≡ r.number → offset_of o ≡ r.accepted → IsAfter r.text_len r.state o → IsOfUpload slots o
 of_begun slots r o kept number offset after = record {
-  grown = λ s q there is.
-      omega (arith, offset, ap (λ (p : SlotRecord). p.accepted) (kept.only s q there (is ∙ number)));
-  after = λ s q there is same open_still.
-      subst (λ (p : SlotRecord). IsAfter p.text_len p.state o) (sym (kept.only s q there (is ∙ number))) after;
+  grown = λ s q there is. omega (arith, offset, ap (λ (p : SlotRecord). p.accepted) (kept.only s q there (cc)));
+  after = search (arith, common_steps);
 }
 
 pub begins_kept : (slots : List (Option SlotRecord)) (r : Record) (declare : Option ℕ)
@@ -68,18 +65,13 @@ pub of_longer : (slots : List (Option SlotRecord)) (o o' : SpoolDraft) → numbe
     → IsOfUpload slots o → IsOfUpload slots o'
 of_longer slots o o' number offset on is = record {
   grown = λ s r there at. omega (arith, is.grown s r there (at ∙ number), offset);
-  after = λ s r there at same open_still. on r.text_len r.state
-      (is.after s r there (at ∙ number) (same ∙ offset) open_still);
+  after = λ s r there at same open_still. on r.text_len r.state (is.after s r there (cc) (cc) open_still);
 }
 
 -- its slot's record, with the count that the draft began at
 pub after_slot : (slots : List (Option SlotRecord)) (o : SpoolDraft) (slot : ℕ) (has : HasSameCount slots o slot)
     → is_length has.used.declared has.used.accepted ≡ false → IsOfUpload slots o → IsAfterSlot slots slot o
-after_slot slots o slot has open_still is r there =
-    let same : has.used ≡ r = same_Some has.used r (sym has.there ∙ there) in
-    is.after slot r there (ap (λ (q : SlotRecord). q.number) (sym same) ∙ has.number)
-    (ap (λ (q : SlotRecord). q.accepted) (sym same) ∙ has.count)
-    (subst (λ (q : SlotRecord). is_length q.declared q.accepted ≡ false) same open_still)
+after_slot slots o slot has open_still is r there = search (arith, common_steps)
 
 -- an upload has another record
 module _ (slots : List (Option SlotRecord)) (longer : Longer) (used : SlotRecord) (o : SpoolDraft)
@@ -92,22 +84,7 @@ module _ (slots : List (Option SlotRecord)) (longer : Longer) (used : SlotRecord
       → (used.number ≡ number_of o → longer.accepted ≡ offset_of o → is_length longer.declared longer.accepted ≡ false
       → IsAfter longer.text_len longer.state o)
       → IsOfUpload (set slots longer.slot (Some (longer_record used longer))) o
-  of_changed grows after = record {
-    grown = λ s r e at. elim (record_is slots longer.slot (longer_record used longer) s r inside e) [
-      | inl now ↦
-          let before = is.grown longer.slot used there (ap (λ (q : SlotRecord). q.number) (sym now.1) ∙ at) in
-          omega (arith, before, grows, ap (λ (q : SlotRecord). q.accepted) now.1)
-      | inr old ↦ is.grown s r old.1 at
-    ];
-    after = λ s r e at count open_still.
-        elim (record_is slots longer.slot (longer_record used longer) s r inside e) [
-          | inl now ↦ subst (λ (q : SlotRecord). IsAfter q.text_len q.state o) (sym now.1)
-              (after (ap (λ (q : SlotRecord). q.number) (sym now.1) ∙ at)
-              (ap (λ (q : SlotRecord). q.accepted) (sym now.1) ∙ count)
-              (subst (λ (q : SlotRecord). is_length q.declared q.accepted ≡ false) now.1 open_still))
-          | inr old ↦ is.after s r old.1 at count open_still
-        ];
-  }
+  of_changed grows after = search (arith, common_steps)
 
   pub of_extended : Advances used longer → IsOfUpload (set slots longer.slot (Some (longer_record used longer))) o
   of_extended (inl more) = of_changed (omega (arith, more)) (λ at count open_still.
@@ -116,20 +93,14 @@ module _ (slots : List (Option SlotRecord)) (longer : Longer) (used : SlotRecord
       absurd (both_ways (is_length longer.declared longer.accepted) open_still all.1))
 
   pub of_declared : OnlyDeclares used longer → IsOfUpload (set slots longer.slot (Some (longer_record used longer))) o
-  of_declared only = of_changed (omega (arith, only.accepted)) (λ at count open_still.
-      subst (λ (n : ℕ). IsAfter n longer.state o) (sym only.text_len)
-      (subst (λ (state : List ℕ). IsAfter used.text_len state o) (sym only.state)
-      (is.after longer.slot used there at (sym only.accepted ∙ count)
-      (ap (λ (k : Option ℕ). is_length k used.accepted) only.unknown))))
+  of_declared only = of_changed (omega (arith, only.accepted)) (λ at count open_still. rw (← only.text_len) at
+      (rw (← only.state) at (is.after longer.slot used there at (cc) (cc))))
 
 -- ALL DRAFTS
 
 pub each_changed : (P : SpoolDraft → Type 0) (old new : List (Option SpoolDraft)) (d : ℕ) (o : Option SpoolDraft)
     → IsChanged old d o new → EachDraft P old → ((a : SpoolDraft) → o ≡ Some a → P a) → EachDraft P new
-each_changed P old new d o changed each own e a there = elim (cases_eq d e) [
-  | inl same ↦ own a (sym changed.here ∙ ap (draft_at new) same ∙ there)
-  | inr other ↦ each e a (sym (changed.others e other) ∙ there)
-]
+each_changed P old new d o changed each own e a there = search (arith, common_steps)
 
 -- one is spent
 each_dropped : (P : SpoolDraft → Type 0) (old new : List (Option SpoolDraft)) (d : ℕ) → new ≡ set old d None
@@ -141,10 +112,8 @@ pub fits_spent : (h h' : Holding) (old new : List (Option SpoolDraft)) (d : ℕ)
     → h'.next ≡ h.next → h'.slots ≡ h.slots → DraftsHold h'.layout h'.blocks new → DraftsFit h old → DraftsFit h' new
 fits_spent h h' old new d is next slots blocks fit = record {
   blocks = blocks;
-  below = each_dropped (λ (o : SpoolDraft). number_of o < h'.next) old new d is
-      (λ e o at. omega (arith, fit.below e o at, next));
-  uploads = each_dropped (IsOfUpload h'.slots) old new d is
-      (λ e o at. subst (λ (s : List (Option SlotRecord)). IsOfUpload s o) (sym slots) (fit.uploads e o at));
+  below = search (arith, common_steps);
+  uploads = each_dropped (IsOfUpload h'.slots) old new d is (λ e o at. rw (← slots) at (fit.uploads e o at));
 }
 
 -- one is spent, and its blocks are given back
@@ -169,46 +138,28 @@ pub fits_put : (h h' : Holding) (drafts : List (Option SpoolDraft)) (d : ℕ) (l
     → DraftsHold h'.layout h'.blocks (set drafts d None) → DraftsFit h drafts → DraftsFit h' (set drafts d None)
 fits_put h h' drafts d longer used there more next slots blocks fit = record {
   blocks = blocks;
-  below = each_dropped (λ (o : SpoolDraft). number_of o < h'.next) drafts (set drafts d None) d refl
-      (λ e o at. omega (arith, fit.below e o at, next));
+  below = search (arith, common_steps);
   uploads = each_dropped (IsOfUpload h'.slots) drafts (set drafts d None) d refl
-      (λ e o at. subst (λ (s : List (Option SlotRecord)). IsOfUpload s o) (sym slots)
-      (of_extended h.slots longer used o there (fit.uploads e o at) more));
+      (λ e o at. rw (← slots) at (of_extended h.slots longer used o there (fit.uploads e o at) more));
 }
 
 -- an upload got its length
 pub fits_declared : (h h' : Holding) (drafts : List (Option SpoolDraft)) (longer : Longer) (used : SlotRecord)
     → get_or h.slots longer.slot None ≡ Some used → OnlyDeclares used longer → IsLonger h used longer [] h'
     → DraftsFit h drafts → DraftsFit h' drafts
-fits_declared h h' drafts longer used there only is fit = record {
-  blocks = subst (λ (n : ℕ). DraftsHold n h'.blocks drafts) (sym is.layout)
-      (subst (λ (blocks : Held). DraftsHold h.layout blocks drafts) (sym (is.same refl)) fit.blocks);
-  below = λ d o at. omega (arith, fit.below d o at, is.next);
-  uploads = λ d o at. subst (λ (s : List (Option SlotRecord)). IsOfUpload s o) (sym is.slots)
-      (of_declared h.slots longer used o there (fit.uploads d o at) only);
-}
+fits_declared h h' drafts longer used there only is fit = grind (arith, common_steps, of_declared)
 
 -- a new upload is kept
 module _ (h h' : Holding) (slot : ℕ) (new : SlotRecord) (room : HasRoomAt h slot) (taken : IsTakenIn h slot new h')
     (number : new.number ≡ h.next) where
-  slot_there : slot < length h.slots
-  slot_there =
-      omega (arith, room.within, taken.fits.slot_count, ap length taken.slots, length-set h.slots slot (Some new))
-
   -- the new record has no draft's number
   was_there : (o : SpoolDraft) → number_of o < h.next → (s : ℕ) (r : SlotRecord) → get_or h'.slots s None ≡ Some r
       → r.number ≡ number_of o → get_or h.slots s None ≡ Some r
-  was_there o below s r e at =
-      let now = ap (λ (slots : List (Option SlotRecord)). get_or slots s None) (sym taken.slots) ∙ e in
-      elim (record_is h.slots slot new s r slot_there now) [
-        | inl made ↦ absurd (omega (arith, ap (λ (q : SlotRecord). q.number) made.1, number, at, below))
-        | inr old ↦ old.1
-      ]
+  was_there o below s r e at = search (arith, common_steps)
 
   pub fits_created : (drafts : List (Option SpoolDraft)) → DraftsFit h drafts → DraftsFit h' drafts
   fits_created drafts fit = record {
-    blocks = subst (λ (n : ℕ). DraftsHold n h'.blocks drafts) (sym taken.layout)
-        (subst (λ (blocks : Held). DraftsHold h.layout blocks drafts) (sym taken.blocks) fit.blocks);
+    blocks = rw (← taken.layout) at (rw (← taken.blocks) at fit.blocks);
     below = λ d o there. omega (arith, fit.below d o there, taken.next);
     uploads = λ d o there.
         let is = fit.uploads d o there in

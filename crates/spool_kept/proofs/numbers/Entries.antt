@@ -1,9 +1,10 @@
 -- Entries of a store by their numbers.
+use Rattle.std.proofs.lemmas.Grind.{common_steps}
 use Rattle.std.proofs.Common.{◌≡◌, inl, inr, ℕ, zero, suc, ◌<◌, List, [], ◌∷◌, ◌++◌, None, Some, length, slice_index}
 use Rattle.std.proofs.Common.{map, refl, sym, ap, subst, arith, eq-eqb}
-use Rattle.std.proofs.lemmas.Bool.{cases_eq, cases_lt, ne_eqb}
+use Rattle.std.proofs.lemmas.Bool.{cases_eq, ne_eqb}
 use Rattle.std.proofs.lemmas.Bool.Decides.{nat_tests}
-use Rattle.std.proofs.lemmas.List.{length-append, map-append, get_or_append_left, get_or_push}
+use Rattle.std.proofs.lemmas.List.{map-append}
 use Rattle.upload_rules.specs.Store.{find, replaced}
 use Rattle.upload_rules.specs.Slots.{IsRising, IsBelow}
 
@@ -45,17 +46,4 @@ module _ {A : Type 0} where
       there.0 there.1))
     where
       pushed : (ns : List ℕ) → IsRising ns → IsBelow ns n → IsRising (ns ++ n ∷ [])
-      pushed ns up under i j lt inside =
-          let long = length-append ns (n ∷ []) in
-          let first : slice_index (ns ++ n ∷ []) i ≡ slice_index ns i =
-          get_or_append_left ns (n ∷ []) 0 i (omega (arith, long, lt, inside)) in
-          elim (cases_lt j (length ns)) [
-            | inl before ↦
-                let second : slice_index (ns ++ n ∷ []) j ≡ slice_index ns j =
-                get_or_append_left ns (n ∷ []) 0 j before in
-                omega (arith, first, second, up i j lt before)
-            | inr from ↦
-                let second : slice_index (ns ++ n ∷ []) j ≡ n =
-                get_or_push ns n 0 j (omega (arith, from, inside, long)) in
-                omega (arith, first, second, under i (omega (arith, long, lt, inside)))
-          ]
+      pushed ns up under i j lt inside = search (arith, common_steps)

@@ -1,4 +1,5 @@
 -- The upload of the least number above another.
+use Rattle.std.proofs.lemmas.Grind.{common_steps}
 use Rattle.std.proofs.Common.{◌≡◌, inl, inr, ℕ, suc, ◌<◌, ◌≤◌, List, [], ◌∷◌, length, map, slice_index, None, Some}
 use Rattle.std.proofs.Common.{refl, sym, ◌∙◌, subst, arith}
 use Rattle.std.proofs.lemmas.Bool.{cases_eq, cases_lt}
@@ -7,7 +8,6 @@ use Rattle.upload_rules.specs.Store.{Upload, find}
 use Rattle.upload_rules.specs.Records.{above}
 use Rattle.upload_rules.specs.Slots.{IsRising}
 use Rattle.spool_kept.proofs.slots.ChangedSlots.{clash}
-use Rattle.std.proofs.lemmas.Option.{same_Some}
 
 abbrev pub numbers : List (ℕ × Upload) → List ℕ
 numbers xs = map (λ (e : ℕ × Upload). e.0) xs
@@ -17,9 +17,6 @@ find_here x xs j same = grind (arith, nat_tests)
 
 find_past : (x : ℕ × Upload) (xs : List (ℕ × Upload)) (j : ℕ) → (x.0 ≡ j → ⊥) → find j (x ∷ xs) ≡ find j xs
 find_past x xs j other = grind (arith, nat_tests)
-
-above_here : (x : ℕ × Upload) (xs : List (ℕ × Upload)) (n : ℕ) → n < x.0 → above n (x ∷ xs) ≡ Some x
-above_here x xs n lt = grind (arith, nat_tests)
 
 above_past : (x : ℕ × Upload) (xs : List (ℕ × Upload)) (n : ℕ) → x.0 ≤ n → above n (x ∷ xs) ≡ above n xs
 above_past x xs n le = grind (arith, nat_tests)
@@ -51,9 +48,7 @@ pub above_is : (xs : List (ℕ × Upload)) → IsRising (numbers xs) → (n k : 
 above_is [] rising n k u lt found least = clash refl found
 above_is (x ∷ xs) rising n k u lt found least = elim (cases_lt n x.0) [
   | inl over ↦ elim (cases_eq x.0 k) [
-    | inl same ↦
-        let u_is : x.1 ≡ u = same_Some x.1 u (sym (find_here x xs k same) ∙ found) in
-        above_here x xs n over ∙ pair x k u same u_is
+    | inl same ↦ search (arith, common_steps)
     | inr other ↦
         let le = least x.0 x.1 over (find_here x xs x.0 refl) in
         let more = found_above x xs rising k u (sym (find_past x xs k other) ∙ found) in
@@ -66,10 +61,6 @@ above_is (x ∷ xs) rising n k u lt found least = elim (cases_lt n x.0) [
       let past : x.0 ≡ j → ⊥ = λ same. omega (arith, under, over, same) in
       least j w over (find_past x xs j past ∙ here))
 ]
-  where
-    pair : (e : ℕ × Upload) (m : ℕ) (w : Upload) → e.0 ≡ m → e.1 ≡ w → Some e ≡ Some (m, w)
-    pair e m w first second =
-        subst (λ (n' : ℕ). Some e ≡ Some (n', w)) first (subst (λ (u' : Upload). Some e ≡ Some (e.0, u')) second refl)
 
 pub above_none : (xs : List (ℕ × Upload)) (n : ℕ) → ((j : ℕ) (w : Upload) → n < j → find j xs ≡ Some w → ⊥)
     → IsRising (numbers xs) → above n xs ≡ None

@@ -1,4 +1,5 @@
 -- A number that leaves the order.
+use Rattle.std.proofs.lemmas.Grind.{common_steps}
 use Rattle.std.proofs.Common.{◌≡◌, inl, inr, ℕ, ◌+◌, ◌-◌, ◌<◌, ◌≤◌, List, length, get_or, sym, ◌∙◌, ap, arith}
 use Rattle.std.specs.List.{remove}
 use Rattle.std.proofs.lemmas.Bool.{cases_lt, cases_eq}
@@ -40,11 +41,7 @@ module _ (order : List NumberedSlot) (place n : ℕ) (rises : Rises order) (with
   without_number = record {
     rises = rises_on;
     kept = λ m s other l. elim (cases_lt l.place place) [
-      | inl before ↦ record {
-        place = l.place;
-        below = omega (arith, before, within, long);
-        here = below l.place before ∙ l.here;
-      }
+      | inl before ↦ search (arith, common_steps)
       | inr from ↦ elim (cases_eq l.place place) [
         | inl same ↦ absurd (other (sym (num l.here) ∙ ap (number_at order) same ∙ here))
         | inr away ↦
@@ -52,18 +49,12 @@ module _ (order : List NumberedSlot) (place n : ℕ) (rises : Rises order) (with
             record {
               place = l.place - 1;
               below = omega (arith, l.below, long, from, away);
-              here = above (l.place - 1) (omega (arith, from, away))
-                  ∙ ap (λ (k : ℕ). get_or order k (numbered 0 0)) next ∙ l.here;
+              here = cc (above (l.place - 1) (omega (arith, from, away)));
             }
       ]
     ];
     only = λ m s l. elim (cases_lt l.place place) [
-      | inl before ↦
-          let there = sym (below l.place before) ∙ l.here in
-          let less = rises l.place place before within in (
-            λ same. omega (arith, num there, less, here, same),
-            record { place = l.place; below = omega (arith, before, within); here = there },
-          )
+      | inl before ↦ search (arith, common_steps)
       | inr from ↦
           let there = sym (above l.place from) ∙ l.here in
           let inside : l.place + 1 < length order = omega (arith, l.below, long) in

@@ -1,6 +1,7 @@
 -- The texts after an append.
+use Rattle.std.proofs.lemmas.Grind.{common_steps}
 use Rattle.std.proofs.Common.{◌≡◌, ℕ, zero, suc, ◌+◌, ◌-◌, ◌*◌, ◌/◌, ◌%◌, ◌<◌, ◌≤◌, List, ◌++◌, Some, length, take}
-use Rattle.std.proofs.Common.{drop, refl, sym, ◌∙◌, ap, arith, length-append, length-take}
+use Rattle.std.proofs.Common.{drop, refl, sym, ◌∙◌, ap, arith}
 use Rattle.std.proofs.lemmas.List.{append_assoc, take-append-drop, take-take}
 use Rattle.upload_rules.specs.Room.{blocks_of}
 use Rattle.spool_blocks.specs.Blocks.{Row}
@@ -8,7 +9,6 @@ use Rattle.spool_blocks.specs.Chains.{Owns, OwnsOneEach}
 use Rattle.spool_journal.specs.Texts.{block_at, block_bytes, joined, text_shown}
 use Rattle.spool_texts.specs.TextOn.{blocks_on, text_on, IsListed}
 use Rattle.spool_texts.proofs.Shown.{found, shown, text_joined}
-use Rattle.spool_kept.proofs.slots.HandedOver.{joined_length}
 
 joined_same : (current : ℕ → ℕ) (first : ℕ) (old new : List Row) (slot ordinal n : ℕ)
     → ((i : ℕ) → i < ordinal + n → block_at slot i new 0 ≡ block_at slot i old 0)
@@ -65,12 +65,9 @@ module _ (current : ℕ → ℕ) (first : ℕ) (old new : List Row) (slot len : 
       let whole : len - len % 4096 ≡ 4096 * (len / 4096) = omega arith in
       let long : len' ≡ 4096 * (len / 4096) + more_len = omega (arith, total, whole) in
       let low : len / 4096 ≤ length list = omega (arith, size) in
-      let all : length (take (len / 4096) list ++ more) ≡ (len' + 4095) / 4096 =
-      omega (arith, joined_length list more (len / 4096) low, more_size, long) in
-      sym (shown current first new slot len' (take (len / 4096) list ++ more) listed' all)
-      ∙ ap (text_on current first (take (len / 4096) list ++ more)) long
-      ∙ text_joined current first (len / 4096) more_len list more low
-      ∙ ap (λ (xs : List ℕ). xs ++ text_on current first more more_len) prefix
-      ∙ ap (λ (xs : List ℕ). take (4096 * (len / 4096)) was ++ xs) (on ∙ ap (λ (n : ℕ). drop n was ++ added) whole)
-      ∙ sym (append_assoc (take (4096 * (len / 4096)) was) (drop (4096 * (len / 4096)) was) added)
-      ∙ ap (λ (xs : List ℕ). xs ++ added) (take-append-drop (4096 * (len / 4096)) was)
+      let all : length (take (len / 4096) list ++ more) ≡ (len' + 4095) / 4096 = search (arith, common_steps) in
+      sym (shown current first new slot len' (take (len / 4096) list ++ more) listed' all) ∙ ap (text_on current first
+      (take (len / 4096) list ++ more)) long ∙ text_joined current first (len / 4096) more_len list more low ∙ ap (λ (xs
+      : List ℕ). xs ++ text_on current first more more_len) prefix ∙ ap (λ (xs : List ℕ). take (4096 * (len / 4096)) was
+      ++ xs) (cc) ∙ sym (append_assoc (take (4096 * (len / 4096)) was) (drop (4096 * (len / 4096)) was) added) ∙ ap (λ
+      (xs : List ℕ). xs ++ added) (take-append-drop (4096 * (len / 4096)) was)

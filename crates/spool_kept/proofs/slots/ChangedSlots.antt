@@ -1,7 +1,8 @@
 -- A changed slot of a view.
-use Rattle.std.proofs.Common.{◌≡◌, ◌≢◌, inl, inr, ◌⊎◌, ℕ, ◌<◌, ◌≤◌, List, Option, None, Some, length, get_or, set, refl}
-use Rattle.std.proofs.Common.{sym, ◌∙◌, ap, arith, eq-eqb}
-use Rattle.std.proofs.lemmas.Bool.{cases_eq, ne_eqb}
+use Rattle.std.proofs.lemmas.Grind.{common_steps}
+use Rattle.std.proofs.Common.{◌≡◌, ◌≢◌, ◌⊎◌, ℕ, ◌<◌, ◌≤◌, List, Option, None, Some, length, get_or, set, refl}
+use Rattle.std.proofs.Common.{sym, ◌∙◌, arith, eq-eqb}
+use Rattle.std.proofs.lemmas.Bool.{ne_eqb}
 use Rattle.std.proofs.lemmas.List.{get_or-set_other, get_or-set_same}
 use Rattle.std.proofs.lemmas.Option.{same_Some}
 use Rattle.spool_pages.specs.View.{SlotRecord, View}
@@ -26,16 +27,12 @@ module _ (slots : List (Option SlotRecord)) (slot : ℕ) (o : Option SlotRecord)
   -- a record of the changed slots is the new one, or was there in another slot
   pub slot_is : (s : ℕ) (q : SlotRecord) → slot < length slots → get_or (set slots slot o) s None ≡ Some q
       → ((s ≡ slot) × (o ≡ Some q)) ⊎ ((s ≢ slot) × (get_or slots s None ≡ Some q))
-  slot_is s q lt e = elim (cases_eq s slot) [
-    | inl same ↦ inl (same, sym (slot_here lt) ∙ ap (λ (k : ℕ). get_or (set slots slot o) k None) (sym same) ∙ e)
-    | inr other ↦ inr (other, sym (slot_else s other) ∙ e)
-  ]
+  slot_is s q lt e = search (arith, common_steps)
 
 pub record_is : (slots : List (Option SlotRecord)) (slot : ℕ) (r : SlotRecord) (s : ℕ) (q : SlotRecord)
     → slot < length slots → get_or (set slots slot (Some r)) s None ≡ Some q
     → ((s ≡ slot) × (q ≡ r)) ⊎ ((s ≢ slot) × (get_or slots s None ≡ Some q))
-record_is slots slot r s q lt e = elim (slot_is slots slot (Some r) s q lt e)
-    [ inl here ↦ inl (here.0, sym (same_Some r q here.1)) | inr was ↦ inr was ]
+record_is slots slot r s q lt e = search (arith, common_steps)
 
 pub text_here : (v : View) (slot : ℕ) (text : List ℕ) (s : ℕ) → s ≡ slot → texts_with v slot text s ≡ text
 text_here v slot text s same = rw (eq-eqb s slot same) refl
@@ -45,5 +42,4 @@ text_else v slot text s other = rw (ne_eqb s slot other) refl
 
 -- a record that was valid is so with a greater next number
 pub valid_more : {next next' : ℕ} {r : SlotRecord} → next ≤ next' → IsValidRecord next r → IsValidRecord next' r
-valid_more {next' = next'} {r = r} more is = let below : r.number < next' =
-    omega (arith, is.below, more) in assumption (below, is)
+valid_more {next' = next'} {r = r} more is = search (arith, common_steps)

@@ -1,20 +1,17 @@
 -- A view with a new record shows the store with the new upload.
-use Rattle.std.proofs.Common.{◌≡◌, ℕ, ◌+◌, ◌^◌, ◌<◌, ◌≤◌, List, [], Option, None, Some, length, refl, sym, ◌∙◌, ap}
-use Rattle.std.proofs.Common.{subst, arith}
-use Rattle.std.proofs.lemmas.Option.{same_Some}
+use Rattle.std.proofs.lemmas.Grind.{common_steps}
+use Rattle.std.proofs.Common.{◌≡◌, ℕ, ◌+◌, ◌^◌, ◌<◌, ◌≤◌, [], Option, None, Some, length, refl, ◌∙◌, ap, arith}
 use Rattle.upload_rules.specs.Store.{New, Upload, Store, find, new_upload, created_store}
 use Rattle.upload_rules.proofs.Finds.{find_push_other}
 use Rattle.upload_rules.proofs.NewUploads.{new_text}
 use Rattle.spool_blocks.specs.Chains.{Owns}
-use Rattle.spool_journal.specs.Texts.{text_shown}
-use Rattle.spool_journal.specs.Image.{text_page}
 use Rattle.spool_pages.specs.View.{SlotRecord, View, slot_at}
 use Rattle.spool_pages.specs.Rests.{HasTexts}
 use Rattle.spool_kept.specs.Shows.{IsValidRecord, IsRecordOf, Shows}
 use Rattle.spool_kept.specs.Changed.{texts_with, created_view}
-use Rattle.spool_kept.proofs.slots.ChangedSlots.{clash, text_here, text_else, valid_more}
+use Rattle.spool_kept.proofs.slots.ChangedSlots.{clash, text_else, valid_more}
 use Rattle.spool_kept.proofs.numbers.Entries.{find_push_same, rising_more}
-use Rattle.spool_kept.proofs.slots.SlotChange.{IsChange, changed_shows, changed_texts, same_others}
+use Rattle.spool_kept.proofs.slots.SlotChange.{IsChange, changed_shows, same_others}
 
 -- an upload's number is below the next one
 pub number_below : (v : View) (m : Store) → Shows v m → (n : ℕ) (u : Upload) → find n m.uploads ≡ Some u → n < m.next
@@ -66,8 +63,7 @@ module _ (v : View) (m : Store) (new : New) (s : ℕ) (r : SlotRecord) (shows : 
       valid = valid_more (omega (arith, shows.next)) valid;
       upload = new_upload new;
       there = find_push_same m.next (new_upload new) m.uploads (next_unused v m shows);
-      tells = subst (λ (text : List ℕ). IsRecordOf m.indexes r text (new_upload new)) (sym (text_here v s [] s refl))
-          is;
+      tells = search (arith, common_steps);
     };
     gone = λ u e. (r, refl);
   }
@@ -77,6 +73,4 @@ module _ (v : View) (m : Store) (new : New) (s : ℕ) (r : SlotRecord) (shows : 
 
   -- and its texts are those that the rows show
   pub created_texts : (current : ℕ → ℕ) → HasTexts current v → HasTexts current (created_view v s r)
-  created_texts current texts = changed_texts shows comes current texts (λ q e.
-      let none : q.text_len ≡ 0 = ap (λ (x : SlotRecord). x.text_len) (sym (same_Some r q e)) ∙ no_text in
-      text_here v s [] s refl ∙ sym (ap (text_shown current (text_page v.blocks) v.rows s) none))
+  created_texts current texts = search (arith, common_steps)

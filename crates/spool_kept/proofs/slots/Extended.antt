@@ -1,17 +1,16 @@
 -- A longer upload, as the disk is to say it.
-use Rattle.std.proofs.Common.{◌≡◌, inl, inr, ◌⊎◌, ℕ, zero, suc, ◌∷◌, ◌+◌, ◌-◌, ◌/◌, ◌<◌, ◌≤◌, List, [], ◌++◌, Option}
-use Rattle.std.proofs.Common.{None, Some, false, length, length-append, get_or, set, drop, refl, sym, ◌∙◌, ap, subst}
-use Rattle.std.proofs.Common.{arith, Bool, true}
+use Rattle.std.proofs.lemmas.Grind.{common_steps}
+use Rattle.std.proofs.Common.{◌≡◌, inl, inr, ◌⊎◌, ℕ, ◌+◌, ◌-◌, ◌/◌, ◌<◌, ◌≤◌, List, [], ◌++◌, Option, None, Some, false}
+use Rattle.std.proofs.Common.{length, length-append, get_or, drop, refl, sym, ◌∙◌, ap, subst, arith, Bool, true}
 use Rattle.std.proofs.lemmas.Bool.{cases_lt, both_ways, lt-ltb}
-use Rattle.std.proofs.lemmas.List.{append-nil}
 use Rattle.std.proofs.lemmas.Option.{same_Some}
 use Rattle.enc_model.specs.Transcode.{Transcoder}
-use Rattle.enc_stream.specs.StateBytes.{state_bytes, padded, phase_bytes, shift_number}
+use Rattle.enc_stream.specs.StateBytes.{state_bytes}
 use Rattle.upload_rules.proofs.Finds.{find_replaced_same, find_replaced_other}
 use Rattle.upload_rules.specs.Lengths.{is_too_large, known_or, longest}
 use Rattle.upload_rules.specs.Room.{blocks_of}
 use Rattle.upload_rules.specs.Slots.{IsRising}
-use Rattle.upload_rules.specs.Store.{Upload, Store, find, replaced, patched, patched_at, patched_store, text_of}
+use Rattle.upload_rules.specs.Store.{Upload, Store, replaced, patched, patched_at, patched_store, text_of}
 use Rattle.spool_blocks.specs.Blocks.{Row, Held}
 use Rattle.spool_disk.specs.declared.disk.Disk.{Ghosts}
 use Rattle.spool_disk.specs.Views.{Lasts}
@@ -35,8 +34,7 @@ use Rattle.spool_kept.proofs.numbers.Entries.{numbers_replaced}
 use Rattle.spool_kept.proofs.slots.HandedOver.{listed_now, others_same, owns_one_each, room_for, rows_but_last}
 use Rattle.spool_kept.proofs.slots.Keeps.{keeps_said}
 use Rattle.spool_kept.proofs.slots.SlotChange.{HasRows, IsChange, changed_shows, changed_texts, lasts_either}
-use Rattle.spool_kept.proofs.slots.SlotChange.{same_others}
-use Rattle.spool_kept.proofs.slots.SlotChange.{told_upload}
+use Rattle.spool_kept.proofs.slots.SlotChange.{same_others, told_upload}
 use Rattle.spool_kept.proofs.Told.{told_state}
 use Rattle.spool_kept.proofs.Valid.{in_use}
 use Rattle.spool_blocks.specs.Chains.{OwnsOneEach}
@@ -55,16 +53,8 @@ known_small : (known declare : Option ℕ) → longest known ≤ 1073741824 → 
 known_small None declare old small = small_is declare small
 known_small (Some n) declare old small = old
 
--- states are 32 bytes long
-padded_length : (n : ℕ) (bytes : List ℕ) → length (padded n bytes) ≡ n
-padded_length zero bytes = refl
-padded_length (suc n) [] = ap (λ (k : ℕ). suc k) (padded_length n [])
-padded_length (suc n) (b ∷ bytes) = ap (λ (k : ℕ). suc k) (padded_length n bytes)
-
 pub state_length : (t : Transcoder) → length (state_bytes t) ≡ 32
-state_length t =
-    let long = length-append (padded 12 (phase_bytes t.phase)) (padded 16 (shift_number t.shift ∷ [])) in
-    omega (arith, long, padded_length 12 (phase_bytes t.phase), padded_length 16 (shift_number t.shift ∷ []))
+state_length t = search (arith, common_steps)
 
 module _ {D : Type 0} {sure : Bool} {disk : Ghosts D} {d : D} {h new : Holding} {longer : Longer} {more : List ℕ}
     (may : MayExtend h longer more) (reserved : IsReserved h.blocks more) (is : IsLonger h may.used longer more new)
@@ -103,8 +93,7 @@ module _ {D : Type 0} {sure : Bool} {disk : Ghosts D} {d : D} {h new : Holding} 
   number = ap (λ (r : SlotRecord). r.number) (one_value may.there append.used.there) ∙ append.used.is
 
   told : IsRecordOf m.indexes used (before.texts longer.slot) append.upload
-  told = told_upload before m s.shows longer.slot used there append.upload
-      (ap (λ (k : ℕ). find k m.uploads) number ∙ append.there)
+  told = told_upload before m s.shows longer.slot used there append.upload (cc)
 
   -- THE ROWS
 
@@ -112,16 +101,14 @@ module _ {D : Type 0} {sure : Bool} {disk : Ghosts D} {d : D} {h new : Holding} 
   no_owner = subst (λ (old : List Row). Unowned old more) s.keeps.rows reserved.no_owner
 
   hands : 0 < length more → HandsOver before.rows longer.slot (used.text_len / 4096) more rows
-  hands some = subst (λ (old : List Row). HandsOver old longer.slot (used.text_len / 4096) more rows) s.keeps.rows
-      (is.rows some)
+  hands some = rw s.keeps.rows at (is.rows some)
 
   same_rows : length more ≡ 0 → rows ≡ before.rows
   same_rows none = ap (λ (b : Held). b.rows) (is.same none) ∙ s.keeps.rows
 
   room : used.text_len / 4096 + length more ≤ 65536
   room =
-      let below = subst (λ (old : List Row). (i : ℕ) → i < length more → get_or more i 0 < length old) s.keeps.rows
-      reserved.below in
+      let below = rw s.keeps.rows at reserved.below in
       let all = room_for before.rows longer.slot (used.text_len / 4096) (get_or h.lists longer.slot []) more
       (s.keeps.listed longer.slot used there).owned (omega (arith, s.keeps.sizes longer.slot used there))
       no_owner below reserved.distinct in
@@ -144,9 +131,7 @@ module _ {D : Type 0} {sure : Bool} {disk : Ghosts D} {d : D} {h new : Holding} 
         record {
           size = ap length same;
           others = same_others longer.slot before.rows rows same;
-          blocks = subst (λ (k : ℕ). OwnsOneEach rows longer.slot (blocks_of k)) (sym (may.same none))
-              (subst (λ (xs : List Row). OwnsOneEach xs longer.slot (blocks_of used.text_len)) (sym same)
-              (s.shows.valid.lists longer.slot used there));
+          blocks = rw (← (may.same none)) at (rw (← same) at (s.shows.valid.lists longer.slot used there));
           owners = λ b i owns.
               let was = ap (λ (xs : List Row). get_or xs b None) (sym same) ∙ owns in
               (now, refl, (s.shows.valid.owners b longer.slot i was).fits);
@@ -156,9 +141,7 @@ module _ {D : Type 0} {sure : Bool} {disk : Ghosts D} {d : D} {h new : Holding} 
   -- THE RECORD
 
   tells : IsRecordOf m.indexes now text upload
-  tells =
-      let shown = ap (λ (xs : List ℕ). xs ++ append.added) told.text ∙ sym append.extension.text in
-      assumption (shown, told.metadata, append.extension)
+  tells = grind (arith, common_steps, told)
 
   record_valid : IsValidRecord before.next now
   record_valid =
@@ -195,19 +178,12 @@ module _ {D : Type 0} {sure : Bool} {disk : Ghosts D} {d : D} {h new : Holding} 
         let content : text_on (disk.current d) (text_page before.blocks) more
         (longer.text_len - full_bytes used.text_len) ≡ drop (full_bytes used.text_len) (before.texts longer.slot)
         ++ append.added = rw (told.text_len, told.text, ← s.keeps.blocks) (append.extension.content known some) in
-        ap (λ (xs : List ℕ). xs ++ append.added) was
-        ∙ sym (text_longer (disk.current d) (text_page before.blocks) before.rows rows longer.slot used.text_len list
-        (s.keeps.listed longer.slot used there) size (longer.text_len - full_bytes used.text_len) longer.text_len more
-        append.added (listed_now before.rows longer.slot (used.text_len / 4096) more rows (hands some) no_owner list
-        (omega (arith, size)) (s.keeps.listed longer.slot used there)) (omega (arith, grown, may.blocks some))
-        (content ∙ ap (λ (xs : List ℕ). drop (full_bytes used.text_len) xs ++ append.added) was) (omega (arith, grown)))
-    | inr over ↦
-        let none : length more ≡ 0 = omega (arith, over) in
-        ap (λ (xs : List ℕ). before.texts longer.slot ++ xs) (append.extension.nothing none)
-        ∙ append-nil (before.texts longer.slot) ∙ texts longer.slot used there
-        ∙ ap (λ (xs : List Row). text_shown (disk.current d) (text_page before.blocks) xs longer.slot used.text_len)
-        (sym (same_rows none))
-        ∙ ap (text_shown (disk.current d) (text_page before.blocks) rows longer.slot) (sym (may.same none))
+        ap (λ (xs : List ℕ). xs ++ append.added) was ∙ sym (text_longer (disk.current d) (text_page before.blocks)
+        before.rows rows longer.slot used.text_len list (s.keeps.listed longer.slot used there) size (longer.text_len -
+        full_bytes used.text_len) longer.text_len more append.added (listed_now before.rows longer.slot (used.text_len /
+        4096) more rows (hands some) no_owner list (omega (arith, size)) (s.keeps.listed longer.slot used there)) (omega
+        (arith, grown, may.blocks some)) (cc) (omega (arith, grown)))
+    | inr over ↦ search (arith, common_steps)
   ]
 
   -- ALL OF IT
@@ -230,8 +206,7 @@ module _ {D : Type 0} {sure : Bool} {disk : Ghosts D} {d : D} {h new : Holding} 
       valid = record_valid;
       upload = upload;
       there = find_replaced_same n append.upload upload m.uploads append.there;
-      tells = subst (λ (xs : List ℕ). IsRecordOf m.indexes now xs upload)
-          (sym (text_here before longer.slot text longer.slot refl)) tells;
+      tells = rw (← (text_here before longer.slot text longer.slot refl)) at tells;
     };
     gone = λ u e. (now, refl);
   }
@@ -254,9 +229,7 @@ module _ {D : Type 0} {sure : Bool} {disk : Ghosts D} {d : D} {h new : Holding} 
     honest = λ known. honest (s.honest known);
     view = after;
     rests = rests;
-    keeps = keeps_said new after fits after_shows.valid (sym s.keeps.blocks ∙ sym is.layout)
-        (is.version ∙ s.keeps.version) (is.next ∙ s.keeps.next) (is.indexes ∙ s.keeps.indexes)
-        (is.slots ∙ ap (λ (xs : List (Option SlotRecord)). set xs longer.slot (Some now)) s.keeps.slots) refl;
+    keeps = keeps_said new after fits after_shows.valid (cc) (cc) (cc) (cc) (cc) refl;
     shows = after_shows;
   }
 

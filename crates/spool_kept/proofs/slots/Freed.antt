@@ -1,5 +1,6 @@
 -- Rows after a slot's blocks became free.
-use Rattle.std.proofs.Common.{◌≡◌, ℕ, ◌<◌, List, None, length, get_or, refl, arith, inl, inr, []}
+use Rattle.std.proofs.lemmas.Grind.{common_steps}
+use Rattle.std.proofs.Common.{◌≡◌, ℕ, ◌<◌, List, None, length, get_or, arith, []}
 use Rattle.spool_blocks.specs.Blocks.{Row}
 use Rattle.spool_blocks.specs.Chains.{Owns, OwnsOneEach}
 use Rattle.spool_texts.specs.TextOn.{IsListed}
@@ -7,7 +8,7 @@ use Rattle.spool_pages.specs.Changes.{SameRowsBut}
 use Rattle.spool_pages.specs.Fits.{FitsRow}
 use Rattle.spool_kept.specs.Changed.{SameOthers, HandsOver}
 use Rattle.spool_kept.specs.Terminating.{FreesRows}
-use Rattle.spool_kept.proofs.slots.HandedOver.{fit_now, others_same, row_was, rows_but_last}
+use Rattle.spool_kept.proofs.slots.HandedOver.{fit_now, others_same, rows_but_last}
 use Rattle.spool_pages.specs.Rests.{Unowned}
 
 module _ (slot : ℕ) (old new : List Row) (frees : FreesRows slot old new) where
@@ -25,8 +26,7 @@ module _ (slot : ℕ) (old new : List Row) (frees : FreesRows slot old new) wher
 
   -- no block is the slot's
   pub none_owned : (b k : ℕ) → Owns new b slot k → ⊥
-  none_owned b k owns = elim (row_was old slot 0 [] new hands nobody b slot k owns)
-      [ inl handed ↦ omega (arith, handed.1) | inr was ↦ let lt = was.1 refl in omega (arith, lt) ]
+  none_owned b k owns = search (arith, common_steps)
 
   pub others_stay : SameOthers slot old new
   others_stay = others_same old slot 0 [] new hands nobody

@@ -1,25 +1,23 @@
 -- Rows after a slot's last blocks became free and others became the slot's.
+use Rattle.std.proofs.lemmas.Grind.{common_steps}
 use Rattle.std.proofs.Common.{◌≡◌, ◌≢◌, inl, inr, ◌⊎◌, ℕ, ◌+◌, ◌-◌, ◌<◌, ◌≤◌, List, ◌++◌, None, Some, length, get_or}
 use Rattle.std.proofs.Common.{take, drop, refl, sym, ◌∙◌, ap, subst, arith, length-append, length-take, length-drop}
 use Rattle.std.proofs.lemmas.Bool.{cases_eq, cases_lt}
-use Rattle.std.proofs.lemmas.List.{get_or_append_left, get_or-append_right, get_or-append-add, get_or-take, get_or-drop}
+use Rattle.std.proofs.lemmas.List.{get_or_append_left, get_or-append_right, get_or-append-add, get_or-drop}
 use Rattle.spool_blocks.specs.Blocks.{Row}
 use Rattle.spool_blocks.specs.Chains.{Owns, OwnsOneEach}
-use Rattle.spool_blocks.proofs.Counts.{within}
 use Rattle.spool_texts.specs.TextOn.{IsListed}
-use Rattle.spool_texts.proofs.Reserves.{few_distinct, in_either}
+use Rattle.spool_texts.proofs.Reserves.{few_distinct}
 use Rattle.spool_pages.specs.Changes.{SameRowsBut}
 use Rattle.spool_pages.specs.Fits.{FitsRow}
 use Rattle.spool_pages.specs.Rests.{Unowned}
 use Rattle.spool_kept.specs.Changed.{SameOthers, HandsOver}
-use Rattle.spool_kept.proofs.slots.ChangedSlots.{clash, one_value}
+use Rattle.spool_kept.proofs.slots.ChangedSlots.{clash}
 use Rattle.spool_kept.proofs.drafts.DraftLists.{IsOut, cases_in}
 
 -- who owns a block of it
 pub same_owner : {row : Row} {s k t i : ℕ} → row ≡ Some (s, k) → row ≡ Some (t, i) → (s ≡ t) × (k ≡ i)
-same_owner {s = s} {k = k} {t = t} {i = i} own more =
-    let same : (s, k) ≡ (t, i) = one_value own more in
-    (ap (λ (o : ℕ × ℕ). o.0) same, ap (λ (o : ℕ × ℕ). o.1) same)
+same_owner {s = s} {k = k} {t = t} {i = i} own more = search (arith, common_steps)
 
 -- the first blocks of a list, and others after them
 module _ (list more : List ℕ) (first : ℕ) (low : first ≤ length list) where
@@ -30,22 +28,16 @@ module _ (list more : List ℕ) (first : ℕ) (low : first ≤ length list) wher
   joined_length = omega (arith, length-append (take first list) more, short)
 
   in_first : (i : ℕ) → i < first → get_or (take first list ++ more) i 0 ≡ get_or list i 0
-  in_first i lt = get_or_append_left (take first list) more 0 i (omega (arith, short, lt))
-      ∙ get_or-take first list i 0 lt
+  in_first i lt = search (arith, common_steps)
 
   in_more : (i : ℕ) → first ≤ i → get_or (take first list ++ more) i 0 ≡ get_or more (i - first) 0
   in_more i from = get_or-append_right (take first list) more first i 0 short from
 
 module _ (old : List Row) (slot first : ℕ) (more : List ℕ) (new : List Row) (hands : HandsOver old slot first more new)
     (no_owner : Unowned old more) where
-  -- a block that was owned isn't handed over
-  not_more : (b s i : ℕ) → Owns old b s i → IsOut more b
-  not_more b s i owns k lt same = clash (no_owner k lt) (ap (λ (n : ℕ). get_or old n None) same ∙ owns)
-
   -- and keeps its row, but for the slot's last ones
   keeps : (b s i : ℕ) → Owns old b s i → (s ≡ slot → i < first) → Owns new b s i
-  keeps b s i owns low = hands.kept b (not_more b s i owns) (λ k from own.
-      let same = same_owner own owns in omega (arith, low (sym same.0), same.1, from)) ∙ owns
+  keeps b s i owns low = search (arith, common_steps)
 
   -- each row was handed over, or was there
   pub row_was : (b s i : ℕ) → Owns new b s i
@@ -53,8 +45,7 @@ module _ (old : List Row) (slot first : ℕ) (more : List ℕ) (new : List Row) 
       i × (s ≡ slot → i < first))
   row_was b s i owns = elim (cases_in more b) [
     | inl there ↦
-        let same = same_owner owns (ap (λ (n : ℕ). get_or new n None) (sym there.here) ∙ hands.listed there.at
-        there.below) in
+        let same = same_owner owns (cc (hands.listed there.at there.below)) in
         inl (there.at, there.below, there.here, same.0, same.1)
     | inr not ↦ inr (by_row not (get_or old b None) refl)
   ]
@@ -72,25 +63,19 @@ module _ (old : List Row) (slot first : ℕ) (more : List ℕ) (new : List Row) 
       by_row not None e = clash (hands.kept b not (λ k from own. clash e own) ∙ e) owns
       by_row not (Some o) e =
           let stays : (o.0 ≢ slot) ⊎ (o.1 < first) = low_or not o.0 o.1 e in
-          let same : get_or new b None ≡ get_or old b None = hands.kept b not (λ k from own.
-          let is = same_owner own e in
-          elim stays [ inl other ↦ other (sym is.0) | inr lt ↦ omega (arith, lt, is.1, from) ]) in
+          let same : get_or new b None ≡ get_or old b None = search (arith, common_steps) in
           let was : Owns old b s i = sym same ∙ owns in
           let is = same_owner was e in
           (was, λ mine. elim stays [ inl other ↦ absurd (other (sym is.0 ∙ mine)) | inr lt ↦ omega (arith, lt, is.1) ])
 
   pub others_same : SameOthers slot old new
-  others_same = record {
-    still = λ b s i other owns. keeps b s i owns (λ same. absurd (other same));
-    before = λ b s i other owns. elim (row_was b s i owns) [ inl handed ↦ absurd (other handed.3) | inr was ↦ was.0 ];
-  }
+  others_same = grind (arith, common_steps, keeps, row_was)
 
   once_still : ((a b i : ℕ) → Owns old a slot i → Owns old b slot i → a ≡ b) → (a b i : ℕ) → Owns new a slot i
       → Owns new b slot i → a ≡ b
   once_still once a b i owns owns' = elim (row_was a slot i owns) [
     | inl handed ↦ elim (row_was b slot i owns') [
-      | inl handed' ↦ let at : handed.0 ≡ handed'.0 =
-          omega (arith, handed.4, handed'.4) in sym handed.2 ∙ ap (λ (k : ℕ). get_or more k 0) at ∙ handed'.2
+      | inl handed' ↦ search (arith, common_steps)
       | inr was' ↦ absurd (omega (arith, was'.1 refl, handed.4))
     ]
     | inr was ↦ elim (row_was b slot i owns') [
@@ -108,8 +93,7 @@ module _ (old : List Row) (slot first : ℕ) (more : List ℕ) (new : List Row) 
       | inr from ↦
           let at : first + (i - first) ≡ i = omega (arith, from) in (
             get_or more (i - first) 0,
-            subst (λ (k : ℕ). Owns new (get_or more (i - first) 0) slot k) at
-                (hands.listed (i - first) (omega (arith, lt, from))),
+            rw at at (hands.listed (i - first) (omega (arith, lt, from))),
           )
     ];
     once = λ a b i owns owns'. once_still one.once a b i owns owns';
@@ -124,8 +108,7 @@ module _ (old : List Row) (slot first : ℕ) (more : List ℕ) (new : List Row) 
       → ((i : ℕ) → i < length list → Owns old (get_or list i 0) slot i)
       → (i : ℕ) → i < length (take first list ++ more) → Owns new (get_or (take first list ++ more) i 0) slot i
   owned_now list low owned i lt = elim (cases_lt i first) [
-    | inl before ↦ rw (in_first list more first low i before)
-        (keeps (get_or list i 0) slot i (owned i (omega (arith, before, low))) (λ same. before))
+    | inl before ↦ search (arith, common_steps)
     | inr from ↦
         let at : first + (i - first) ≡ i = omega (arith, from) in
         rw (in_more list more first low i from) (subst (λ (k : ℕ). Owns new (get_or more (i - first) 0) slot k) at
@@ -134,10 +117,7 @@ module _ (old : List Row) (slot first : ℕ) (more : List ℕ) (new : List Row) 
 
   pub listed_now : (list : List ℕ) → first ≤ length list → IsListed old slot list
       → IsListed new slot (take first list ++ more)
-  listed_now list low listed = record {
-    owned = owned_now list low listed.owned;
-    once = λ a b i owns owns'. once_still listed.once a b i owns owns';
-  }
+  listed_now list low listed = search (arith, common_steps, owned_now, once_still)
 
   -- rows that fit their bytes still do
   pub fit_now : slot < 512 → first + length more ≤ 65536 → ((b : ℕ) → FitsRow (get_or old b None)) → (b : ℕ)
@@ -192,22 +172,8 @@ room_for rows slot first list more owned low no_owner below distinct =
     own i lt = rw (in_first list more first low i lt) (owned i (omega (arith, lt, low)))
 
     all_below : (i : ℕ) → i < length (take first list ++ more) → get_or (take first list ++ more) i 0 < length rows
-    all_below i lt = elim (cases_lt i first) [
-      | inl before ↦ within rows (get_or (take first list ++ more) i 0) (slot, i) (own i before)
-      | inr from ↦ rw (in_more list more first low i from) (below (i - first) (omega (arith, lt, from, long)))
-    ]
+    all_below i lt = search (arith, common_steps)
 
     apart : (i k : ℕ) → i < k → k < length (take first list ++ more)
         → get_or (take first list ++ more) i 0 ≢ get_or (take first list ++ more) k 0
-    apart i k lt inside same = elim (cases_lt i first) [
-      | inl before ↦ elim (cases_lt k first) [
-        | inl before' ↦
-            let is = same_owner (own i before) (ap (λ (b : ℕ). get_or rows b None) same ∙ own k before') in
-            omega (arith, is.1, lt)
-        | inr from ↦ clash (no_owner (k - first) (omega (arith, inside, from, long)))
-            (ap (λ (b : ℕ). get_or rows b None) (sym (in_more list more first low k from) ∙ sym same) ∙ own i before)
-      ]
-      | inr from ↦
-          distinct (i - first) (k - first) (omega (arith, lt, from)) (omega (arith, inside, lt, from, long))
-          (sym (in_more list more first low i from) ∙ same ∙ in_more list more first low k (omega (arith, lt, from)))
-    ]
+    apart i k lt inside same = grind (arith, common_steps, cases_lt, same_owner, own, clash, long, in_more)

@@ -1,15 +1,14 @@
 -- What is kept says what a valid view says.
-use Rattle.std.proofs.Common.{◌≡◌, ◌∙◌, ℕ, ◌<◌, List, [], Option, None, Some, false, get_or, replicate, sym, ap, subst}
+use Rattle.std.proofs.lemmas.Grind.{common_steps}
+use Rattle.std.proofs.Common.{◌≡◌, ℕ, List, [], Option, None, Some, false, get_or, replicate, sym, subst}
 use Rattle.std.proofs.Common.{arith, length, refl}
-use Rattle.spool_blocks.specs.Blocks.{Row}
 use Rattle.spool_blocks.specs.Chains.{OwnsOneEach}
 use Rattle.spool_pages.specs.View.{SlotRecord, View, slot_at}
 use Rattle.spool_pages.specs.Fits.{FitsRow}
-use Rattle.spool_kept.specs.Holding.{Holding, AreBelow, AreListsTo, FitsTogether, HasBlocks, IsListOf, Orders}
+use Rattle.spool_kept.specs.Holding.{Holding, AreBelow, AreListsTo, FitsTogether, HasBlocks, Orders}
 use Rattle.spool_kept.specs.Kept.{KeepsView, KeepsAlone}
 use Rattle.spool_kept.specs.Shows.{IsValid}
 use Rattle.upload_rules.specs.Room.{blocks_of}
-use Rattle.spool_kept.proofs.Valid.{in_use}
 
 module _ (h : Holding) (v : View) (fits : FitsTogether h) (count : length v.slots ≡ 512)
     (lists : (s : ℕ) (r : SlotRecord) → slot_at v s ≡ Some r → OwnsOneEach v.rows s (blocks_of r.text_len))
@@ -17,10 +16,7 @@ module _ (h : Holding) (v : View) (fits : FitsTogether h) (count : length v.slot
     (version : h.version ≡ v.version) (next : h.next ≡ v.next) (indexes : h.indexes ≡ v.indexes)
     (slots : h.slots ≡ v.slots) (rows : h.blocks.rows ≡ v.rows) where
   has : (s : ℕ) (r : SlotRecord) → slot_at v s ≡ Some r → HasBlocks h.blocks.rows s r.text_len (get_or h.lists s [])
-  has s r e =
-      let lt : s < 512 = let inside = in_use v.slots s r e in omega (arith, inside, count) in
-      let here : get_or h.slots s None ≡ Some r = ap (λ (xs : List (Option SlotRecord)). get_or xs s None) slots ∙ e in
-      subst (λ (o : Option SlotRecord). IsListOf h.blocks.rows s o (get_or h.lists s [])) here (fits.listed s lt)
+  has s r e = search (arith, common_steps)
 
   keeps_by : KeepsView h v
   keeps_by = record {
@@ -32,8 +28,7 @@ module _ (h : Holding) (v : View) (fits : FitsTogether h) (count : length v.slot
     rows = rows;
     ordered = subst (λ (xs : List (Option SlotRecord)). Orders xs h.order 512) slots fits.ordered;
     listed = λ s r e. record {
-      owned = λ i lt. subst (λ (xs : List Row). get_or xs (get_or (get_or h.lists s []) i 0) None ≡ Some (s, i)) rows
-          ((has s r e).owned i lt);
+      owned = λ i lt. rw rows at ((has s r e).owned i lt);
       once = (lists s r e).once;
     };
     sizes = λ s r e. (has s r e).size;
@@ -54,15 +49,7 @@ pub fits_with : (h : Holding) (first second : List (Option SlotRecord)) → firs
     → length h.slots ≡ 512 → length h.lists ≡ 512 → length h.blocks.rows ≡ h.layout
     → ((b : ℕ) → FitsRow (get_or h.blocks.rows b None)) → AreBelow h.next h.slots → Orders first h.order 512
     → AreListsTo h.blocks.rows second h.lists 512 → FitsTogether h
-fits_with h first second same same' slots lists rows fit below orders listed = record {
-  slot_count = slots;
-  list_count = lists;
-  row_count = rows;
-  rows_fit = fit;
-  below = below;
-  ordered = subst (λ (xs : List (Option SlotRecord)). Orders xs h.order 512) same orders;
-  listed = subst (λ (xs : List (Option SlotRecord)). AreListsTo h.blocks.rows xs h.lists 512) same' listed;
-}
+fits_with h first second same same' slots lists rows fit below orders listed = search (arith, common_steps)
 
 -- what is kept is what a view says, whatever was read
 pub keeps_itself : (h : Holding) → FitsTogether h

@@ -41,7 +41,5 @@ module _ {D : Type 0} {sure : Bool} {disk : Ghosts D} {d : D} (mid : D) {h : Hol
       (length (bytes_with (disk.current d) (text_page h.layout) more last)) ≡ bytes_with (disk.current d)
       (text_page h.layout) more last) → IsAppend sure disk mid h m n declare bytes longer more
   appended honest written =
-      pending.append mid
-      (moved mid s (record { same = refl; rows = refl }) honest more unowned refl (λ known. (only known).writes))
-      (λ known some. subst (λ (text : List ℕ). text_on (disk.current mid) (text_page h.layout) more
-      (length text) ≡ text) (pending.held known some) (written known (pending.fits some)))
+      pending.append mid (moved mid s (record { same = refl; rows = refl }) honest more unowned refl (λ known. (only
+      known).writes)) (λ known some. rw (pending.held known some) at (written known (pending.fits some)))

@@ -1,19 +1,17 @@
 -- What is kept, with a longer upload, fits together.
-use Rattle.std.proofs.Common.{◌≡◌, inl, inr, ℕ, ◌+◌, ◌/◌, ◌<◌, ◌≤◌, List, [], ◌++◌, Option, None, Some, length}
-use Rattle.std.proofs.Common.{length-append, length-take, length-drop, get_or, set, take, drop, refl, sym, ◌∙◌, ap}
-use Rattle.std.proofs.Common.{subst, arith}
-use Rattle.std.proofs.lemmas.Bool.{cases_eq}
+use Rattle.std.proofs.lemmas.Grind.{common_steps}
+use Rattle.std.proofs.Common.{◌≡◌, ℕ, ◌+◌, ◌/◌, ◌<◌, ◌≤◌, List, [], ◌++◌, None, Some, length, get_or, set, take, drop}
+use Rattle.std.proofs.Common.{refl, ◌∙◌, arith}
 use Rattle.std.proofs.lemmas.List.{get_or-set_other, get_or-set_same, get_or-drop, length-set}
 use Rattle.upload_rules.specs.Room.{blocks_of}
 use Rattle.spool_blocks.specs.Blocks.{Held}
 use Rattle.spool_blocks.proofs.Counts.{within}
 use Rattle.spool_texts.proofs.Reserves.{in_either}
-use Rattle.spool_pages.specs.Rests.{Unowned}
+use Rattle.spool_texts.specs.Drafts.{IsReserved}
 use Rattle.spool_pages.specs.View.{SlotRecord}
 use Rattle.spool_kept.specs.Changed.{HandsOver}
-use Rattle.spool_kept.specs.Holding.{Holding, FitsTogether, HasBlocks, IsListOf}
-use Rattle.spool_kept.proofs.slots.ChangedSlots.{one_value}
-use Rattle.std.proofs.lemmas.Option.{same_Some}
+use Rattle.spool_kept.specs.Holding.{Holding, FitsTogether, HasBlocks}
+use Rattle.spool_kept.proofs.drafts.DraftLists.{nothing_reserved}
 use Rattle.spool_kept.proofs.slots.SlotChange.{same_others}
 use Rattle.spool_kept.proofs.slots.SlotFits.{IsReordered, changed_fits}
 use Rattle.spool_kept.proofs.slots.HandedOver.{room_for, others_same, owned_now, fit_now, joined_length}
@@ -21,9 +19,6 @@ use Rattle.spool_kept.proofs.Valid.{in_use}
 
 module _ (h : Holding) (fits : FitsTogether h) (slot : ℕ) (r : SlotRecord)
     (there : get_or h.slots slot None ≡ Some r) where
-  list : List ℕ
-  list = get_or h.lists slot []
-
   inside : slot < length h.slots
   inside = in_use h.slots slot r there
 
@@ -31,39 +26,25 @@ module _ (h : Holding) (fits : FitsTogether h) (slot : ℕ) (r : SlotRecord)
   slot_few = omega (arith, inside, fits.slot_count)
 
   pub has : HasBlocks h.blocks.rows slot r.text_len (get_or h.lists slot [])
-  has = subst (λ (o : Option SlotRecord). IsListOf h.blocks.rows slot o (get_or h.lists slot [])) there
-      (fits.listed slot slot_few)
+  has = rw there at (fits.listed slot slot_few)
 
   pub low : r.text_len / 4096 ≤ length (get_or h.lists slot [])
   low = omega (arith, has.size)
 
-  -- the ordinals of full blocks are few
+  -- there are ordinals for reserved blocks after the full ones
+  pub room_of : {more : List ℕ} → IsReserved h.blocks more → r.text_len / 4096 + length more ≤ length h.blocks.rows
+  room_of {more = more} held = room_for h.blocks.rows slot (r.text_len / 4096) (get_or h.lists slot []) more has.owned
+      low held.no_owner held.below held.distinct
+
   pub full_few : length h.blocks.rows ≤ 65536 → r.text_len / 4096 ≤ 65536
-  full_few few =
-      let none : (i : ℕ) → i < length {A = ℕ} [] → ⊥ = λ i lt. omega (arith, lt) in
-      let all = room_for h.blocks.rows slot (r.text_len / 4096) (get_or h.lists slot []) [] has.owned low
-      (λ i lt. absurd (none i lt)) (λ i lt. absurd (none i lt)) (λ i k lt more. absurd (none k more)) in
-      omega (arith, all, few)
+  full_few few = omega (arith, room_of (nothing_reserved h.blocks [] refl), few)
 
   module _ (r' : SlotRecord) (number : r'.number ≡ r.number) where
     numbered : (q : SlotRecord) → Some r' ≡ Some q → (q.number ≡ r.number) × (r.number < h.next)
-    numbered q e =
-        (ap (λ (p : SlotRecord). p.number) (sym (same_Some r' q e)) ∙ number, fits.below slot r there)
+    numbered q e = search (arith, common_steps)
 
     same_order : IsReordered slot r.number (Some r') h.order h.order
-    same_order = record {
-      rises = fits.ordered.rises;
-      there = λ q e. fits.ordered.all slot r slot_few there;
-      kept = λ k s other l. l;
-      only = λ k s l.
-          let used = fits.ordered.names k s l in
-          elim (cases_eq s slot) [
-            | inl same ↦
-                let was = one_value used.there (ap (λ (j : ℕ). get_or h.slots j None) same ∙ there) in
-                inr (sym used.is ∙ ap (λ (q : SlotRecord). q.number) was, same, (r', refl))
-            | inr other ↦ inl (other, l)
-          ];
-    }
+    same_order = search (arith, common_steps)
 
     -- the text stays
     pub fits_same : r'.text_len ≡ r.text_len → FitsTogether (record h { slots = set h.slots slot (Some r') })
@@ -74,29 +55,26 @@ module _ (h : Holding) (fits : FitsTogether h) (slot : ℕ) (r : SlotRecord)
 
     -- blocks are handed over
     module _ (more : List ℕ) (blocks : Held) (hands : HandsOver h.blocks.rows slot (r.text_len / 4096) more blocks.rows)
-        (no_owner : Unowned h.blocks.rows more) (size : blocks_of r'.text_len ≡ r.text_len / 4096 + length more)
-        (room : r.text_len / 4096 + length more ≤ 65536) where
-      now : List ℕ
-      now = take (r.text_len / 4096) (get_or h.lists slot []) ++ more
-
+        (held : IsReserved h.blocks more) (size : blocks_of r'.text_len ≡ r.text_len / 4096 + length more)
+        (few : length h.blocks.rows ≤ 65536) where
       has_now : HasBlocks blocks.rows slot r'.text_len (take (r.text_len / 4096) (get_or h.lists slot []) ++ more)
       has_now = record {
         size = omega (arith, size, joined_length (get_or h.lists slot []) more (r.text_len / 4096) low);
-        owned = owned_now h.blocks.rows slot (r.text_len / 4096) more blocks.rows hands no_owner
+        owned = owned_now h.blocks.rows slot (r.text_len / 4096) more blocks.rows hands held.no_owner
             (get_or h.lists slot []) low has.owned;
       }
 
       pub fits_longer : FitsTogether (record h {
         slots = set h.slots slot (Some r');
-        lists =
-            set h.lists slot (take (r.text_len / 4096) (get_or h.lists slot []) ++ more);
+        lists = set h.lists slot (take (r.text_len / 4096) (get_or h.lists slot []) ++ more);
         blocks = blocks;
       })
       fits_longer =
           let xs = take (r.text_len / 4096) (get_or h.lists slot []) ++ more in
           changed_fits h fits slot r.number (Some r') slot_few h.next (omega arith) numbered h.order same_order blocks
-          hands.size (others_same h.blocks.rows slot (r.text_len / 4096) more blocks.rows hands no_owner)
-          (fit_now h.blocks.rows slot (r.text_len / 4096) more blocks.rows hands no_owner slot_few room fits.rows_fit)
+          hands.size (others_same h.blocks.rows slot (r.text_len / 4096) more blocks.rows hands held.no_owner)
+          (fit_now h.blocks.rows slot (r.text_len / 4096) more blocks.rows hands held.no_owner slot_few
+          (omega (arith, room_of held, few)) fits.rows_fit)
           (set h.lists slot xs) (length-set h.lists slot xs ∙ fits.list_count)
           (λ s other. get_or-set_other h.lists slot s xs [] other)
           (rw (get_or-set_same h.lists slot xs [] (omega (arith, slot_few, fits.list_count))) has_now)
@@ -105,17 +83,9 @@ module _ (h : Holding) (fits : FitsTogether h) (slot : ℕ) (r : SlotRecord)
   pub changed_below : (more : List ℕ) → ((i : ℕ) → i < length more → get_or more i 0 < length h.blocks.rows)
       → (i : ℕ) → i < length (more ++ drop (r.text_len / 4096) (get_or h.lists slot []))
       → get_or (more ++ drop (r.text_len / 4096) (get_or h.lists slot [])) i 0 < h.layout
-  changed_below more below i lt = subst (λ (n : ℕ). get_or
-      (more ++ drop (r.text_len / 4096) (get_or h.lists slot [])) i 0 < n) fits.row_count
-      (in_either (λ (b : ℕ). b < length h.blocks.rows) more
+  changed_below more below i lt = rw fits.row_count at (in_either (λ (b : ℕ). b < length h.blocks.rows) more
       (drop (r.text_len / 4096) (get_or h.lists slot [])) below tail i lt)
     where
       tail : (k : ℕ) → k < length (drop (r.text_len / 4096) (get_or h.lists slot []))
           → get_or (drop (r.text_len / 4096) (get_or h.lists slot [])) k 0 < length h.blocks.rows
-      tail k lt =
-          let at : r.text_len / 4096 + k < length (get_or h.lists slot []) =
-          omega (arith, lt, length-drop (r.text_len / 4096) (get_or h.lists slot [])) in
-          subst (λ (b : ℕ). b < length h.blocks.rows) (sym
-          (get_or-drop (r.text_len / 4096) (get_or h.lists slot []) k 0))
-          (within h.blocks.rows (get_or (get_or h.lists slot []) (r.text_len / 4096 + k) 0)
-          (slot, r.text_len / 4096 + k) (has.owned (r.text_len / 4096 + k) at))
+      tail k lt = search (arith, common_steps, common_steps, get_or-drop, within, has)

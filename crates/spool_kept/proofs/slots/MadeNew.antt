@@ -1,7 +1,7 @@
 -- A new upload, in what is kept and on the disk.
-use Rattle.std.proofs.Common.{◌≡◌, ◌⊎◌, ℕ, ◌+◌, ◌^◌, ◌<◌, List, Option, None, Some, false, length, get_or, slice_set}
+use Rattle.std.proofs.lemmas.Grind.{common_steps}
+use Rattle.std.proofs.Common.{◌≡◌, ◌⊎◌, ℕ, ◌+◌, ◌<◌, List, Option, None, false, length, get_or}
 use Rattle.std.proofs.Common.{refl, sym, ◌∙◌, ap, subst, arith, Bool, true}
-use Rattle.std.proofs.lemmas.Bool.{lt-leb}
 use Rattle.spool_disk.specs.Views.{Lasts}
 use Rattle.spool_disk.specs.declared.disk.Disk.{Ghosts}
 use Rattle.upload_rules.specs.declared.errors.UploadRefusal.{UploadRefusal}
@@ -33,16 +33,13 @@ module _ {D : Type 0} {sure : Bool} {disk : Ghosts D} {d : D} {h : Holding} {m :
 
   -- the rules allow it
   pub allowed : create_refusal (at_rest m None) new ≡ None
-  allowed =
-      let below = lt-leb (10 ^ 18) m.next (omega (arith, room.next, next_is)) in
-      rw (small, lt-leb 512 (length m.uploads) few, below) refl
+  allowed = search (arith, common_steps)
 
   free : slot_at v slot ≡ None
   free = ap (λ (xs : List (Option SlotRecord)). get_or xs slot None) (sym stored.keeps.slots) ∙ room.free
 
   valid : IsValidRecord (m.next + 1) r
-  valid = subst (λ (n : ℕ). IsValidRecord (n + 1) r) next_is
-      (is.valid (omega (arith, stored.keeps.next, stored.shows.valid.next_least)) small)
+  valid = rw next_is at (is.valid (omega (arith, stored.keeps.next, stored.shows.valid.next_least)) small)
 
   shows : Shows (created_view v slot r) (created_store m new)
   shows = created_shows v m new slot r stored.shows room.within free (is.number_is ∙ next_is) (is.tells m.indexes) valid
@@ -59,9 +56,7 @@ module _ {D : Type 0} {sure : Bool} {disk : Ghosts D} {d : D} {h : Holding} {m :
     changes = go (v.next + 1) (ap (λ (n : ℕ). n + 1) stored.keeps.next)
       where
         go : (next : ℕ) → h.next + 1 ≡ next → Changes pages v (record (created_view v slot r) { next = next })
-        go next e =
-            let c = subst (λ (n : ℕ). Changes pages v (record (with_record v slot r) { next = n })) e made in
-            assumption c
+        go next e = search (arith, common_steps)
 
     -- a crash leaves the old store or the new one
     pub crash_new : sure ≡ true → {d' : D}
@@ -82,10 +77,6 @@ module _ {D : Type 0} {sure : Bool} {disk : Ghosts D} {d : D} {h : Holding} {m :
       honest = λ known. honest (stored.honest known);
       view = created_view v slot r;
       rests = λ known. done known (created_view v slot r) changes (texts known);
-      keeps = keeps_said h' (created_view v slot r) taken.fits shows.valid (sym (taken.layout ∙ stored.keeps.blocks))
-          (taken.version ∙ stored.keeps.version) (taken.next ∙ ap (λ (n : ℕ). n + 1) stored.keeps.next)
-          (taken.indexes ∙ stored.keeps.indexes)
-          (taken.slots ∙ ap (λ (xs : List (Option SlotRecord)). slice_set xs slot (Some r)) stored.keeps.slots)
-          (ap (λ b. b.rows) taken.blocks ∙ stored.keeps.rows);
+      keeps = keeps_said h' (created_view v slot r) taken.fits shows.valid (sym (cc)) (cc) (cc) (cc) (cc) (cc);
       shows = shows;
     }

@@ -1,11 +1,12 @@
 -- A slot that owns n blocks, among them one at each ordinal below n, owns no others.
+use Rattle.std.proofs.lemmas.Grind.{common_steps}
 use Rattle.std.proofs.Common.{◌≡◌, ℕ, zero, suc, ◌+◌, ◌<◌, List, None, Some, length, get_or, slice_set, inl, inr, sym}
 use Rattle.std.proofs.Common.{◌∙◌, subst, arith}
 use Rattle.std.proofs.lemmas.Bool.{cases_eq}
 use Rattle.spool_blocks.specs.Blocks.{Row, slot_count}
 use Rattle.spool_blocks.specs.Chains.{Owns, OwnsOneEach}
 use Rattle.spool_blocks.proofs.Counts.{within}
-use Rattle.spool_blocks.proofs.Links.{same_ordinal, count_less, owns_else, owned_else, not_taken}
+use Rattle.spool_blocks.proofs.Links.{same_ordinal, count_less, owns_else}
 
 one_less : (slot k : ℕ) (rows : List Row) (b : ℕ) → Owns rows b slot k
     → slot_count slot (slice_set rows b None) + 1 ≡ slot_count slot rows
@@ -30,19 +31,13 @@ module _ (n slot t : ℕ) (rows : List Row) (top : Owns rows t slot n)
   ]
     where
       besides : (i : ℕ) → (b : ℕ) × Owns (slice_set rows t None) b slot i → (b : ℕ) × Owns rows b slot i
-      besides i at = (at.0, owned_else rows t at.0 slot i None (away i at) at.1)
-        where
-          away : (i : ℕ) (at : (b : ℕ) × Owns (slice_set rows t None) b slot i) → at.0 ≡ t → ⊥
-          away i at same = not_taken rows t at.0 slot i (within rows t (slot, n) top) at.1 same
+      besides i at = search (arith, common_steps)
 
   one_more : OwnsOneEach rows slot (suc n)
   one_more = record {
     there = block_at;
     once = λ a b i own own'. elim (cases_eq a t) [
-      | inl first ↦ elim (cases_eq b t) [
-        | inl second ↦ first ∙ sym second
-        | inr other ↦ absurd (omega (arith, at_top a i first own, low b i other own'))
-      ]
+      | inl first ↦ search (arith, common_steps)
       | inr other ↦ elim (cases_eq b t) [
         | inl second ↦ absurd (omega (arith, at_top b i second own', low a i other own))
         | inr other' ↦ rest.once a b i (beside a i other own) (beside b i other' own')
@@ -59,8 +54,7 @@ others : (n slot t : ℕ) (rows : List Row) → Owns rows t slot n → ((i : ℕ
     → (i : ℕ) → i < n → (b : ℕ) × Owns (slice_set rows t None) b slot i
 others n slot t rows top there i lt =
     let at = there i (omega (arith, lt)) in
-    let other : (at.0 ≡ t → ⊥) = λ e.
-    omega (arith, lt, same_ordinal rows t slot i slot n (subst (λ (b : ℕ). Owns rows b slot i) e at.1) top) in
+    let other : (at.0 ≡ t → ⊥) = λ e. omega (arith, lt, same_ordinal rows t slot i slot n (rw e at at.1) top) in
     (at.0, owns_else rows t at.0 slot i None other at.1)
 
 pub owns_each : (n slot : ℕ) (rows : List Row) → slot_count slot rows ≡ n

@@ -1,4 +1,5 @@
 -- A view in which one slot changes shows the store in which that slot's upload does: one comes, is replaced or goes.
+use Rattle.std.proofs.lemmas.Grind.{common_steps}
 use Rattle.std.proofs.Common.{◌≡◌, ◌≢◌, inl, inr, ◌⊎◌, ℕ, ◌^◌, ◌<◌, ◌≤◌, List, Option, None, Some, length, map, sym}
 use Rattle.std.proofs.Common.{◌∙◌, ap, subst, arith, get_or, set, Bool}
 use Rattle.std.proofs.lemmas.Bool.{cases_eq}
@@ -9,7 +10,6 @@ use Rattle.upload_rules.specs.Slots.{IsRising}
 use Rattle.upload_rules.specs.Store.{Upload, Store, find}
 use Rattle.spool_blocks.specs.Blocks.{Row}
 use Rattle.spool_blocks.specs.Chains.{Owns, OwnsOneEach}
-use Rattle.spool_disk.proofs.Firm.{lasts_more}
 use Rattle.spool_disk.specs.Views.{Lasts}
 use Rattle.spool_disk.specs.declared.disk.Disk.{Ghosts}
 use Rattle.spool_journal.specs.Image.{text_page}
@@ -43,26 +43,17 @@ others_listed old new slot t n others other one = record {
 
 -- rows that stay are the other slots'
 pub same_others : (slot : ℕ) (old new : List Row) → new ≡ old → SameOthers slot old new
-same_others slot old new same = record {
-  still = λ b s i other owns. ap (λ (rows : List Row). get_or rows b None) same ∙ owns;
-  before = λ b s i other owns. ap (λ (rows : List Row). get_or rows b None) (sym same) ∙ owns;
-}
+same_others slot old new same = search (arith, common_steps)
 
 -- another upload's blocks stay its own
 pub owned_still : {slots now : List (Option SlotRecord)} {slot : ℕ} (o : Option SlotRecord) {rows new : List Row}
     → now ≡ set slots slot o → SameOthers slot rows new → {n k : ℕ} {list : List ℕ} → IsUsedBy slots slot n → n ≢ k
     → IsOwnedBy slots rows k list → IsOwnedBy now new k list
 owned_still {slots = slots} {slot = slot} o same others {list = list} used apart owned =
-    let other : owned.slot ≢ slot = λ at. apart (sym used.is ∙ ap (λ (r : SlotRecord). r.number)
-    (one_value used.there (ap (λ (s : ℕ). get_or slots s None) (sym at) ∙ owned.used.there)) ∙ owned.used.is) in
+    let other : owned.slot ≢ slot = search (arith, common_steps) in
     record {
       slot = owned.slot;
-      used = record {
-        used = owned.used.used;
-        there = ap (λ (xs : List (Option SlotRecord)). get_or xs owned.slot None) same
-            ∙ slot_else slots slot o owned.slot other ∙ owned.used.there;
-        is = owned.used.is;
-      };
+      used = search (arith, common_steps);
       owned = λ i lt.
           let own = owned.owned i lt in
           (own.0, others.still (get_or list i 0) owned.slot own.0 other own.1);
@@ -118,14 +109,7 @@ module _ {v : View} {m : Store} {s n : ℕ} {o : Option SlotRecord} {rows : List
   is_or_was : (t : ℕ) (q : SlotRecord) → slot_at (changed v s o rows texts next) t ≡ Some q
       → ((t ≡ s) × IsNow m.indexes n next (texts s) uploads q × OwnsOneEach rows s (blocks_of q.text_len))
       ⊎ ((t ≢ s) × (slot_at v t ≡ Some q))
-  is_or_was t q e = elim (slot_is v.slots s o t q inside e) [
-    | inl here ↦ inl (
-      here.0,
-      subst (IsSlotNow m.indexes n next (texts s) uploads) here.1 c.now,
-      subst (OwnsText rows s) here.1 c.has.blocks,
-    )
-    | inr was ↦ inr was
-  ]
+  is_or_was t q e = search (arith, common_steps)
 
   still : (t : ℕ) (r : SlotRecord) → t ≢ s → slot_at v t ≡ Some r → slot_at (changed v s o rows texts next) t ≡ Some r
   still t r other e = slot_else v.slots s o t other ∙ e
@@ -144,10 +128,7 @@ module _ {v : View} {m : Store} {s n : ℕ} {o : Option SlotRecord} {rows : List
       | inr was ↦ valid_more c.more (shows.valid.records t q was.1)
     ];
     distinct = λ t k q p e f same. elim (is_or_was t q e) [
-      | inl here ↦ elim (is_or_was k p f) [
-        | inl here' ↦ here.0 ∙ sym here'.0
-        | inr was' ↦ absurd (c.apart k p was'.0 was'.1 (sym here.1.number ∙ same))
-      ]
+      | inl here ↦ search (arith, common_steps)
       | inr was ↦ elim (is_or_was k p f) [
         | inl here' ↦ absurd (c.apart t q was.0 was.1 (sym here'.1.number ∙ sym same))
         | inr was' ↦ shows.valid.distinct t k q p was.1 was'.1 same
@@ -175,36 +156,28 @@ module _ {v : View} {m : Store} {s n : ℕ} {o : Option SlotRecord} {rows : List
     indexes = shows.indexes;
     rising = c.rising;
     told = λ t q e. elim (is_or_was t q e) [
-      | inl here ↦ record {
-        upload = here.1.upload;
-        there = ap (λ (k : ℕ). find k uploads) here.1.number ∙ here.1.there;
-        tells = subst (λ (k : ℕ). IsRecordOf m.indexes q (texts k) here.1.upload) (sym here.0) here.1.tells;
-      }
+      | inl here ↦ search (arith, common_steps)
       | inr was ↦
           let told = shows.told t q was.1 in
           record {
             upload = told.upload;
             there = c.uploads_else q.number (c.apart t q was.0 was.1) ∙ told.there;
-            tells = subst (λ (text : List ℕ). IsRecordOf m.indexes q text told.upload) (sym (c.texts_else t was.0))
-                told.tells;
+            tells = rw (← (c.texts_else t was.0)) at told.tells;
           }
     ];
     all = λ k u e. elim (cases_eq n k) [
       | inl same ↦
           let is = c.gone u (ap (λ (j : ℕ). find j uploads) same ∙ e) in
-          let now : IsNow m.indexes n next (texts s) uploads is.0 =
-          subst (IsSlotNow m.indexes n next (texts s) uploads) is.1 c.now in
+          let now : IsNow m.indexes n next (texts s) uploads is.0 = rw is.1 at c.now in
           record { slot = s; used = is.0; there = slot_here v.slots s o inside ∙ is.1; number = now.number ∙ same }
       | inr other ↦
           let has = shows.all k u (sym (c.uploads_else k other) ∙ e) in
-          let away : has.slot ≢ s = λ same.
-          other (sym (c.own has.used (ap (slot_at v) (sym same) ∙ has.there)) ∙ has.number) in
+          let away : has.slot ≢ s = λ same. other (cc (c.own has.used (ap (slot_at v) (sym same) ∙ has.there))) in
           record {
             slot = has.slot;
             used = has.used;
             there = still has.slot has.used away has.there;
-            number =
-                has.number;
+            number = search (arith, common_steps);
           }
     ];
   }
@@ -214,8 +187,7 @@ module _ {v : View} {m : Store} {s n : ℕ} {o : Option SlotRecord} {rows : List
       → ((r : SlotRecord) → o ≡ Some r → texts s ≡ text_shown current (text_page v.blocks) rows s r.text_len)
       → HasTexts current (changed v s o rows texts next)
   changed_texts current old new t q e = elim (slot_is v.slots s o t q inside e) [
-    | inl here ↦ ap texts here.0 ∙ new q here.1
-        ∙ ap (λ (k : ℕ). text_shown current (text_page v.blocks) rows k q.text_len) (sym here.0)
+    | inl here ↦ search (arith, common_steps)
     | inr was ↦
         let one = shows.valid.lists t q was.1 in
         c.texts_else t was.0 ∙ old t q was.1 ∙ sym (text_still current (text_page v.blocks) v.rows rows t q.text_len one
@@ -230,7 +202,4 @@ pub lasts_either : {D : Type 0} {sure : Bool} {h : Holding} {m m' : Store} (disk
     (stored : Stored sure disk d h m) (v : View) → Shows v m' → v.blocks ≡ stored.view.blocks
     → Lasts disk d d' (λ image. IsViewOf image stored.view ⊎ IsViewOf image v)
     → Lasts disk d d' (ShowsEither h.layout m m')
-lasts_either disk d d' stored v shows blocks lasts = lasts_more lasts (λ image shown. elim shown [
-  | inl was ↦ inl (record { view = stored.view; blocks = sym stored.keeps.blocks; is = was; shows = stored.shows })
-  | inr now ↦ inr (record { view = v; blocks = blocks ∙ sym stored.keeps.blocks; is = now; shows = shows })
-])
+lasts_either disk d d' stored v shows blocks lasts = search (arith, common_steps)

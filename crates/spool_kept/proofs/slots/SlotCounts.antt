@@ -1,8 +1,9 @@
 -- As many uploads as slots in use.
+use Rattle.std.proofs.lemmas.Grind.{common_steps}
 use Rattle.std.proofs.Common.{◌≡◌, inl, inr, ℕ, zero, suc, ◌<◌, ◌≤◌, ◌==◌, if◌then◌else◌, List, Option, None, Some}
 use Rattle.std.proofs.Common.{IsSome, IfSome, MatchOption, ◌⊎◌, ◌^◌, length, get_or, slice_index, refl, sym, ◌∙◌, ap}
-use Rattle.std.proofs.Common.{subst, arith, eq-eqb}
-use Rattle.std.proofs.lemmas.Bool.{cases_eq, ne_eqb}
+use Rattle.std.proofs.Common.{arith}
+use Rattle.std.proofs.lemmas.Bool.{cases_eq}
 use Rattle.upload_rules.specs.Store.{Store}
 use Rattle.spool_pages.specs.View.{SlotRecord, View}
 use Rattle.spool_kept.specs.declared.order.NumberedSlot.{NumberedSlot}
@@ -27,27 +28,12 @@ pigeons (suc n) (suc k) P there one =
     let own = there i (omega (arith, lt)) in
     let below = own.1 in
     let top = last.1 in
-    let differs : own.0 ≡ last.0 → ⊥ = λ same. let e : i ≡ n =
-    one i n last.0 (subst (λ (j : ℕ). P i j) same own.2) last.2 in omega (arith, e, lt) in
+    let differs : own.0 ≡ last.0 → ⊥ = search (arith, common_steps) in
     elim (cases_eq own.0 k) [
-      | inl same ↦ (
-        last.0,
-        omega (arith, differs, same, top),
-        subst (λ (j : ℕ). P i j) (same ∙ sym (moved last.0 last.0 refl)) own.2,
-      )
-      | inr other ↦ (
-        own.0,
-        omega (arith, other, below),
-        subst (λ (j : ℕ). P i j) (sym (stays own.0 last.0 differs)) own.2,
-      )
+      | inl same ↦ search (arith, common_steps)
+      | inr other ↦ search (arith, common_steps)
     ]) (λ a b j p q. one a b (if j == last.0 then k else j) p q) in
     omega (arith, rest)
-  where
-    moved : (j l : ℕ) → j ≡ l → (if j == l then k else j) ≡ k
-    moved j l same = rw (eq-eqb j l same) refl
-
-    stays : (j l : ℕ) → (j ≡ l → ⊥) → (if j == l then k else j) ≡ j
-    stays j l other = rw (ne_eqb j l other) refl
 
 -- where no slot is free there are 512 in the order
 pub all_listed : (slots : List (Option SlotRecord)) (order : List NumberedSlot) → Orders slots order 512
@@ -63,8 +49,7 @@ all_listed slots order orders full = pigeons 512 (length order) (λ s i. (get_or
 
 module _ {h : Holding} {v : View} {m : Store} (kept : KeepsView h v) (shows : Shows v m) where
   pub not_more : length h.order ≤ length m.uploads
-  not_more = subst (λ (n : ℕ). length h.order ≤ n) (length-numbers m.uploads)
-      (pigeons (length h.order) (length (numbers m.uploads))
+  not_more = rw (length-numbers m.uploads) at (pigeons (length h.order) (length (numbers m.uploads))
       (λ i j. (i < length h.order) × (slice_index (numbers m.uploads) j ≡ number_at h.order i)) (λ i lt. at i lt) one)
     where
       at : (i : ℕ) → i < length h.order → (j : ℕ) × (j < length (numbers m.uploads))
@@ -83,10 +68,8 @@ module _ {h : Holding} {v : View} {m : Store} (kept : KeepsView h v) (shows : Sh
       one a b j p q = one_place (number_at h.order) (length h.order) kept.ordered.rises a b p.0 q.0 (sym p.1 ∙ q.1)
 
   pub not_fewer : length m.uploads ≤ length h.order
-  not_fewer = subst (λ (n : ℕ). n ≤ length h.order) (length-numbers m.uploads)
-      (pigeons (length (numbers m.uploads)) (length h.order)
-      (λ i j. (i < length (numbers m.uploads)) × (number_at h.order j ≡ slice_index (numbers m.uploads) i))
-      (λ i lt. at i lt) one)
+  not_fewer = rw (length-numbers m.uploads) at (pigeons (length (numbers m.uploads)) (length h.order) (λ i j. (i <
+      length (numbers m.uploads)) × (number_at h.order j ≡ slice_index (numbers m.uploads) i)) (λ i lt. at i lt) one)
     where
       at : (i : ℕ) → i < length (numbers m.uploads) → (j : ℕ) × (j < length h.order)
           × ((i < length (numbers m.uploads)) × (number_at h.order j ≡ slice_index (numbers m.uploads) i))
@@ -118,7 +101,6 @@ module _ (h : Holding) (slots : List (Option SlotRecord)) (fits : FitsTogether h
       → MatchOption o ((s : ℕ) → s < 512 → IsSome (get_or slots s None)) P
       → MatchOption o ((512 ≤ length m.uploads) ⊎ (10 ^ 18 ≤ m.next)) (λ s. length m.uploads < 512)
   few_at kept shows P None all =
-      let full = all_listed h.slots h.order fits.ordered
-      (λ s lt. subst (λ (xs : List (Option SlotRecord)). IsSome (get_or xs s None)) same (all s lt)) in
+      let full = all_listed h.slots h.order fits.ordered (λ s lt. rw same at (all s lt)) in
       absurd (omega (arith, full, room))
   few_at kept shows P (Some s) e = let le = not_fewer kept shows in omega (arith, le, room)

@@ -1,6 +1,7 @@
 -- What is kept fits together where one slot changes: a record comes, is replaced or goes.
+use Rattle.std.proofs.lemmas.Grind.{common_steps}
 use Rattle.std.proofs.Common.{◌≡◌, ◌≢◌, inl, inr, ◌⊎◌, ℕ, ◌<◌, ◌≤◌, List, [], Option, None, Some, length, get_or, set}
-use Rattle.std.proofs.Common.{sym, ◌∙◌, ap, arith}
+use Rattle.std.proofs.Common.{◌∙◌, arith}
 use Rattle.std.proofs.lemmas.Bool.{cases_eq}
 use Rattle.std.proofs.lemmas.List.{length-set}
 use Rattle.spool_blocks.specs.Blocks.{Row, Held}
@@ -47,9 +48,7 @@ module _ (h : Holding) (fits : FitsTogether h) (slot n : ℕ) (o : Option SlotRe
       | inl was ↦
           let used = fits.ordered.names k s was.1 in
           record { used = used.used; there = slot_else h.slots slot o s was.0 ∙ used.there; is = used.is }
-      | inr now ↦
-          let here = ap (λ (j : ℕ). get_or (set h.slots slot o) j None) now.1 ∙ slot_here h.slots slot o inside in
-          record { used = now.2.0; there = here ∙ now.2.1; is = (numbered now.2.0 now.2.1).0 ∙ sym now.0 }
+      | inr now ↦ search (arith, common_steps)
     ];
     all = λ s q lt e. elim (slot_is h.slots slot o s q inside e) [
       | inl here ↦ rw (here.0, (numbered q here.1).0) (entries.there q here.1)
@@ -58,12 +57,7 @@ module _ (h : Holding) (fits : FitsTogether h) (slot n : ℕ) (o : Option SlotRe
   }
 
   listed : AreListsTo blocks.rows (set h.slots slot o) lists 512
-  listed s lt = elim (cases_eq s slot) [
-    | inl same ↦ rw (same, slot_here h.slots slot o inside) has
-    | inr other ↦ rw (slot_else h.slots slot o s other, same_lists s other)
-        (list_stays slot h.blocks.rows blocks.rows others s other (get_or h.slots s None) (get_or h.lists s [])
-        (fits.listed s lt))
-  ]
+  listed s lt = grind (arith, common_steps, cases_eq, slot_here, inside, slot_else, list_stays)
 
   pub changed_fits : FitsTogether (record h {
     next = next;

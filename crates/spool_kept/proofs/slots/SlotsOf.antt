@@ -18,8 +18,7 @@ pub slot_of_is : (n : ℕ) (slots : List (Option SlotRecord)) (s : ℕ) (r : Slo
 unfolding slot_of
 slot_of_is n [] s r e number before = clash refl e
 slot_of_is n (None ∷ slots) zero r e number before = clash refl e
-slot_of_is n (Some q ∷ slots) zero r e number before =
-    rw (eq-eqb q.number n (ap (λ (x : SlotRecord). x.number) (one_value refl e) ∙ number)) refl
+slot_of_is n (Some q ∷ slots) zero r e number before = rw (eq-eqb q.number n (cc (one_value refl e))) refl
 slot_of_is n (None ∷ slots) (suc s) r e number before =
     ap (λ (k : ℕ). suc k) (slot_of_is n slots s r e number (λ t q lt f. before (suc t) q (omega (arith, lt)) f))
 slot_of_is n (Some q ∷ slots) (suc s) r e number before =
@@ -35,12 +34,9 @@ module _ (v : View) (m : Store) (shows : Shows v m) where
   pub upload_slot : (n : ℕ) (u : Upload) → find n m.uploads ≡ Some u → HasUpload v m.indexes n u
   upload_slot n u found =
       let has = shows.all n u found in
-      let at : slot_of n v.slots ≡ has.slot =
-      ap (λ (k : ℕ). slot_of k v.slots) (sym has.number) ∙ own_slot has.slot has.used has.there in
-      let tells = told_upload v m shows has.slot has.used has.there u
-      (ap (λ (k : ℕ). find k m.uploads) has.number ∙ found) in
-      let blocks = subst (λ (k : ℕ). OwnsOneEach v.rows has.slot (blocks_of k)) tells.text_len
-      (shows.valid.lists has.slot has.used has.there) in
+      let at : slot_of n v.slots ≡ has.slot = cc (own_slot has.slot has.used has.there) in
+      let tells = told_upload v m shows has.slot has.used has.there u (cc) in
+      let blocks = rw tells.text_len at (shows.valid.lists has.slot has.used has.there) in
       record {
         used = has.used;
         there = ap (slot_at v) at ∙ has.there;

@@ -1,12 +1,12 @@
 -- A new record among those that are kept.
-use Rattle.std.proofs.Common.{◌≡◌, inl, inr, ℕ, ◌+◌, List, [], None, Some, length, get_or, slice_set, refl, sym, ◌∙◌}
-use Rattle.std.proofs.Common.{ap, subst, arith, Option}
+use Rattle.std.proofs.lemmas.Grind.{common_steps}
+use Rattle.std.proofs.Common.{◌≡◌, inl, inr, ℕ, ◌+◌, List, [], Some, length, get_or, slice_set, refl, sym, ◌∙◌}
+use Rattle.std.proofs.Common.{ap, arith}
 use Rattle.std.proofs.lemmas.Option.{same_Some}
 use Rattle.spool_pages.specs.View.{SlotRecord}
 use Rattle.spool_kept.specs.Creating.{HasRoomAt}
 use Rattle.spool_kept.specs.declared.order.NumberedSlot.{NumberedSlot}
-use Rattle.spool_kept.specs.Holding.{Holding, FitsTogether, IsAdded, IsListOf, Lists}
-use Rattle.spool_kept.proofs.slots.ChangedSlots.{clash}
+use Rattle.spool_kept.specs.Holding.{Holding, FitsTogether, IsAdded, Lists}
 use Rattle.spool_kept.proofs.slots.SlotChange.{same_others}
 use Rattle.spool_kept.proofs.slots.SlotFits.{changed_fits}
 
@@ -20,9 +20,7 @@ pub taken_fits : (h : Holding) (slot : ℕ) (r : SlotRecord) → FitsTogether h 
     → r.text_len ≡ 0 → (order : List NumberedSlot) → IsAdded h.order h.next slot order
     → FitsTogether (record h { next = h.next + 1; slots = slice_set h.slots slot (Some r); order = order })
 taken_fits h slot r fits room number no_text order is =
-    let none : get_or h.lists slot [] ≡ [] = subst
-    (λ (o : Option SlotRecord). IsListOf h.blocks.rows slot o (get_or h.lists slot [])) room.free
-    (fits.listed slot room.within) in
+    let none : get_or h.lists slot [] ≡ [] = rw room.free at (fits.listed slot room.within) in
     changed_fits h fits slot h.next (Some r) room.within (h.next + 1) (omega arith)
     (λ q e. (ap (λ (x : SlotRecord). x.number) (sym (same_Some r q e)) ∙ number, omega arith)) order
     record {
@@ -30,9 +28,7 @@ taken_fits h slot r fits room number no_text order is =
       there = λ q e. is.there;
       kept = λ k s other. is.kept k s;
       only = λ k s l. elim (is.only k s l) [
-        | inl old ↦
-            let used = fits.ordered.names k s old in
-            inl (λ same. clash room.free (ap (λ (j : ℕ). get_or h.slots j None) (sym same) ∙ used.there), old)
+        | inl old ↦ search (arith, common_steps)
         | inr this ↦ inr (this.0, this.1, (r, refl))
       ];
     } h.blocks refl (same_others slot h.blocks.rows h.blocks.rows refl) fits.rows_fit h.lists fits.list_count

@@ -1,17 +1,16 @@
 -- What is kept, with an upload taken out, fits together.
-use Rattle.std.proofs.Common.{◌≡◌, inl, ℕ, ◌<◌, List, [], None, Some, length, get_or, set, sym, ◌∙◌, ap, arith}
+use Rattle.std.proofs.lemmas.Grind.{common_steps}
+use Rattle.std.proofs.Common.{◌≡◌, ℕ, ◌<◌, List, [], None, Some, length, get_or, set, ◌∙◌, arith}
 use Rattle.std.proofs.lemmas.List.{get_or-set_other, get_or-set_same, length-set}
 use Rattle.spool_blocks.specs.Blocks.{Held}
-use Rattle.spool_blocks.proofs.Counts.{within as block_within}
 use Rattle.spool_pages.specs.View.{SlotRecord}
 use Rattle.spool_kept.specs.declared.order.NumberedSlot.{NumberedSlot}
 use Rattle.spool_kept.specs.Holding.{Holding, FitsTogether, IsUsedBy}
 use Rattle.spool_kept.specs.Terminating.{FreesRows, IsWithout}
-use Rattle.spool_kept.proofs.slots.ChangedSlots.{one_value}
 use Rattle.spool_kept.proofs.slots.Freed.{others_stay, rows_still_fit}
 use Rattle.spool_kept.proofs.numbers.Ordered.{orders_distinct}
 use Rattle.spool_kept.proofs.slots.SlotFits.{changed_fits}
-use Rattle.spool_kept.proofs.slots.LongerKept.{has, slot_few}
+use Rattle.spool_kept.proofs.slots.LongerKept.{slot_few}
 
 module _ (h : Holding) (slot number : ℕ) (fits : FitsTogether h) (used : IsUsedBy h.slots slot number) where
   pub slot_below : slot < 512
@@ -19,15 +18,12 @@ module _ (h : Holding) (slot number : ℕ) (fits : FitsTogether h) (used : IsUse
 
   -- the blocks of its text are there
   pub listed_below : (i : ℕ) → i < length (get_or h.lists slot []) → get_or (get_or h.lists slot []) i 0 < h.layout
-  listed_below i lt =
-      let owned = (has h fits slot used.used used.there).owned i lt in
-      omega (arith, fits.row_count, block_within h.blocks.rows (get_or (get_or h.lists slot []) i 0) (slot, i) owned)
+  listed_below i lt = search (arith, common_steps)
 
   -- the number is in that slot alone
   pub only_there : (s : ℕ) (q : SlotRecord) → get_or h.slots s None ≡ Some q → q.number ≡ number → s ≡ slot
   only_there s q there is =
-      orders_distinct h.slots h.order fits.slot_count fits.ordered s slot q used.used there used.there
-      (is ∙ sym used.is)
+      orders_distinct h.slots h.order fits.slot_count fits.ordered s slot q used.used there used.there (cc)
 
   pub fits_without : (order : List NumberedSlot) (blocks : Held) → IsWithout h.order number order
       → FreesRows slot h.blocks.rows blocks.rows
@@ -45,14 +41,7 @@ module _ (h : Holding) (slot number : ℕ) (fits : FitsTogether h) (used : IsUse
         kept = λ k s other l.
             let u = fits.ordered.names k s l in
             is.kept k s (λ same. other (only_there s u.used u.there (u.is ∙ same))) l;
-        only = λ k s l.
-            let was = is.only k s l in
-            let u = fits.ordered.names k s was.1 in
-            inl (
-              λ same. was.0 (sym u.is ∙ ap (λ (r : SlotRecord). r.number)
-                  (one_value (ap (λ (j : ℕ). get_or h.slots j None) (sym same) ∙ u.there) used.there) ∙ used.is),
-              was.1,
-            );
+        only = search (arith, common_steps);
       } blocks frees.size (others_stay slot h.blocks.rows blocks.rows frees)
       (rows_still_fit slot h.blocks.rows blocks.rows frees slot_below fits.rows_fit) (set h.lists slot [])
       (length-set h.lists slot [] ∙ fits.list_count) (λ s other. get_or-set_other h.lists slot s [] [] other)

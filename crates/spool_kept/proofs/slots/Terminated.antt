@@ -1,6 +1,5 @@
 -- An upload taken away, in what is kept and on the disk.
-use Rattle.std.proofs.Common.{◌≡◌, ◌⊎◌, ℕ, List, [], Option, None, Some, get_or, slice_set, refl, sym, ◌∙◌, ap, subst}
-use Rattle.std.proofs.Common.{Bool, true}
+use Rattle.std.proofs.Common.{◌≡◌, ◌⊎◌, ℕ, List, [], Option, None, Some, get_or, refl, sym, ◌∙◌, ap, subst, Bool, true}
 use Rattle.spool_blocks.specs.Blocks.{Row}
 use Rattle.spool_disk.specs.Views.{Lasts}
 use Rattle.spool_disk.specs.declared.disk.Disk.{Ghosts}
@@ -54,8 +53,7 @@ module _ {D : Type 0} {sure : Bool} {disk : Ghosts D} {d : D} {h : Holding} {m :
       frees = subst (λ (rows : List Row). FreesRows slot rows h'.blocks.rows) stored.keeps.rows out.rows
 
       shows : Shows new (deleted_store m number)
-      shows = subst (λ (n : ℕ). Shows new (deleted_store m n)) used.is
-          (deleted_shows old m stored.shows slot used.used there h'.blocks.rows frees)
+      shows = rw used.is at (deleted_shows old m stored.shows slot used.used there h'.blocks.rows frees)
 
       texts : sure ≡ true → HasTexts (disk.current d) new
       texts known = deleted_texts old m stored.shows slot used.used there h'.blocks.rows frees (disk.current d)
@@ -93,8 +91,6 @@ module _ {D : Type 0} {sure : Bool} {disk : Ghosts D} {d : D} {h : Holding} {m :
         honest = λ known. honest (stored.honest known);
         view = new;
         rests = λ known. done known old new blocks (stored.rests known) changes (texts known);
-        keeps = keeps_said h' new fits shows.valid blocks (out.version ∙ stored.keeps.version)
-            (out.next ∙ stored.keeps.next) (out.indexes ∙ stored.keeps.indexes)
-            (out.slots ∙ ap (λ (xs : List (Option SlotRecord)). slice_set xs slot None) stored.keeps.slots) refl;
+        keeps = keeps_said h' new fits shows.valid blocks (cc) (cc) (cc) (cc) refl;
         shows = shows;
       }

@@ -9,7 +9,7 @@ use Rattle.spool_kept.specs.Committing.{OnlyRead}
 use Rattle.spool_disk.specs.declared.disk.Disk.{Ghosts}
 use Rattle.upload_rules.specs.Calls.{commit_refusal, dropped}
 use Rattle.upload_rules.specs.Store.{Store}
-use Rattle.spool_kept.specs.Extending.{HandsOn, IsLonger, IsPending, IsWritten}
+use Rattle.spool_kept.specs.Extending.{IsPending}
 use Rattle.spool_kept.specs.Holding.{Holding}
 use Rattle.spool_kept.specs.declared.extending.ExtendError.{ExtendError}
 use Rattle.spool_kept.specs.declared.extending.Longer.{Longer}
@@ -150,9 +150,7 @@ returns-in-Ok-extend-clause-answer g c sure drafts number w p is =
     let may = c.in-Ok.ensures.may in
     let list = c.list.ensures.blocks in
     let pending = pending_on list c.deref.ensures.value answer.1.1 in
-    let wrote = subst (λ (more : List ℕ). IsWritten sure g.D.Disk c.ended.new.disk c.extend.new.disk c.ended.new.kept
-    w.store p.number p.declare p.body c.in-Ok.end.0 more) list
-    (c.in-Ok-extend.ensures.written sure w.store p.number p.declare p.body pending) in
+    let wrote = rw list at (c.in-Ok-extend.ensures.written sure w.store p.number p.declare p.body pending) in
     let effect = c.ended.ensures.effect in
     let only = subst (λ (n : ℕ). g.D.Disk.honest c.ended.new.disk → OnlyWrites g.D.Disk (journal_pages n)
     (list_of c.ended.new.draft) c.ended.new.disk wrote.mid)
@@ -164,10 +162,8 @@ returns-in-Ok-extend-clause-answer g c sure drafts number w p is =
       grasp = effect.grasp;
       writes = λ honest. only_then effect.grasp (effect.writes honest) (only (c.ended.ensures.honest.0 honest));
     } in
-    let hands = subst (HandsOn c.ended.new.kept.blocks.reserved c.extend.new.kept.blocks.reserved) list
-    (c.in-Ok-extend.ensures.blocks (λ e. cc)) in
-    let longer = subst (λ (more : List ℕ). IsLonger c.ended.new.kept may.used c.in-Ok.end.0 more c.extend.new.kept) list
-    (c.in-Ok-extend.ensures.longer (λ e. cc) may.used may.there) in (
+    let hands = rw list at (c.in-Ok-extend.ensures.blocks (λ e. cc)) in
+    let longer = rw list at (c.in-Ok-extend.ensures.longer (λ e. cc) may.used may.there) in (
       answer.0,
       (
         answer.1.0,

@@ -1,15 +1,11 @@
-use Rattle.std.proofs.Common.{Ok, ℕ, ◌≡◌, ◌∙◌, List, [], Option, None, ap, get_or, subst, sym, Bool, Some}
+use Rattle.std.proofs.Common.{Ok, ◌≡◌, ◌∙◌, [], None, ap, get_or, sym, Bool, Some}
 use Rattle.std.proofs.lemmas.Bool.{not-true, not-false}
-use Rattle.spool_disk.specs.Views.{Lasts}
-use Rattle.spool_drafts.specs.declared.draft.SpoolDraft.{SpoolDraft}
-use Rattle.upload_rules.specs.Answers.{Answers}
-use Rattle.upload_rules.specs.Calls.{commit_outcome, commit_refusal, committed, dropped}
-use Rattle.upload_rules.specs.Store.{Store, find, patched_store}
+use Rattle.upload_rules.specs.Calls.{commit_refusal, dropped}
+use Rattle.upload_rules.specs.Store.{find, patched_store}
 use Rattle.upload_rules.specs.World.{Patch, World, reached}
 use Rattle.spool_kept.specs.Committing.{IsCommit}
 use Rattle.spool_kept.specs.Drafting.{StandsFor}
-use Rattle.spool_kept.specs.Holding.{Holding, IsUsedBy}
-use Rattle.spool_kept.specs.Stored.{ShowsEither}
+use Rattle.spool_kept.specs.Holding.{Holding}
 use Rattle.spool_kept.proofs.commits.CommitHead as head
 use Rattle.spool_kept.proofs.commits.CommitSpent as spent
 use Rattle.spool_kept.proofs.drafts.Drafted.{dropped_out}
@@ -105,16 +101,13 @@ returns-then-found-clause-answer g c sure w p s there =
     let new = c.if-found.true in
     let left = dropped_out c.args.number c.kept.view_is c.in-Some.ensures.taken c.taken.ensures.after
     c.give_back-2.ensures s in
-    let used = subst (λ (h : Holding). IsUsedBy h.slots c.in-Ok.found.slot p.number) (sym c.kept.view_is)
-    (head.used_is k finds stays new) in
+    let used = rw (← c.kept.view_is) at (head.used_is k finds stays new) in
     let is_there = ap (λ (h : Holding). get_or h.slots c.in-Ok.found.slot None) c.kept.view_is ∙ finds.same.there in
     spent.alone (commit_refusal w c.args.number p) (head.left_allowed k finds stays) c.set_length.result
-    finds.same.used.accepted (reached p) _ _ _
-    (c.set_length.ensures.answer sure c.taken.new.drafts.items (dropped w c.args.number) p.number left used
-    (head.length_small k finds stays new)) (c.set_length.ensures.count finds.same.used is_there)
-    (head.left_reached k finds stays finds.same.used.accepted finds.same.count)
-    (λ stands. subst (StandsFor sure g.D.Disk c.set_length.new.disk c.set_length.new.kept c.taken.new.drafts.items)
-    (sym (head.length_stands k finds stays new)) stands)
+    finds.same.used.accepted (reached p) _ _ _ (c.set_length.ensures.answer sure c.taken.new.drafts.items
+    (dropped w c.args.number) p.number left used (head.length_small k finds stays new))
+    (c.set_length.ensures.count finds.same.used is_there) (head.left_reached k finds stays finds.same.used.accepted
+    finds.same.count) (λ stands. rw (← (head.length_stands k finds stays new)) at stands)
 
 pub returns-then-found-clause-crash : goal.returns-then-found-clause-crash
 returns-then-found-clause-crash g c w p s there =
@@ -124,14 +117,10 @@ returns-then-found-clause-crash g c w p s there =
     let new = c.if-found.true in
     let left = dropped_out c.args.number c.kept.view_is c.in-Some.ensures.taken c.taken.ensures.after
     c.give_back-2.ensures s in
-    let used = subst (λ (h : Holding). IsUsedBy h.slots c.in-Ok.found.slot p.number) (sym c.kept.view_is)
-    (head.used_is k finds stays new) in
+    let used = rw (← c.kept.view_is) at (head.used_is k finds stays new) in
     let outcome = spent.outcome_is w c.args.number p (head.left_allowed k finds stays)
     (patched_store w.store p.number c.in-Ok.found.declared []) (head.store_is k finds stays new) in
-    subst (λ (n : ℕ). Lasts g.D.Disk c.args.disk.now c.set_length.new.disk (ShowsEither n w.store
-    (commit_outcome w c.args.number p))) (ap (λ (h : Holding). h.layout) c.kept.view_is)
-    (subst (λ (m : Store). Lasts g.D.Disk c.args.disk.now c.set_length.new.disk
-    (ShowsEither c.kept.inside.layout w.store m)) (sym outcome)
+    rw (ap (λ (h : Holding). h.layout) c.kept.view_is) at (rw (← outcome) at
     (c.set_length.ensures.crash w.store p.number left.stored used (head.length_small k finds stays new)))
 
 -- AFTER THE UPLOAD'S TEXT
@@ -146,12 +135,8 @@ is_commit g c w p s there =
 
 pub returns-then-not-found-clause-answer : goal.returns-then-not-found-clause-answer
 returns-then-not-found-clause-answer g c sure w p s there =
-    subst (λ (left : List (Option SpoolDraft)). Answers (commit_refusal w c.args.number p) c.append_to.result
-    (λ n. (n ≡ reached p) × StandsFor sure g.D.Disk c.append_to.new.disk c.append_to.new.kept left
-    (committed w c.args.number p))
-    (StandsFor sure g.D.Disk c.append_to.new.disk c.append_to.new.kept left (dropped w c.args.number)))
-    (sym c.taken.ensures.after)
-    (c.append_to.ensures.answer sure c.args.drafts.now.items c.args.number w p (is_commit g c w p s there))
+    rw (← c.taken.ensures.after) at (c.append_to.ensures.answer sure c.args.drafts.now.items c.args.number w p
+    (is_commit g c w p s there))
 
 pub returns-then-not-found-clause-crash : goal.returns-then-not-found-clause-crash
 returns-then-not-found-clause-crash g c w p s there =

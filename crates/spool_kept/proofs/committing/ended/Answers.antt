@@ -1,7 +1,6 @@
-use Rattle.std.proofs.Common.{◌≡◌, ◌∙◌, ◌≤◌, ◌+◌, ◌-◌, ◌^◌, Result, None, Err, IfOk, get_or, length, ap, refl, min}
+use Rattle.std.proofs.Common.{◌≡◌, ◌∙◌, ◌≤◌, ◌+◌, ◌-◌, ◌^◌, None, Err, get_or, length, ap, refl, min}
 use Rattle.std.proofs.Common.{subst, sym, true, Bool, List, Option, ℕ}
 use Rattle.std.proofs.lemmas.Result.{err_from_is_err_and}
-use Rattle.spool_drafts.specs.declared.draft.DraftEnd.{DraftEnd}
 use Rattle.spool_texts.specs.Drafts.{bytes_with}
 use Rattle.spool_drafts.specs.Drafts.{EndsAs, IsPlaced, IsWhole, came_of, list_of, offset_of, open_text}
 use Rattle.spool_disk.specs.Views.{Lasts}
@@ -54,8 +53,7 @@ module _ (g : Over) (c : After-end g) {sure : Bool} {drafts : List (Option Spool
 
   quiet : sure ≡ true
       → Lasts g.D.Disk c.args.disk.now c.end.new.disk (λ image. ImageShows c.args.kept.now.layout image w.store)
-  quiet known = subst (λ (h : Holding). Lasts g.D.Disk c.args.disk.now c.end.new.disk
-      (λ image. ImageShows h.layout image w.store)) c.kept.view_is
+  quiet known = rw (ap (λ (h : Holding). h.layout) c.kept.view_is) at
       (lemmas.quiet_after only o' here c.end.ensures.effect known)
 
 pub returns-in_err-state-clause-stored : goal.returns-in_err-state-clause-stored
@@ -87,18 +85,13 @@ returns-clause-answer g c sure drafts number w p is =
     let o = c.args.draft.now in
     let o' = c.end.new.self in
     let effect = c.end.ensures.effect in
-    let whole : IsWhole w.store.indexes p (completes w.store p) o' end =
-    subst (λ (r : Result DraftEnd UploadError). EndsAs w.store.indexes p (completes w.store p) o o'
-    c.kept.inside.blocks c.end.new.blocks r) c.in_ok-state.was (ends g k is) in
+    let whole : IsWhole w.store.indexes p (completes w.store p) o' end = rw c.in_ok-state.was at (ends g k is) in
     let ends_on = lemmas.ends_on (only g k is) o' (here g k is) effect (found g k is) (sum g k is)
     c.is_length-completes.ensures c.end.result c.end.ensures.content in
     let page = text_page c.kept.inside.layout in
     let text = open_text w.store.indexes p (completes w.store p) in
-    let content : sure ≡ true → 1 ≤ length (list_of o')
-    → bytes_with (g.D.Disk.current c.end.new.disk) page (list_of o') end.last.items ≡ text =
-    λ known. subst (λ (r : Result DraftEnd UploadError). IfOk r
-    (λ e. 1 ≤ length (list_of o') → bytes_with (g.D.Disk.current c.end.new.disk) page (list_of o')
-    e.last.items ≡ text)) c.in_ok-state.was (ends_on known) in
+    let content : sure ≡ true → 1 ≤ length (list_of o') → bytes_with (g.D.Disk.current c.end.new.disk) page (list_of o')
+    end.last.items ≡ text = λ known. rw c.in_ok-state.was at (ends_on known) in
     let came = lemmas.all_came (only g k is) o' (here g k is) effect (found g k is) (sum g k is) in (
       lemmas.allowed (only g k is) o' (here g k is) effect (placed g k is) c.end.ensures.reserved
           c.rows-rows.ensures.reserved end whole (found g k is),

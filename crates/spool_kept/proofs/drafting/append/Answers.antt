@@ -2,19 +2,17 @@ use Rattle.std.proofs.Common.{◌<◌, arith, ◌≡◌, ◌∙◌, ◌++◌, ap
 use Rattle.enc_model.specs.Indexes.{IndexSet}
 use Rattle.spool_journal.specs.Image.{text_page}
 use Rattle.upload_rules.specs.Calls.{longer}
-use Rattle.upload_rules.specs.Grown.{IsGrown}
 use Rattle.upload_rules.proofs.Finds.{replaced_same}
 use Rattle.upload_rules.proofs.Growing.{grown_longer}
 use Rattle.spool_blocks.specs.Blocks.{Row}
-use Rattle.spool_drafts.specs.Drafts.{IsPlaced, Holds, Carries, IsLonger, number_of, with_piece, tail_of}
+use Rattle.spool_drafts.specs.Drafts.{Holds, Carries, IsLonger, number_of, with_piece, tail_of}
 use Rattle.spool_drafts.specs.declared.draft.SpoolDraft.{SpoolDraft}
-use Rattle.spool_kept.specs.Drafting.{DraftsFit, DraftsHold, IsOfUpload, DraftsStand, IsOwnedBy, IsStillOpen, StandsFor}
+use Rattle.spool_kept.specs.Drafting.{DraftsFit, IsOfUpload, DraftsStand, IsOwnedBy, IsStillOpen, StandsFor}
 use Rattle.spool_kept.proofs.drafts.Drafted.{reserves_only}
 use Rattle.spool_kept.proofs.SameView.{shows_still}
 use Rattle.spool_kept.specs.Holding.{Holding}
 use Rattle.spool_kept.proofs.drafts.DraftLonger.{answered, fit_longer, longer_carries, longer_holds, longer_world}
-use Rattle.spool_kept.proofs.drafts.DraftLonger.{moved}
-use Rattle.spool_kept.proofs.drafts.DraftLonger.{ok_more, stand_longer, went_back}
+use Rattle.spool_kept.proofs.drafts.DraftLonger.{moved, ok_more, stand_longer, went_back}
 use Rattle.spool_kept.proofs.drafts.OfUploads.{each_changed, of_longer}
 use Rattle.spool_kept.proofs.drafting.append.Goals as goal
 use Rattle.std.proofs.lemmas.Option.{same_Some}
@@ -22,8 +20,7 @@ use Rattle.spool_kept.proofs.commits.CommitHead.{opened, own_draft}
 
 pub append-answer-requires-clause-placed : goal.append-answer-requires-clause-placed
 append-answer-requires-clause-placed g c =
-    subst (λ (h : Holding). IsPlaced h.layout c.in-Some.draft) (sym c.kept.view_is)
-    (c.requires.fits.blocks.placed c.args.number c.in-Some.draft (sym c.in-Some.ensures.taken))
+    rw (← c.kept.view_is) at (c.requires.fits.blocks.placed c.args.number c.in-Some.draft (sym c.in-Some.ensures.taken))
 
 pub returns-clause-fits : goal.returns-clause-fits
 returns-clause-fits g c =
@@ -78,8 +75,7 @@ returns-clause-answer g c sure w p s there fits =
     let current = g.D.Disk.current disk in
     let current' = g.D.Disk.current disk' in
     let ix : c.kept.inside.indexes ≡ w.store.indexes = s'.stored.keeps.indexes ∙ shows.indexes in
-    let fit = subst (λ (k : Holding). DraftsHold k.layout k.blocks before)
-    (sym c.kept.view_is) c.requires.fits.blocks in
+    let fit = rw (← c.kept.view_is) at c.requires.fits.blocks in
     let fit' = (returns-clause-fits g c).blocks in
     let on = went_back number new here c.taken.ensures.after c.put_back.ensures effect.grasp in
     let is = own_draft (opened number s' there c.in-Some.ensures.taken) in
@@ -95,8 +91,7 @@ returns-clause-answer g c sure w p s there fits =
     let longer_stands = stand_longer current' s'.stands fit on rows
     (λ known. (effect.writes (honest known)).writes.outside) in
     let tail : IsStillOpen w.store p → IsOwnedBy records h'.rows p.number (tail_of new) =
-    λ still. subst (IsOwnedBy records h'.rows p.number) (sym c.append-answer.ensures.same.4)
-    (subst (λ (r : List Row). IsOwnedBy records r p.number (tail_of o)) (sym rows) (is.tail still)) in
+    λ still. rw (← c.append-answer.ensures.same.4) at (rw (← rows) at (is.tail still)) in
     let same_patches = replaced_same number p w.patches there in
     answered _ _ c.append-answer.result (ok_more c.append-answer.result (c.append-answer.ensures.answer p held fits)
     (λ (known : (sure ≡ true) × IsStillOpen w.store p). c.append-answer.ensures.content p (honest known.0) held fits
@@ -109,22 +104,18 @@ returns-clause-answer g c sure w p s there fits =
           is_longer;
       below = is.below;
       carries = λ known still. longer_carries s'.stands fit on rows shows s'.stored.keeps.rows
-          c.rows-rows.ensures.reserved fit' p piece current' is_longer
-          (subst (λ (x : IndexSet). Carries x current' first (with_piece p piece) new) ix (carries (known, still)));
+          c.rows-rows.ensures.reserved fit' p piece current' is_longer (rw ix at (carries (known, still)));
       tail = tail;
     })))
     (λ e. record {
       stored = stored;
-      stands = subst (λ ps. DraftsStand (sure ≡ true) w.store.indexes current' first records h'
-          (record w { patches = ps }) after) same_patches
-          (longer_stands p p there (subst (λ ps. IsGrown (record w { patches = ps })) (sym same_patches)
-          s'.stands.grown)
-          record {
-            holds = subst (λ (x : IndexSet). Holds x p new) ix (c.append-answer.ensures.holds_on p held e);
-            below = is.below;
-            carries = λ known still. subst (λ (x : IndexSet). Carries x current' first p new) ix
-                (c.append-answer.ensures.content_on p (honest known) e
-                (subst (λ (x : IndexSet). Carries x current first p o) (sym ix) (is.carries known still)));
-            tail = tail;
-          });
+      stands = subst (λ ps. DraftsStand (sure ≡ true) w.store.indexes current' first records h' (record w {
+        patches = ps;
+      }) after) same_patches (longer_stands p p there (rw (← same_patches) at s'.stands.grown) record {
+        holds = subst (λ (x : IndexSet). Holds x p new) ix (c.append-answer.ensures.holds_on p held e);
+        below = is.below;
+        carries = λ known still. rw ix at (c.append-answer.ensures.content_on p (honest known) e
+            (rw (← ix) at (is.carries known still)));
+        tail = tail;
+      });
     }) c.append-answer.ensures.no_refusal

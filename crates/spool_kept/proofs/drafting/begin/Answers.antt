@@ -1,10 +1,10 @@
-use Rattle.std.proofs.Common.{◌<◌, List, Option, Some, subst, sym, refl}
+use Rattle.std.proofs.Common.{◌<◌, Some, refl}
 use Rattle.std.proofs.lemmas.Option.{same_Some}
 use Rattle.spool_drafts.specs.Drafts.{number_of}
 use Rattle.spool_drafts.specs.declared.draft.SpoolDraft.{SpoolDraft}
 use Rattle.spool_pages.proofs.Resting.{rests_says}
 use Rattle.upload_rules.specs.Store.{upload_of}
-use Rattle.spool_kept.specs.Drafting.{IsOfUpload, StandsFor}
+use Rattle.spool_kept.specs.Drafting.{IsOfUpload}
 use Rattle.spool_kept.proofs.drafts.DraftBegun.{begin_allowed, begin_late, begin_refused, begins, changed_more}
 use Rattle.spool_kept.proofs.drafts.DraftBegun.{fit_begun}
 use Rattle.spool_kept.proofs.drafts.OfUploads.{each_changed}
@@ -30,11 +30,9 @@ returns-in-Ok-placed-clause-fits g c =
       blocks = fit_begun placed c.args.kept.now.layout c.args.kept.now.blocks c.requires.fits.blocks
           c.in-Ok.ensures.none c.in-Ok.ensures.placed;
       below = each_changed (λ (o : SpoolDraft). number_of o < next) before after d (Some c.in-Ok.draft) changed
-          c.requires.fits.below
-          (λ a e. subst (λ (o : SpoolDraft). number_of o < next) (same_Some c.in-Ok.draft a e) c.in-Ok.ensures.below);
+          c.requires.fits.below (λ a e. rw (same_Some c.in-Ok.draft a e) at c.in-Ok.ensures.below);
       uploads = each_changed (IsOfUpload c.args.kept.now.slots) before after d (Some c.in-Ok.draft) changed
-          c.requires.fits.uploads
-          (λ a e. subst (IsOfUpload c.args.kept.now.slots) (same_Some c.in-Ok.draft a e) c.in-Ok.ensures.of_upload);
+          c.requires.fits.uploads (λ a e. rw (same_Some c.in-Ok.draft a e) at c.in-Ok.ensures.of_upload);
     }
 
 pub returns-in-Ok-placed-clause-answer : goal.returns-in-Ok-placed-clause-answer
@@ -53,6 +51,5 @@ returns-in-Err-placed-clause-answer g c sure disk w s =
     let n = c.args.number in
     let opens = c.in-Ok.ensures.opened s.stored.view w.store s.stored.keeps s.stored.shows in (
       begin_late s n c.args.offset c.args.count c.args.declare (upload_of w.store n) c.in-Ok.draft refl opens,
-      subst (λ (drafts : List (Option SpoolDraft)). StandsFor sure g.D.Disk disk c.args.kept.now drafts w)
-          (sym c.in-Err-placed.ensures.err) s,
+      rw (← c.in-Err-placed.ensures.err) at s,
     )

@@ -15,50 +15,12 @@ use Rattle.spool_kept.proofs.extending.extend.Given.{Over}
 use Rattle.spool_kept.proofs.extending.extend.Goals as goal
 use Rattle.spool_kept.proofs.extending.extend.Goals.{After-change}
 
-pub fill_rows-requires-clause-area : goal.fill_rows-requires-clause-area
-fill_rows-requires-clause-area g c =
-    let longer = c.in_ok-take_over.ensures.longer c.requires.may.used c.requires.may.there in
-    rw (ap (λ (k : Holding). k.layout) c.kept.view_is ∙ longer.layout) c.in_ok-pages.ensures.area
-
-pub change-requires-clause-room : goal.change-requires-clause-room
-change-requires-clause-room g c =
-    let longer = c.in_ok-take_over.ensures.longer c.requires.may.used c.requires.may.there in
-    rw (c.write_last.ensures.size, ap (λ (k : Holding). k.layout) c.kept.view_is ∙ longer.layout) c.requires.room
-
-pub write_last-requires-clause-room : goal.write_last-requires-clause-room
-write_last-requires-clause-room g c =
-    let longer = c.in_ok-take_over.ensures.longer c.requires.may.used c.requires.may.there in
-    rw (ap (λ (k : Holding). k.layout) c.kept.view_is ∙ longer.layout) c.requires.room
-
 pub write_last-requires-clause-blocks : goal.write_last-requires-clause-blocks
 write_last-requires-clause-blocks g c i lt =
     let longer = c.in_ok-take_over.ensures.longer c.requires.may.used c.requires.may.there in
     let fits = subst FitsTogether c.kept.view_is c.kept.invariant in
     let size = (longer.rows (omega (arith, lt))).size in
     omega (arith, c.requires.reserved.below i lt, size, fits.row_count, ap (λ (k : Holding). k.layout) c.kept.view_is)
-
-pub returns-in_err-change-clause-layout : goal.returns-in_err-change-clause-layout
-returns-in_err-change-clause-layout g c =
-    (c.in_ok-take_over.ensures.longer c.requires.may.used c.requires.may.there).layout
-
-pub returns-clause-layout : goal.returns-clause-layout
-returns-clause-layout g c = (c.in_ok-take_over.ensures.longer c.requires.may.used c.requires.may.there).layout
-
-pub returns-in_err-write_last-clause-layout : goal.returns-in_err-write_last-clause-layout
-returns-in_err-write_last-clause-layout g c =
-    (c.in_ok-take_over.ensures.longer c.requires.may.used c.requires.may.there).layout
-
-pub returns-in_err-change-clause-version : goal.returns-in_err-change-clause-version
-returns-in_err-change-clause-version g c =
-    (c.in_ok-take_over.ensures.longer c.requires.may.used c.requires.may.there).version
-
-pub returns-clause-version : goal.returns-clause-version
-returns-clause-version g c =
-    (c.in_ok-take_over.ensures.longer c.requires.may.used c.requires.may.there).version
-
-pub returns-in_err-write_last-clause-version : goal.returns-in_err-write_last-clause-version
-returns-in_err-write_last-clause-version g c =
-    (c.in_ok-take_over.ensures.longer c.requires.may.used c.requires.may.there).version
 
 -- THE DISK
 

@@ -1,4 +1,4 @@
-use Rattle.std.proofs.Common.{rules, ◌≡◌, ◌-◌, ◌≤◌, ℕ, List, subst, sym, arith}
+use Rattle.std.proofs.Common.{rules, ◌≡◌, ◌-◌, ◌≤◌, ℕ, List, subst, arith}
 use Rattle.std.specs.List.{remove}
 use Rattle.spool_kept.specs.declared.order.NumberedSlot.{NumberedSlot}
 use Rattle.spool_kept.specs.Holding.{IsPlaceFor, Lists, Rises}
@@ -27,8 +27,7 @@ place_is : (c : After-places_to-place) → IsPlaceFor c.args.order.now.items c.a
 place_is c =
     let order = c.args.order.now.items in
     let same : order ≡ c.deref.result.now = search rules in
-    subst (λ (items : List NumberedSlot). IsPlaceFor items c.args.number c.places_to-place.result) (sym same)
-    (c.places_to-place.ensures.place (subst Rises same c.requires.rises))
+    rw (← same) at (c.places_to-place.ensures.place (subst Rises same c.requires.rises))
 
 pub overflow_sub-place : goal.overflow_sub-place
 overflow_sub-place c =
@@ -38,6 +37,5 @@ overflow_sub-place c =
 pub returns : goal.returns
 returns c =
     let order = c.args.order.now.items in
-    subst (IsWithout order c.args.number) (sym c.remove.ensures.items)
-    (taken order c.args.number c.places_to-place.result c.requires.rises
+    rw (← c.remove.ensures.items) at (taken order c.args.number c.places_to-place.result c.requires.rises
     (place_is (goal.at.returns c).After-places_to-place) c.requires.listed)

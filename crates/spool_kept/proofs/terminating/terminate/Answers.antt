@@ -47,9 +47,7 @@ returns-clause-answer g c sure w stands =
 
 out_of : (g : Over) (c : After-take_out g) (slot : ℕ) → IsUsedBy c.args.kept.now.slots slot c.args.number
     → IsTakenOut c.args.kept.now slot c.take_out.new.self
-out_of g c slot used =
-    subst (λ (s : ℕ). IsTakenOut c.args.kept.now s c.take_out.new.self) (sym (c.in-Some.ensures.only slot used))
-    c.take_out.ensures
+out_of g c slot used = rw (← (c.in-Some.ensures.only slot used)) at c.take_out.ensures
 
 pub returns-in-Ok-change-clause-taken_out : goal.returns-in-Ok-change-clause-taken_out
 returns-in-Ok-change-clause-taken_out g c _ =
@@ -104,9 +102,8 @@ returns-in-Ok-change-clause-answer g c sure w stands =
     (subst FitsTogether c.kept.view_is c.kept.invariant) c.in-Ok-change.ensures.honest.0
     (λ known v v' blocks. c.in-Ok-change.ensures.done (stored.honest known) v v' (blocks ∙ layout)) in
     let texts : sure ≡ true → (p : ℕ) → 4096 * text_page h.layout ≤ p → g.D.Disk.current d' p ≡ g.D.Disk.current d p =
-    λ known. subst (λ (n : ℕ). (p : ℕ) → 4096 * text_page n ≤ p → g.D.Disk.current d' p ≡ g.D.Disk.current d p) same
-    (c.in-Ok-change.ensures.texts (stored.honest known) stored.view (sym stored.keeps.blocks ∙ sym same)
-    (stored.rests known)) in (
+    λ known. rw same at (c.in-Ok-change.ensures.texts (stored.honest known) stored.view
+    (sym stored.keeps.blocks ∙ sym same) (stored.rests known)) in (
       may g (goal.at.returns-in-Ok-change-clause-answer g c).In-Some w stands,
       stands_forgotten c.args.number c.args.drafts.now.items c.forget_tails.new.drafts.items c.forget_tails.ensures
           (none_in_others c.args.number w.store.uploads) (stands_after c.in-Some.ensures.used out stands now texts),

@@ -1,6 +1,5 @@
-use Rattle.std.proofs.Common.{ℕ, ap, subst, sym}
+use Rattle.std.proofs.Common.{ap}
 use Rattle.spool_kept.specs.Holding.{Holding}
-use Rattle.spool_kept.specs.Creating.{IsNewRecord}
 use Rattle.spool_kept.proofs.NewRecords.{new_fits, new_record}
 use Rattle.spool_kept.proofs.kept.Kept.new_record.Goals as goal
 
@@ -12,5 +11,4 @@ pub returns : goal.returns
 returns c =
     let made = new_record c.args.self.now.indexes c.self.inside.next c.first.result c.args.new c.first.ensures.kept
     c.requires in
-    subst (λ (n : ℕ). IsNewRecord n c.args.new c.new.result) (ap (λ (k : Holding). k.next) c.self.view_is)
-    (subst (IsNewRecord c.self.inside.next c.args.new) (sym c.new.ensures) made)
+    rw (ap (λ (k : Holding). k.next) c.self.view_is) at (rw (← c.new.ensures) at made)

@@ -1,6 +1,6 @@
 use Rattle.std.proofs.Common.{rules, ◌≡◌, ◌<◌, ◌∙◌, Option, None, Some, List, get_or, ap, subst, arith}
 use Rattle.spool_pages.specs.View.{SlotRecord}
-use Rattle.spool_kept.specs.Holding.{Orders, OwnsText}
+use Rattle.spool_kept.specs.Holding.{OwnsText}
 use Rattle.spool_kept.proofs.slots.Keeps.{fits_with, keeps_itself, keeps_view}
 use Rattle.spool_kept.proofs.Valid.{slots_distinct, in_use}
 use Rattle.spool_kept.proofs.numbers.Ordered.{orders_distinct}
@@ -25,8 +25,7 @@ pub returns-clause-distinct : goal.returns-clause-distinct
 returns-clause-distinct c =
     let same : c.deref.result.now ≡ c.args.slots.items = search rules in
     orders_distinct c.args.slots.items c.in_ok-order.order.items c.requires.slots
-    (subst (λ (xs : List (Option SlotRecord)). Orders xs c.in_ok-order.order.items 512) same
-    c.in_ok-order.ensures.orders)
+    (rw same at c.in_ok-order.ensures.orders)
 
 pub returns-clause-whole : goal.returns-clause-whole
 returns-clause-whole c s r here =

@@ -1,8 +1,5 @@
-use Rattle.std.proofs.Common.{◌≡◌, ◌∙◌, ◌-◌, List, Option, ℕ, ap, length, min, refl, subst, sym}
-use Rattle.spool_journal.specs.Image.{text_page}
-use Rattle.spool_texts.specs.TextOn.{text_on}
+use Rattle.std.proofs.Common.{◌≡◌, ◌∙◌, ◌-◌, Option, ℕ, ap, length, min, refl, subst, sym}
 use Rattle.upload_rules.specs.Answers.{IsLate}
-use Rattle.upload_rules.specs.Reading.{IsRead}
 use Rattle.upload_rules.specs.declared.errors.UploadRefusal.{UploadRefusal}
 use Rattle.upload_rules.specs.Store.{text_of, upload_of}
 use Rattle.spool_kept.specs.Holding.{Holding}
@@ -35,10 +32,7 @@ returns-in-Ok-clause-answer g c honest m v kept shows says =
     let layout : c.self.inside.layout ≡ c.args.self.now.layout = ap (λ (k : Holding). k.layout) c.self.view_is in
     let read = same_read _ c.args.at c.in-Ok.count c.args.buf.now c.read_text.new.buf (c.in-Ok.ensures.read honest) in (
       there.0,
-      subst (λ (text : List ℕ). IsRead text c.args.at c.in-Ok.count c.args.buf.now c.read_text.new.buf) (sym there.1)
-          (subst (λ (n : ℕ). IsRead
-          (text_on current (text_page n) c.in-Some.found.list.now c.in-Some.found.upload.now.text_len)
-          c.args.at c.in-Ok.count c.args.buf.now c.read_text.new.buf) layout read),
+      rw (← there.1) at (rw layout at read),
     )
 
 pub returns-in-Err-clause-answer : goal.returns-in-Err-clause-answer

@@ -1,8 +1,5 @@
-use Rattle.std.proofs.Common.{rules, ◌≡◌, ◌∙◌, List, Option, None, Some, get_or, option_copied, ap, subst, sym}
+use Rattle.std.proofs.Common.{rules, ◌≡◌, None, Some, option_copied, sym}
 use Rattle.upload_rules.specs.Store.{upload_of}
-use Rattle.upload_rules.specs.declared.records.Record.{Record}
-use Rattle.spool_pages.specs.View.{SlotRecord}
-use Rattle.spool_kept.specs.Records.{KeepsOf}
 use Rattle.spool_kept.proofs.Answered.{found, kept_none, kept_some, kept_tells, no_upload}
 use Rattle.spool_kept.proofs.kept.Kept.record.Goals as goal
 
@@ -10,8 +7,7 @@ pub returns-in_err-slot-clause-kept : goal.returns-in_err-slot-clause-kept
 returns-in_err-slot-clause-kept c v m kept shows =
     let none : option_copied c.from_residual.result ≡ None = search rules in
     let empty = no_upload kept shows c.args.number c.in_err-slot.ensures.used in
-    subst (λ (o : Option Record). KeepsOf m.indexes c.args.number (upload_of m c.args.number) o) (sym none)
-    (kept_none m.indexes c.args.number (upload_of m c.args.number) empty)
+    rw (← none) at (kept_none m.indexes c.args.number (upload_of m c.args.number) empty)
 
 pub returns-in_err-slot-clause-told : goal.returns-in_err-slot-clause-told
 returns-in_err-slot-clause-told c v m kept shows =
@@ -20,13 +16,9 @@ returns-in_err-slot-clause-told c v m kept shows =
 
 pub returns-clause-kept : goal.returns-clause-kept
 returns-clause-kept c v m kept shows =
-    let h = c.args.self.now in
-    let q = c.in_ok-kept.kept.now in
     let n = c.args.number in
-    let same : c.deref.result.now ≡ h.slots = search rules in
-    let here : get_or h.slots c.in_ok-slot.slot None ≡ Some q =
-    ap (λ (xs : List (Option SlotRecord)). get_or xs c.in_ok-slot.slot None) (sym same) ∙ sym c.in_ok-kept.ensures in
-    let told = found kept shows here c.in_ok-slot.ensures.used c.record.ensures.said c.record.ensures.unpacked in
+    let told = found kept shows (sym c.in_ok-kept.ensures.kept) c.in_ok-slot.ensures.used c.record.ensures.said
+    c.record.ensures.unpacked in
     kept_some m.indexes n (upload_of m n) told.0 c.record.result.now told.1 told.2
 
 pub returns-clause-told : goal.returns-clause-told

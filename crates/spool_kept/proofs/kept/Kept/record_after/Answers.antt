@@ -1,9 +1,8 @@
-use Rattle.std.proofs.Common.{rules, ◌≡◌, ◌∙◌, ◌<◌, ◌≤◌, ℕ, List, Option, None, Some, length, get_or, option_copied, ap}
+use Rattle.std.proofs.Common.{rules, ◌≡◌, ◌∙◌, ◌<◌, ◌≤◌, ℕ, List, Option, None, Some, length, option_copied, ap}
 use Rattle.std.proofs.Common.{subst, sym}
 use Rattle.std.proofs.lemmas.List.{get_or_default}
 use Rattle.upload_rules.specs.Records.{TellsOf}
 use Rattle.upload_rules.specs.Store.{Upload}
-use Rattle.spool_pages.specs.View.{SlotRecord}
 use Rattle.spool_kept.specs.declared.order.NumberedSlot.{NumberedSlot}
 use Rattle.spool_kept.specs.Holding.{numbered, IsPlaceFor, Rises}
 use Rattle.spool_kept.proofs.Answered.{found, named, none_after, some_after}
@@ -33,17 +32,12 @@ returns-in_err-kept c v m kept shows =
     let entry = c.in_ok-slot.field-0.now in
     let first : c.deref.result.now ≡ h.order = search rules in
     let second : c.deref-2.result.now ≡ h.order = search rules in
-    let third : c.deref-3.result.now ≡ h.slots = search rules in
-    let is = subst (λ (order : List NumberedSlot). IsPlaceFor order n place) first
-    (c.places_to-place.ensures.place (subst Rises (sym first) kept.ordered.rises)) in
+    let is = rw first at (c.places_to-place.ensures.place (subst Rises (sym first) kept.ordered.rises)) in
     let inside = subst (λ (order : List NumberedSlot). place < length order) second c.in_ok-slot.ensures.lookup.3.0 in
-    let here = subst (λ (order : List NumberedSlot). entry ≡ get_or order place entry) second
-    c.in_ok-slot.ensures.lookup.1 in
+    let here = rw second at c.in_ok-slot.ensures.lookup.1 in
     let used = named kept shows n place is entry.number entry.slot inside
     (sym (here ∙ get_or_default h.order place entry (numbered 0 0) inside)) in
-    let free : get_or h.slots entry.slot None ≡ None =
-    ap (λ (xs : List (Option SlotRecord)). get_or xs entry.slot None) (sym third) ∙ sym c.in_err-kept.ensures in
-    clash free used.there
+    clash (sym c.in_err-kept.ensures.kept) used.there
 
 pub returns : goal.returns
 returns c v m kept shows =
@@ -51,20 +45,14 @@ returns c v m kept shows =
     let n = c.args.number in
     let place = c.places_to-place.result in
     let entry = c.in_ok-slot.field-0.now in
-    let q = c.in_ok-kept.kept.now in
     let r = c.record.result.now in
     let first : c.deref.result.now ≡ h.order = search rules in
     let second : c.deref-2.result.now ≡ h.order = search rules in
-    let third : c.deref-3.result.now ≡ h.slots = search rules in
-    let is = subst (λ (order : List NumberedSlot). IsPlaceFor order n place) first
-    (c.places_to-place.ensures.place (subst Rises (sym first) kept.ordered.rises)) in
+    let is = rw first at (c.places_to-place.ensures.place (subst Rises (sym first) kept.ordered.rises)) in
     let inside = subst (λ (order : List NumberedSlot). place < length order) second c.in_ok-slot.ensures.lookup.3.0 in
-    let here = subst (λ (order : List NumberedSlot). entry ≡ get_or order place entry) second
-    c.in_ok-slot.ensures.lookup.1 in
+    let here = rw second at c.in_ok-slot.ensures.lookup.1 in
     let at = sym (here ∙ get_or_default h.order place entry (numbered 0 0) inside) in
     let used = named kept shows n place is entry.number entry.slot inside at in
-    let said : get_or h.slots entry.slot None ≡ Some q =
-    ap (λ (xs : List (Option SlotRecord)). get_or xs entry.slot None) (sym third) ∙ sym c.in_ok-kept.ensures in
-    let told = found kept shows said used c.record.ensures.said c.record.ensures.unpacked in
+    let told = found kept shows (sym c.in_ok-kept.ensures.kept) used c.record.ensures.said c.record.ensures.unpacked in
     let next = some_after kept shows n place is entry.number entry.slot inside at told.0 told.1 in
     subst (λ (o : Option (ℕ × Upload)). TellsOf m.indexes o (Some r)) (sym next) told.2.tells

@@ -1,4 +1,4 @@
-use Rattle.std.proofs.Common.{rules, ◌≡◌, ℕ, List, Option, MatchOption, subst, sym}
+use Rattle.std.proofs.Common.{rules, ◌≡◌, ℕ, List, Option, MatchOption, subst}
 use Rattle.spool_kept.specs.declared.order.NumberedSlot.{NumberedSlot}
 use Rattle.spool_kept.specs.Holding.{FitsTogether, Lists, Rises}
 use Rattle.spool_kept.proofs.Answered.{used_of}
@@ -12,8 +12,7 @@ is_found : (c : goal.After-slot_of) → IsFound c.slot_of.result c.args.self.now
 is_found c =
     let fits = subst FitsTogether c.self.view_is c.self.invariant in
     let same : c.args.self.now.order ≡ c.deref.result.now = search rules in
-    subst (λ (order : List NumberedSlot). IsFound c.slot_of.result order c.args.number) (sym same)
-    (c.slot_of.ensures (subst Rises same fits.ordered.rises))
+    rw (← same) at (c.slot_of.ensures (subst Rises same fits.ordered.rises))
 
 pub returns-clause-used : goal.returns-clause-used
 returns-clause-used c =

@@ -8,8 +8,7 @@ abbrev IsPut : Holding → (c : goal.After-self-2-1) → Type 0
 IsPut h c = IsAdded h.order h.next c.args.slot c.put.new.order.items
 
 added : (c : goal.After-self-2-1) → IsPut (held_of c.self.inside) c
-added c =
-    c.in_ok-put.ensures.added c.self.invariant.ordered.rises (next_free (held_of c.self.inside) c.self.invariant)
+added c = c.in_ok-put.ensures.added c.self.invariant.ordered.rises (next_free (held_of c.self.inside) c.self.invariant)
 
 pub invariant_of-self-2 : goal.invariant_of-self-2
 invariant_of-self-2 c =
