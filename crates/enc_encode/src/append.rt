@@ -56,6 +56,7 @@ fn append_in_parts(bytes: &[u8], out: &mut Vec<u8>) -> Result<(), AllocError>
 
 /// Appends bytes, or if memory ends, as many of them as there is memory for. A vector asks for more than it needs, so
 /// that it grows seldom: where only that is refused, all are appended.
+#[tactic(auto, using(crate::proofs::Growth::again))]
 pub fn append(bytes: &[u8], out: &mut Vec<u8>) -> Result<(), AllocError>
     ensures grew { Grew out.old bytes.now out.new result }
     ensures full { OnErr result (vec_capacity out.old ≤ length out.new.items) }

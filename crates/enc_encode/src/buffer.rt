@@ -279,6 +279,7 @@ impl Buffer {
 
     /// Puts the bytes of a character after the others, after it has seen to room.
     #[inline(always)]
+    #[tactic(auto, using(crate::proofs::Helds::held_more))]
     pub fn hold(&mut self, bytes: Bytes, out: &mut Vec<u8>) -> Result<(), AllocError>
         ensures ok { OnOk result (Passed out.old self.old (bytes_of bytes) out.new self.new) }
         ensures err { OnErr result (Stopped out.old self.old out.new) }

@@ -65,6 +65,7 @@ const ISO_2022_JP: usize = 3;
 
 /// How many of the lanes, from the first, are ASCII that an encoder writes as it is.
 #[inline(always)]
+#[tactic(auto, using(crate::proofs::Prefixes::own_switched, crate::proofs::Prefixes::own_other))]
 fn own_lanes(to: Encoding, shift: ShiftState, lanes: &[u8; LANES]) -> usize
     ensures { result ≡ prefix_len (own_byte to (shift_of shift)) lanes.now }
 {

@@ -70,6 +70,7 @@ fn put_bytes<const N: usize>(held: &mut [u8; ROOM], from: usize, bytes: [u8; N])
 
 /// The last five digits of a number, the last one at the end.
 #[inline(always)]
+#[tactic(auto, using(crate::proofs::Digits::three, crate::proofs::Digits::four, crate::proofs::Digits::five))]
 fn last_digits(number: u32) -> [u8; 5]
     ensures three { 100 ≤ number → number < 1000
         → slice_index result 2 ∷ slice_index result 3 ∷ slice_index result 4 ∷ [] ≡ decimal number }

@@ -61,6 +61,7 @@ fn put_singles<'a>(
 /// Puts the first so many bytes of lanes after the first so many. All lanes are stored, so that nothing depends on how
 /// many.
 #[inline(always)]
+#[tactic(auto, using(crate::proofs::Puts::stored))]
 fn store_prefix(held: &mut [u8; ROOM], from: usize, lanes: &[u8; LANES], count: usize)
     requires few { count ≤ LANES }
     requires room { from + LANES ≤ ROOM }
@@ -134,6 +135,7 @@ fn put_each(held: &mut [u8; ROOM], from: usize, bytes: &[u8]) -> usize
 
 /// Puts the bytes of a few letters after the first so many, as `store_prefix` those of lanes.
 #[inline(always)]
+#[tactic(auto, using(crate::proofs::Puts::stored))]
 fn store_letters(held: &mut [u8; ROOM], from: usize, bytes: &[u8; LETTERS_AT_ONCE], count: usize)
     requires few { count ≤ LETTERS_AT_ONCE }
     requires room { from + LETTERS_AT_ONCE ≤ ROOM }

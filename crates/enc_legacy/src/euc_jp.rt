@@ -102,6 +102,7 @@ impl PairReader for EucJpState {
     ghost stand_for = { IsEucJpPair };
 
     #[inline(always)]
+    #[tactic(auto, using(crate::proofs::EucBytes::euc_read))]
     fn ready_pair<'a>(
         &self,
         ready: &'a [Option<Utf8Char>],

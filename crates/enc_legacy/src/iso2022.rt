@@ -240,6 +240,7 @@ impl PairReader for Iso2022State {
 
     // The bytes are those of EUC-JP without the top bit.
     #[inline(always)]
+    #[tactic(auto, using(crate::proofs::EucBytes::iso_read))]
     fn ready_pair<'a>(
         &self,
         ready: &'a [Option<Utf8Char>],

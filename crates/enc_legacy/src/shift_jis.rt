@@ -107,6 +107,7 @@ impl PairReader for ShiftJisState {
     ghost stand_for = { IsShiftJisPair };
 
     #[inline(always)]
+    #[tactic(auto, using(crate::proofs::SjisBytes::sjis_read))]
     fn ready_pair<'a>(
         &self,
         ready: &'a [Option<Utf8Char>],

@@ -156,6 +156,7 @@ impl SingleState {
     /// # Errors
     ///
     /// The sink's refusal, at once; nothing is known of the state afterwards.
+    #[tactic(auto, using(crate::proofs::SinglesSteps::single_in_steps, crate::proofs::SinglesSteps::same_encoding))]
     pub fn feed<S: Sink>(
         &mut self,
         indexes: &IndexSet,
@@ -177,6 +178,7 @@ impl SingleState {
     /// # Errors
     ///
     /// The sink's refusal, at once; nothing is known of the state afterwards.
+    #[tactic(auto, using(crate::proofs::SinglesSteps::single_in_steps, crate::proofs::SinglesSteps::same_encoding))]
     pub fn finish<S: Sink>(&mut self, indexes: &IndexSet, sink: &mut S) -> Result<(), S::Refusal>
         ensures given { Given S.takes S.refuses sink.old
             (steps (single ((tables indexes.now).single self.old)) true single_start []).text sink.new result }

@@ -111,6 +111,7 @@ fn read_ready<D: PairDecoder>(
 
 /// Decodes leading ASCII, or ready pairs, or else one byte. Returns how many bytes.
 #[inline(always)]
+#[tactic(auto, using(crate::proofs::Strides::after_nothing))]
 pub fn read_run<D: PairDecoder>(
     state: &mut D,
     tables: &D::Tables,

@@ -1,5 +1,5 @@
 -- Each handler is calm.
-use Rattle.std.proofs.Common.{Some, None, arith, true, false, refl, [], ◌==◌, Bool, lit≤, if◌then◌else◌, ℕ}
+use Rattle.std.proofs.Common.{Some, None, arith, true, false, refl, [], ◌==◌, Bool, lit≤, if◌then◌else◌}
 use Rattle.std.proofs.lemmas.Grind.{common_steps}
 use Rattle.enc_model.specs.Index.{Index}
 use Rattle.enc_model.specs.declared.Answer.TheVariants.{Error, Finished}
@@ -7,9 +7,9 @@ use Rattle.enc_model.specs.declared.Charset.TheVariants.{Ascii, Roman, Katakana,
 use Rattle.enc_model.specs.declared.Introducer.TheVariants.{Dollar, Paren}
 use Rattle.enc_model.specs.declared.Place.TheVariants.{In, Trail, EscapeStart, Escape}
 use Rattle.enc_model.specs.Stream.{Ends, EndsStep, IsCalm}
-use Rattle.enc_model.specs.Utf8.{utf8, Utf8, utf8_start}
-use Rattle.enc_model.specs.Utf16.{utf16, Utf16, utf16_end}
-use Rattle.enc_model.specs.Japanese.{single, shift_jis, euc_jp, EucJp, euc_jp_start, iso2022, Iso2022}
+use Rattle.enc_model.specs.Utf8.{utf8, utf8_start}
+use Rattle.enc_model.specs.Utf16.{utf16, utf16_end}
+use Rattle.enc_model.specs.Japanese.{single, shift_jis, euc_jp, euc_jp_start, iso2022, Iso2022}
 use Rattle.enc_model.specs.Japanese.{iso2022_end}
 
 pub utf8_calm : IsCalm utf8

@@ -389,6 +389,7 @@ impl Batch {
 
     /// Appends ASCII.
     #[inline(always)]
+    #[tactic(auto, using(crate::proofs::Gathered::ascii_utf8, crate::proofs::Gathered::ascii_chars))]
     pub fn push_ascii(&mut self, run: &[u8])
         requires ascii { All (λ b. b < 128) run.now }
         requires room { length self.old + length run.now ≤ ROOM }
@@ -422,6 +423,7 @@ impl Sink for Batch {
         Ok(())
     }
 
+    #[tactic(auto, using(crate::proofs::Gathered::chars_size))]
     fn text(&mut self, run: &str) -> Result<(), Full> {
         if self.left() < run.len() {
             return Err(Full);

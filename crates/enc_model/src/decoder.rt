@@ -241,6 +241,7 @@ fn give_prefixes<D: BlockDecoder, S: Sink>(
 /// # Errors
 ///
 /// The sink's refusal, at once; nothing is known of the state afterwards.
+#[tactic(auto, using(crate::proofs::Parts::rest_given, crate::proofs::Parts::rest_state))]
 pub fn feed<D: BlockDecoder, S: Sink>(
     state: &mut D,
     tables: &D::Tables,

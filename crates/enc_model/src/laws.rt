@@ -22,6 +22,7 @@ pub fn restored_first()
 {}
 
 /// The steps over b ++ c are those over b, and then those over c from the state after b.
+#[tactic(auto, using(crate::proofs::Pieces::decoding_append))]
 pub fn in_any_cut()
     ensures { (t : Tables) (ended : Bool) (s : Decoding) (b c : List ℕ) →
         decoding t ended s (b ++ c) ≡ after_run (decoding t false s b).text
@@ -29,6 +30,7 @@ pub fn in_any_cut()
 {}
 
 /// Decoding with BOM sniffing can be continued after any bytes.
+#[tactic(auto, using(crate::proofs::Pieces::advance_more, crate::proofs::Pieces::conclude_all))]
 pub fn with_a_bom()
     ensures more { (t : Tables) (e : Encoding) (b c : List ℕ) → advance t e (decoded t e b false) c ≡ decoded t e
         (b ++ c) false }

@@ -1,8 +1,8 @@
 -- Before the first byte.
-use Rattle.std.proofs.Common.{◌≡◌, [], None, refl, sym, ap}
+use Rattle.std.proofs.Common.{[], sym, ap}
 use Rattle.enc_model.specs.declared.Encoding.{Encoding}
 use Rattle.enc_model.specs.declared.Mode.{Mode}
-use Rattle.enc_model.specs.Encode.{Tables, Shift, InAscii, Encoder, Coded, coded, coded_within, encoder}
+use Rattle.enc_model.specs.Encode.{Tables, InAscii, Coded, encoder}
 use Rattle.enc_model.specs.Transcode.{IsAt, phase_of}
 use Rattle.enc_model.proofs.Pieces.{decoded_none}
 use Rattle.enc_model.proofs.Transcoding.{coded_none}

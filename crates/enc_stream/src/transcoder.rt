@@ -186,6 +186,7 @@ impl Transcoder {
     /// - 16: the encoder's state, 0 for ASCII, 1 for Roman, 2 for jis0208.
     ///
     /// All others are 0.
+    #[tactic(auto, using(crate::proofs::Bytes::packed))]
     pub fn pack(&self) -> [u8; 32]
         requires { self.now.spent ≡ false }
         ensures bytes { result ≡ state_bytes self.now.transcoder }

@@ -1,8 +1,7 @@
 -- The bytes of words of units below 800 that a pack takes, and where they are written.
-use Rattle.std.proofs.Common.{ℕ, zero, suc, ◌+◌, ◌*◌, ◌-◌, ◌/◌, ◌%◌, ◌<◌, ◌≤◌, ◌≡◌, true, false, cond, ltb}
+use Rattle.std.proofs.Common.{ℕ, zero, suc, ◌+◌, ◌-◌, ◌/◌, ◌%◌, ◌<◌, ◌≤◌, ◌≡◌, true, false, cond, ltb}
 use Rattle.std.proofs.Common.{List, [], ◌∷◌, ◌++◌, All, map, length, replicate, take, drop, get_or, refl, ap, ap₂}
-use Rattle.std.proofs.Common.{sym, ◌∙◌, subst, arith, inl, inr, w8}
-use Rattle.std.proofs.lemmas.Bool.{cases_lt}
+use Rattle.std.proofs.Common.{sym, ◌∙◌, subst, arith, w8}
 use Rattle.std.proofs.lemmas.Bool.Decides.{nat_tests}
 use Rattle.std.proofs.lemmas.List.{get_or-drop, drop-drop, map-append}
 use Rattle.std.proofs.lemmas.List.FromFn.{get_or-map-range_with_len, get_or-range_with_len, length-range_with_len}
@@ -11,10 +10,9 @@ use Rattle.std.specs.List.{range_with_len}
 use Rattle.std.specs.Prelude.{count_ones}
 use lib.Lanes.{Each1, all_below, mask_l, put_chunk, zip2}
 use lib.Utf8.{encode, encodes}
-use Rattle.enc_model.proofs.Gathered.{one_byte, two_bytes}
 use Rattle.enc_unicode.specs.Packing.{narrow_word, narrow_word_bytes, narrow_places, narrow_row_of, size, sizes}
 use Rattle.enc_unicode.specs.declared.narrow_packs.TheConstants.{NARROW_PACKS}
-use Rattle.enc_unicode.proofs.Places.{all_small, at_row, bit, picks_written}
+use Rattle.enc_unicode.proofs.Places.{all_small, at_row, bit, picks_written, short_unit}
 
 -- how many bytes units below 800 take, by the bits of a mask
 abbrev sizes_in : ℕ → ℕ → List ℕ
@@ -78,20 +76,8 @@ row_for units a long small ea la =
 one_unit : (bytes : List ℕ) (p u : ℕ) → u < 2048 → get_or bytes p 0 ≡ narrow_word u % 256
     → get_or bytes (p + 1) 0 ≡ narrow_word u / 256 % 256 →
     map (λ j. get_or bytes j 0) (range_with_len p (size u)) ≡ encode u
-one_unit bytes p u small first second =
-    elim (cases_lt u 128) [
-      | inl l ↦
-          let n : size u ≡ 1 = grind (arith, nat_tests, l) in
-          let w : narrow_word u ≡ u = grind (arith, nat_tests, l) in
-          ap (λ n. map (λ j. get_or bytes j 0) (range_with_len p n)) n
-          ∙ ap (λ x. x ∷ []) (first ∙ ap (λ w. w % 256) w ∙ omega (arith, l)) ∙ sym (one_byte u l)
-      | inr h ↦
-          let n : size u ≡ 2 = grind (arith, nat_tests, small, h) in
-          let w : narrow_word u ≡ 0x80C0 + u / 64 + 256 * (u % 64) = grind (arith, nat_tests, small, h) in
-          ap (λ n. map (λ j. get_or bytes j 0) (range_with_len p n)) n
-          ∙ ap₂ (λ x y. x ∷ y ∷ []) (first ∙ ap (λ w. w % 256) w ∙ omega (arith, small))
-          (second ∙ ap (λ w. w / 256 % 256) w ∙ omega (arith, small)) ∙ sym (two_bytes u h small)
-    ]
+one_unit bytes p u small =
+    short_unit bytes p u (narrow_word u) small (λ h. grind (arith, nat_tests, h)) (λ h. grind (arith, nat_tests, h))
 
 -- what stands from a place on
 at_drop : (bytes : List ℕ) (p k : ℕ) (rest : List ℕ) → drop p bytes ≡ rest → get_or bytes (p + k) 0 ≡ get_or rest k 0

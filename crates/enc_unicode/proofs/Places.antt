@@ -104,35 +104,41 @@ row_for units a b long ea la eb lb =
     ∙ ap (places 0) (subst (λ n. sizes_in n (mask_l (map (λ u. ltb u 128) units))
     (mask_l (map (λ u. ltb u 2048) units)) ≡ sizes units) long (sizes_masks units))
 
--- a unit's bytes at a place
+-- a unit's bytes at a place: of one below 800, whose word has one byte or two, and of any
+pub short_unit : (bytes : List ℕ) (p u w : ℕ) → u < 2048 → (u < 128 → w ≡ u)
+    → (128 ≤ u → w ≡ 0x80C0 + u / 64 + 256 * (u % 64)) → get_or bytes p 0 ≡ w % 256
+    → get_or bytes (p + 1) 0 ≡ w / 256 % 256 →
+    map (λ j. get_or bytes j 0) (range_with_len p (size u)) ≡ encode u
+short_unit bytes p u w small one two first second =
+    elim (cases_lt u 128) [
+      | inl l ↦
+          let n : size u ≡ 1 = grind (arith, nat_tests, l) in
+          ap (λ n. map (λ j. get_or bytes j 0) (range_with_len p n)) n
+          ∙ ap (λ x. x ∷ []) (first ∙ ap (λ w. w % 256) (one l) ∙ omega (arith, l)) ∙ sym (one_byte u l)
+      | inr h ↦
+          let n : size u ≡ 2 = grind (arith, nat_tests, small, h) in
+          ap (λ n. map (λ j. get_or bytes j 0) (range_with_len p n)) n
+          ∙ ap₂ (λ x y. x ∷ y ∷ []) (first ∙ ap (λ w. w % 256) (two h) ∙ omega (arith, small))
+          (second ∙ ap (λ w. w / 256 % 256) (two h) ∙ omega (arith, small)) ∙ sym (two_bytes u h small)
+    ]
+
 one_unit : (bytes : List ℕ) (p u : ℕ) → u < 65536 → get_or bytes p 0 ≡ word u % 256
     → get_or bytes (p + 1) 0 ≡ word u / 256 % 256 → get_or bytes (p + 1 + 1) 0 ≡ word u / 65536 % 256 →
     map (λ j. get_or bytes j 0) (range_with_len p (size u)) ≡ encode u
 one_unit bytes p u small first second third =
-    elim (cases_lt u 128) [
-      | inl l ↦
-          let n : size u ≡ 1 = grind (arith, nat_tests, l) in
-          let w : word u ≡ u = grind (arith, nat_tests, l) in
+    elim (cases_lt u 2048) [
+      | inl l ↦ short_unit bytes p u (word u) l (λ h. grind (arith, nat_tests, h)) (λ h. grind (arith, nat_tests, h, l))
+          first second
+      | inr g ↦
+          let n : size u ≡ 3 = grind (arith, nat_tests, g) in
+          let w : word u ≡ 0x8080E0 + u / 4096 + 256 * (u / 64 % 64) + 65536 * (u % 64) =
+          grind (arith, nat_tests, g) in
+          let x : word u % 256 ≡ 224 + u / 4096 = ap (λ w. w % 256) w ∙ omega (arith, small) in
+          let y : word u / 256 % 256 ≡ 128 + u / 64 % 64 = ap (λ w. w / 256 % 256) w ∙ omega (arith, small) in
+          let z : word u / 65536 % 256 ≡ 128 + u % 64 = ap (λ w. w / 65536 % 256) w ∙ omega (arith, small) in
           ap (λ n. map (λ j. get_or bytes j 0) (range_with_len p n)) n
-          ∙ ap (λ x. x ∷ []) (first ∙ ap (λ w. w % 256) w ∙ omega (arith, l)) ∙ sym (one_byte u l)
-      | inr h ↦ elim (cases_lt u 2048) [
-        | inl l ↦
-            let n : size u ≡ 2 = grind (arith, nat_tests, l, h) in
-            let w : word u ≡ 0x80C0 + u / 64 + 256 * (u % 64) = grind (arith, nat_tests, l, h) in
-            ap (λ n. map (λ j. get_or bytes j 0) (range_with_len p n)) n
-            ∙ ap₂ (λ x y. x ∷ y ∷ []) (first ∙ ap (λ w. w % 256) w ∙ omega (arith, l))
-            (second ∙ ap (λ w. w / 256 % 256) w ∙ omega (arith, l)) ∙ sym (two_bytes u h l)
-        | inr g ↦
-            let n : size u ≡ 3 = grind (arith, nat_tests, g, h) in
-            let w : word u ≡ 0x8080E0 + u / 4096 + 256 * (u / 64 % 64) + 65536 * (u % 64) =
-            grind (arith, nat_tests, g, h) in
-            let x : word u % 256 ≡ 224 + u / 4096 = ap (λ w. w % 256) w ∙ omega (arith, small) in
-            let y : word u / 256 % 256 ≡ 128 + u / 64 % 64 = ap (λ w. w / 256 % 256) w ∙ omega (arith, small) in
-            let z : word u / 65536 % 256 ≡ 128 + u % 64 = ap (λ w. w / 65536 % 256) w ∙ omega (arith, small) in
-            ap (λ n. map (λ j. get_or bytes j 0) (range_with_len p n)) n
-            ∙ ap₂ (λ x rest. x ∷ rest) (first ∙ x) (ap₂ (λ y z. y ∷ z ∷ []) (second ∙ y) (third ∙ z))
-            ∙ sym (three_bytes u g small)
-      ]
+          ∙ ap₂ (λ x rest. x ∷ rest) (first ∙ x) (ap₂ (λ y z. y ∷ z ∷ []) (second ∙ y) (third ∙ z))
+          ∙ sym (three_bytes u g small)
     ]
 
 picked : (units : List ℕ) → length units ≡ 4 → Each1 (λ u. u < 65536) units →

@@ -82,6 +82,7 @@ fn write_eight(units: u16x8, code: &mut [u8], from: usize) -> usize
 
 /// Encodes the units at `from`, and returns the length after them.
 #[inline(always)]
+#[tactic(auto, using(crate::proofs::Written::written_more, std::proofs::lemmas::List::take_all))]
 fn write_eights(units: &[u16; 32], code: &mut [u8], from: usize) -> usize
     requires room { from + BLOCK_CODE ≤ length code.old }
     requires narrow { All (λ unit. unit < 2048) units.now }

@@ -90,6 +90,7 @@ fn write_four(units: u16x4, code: &mut [u8], from: usize) -> usize
 
 /// Encodes the units at `from`, and returns the length after them.
 #[inline(always)]
+#[tactic(auto, using(crate::proofs::Written::written_more, std::proofs::lemmas::List::take_all))]
 fn write_fours(units: &[u16; 32], code: &mut [u8], from: usize) -> usize
     requires { from + BLOCK_CODE ≤ length code.old }
     ensures code { take result code.new ≡ take from code.old ++ encode_utf8_all units.now }

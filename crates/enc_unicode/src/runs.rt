@@ -46,6 +46,7 @@ fn has_none(units: u16x32, lowest: u16, highest: u16) -> bool
 
 /// Whether all units are below 80.
 #[inline(always)]
+#[tactic(auto, using(crate::proofs::Spans::all_low, std::proofs::lemmas::Simd::below_from_Fits))]
 fn is_ascii(units: u16x32) -> bool
     ensures { OnTrue result (All (λ unit. unit < 128) units) }
 {
@@ -54,6 +55,7 @@ fn is_ascii(units: u16x32) -> bool
 
 /// Whether all units are below 800.
 #[inline(always)]
+#[tactic(auto, using(crate::proofs::Spans::all_low, std::proofs::lemmas::Simd::below_from_Fits))]
 fn is_narrow(units: u16x32) -> bool
     ensures { OnTrue result (All (λ unit. unit < 2048) units) }
 {

@@ -53,6 +53,7 @@ impl Model for Utf8State {
 
 impl Utf8State {
     /// A decoder that has read nothing.
+    #[tactic(auto, using(crate::proofs::After::after_none))]
     pub fn new() -> Self
         ensures { result ≡ utf8_start }
     {

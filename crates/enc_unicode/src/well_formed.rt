@@ -211,6 +211,7 @@ fn window(bytes: &[u8], reach: usize) -> &[u8]
 
 /// The run of ASCII that the bytes begin with.
 #[inline(always)]
+#[tactic(auto, using(crate::proofs::Scans::ascii_text))]
 fn ascii_text(bytes: &[u8]) -> &str
     ensures { result.now ≡ take (length result.now) bytes.now }
 {
@@ -264,6 +265,7 @@ pub fn follows(byte: u8) -> bool
 
 /// The length of the two-byte character here, or 0.
 #[inline(always)]
+#[tactic(auto, using(crate::proofs::Scans::two_text))]
 fn two_len(bytes: &[u8]) -> usize
     requires some { 0 < length bytes.now }
     requires first { (0xC2 ≤ slice_index bytes.now 0) × (slice_index bytes.now 0 ≤ 0xDF) }
@@ -278,6 +280,7 @@ fn two_len(bytes: &[u8]) -> usize
 
 /// The length of the three-byte character here, or 0. Its second byte may be any of 80 to BF.
 #[inline(always)]
+#[tactic(auto, using(crate::proofs::Scans::three_text))]
 fn three_len(bytes: &[u8]) -> usize
     requires some { 0 < length bytes.now }
     requires first { (0xE1 ≤ slice_index bytes.now 0) × (slice_index bytes.now 0 ≤ 0xEC) }
@@ -311,6 +314,7 @@ fn longest_text(bytes: &[u8]) -> &str
 }
 
 /// How many of the first four bytes are a text: the slow way, for rare characters.
+#[tactic(auto, using(crate::proofs::Scans::prefix_of_prefix))]
 fn other_len(bytes: &[u8]) -> usize
     ensures few { result ≤ length bytes.now }
     ensures utf8 { IsUtf8 (take result bytes.now) }
@@ -320,6 +324,7 @@ fn other_len(bytes: &[u8]) -> usize
 
 /// The length of a text that is found quickly: a run of ASCII or one character; 0 if none begins here.
 #[inline(always)]
+#[tactic(auto, using(crate::proofs::Scans::ascii_text))]
 fn text_len(bytes: &[u8]) -> usize
     requires { 0 < length bytes.now }
     ensures few { result ≤ length bytes.now }

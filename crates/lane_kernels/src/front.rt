@@ -39,6 +39,7 @@ fn front<C: Class>(class: &C, bytes: &[u8]) -> usize
 
 /// The length of leading ASCII in whole blocks of 64 bytes.
 #[inline(always)]
+#[tactic(auto, using(crate::proofs::Prefixes::chunk_passes))]
 fn skip_ascii(bytes: &[u8]) -> usize
     ensures within { result ≤ length bytes.now }
     ensures passed { prefix_len is_ascii bytes.now ≡ result + prefix_len is_ascii (drop result bytes.now) }
@@ -52,6 +53,7 @@ fn skip_ascii(bytes: &[u8]) -> usize
 
 /// The length of leading ASCII in whole blocks of 256 bytes.
 #[inline(always)]
+#[tactic(auto, using(crate::proofs::Prefixes::on_true_at))]
 fn skip_runs(bytes: &[u8]) -> usize
     ensures within { result ≤ length bytes.now }
     ensures passed { prefix_len is_ascii bytes.now ≡ result + prefix_len is_ascii (drop result bytes.now) }
@@ -65,6 +67,7 @@ fn skip_runs(bytes: &[u8]) -> usize
 
 /// The length of leading ASCII in whole blocks of 512 bytes.
 #[inline(always)]
+#[tactic(auto, using(crate::proofs::Prefixes::on_true_at))]
 fn skip_pairs_of_runs(bytes: &[u8]) -> usize
     ensures within { result ≤ length bytes.now }
     ensures passed { prefix_len is_ascii bytes.now ≡ result + prefix_len is_ascii (drop result bytes.now) }

@@ -8,6 +8,7 @@ ghost use Rattle.lane_kernels.specs.Steps.{scalars_of};
 
 /// Bytes whose units are paired decode without a fault to the scalars of the units. An odd last byte and a last lead
 /// surrogate are carried on.
+#[tactic(auto, using(crate::proofs::Walks::paired_decode))]
 pub fn paired_units_decode()
     ensures { (big : Bool) (s : Utf16) (bytes : List ℕ) →
         ArePaired s.lead (units_of big (with_carried s.byte bytes)) → 0 < length

@@ -49,6 +49,7 @@ fn joined(first: u8, bytes: &[u8; 64]) -> [u8; 64]
 }
 
 /// The byte that is left over after the units.
+#[tactic(auto, using(crate::proofs::Made::left_of_none, crate::proofs::Made::left_of_one))]
 pub(crate) fn left_after(odd: Option<u8>, bytes: &[u8; 64]) -> Option<u8>
     ensures { result ≡ left_over (with_carried odd bytes.now) }
 {
@@ -119,6 +120,7 @@ pub fn mask_within(units: u16x32, lowest: u16, highest: u16) -> u64
 
 /// How many units precede the first surrogate.
 #[inline(always)]
+#[tactic(auto, using(std::proofs::lemmas::Simd::first_set_mask_l))]
 pub fn scalar_front(units: &[u16; 32]) -> usize
     ensures { result ≡ prefix_len is_scalar_unit units.now }
 {
@@ -141,6 +143,7 @@ fn surrogates_are_paired(carried: Option<u16>, units: u16x32) -> bool
 
 /// The same. Units without surrogates are recognized at once.
 #[inline(always)]
+#[tactic(auto, using(crate::proofs::Pairs::scalars_paired))]
 pub(crate) fn are_paired(carried: Option<u16>, units: u16x32) -> bool
     ensures { IsTrue result ↔ ArePaired carried units }
 {
