@@ -1,5 +1,5 @@
 -- Files that spools are in, of which one is opened and closed.
-use Rattle.std.proofs.Common.{◌≡◌, ◌∙◌, ap, arith, inl, refl, subst, sym, ℕ, Bool, true, false, List, Option, Some}
+use Rattle.std.proofs.Common.{◌≡◌, ◌∙◌, ap, arith, inl, refl, subst, sym, ℕ, Bool, true, false, List, Option, Some, None}
 use Rattle.std.proofs.Common.{if◌then◌else◌}
 use Rattle.std.specs.Prelude.{bytes_eq}
 use Rattle.std.proofs.lemmas.Slice.Eq.{bytes_eq-Decides}
@@ -68,6 +68,13 @@ module _ {D : Type 0} (holds : Disks D → Type 0) (disks : Disks D) (path : Lis
       → Leaves holds disks path (Q there) → Leaves holds disks path (Q d)
   leaves_as there d Q is this left =
       subst (λ (x : D). Leaves holds disks path (Q x)) (one_disk there d (disks path) is this) left
+
+  -- it was opened, only read, and closed
+  pub leaves_read : (disk : Ghosts D) (there d after : D) → disks path ≡ Some there → disks path ≡ Some d
+      → holds (with_disk (with_disk disks path None) path (Some after)) → OnlyRead disk there after
+      → Leaves holds disks path (OnlyRead disk d)
+  leaves_read disk there d after is this held read =
+      leaves_as there d (λ x. OnlyRead disk x) is this (leaves_put None (OnlyRead disk there) after held read)
 
   pub leaves_again : (x : Option D) (P Q : D → Type 0) → Leaves holds (with_disk disks path x) path P
       → ((d : D) → P d → Q d) → Leaves holds disks path Q
