@@ -72,7 +72,8 @@ Kind b = (b < 0x80) ⊎ (((ranges : Ranges) × (s : Utf8) × Leading b ranges s)
 
 -- a lead that waits for this many bytes, of which the first is in a range of its own
 leading : (b : ℕ) (ranges : Ranges) (needed lower upper : ℕ) → length ranges ≤ 3
-    → ((t : List ℕ) → is_sequence (b ∷ t) ≡ fills ranges t) → ((t : List ℕ) → is_prefix (b ∷ t) ≡ begins_to_fill ranges t)
+    → ((t : List ℕ) → is_sequence (b ∷ t) ≡ fills ranges t) →
+    ((t : List ℕ) → is_prefix (b ∷ t) ≡ begins_to_fill ranges t)
     → utf8 utf8_start (Some b) ≡ lead_of b needed lower upper (b - mark_of ranges)
     → Waits ranges (lead_state b needed lower upper (b - mark_of ranges)) → Kind b
 leading b ranges needed lower upper few sequence prefix read waits = inr (inl (

@@ -34,7 +34,8 @@ index_scalars : (low bound : ℕ) (index : Index) → ascends low bound index �
 unfolding ascends code
 index_scalars low bound [] a p = tt
 index_scalars low bound (pair ∷ index) a p =
-    let outer = and_parts (nat_le low pair.0 && nat_lt pair.0 bound && is_scalar pair.1) (ascends (suc pair.0) bound index)
+    let outer = and_parts (nat_le low pair.0 && nat_lt pair.0 bound && is_scalar pair.1)
+    (ascends (suc pair.0) bound index)
     a in
     let scalar = (and_parts (nat_le low pair.0 && nat_lt pair.0 bound) (is_scalar pair.1) outer.0).1 in
     elim (pair.0 == p) as (λ v. IsScalarOption (if v then Some pair.1 else code index p))

@@ -16,6 +16,7 @@ ghost use Rattle.enc_laws.specs.WellFormed.{AreBytes, AreScalars, IsWellFormed};
 
 /// Maximal subparts: a well-formed sequence is a segment. Otherwise the segment is the longest prefix of one that
 /// begins there, or a single byte if there is none.
+#[tactic(auto, using(crate::proofs::Longest::sequence_first, crate::proofs::Longest::prefix_longest, crate::proofs::Longest::prefix_here, crate::proofs::Longest::single_byte))]
 pub fn longest_subparts()
     ensures sequence { (prefix rest : List ℕ) → is_sequence prefix ≡ true → segment (prefix ++ rest) ≡ prefix }
     ensures longest { (prefix rest : List ℕ) → is_prefix prefix ≡ true
@@ -25,6 +26,7 @@ pub fn longest_subparts()
 {}
 
 /// The text of the UTF-8 decoder is the one of the maximal subparts, ended or not.
+#[tactic(auto, using(crate::proofs::Cutting::whole_is, crate::proofs::Cutting::text_is))]
 pub fn cut_by_subparts()
     ensures whole { (bytes : List ℕ) → concat (segments bytes) ≡ bytes }
     ensures text { (ended : Bool) (bytes : List ℕ) → (steps utf8 ended utf8_start bytes).text ≡ segments_text ended
@@ -32,12 +34,14 @@ pub fn cut_by_subparts()
 {}
 
 /// A decoder gives scalar values only, whatever bytes it reads.
+#[tactic(auto, using(crate::proofs::Texts::decode_scalars))]
 pub fn gives_scalars()
     ensures { (x : IndexSet) (e : Encoding) (bytes : List ℕ) (ended : Bool) → IsIndexSet x → AreBytes bytes
         → AreScalars (decode (tables x) e bytes ended) }
 {}
 
 /// The UTF-8 encoder's output for scalar values is well-formed, and no scalar value is unmappable.
+#[tactic(auto, using(crate::proofs::Texts::encoded_well, crate::proofs::Texts::encoded_fault))]
 pub fn writes_well_formed()
     ensures bytes { (t : Tables) (mode : Mode) (scalars : List ℕ) (ended : Bool) → AreScalars scalars
         → IsWellFormed (encode t Utf8 mode scalars ended).bytes }
@@ -46,12 +50,14 @@ pub fn writes_well_formed()
 {}
 
 /// The UTF-8 decoder gives back the scalar values that the encoder encoded.
+#[tactic(auto, using(crate::proofs::Back::reads_back))]
 pub fn reads_back()
     ensures { (t : Tables) (mode : Mode) (scalars : List ℕ) (done ended : Bool) → AreScalars scalars
         → (steps utf8 ended utf8_start (encode t Utf8 mode scalars done).bytes).text ≡ scalars }
 {}
 
 /// A text that is stored as UTF-8 is well-formed at any time, whatever bytes came, ended or not.
+#[tactic(auto, using(crate::proofs::Texts::text_well))]
 pub fn well_formed_at_every_moment()
     ensures { (x : IndexSet) (from : Encoding) (mode : Mode) (bytes : List ℕ) (ended : Bool) → IsIndexSet x
         → AreBytes bytes

@@ -1,5 +1,6 @@
 -- A piece that is read part by part.
-use Rattle.std.proofs.Common.{ℕ, ◌+◌, ◌-◌, ◌≡◌, ◌≤◌, List, Result, Ok, Err, false, sym, ◌∙◌, ap, subst, take, drop, length}
+use Rattle.std.proofs.Common.{ℕ, ◌+◌, ◌-◌, ◌≡◌, ◌≤◌, List, Result, Ok, Err, false, sym}
+use Rattle.std.proofs.Common.{◌∙◌, ap, subst, take, drop, length}
 use Rattle.std.proofs.Common.{take-append-drop, IfErr, OnOk, IsErrAnd, length-drop, arith}
 use Rattle.std.proofs.lemmas.List.{take_rest}
 use Rattle.std.proofs.Math.Seq.{take-add}

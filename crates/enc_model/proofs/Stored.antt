@@ -1,7 +1,9 @@
 -- Bytes and characters that are stored after others.
 use Rattle.std.proofs.Common.{ℕ, ◌+◌, ◌-◌, ◌<◌, ◌≤◌, ◌≡◌, true, List, [], ◌∷◌, ◌++◌, refl, sym, ◌∙◌, ap, ap₂, subst}
-use Rattle.std.proofs.Common.{arith, length, take, drop, map, get_or, slice_index, Fits, w8, All, append_assoc, take-append-drop}
-use Rattle.std.proofs.lemmas.List.{get_or_read_under, map-append, take_more, take_rest, take-take, take_at, drop_at, length-take-le}
+use Rattle.std.proofs.Common.{arith, length, take, drop, map, get_or, slice_index, Fits}
+use Rattle.std.proofs.Common.{w8, All, append_assoc, take-append-drop}
+use Rattle.std.proofs.lemmas.List.{get_or_read_under, map-append, take_more, take_rest, take-take}
+use Rattle.std.proofs.lemmas.List.{take_at, drop_at, length-take-le}
 use Rattle.std.proofs.lemmas.List.Elements.{All-head, All-tail}
 use Rattle.std.proofs.Math.Seq.{take-add}
 use Rattle.std.specs.Str.{is_utf8}

@@ -7,5 +7,6 @@ use Rattle.lane_kernels.proofs.front.ascii_front.Goals as goal
 pub overflow_add-result : goal.overflow_add-result
 overflow_add-result c =
     let total : c.skip_long_ascii-skipped.result + c.short_ascii_front.result ≤ length c.args.bytes.now =
-    passes_within is_ascii c.args.bytes.now _ _ c.skip_long_ascii-skipped.ensures.passed (grind (arith, common_steps)) in
+    passes_within is_ascii c.args.bytes.now _ _ c.skip_long_ascii-skipped.ensures.passed (grind (arith, common_steps))
+    in
     search (rules, total)

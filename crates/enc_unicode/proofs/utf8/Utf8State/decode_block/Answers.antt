@@ -15,7 +15,8 @@ loop-at-init c =
 pub decode_some-at-requires-clause-room : goal.decode_some-at-requires-clause-room
 decode_some-at-requires-clause-room c =
     let to = c.loop-at.invariant in
-    room_left _ utf8_calm c.args.self.now c.args.block.now _ c.args.batch.now c.loop-at.batch c.loop-at.at to.at refl to.taken
+    room_left _ utf8_calm c.args.self.now c.args.block.now _ c.args.batch.now c.loop-at.batch c.loop-at.at to.at refl
+    to.taken
     c.requires
 
 pub loop-at-preserved : goal.loop-at-preserved

@@ -11,7 +11,8 @@ returns-then-not-is_empty-clause-text c =
     let s = c.args.self.now in
     let text = c.text_before_fault-text in
     let same = c.push_few-few.ensures.unchanged (omega (arith, c.if-few-gt0.false)) in
-    subst (λ b. BatchTook b (steps utf8 false s (take (length text.result.now) c.args.rest.now)).text c.push_str.new.self)
+    subst (λ b. BatchTook b (steps utf8 false s (take (length text.result.now) c.args.rest.now)).text
+    c.push_str.new.self)
     same
     (text_gathered s c.args.rest.now text.result.now c.push_few-few.new.batch c.push_str.new.self
     (at_start i.needed i.lower i.upper i.point i.current i.kept s c.self.view_is c.self.invariant.0 c.if-self-ne0.false)
