@@ -2,7 +2,6 @@
 use Rattle.std.proofs.lemmas.Grind.{common_steps}
 use Rattle.std.proofs.Common.{Result, Err, IfOk, ◌≡◌, inl, inr, ℕ, ◌≤◌, ◌+◌, ◌-◌, ◌/◌, ◌^◌, Bool, true, false, List}
 use Rattle.std.proofs.Common.{Option, None, Some, length, get_or, set, min, refl, sym, ◌∙◌, ap, subst, arith}
-use Rattle.enc_model.specs.Indexes.{IndexSet}
 use Rattle.spool_blocks.specs.Blocks.{Held}
 use Rattle.spool_disk.specs.declared.disk.Disk.{Ghosts}
 use Rattle.spool_disk.specs.Views.{Lasts}
@@ -163,7 +162,6 @@ module _ {D : Type 0} {sure : Bool} {disk : Ghosts D} {d d' : D} {h h' : Holding
             → IfOk result (λ e. 1 ≤ length (list_of o') → bytes_with (disk.current d') (text_page h.layout) (list_of o')
             e.last.items ≡ open_text w.store.indexes p (completes w.store p))
         ends_on content known =
-            let P : IndexSet → Bool → Type 0 = search (arith, common_steps) in
             rw done_then at (rw indexes_are at (content p (s.honest known) (rw (← indexes_are) at held) open_began
             (rw (← indexes_are) at (own_draft.carries known is.still))))
 
