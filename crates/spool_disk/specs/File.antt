@@ -1,7 +1,7 @@
 -- The parts of a disk over a file.
 use Rattle.std.specs.Prelude.{ℕ, Option, List}
 use Rattle.std.specs.declared.io.Error.{Error}
-use Rattle.spool_disk.specs.Positioned.{Made}
+use Rattle.spool_disk.specs.declared.positioned.Made.{Made}
 use Rattle.spool_disk.specs.SystemFile.{calls_of}
 use Rattle.spool_disk.specs.declared.file.PositionedDisk.{PositionedDisk}
 use Rattle.spool_disk.specs.declared.system_file.SystemFile.{SystemFile}

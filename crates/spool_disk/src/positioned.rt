@@ -1,7 +1,8 @@
 //! Files that are read and written at places, with a record of their calls.
 ghost use Rattle.std.specs.Prelude.{◌≡◌, List, [], ◌∷◌, true, is_ok, IfOk, OnErr};
-ghost use Rattle.spool_disk.specs.Positioned.{Made, made};
+ghost use Rattle.spool_disk.specs.Positioned.{made};
 
+use common::History;
 use std::io;
 
 /// A call of a file.
@@ -32,9 +33,37 @@ pub enum FileCall {
     SyncFolder,
 }
 
+/// A call that was made. Only clauses read it.
+#[derive(Drop)]
+pub struct Made {
+    /// The call.
+    pub call: FileCall,
+    /// The bytes that it read or wrote.
+    pub bytes: History<u8>,
+    /// Whether it succeeded.
+    pub done: bool,
+}
+
+impl Made {
+    ghost use Rattle.spool_disk.specs.Positioned.{made};
+
+    /// Such a call.
+    pub(crate) fn new(call: FileCall, bytes: &[u8], done: bool) -> Made
+        ensures { result ≡ made call bytes.now done }
+    {
+        Made {
+            call,
+            bytes: History::new().then(bytes),
+            done,
+        }
+    }
+}
+
 /// A file that is read and written at places. Its ghost record has every call, with the bytes that were read or written
 /// and whether the call succeeded.
 pub trait Positioned {
+    ghost use Rattle.spool_disk.specs.declared.positioned.Made.{Made};
+
     /// The calls that were made, the latest first.
     ghost calls: { Self → List Made };
 

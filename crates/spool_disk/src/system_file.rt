@@ -3,8 +3,8 @@
 ghost use Rattle.std.specs.Prelude.{◌≡◌, [], ◌∷◌, true, false, is_ok, IfOk};
 ghost use Rattle.spool_disk.specs.Positioned.{made, opened};
 
-use crate::log::Log;
-use crate::{FileCall, Positioned};
+use crate::{FileCall, Made, Positioned};
+use common::History;
 use std::fs::{File, Files, OpenOptions, TryLockError};
 use std::io;
 use std::os::unix::fs::FileExt;
@@ -14,7 +14,7 @@ use std::path::Path;
 #[derive(Drop)]
 pub struct SystemFile {
     file: File,
-    log: Log,
+    log: History<Made>,
 }
 
 impl SystemFile {
@@ -57,7 +57,7 @@ impl SystemFile {
             .create(create)
             .truncate(truncate)
             .open(rt, path)?;
-        let log = Log::new().and(&FileCall::Open { create, truncate }, &[], true);
+        let log = History::new().and(&Made::new(FileCall::Open { create, truncate }, &[], true));
         Ok(SystemFile { file, log })
     }
 
@@ -68,7 +68,7 @@ impl SystemFile {
         match self.file.try_lock() {
             Ok(()) => Ok(SystemFile {
                 file: self.file,
-                log: self.log.and(&FileCall::Lock, &[], true),
+                log: self.log.and(&Made::new(FileCall::Lock, &[], true)),
             }),
             Err(TryLockError::WouldBlock) => {
                 Err(io::Error::new(io::ErrorKind::ResourceBusy, "it is in use"))
@@ -82,7 +82,9 @@ impl SystemFile {
         ensures { calls_of self.new ≡ made FileCall.SyncFolder [] (is_ok result) ∷ calls_of self.old }
     {
         let outcome = sync_folder_of(rt, path);
-        self.log = self.log.and(&FileCall::SyncFolder, &[], outcome.is_ok());
+        self.log = self
+            .log
+            .and(&Made::new(FileCall::SyncFolder, &[], outcome.is_ok()));
         outcome
     }
 }
@@ -103,37 +105,47 @@ impl Positioned for SystemFile {
 
     fn len(&mut self) -> io::Result<u64> {
         let len = self.file.metadata()?.len();
-        self.log = self.log.and(&FileCall::Len(len), &[], true);
+        self.log = self.log.and(&Made::new(FileCall::Len(len), &[], true));
         Ok(len)
     }
 
     fn read_exact_at(&mut self, buf: &mut [u8], at: u64) -> io::Result<()> {
         let outcome = self.file.read_exact_at(buf, at);
-        self.log = self.log.and(&FileCall::ReadAt(at), buf, outcome.is_ok());
+        self.log = self
+            .log
+            .and(&Made::new(FileCall::ReadAt(at), buf, outcome.is_ok()));
         outcome
     }
 
     fn write_all_at(&mut self, bytes: &[u8], at: u64) -> io::Result<()> {
         let outcome = self.file.write_all_at(bytes, at);
-        self.log = self.log.and(&FileCall::WriteAt(at), bytes, outcome.is_ok());
+        self.log = self
+            .log
+            .and(&Made::new(FileCall::WriteAt(at), bytes, outcome.is_ok()));
         outcome
     }
 
     fn set_len(&mut self, len: u64) -> io::Result<()> {
         let outcome = self.file.set_len(len);
-        self.log = self.log.and(&FileCall::SetLen(len), &[], outcome.is_ok());
+        self.log = self
+            .log
+            .and(&Made::new(FileCall::SetLen(len), &[], outcome.is_ok()));
         outcome
     }
 
     fn sync_data(&mut self) -> io::Result<()> {
         let outcome = self.file.sync_data();
-        self.log = self.log.and(&FileCall::SyncData, &[], outcome.is_ok());
+        self.log = self
+            .log
+            .and(&Made::new(FileCall::SyncData, &[], outcome.is_ok()));
         outcome
     }
 
     fn sync_all(&mut self) -> io::Result<()> {
         let outcome = self.file.sync_all();
-        self.log = self.log.and(&FileCall::SyncAll, &[], outcome.is_ok());
+        self.log = self
+            .log
+            .and(&Made::new(FileCall::SyncAll, &[], outcome.is_ok()));
         outcome
     }
 }
