@@ -11,7 +11,8 @@ use Rattle.tus_session.specs.Connections.{mark_of, told_done}
 use Rattle.tus_session.specs.declared.connections.Connections.{Ghosts}
 use Rattle.gateway_serve.specs.Conversations.{Conversation, AreTalks, begun}
 use Rattle.gateway_serve.specs.Sockets as sockets
-use Rattle.gateway_serve.specs.Sockets.{Seen, Pairs, current_of}
+use Rattle.gateway_serve.specs.Sockets.{Pairs, current_of}
+use Rattle.gateway_serve.specs.declared.sockets.Seen.{Seen}
 use Rattle.gateway_serve.specs.Served.{WentOn, Serves, AllServed, AllLeft}
 use Rattle.gateway_serve.specs.Joined.{Joins, Alone, PlaceJoins, PlaceFell, GoesAt, OthersStay, AllJoin, AllFell}
 use Rattle.gateway_serve.specs.Joined.{PlaceWaits, SamePlaces, IsNew, joint_of, nothing_yet, with_place}

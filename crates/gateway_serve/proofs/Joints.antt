@@ -11,7 +11,7 @@ use Rattle.tus_session.specs.declared.errors.SessionError.TheVariants.{NoMemory,
 use Rattle.tus_action.specs.Serves.{Appends}
 use Rattle.tus_session.specs.Connections.{mark_of, told, Adds}
 use Rattle.gateway_serve.specs.Conversations.{AreTalks, GaveAs, longer}
-use Rattle.gateway_serve.specs.Sockets.{Seen}
+use Rattle.gateway_serve.specs.declared.sockets.Seen.{Seen}
 use Rattle.gateway_serve.specs.Joined.{Joint, Joins, Writes, Reads, wrote, read, is_last, stage_by, stage_after}
 use Rattle.gateway_serve.specs.Joined.{taken_after}
 use Rattle.gateway_serve.specs.declared.links.Stage.{Stage}

@@ -2,7 +2,8 @@
 use Rattle.std.proofs.Common.{◌≡◌, ◌≢◌, ◌⊎◌, ◌<◌, ◌≤◌, inl, inr, refl, sym, subst, ℕ, ◌+◌, List, [], ◌∷◌}
 use Rattle.std.proofs.Common.{length, Option, arith}
 use Rattle.std.specs.declared.io.ErrorKind.{ErrorKind}
-use Rattle.gateway_serve.specs.Sockets.{Seen, IsQuiet, IsQuietly}
+use Rattle.gateway_serve.specs.Sockets.{IsQuiet, IsQuietly}
+use Rattle.gateway_serve.specs.declared.sockets.Seen.{Seen}
 use Rattle.gateway_serve.specs.Bytes.{latest_of, current}
 use Rattle.gateway_serve.specs.Gone.{EndsBy, EndsInTime, IsGoneSo, IfLost, IsFailure}
 use Rattle.gateway_serve.specs.Joined.{joint_of, at_by, with_place}

@@ -1,6 +1,6 @@
 -- What listeners were asked, and what became of the clients that they gave.
 use Rattle.std.specs.Prelude.{◌≡◌, ◌⊎◌, ◌≤◌, ℕ, ◌+◌, ◌*◌, List, [], ◌∷◌, ◌++◌, length, Bool, is_some, if◌then◌else◌}
-use Rattle.gateway_serve.specs.Sockets.{Seen}
+use Rattle.gateway_serve.specs.declared.sockets.Seen.{Seen}
 use Rattle.gateway_serve.specs.declared.acceptors.Listening.{Listening}
 use Rattle.gateway_serve.specs.declared.doors.Clients.{Clients}
 use Rattle.gateway_serve.specs.declared.doors.Door.{Door}
@@ -8,7 +8,7 @@ use Rattle.gateway_serve.specs.declared.idle.Pace.{Pace}
 
 -- the record of a listener of the operating system
 abbrev pub answers_of : {L : Type 0} → Listening L → List Bool
-answers_of l = l.answers.given
+answers_of l = l.answers.items
 
 -- how many turns are still to pass it over
 abbrev pub passes_of : Pace → ℕ

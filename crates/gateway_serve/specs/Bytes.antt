@@ -1,15 +1,15 @@
 -- The bytes of a socket.
 use Rattle.std.specs.Prelude.{ℕ, List}
-use Rattle.gateway_serve.specs.Sockets.{Seen}
+use Rattle.gateway_serve.specs.declared.sockets.Seen.{Seen}
 use Rattle.gateway_serve.specs.declared.sockets.Socket.{Socket}
 use Rattle.gateway_serve.specs.declared.sockets.Latest.{Latest}
 use Rattle.gateway_serve.specs.declared.reasons.Reason.{Reason}
 
 abbrev pub came_of : {S : Type 0} → Socket S → List ℕ
-came_of s = s.came.bytes
+came_of s = s.came.items
 
 abbrev pub went_of : {S : Type 0} → Socket S → List ℕ
-went_of s = s.went.bytes
+went_of s = s.went.items
 
 abbrev pub stream_of : {S : Type 0} → Socket S → S
 stream_of s = s.stream
@@ -19,4 +19,4 @@ latest_of s = s.latest
 
 -- what is seen of it, where it served the connection with this number and ended for this reason
 abbrev pub current : {S : Type 0} → ℕ → Socket S → Reason → Seen
-current n s reason = record { conn = n; came = came_of s; went = went_of s; latest = latest_of s; reason = reason }
+current n s reason = record { conn = n; came = s.came; went = s.went; latest = latest_of s; reason = reason }

@@ -7,7 +7,8 @@ use Rattle.tus_session.specs.declared.answers.Answer.{Answer}
 use Rattle.tus_session.specs.declared.errors.SessionError.{SessionError}
 use Rattle.tus_session.specs.declared.connections.Connections.{Ghosts}
 use Rattle.gateway_serve.specs.Conversations.{Conversation, AreTalks}
-use Rattle.gateway_serve.specs.Sockets.{Seen, current_of, IsQuietly, Served, Pairs}
+use Rattle.gateway_serve.specs.Sockets.{current_of, IsQuietly, Served, Pairs}
+use Rattle.gateway_serve.specs.declared.sockets.Seen.{Seen}
 use Rattle.gateway_serve.specs.Bytes.{came_of, went_of, current}
 use Rattle.gateway_serve.specs.Waiting.{FewWait}
 use Rattle.gateway_serve.specs.Served.{IsBack, WentOn, Serves, AllServed, AllLeft}
@@ -187,7 +188,7 @@ abbrev pub places_of : {S : Type 0} → Server S → List (Place S)
 places_of s = s.places.items
 
 abbrev pub ended_of : {S : Type 0} → Server S → List Seen
-ended_of s = s.ended.sockets
+ended_of s = s.ended.items
 
 abbrev pub IsFreeAt : {S : Type 0} → List (Place S) → ℕ → Type 0
 IsFreeAt places n = (n < length places) × (get_or places n Free ≡ Free)

@@ -1,6 +1,6 @@
 -- Why connections ended.
 use Rattle.std.specs.Prelude.{◌≡◌, ◌⊎◌, ℕ, ◌+◌, List, [], ◌∷◌, Option, Some, None}
-use Rattle.gateway_serve.specs.Sockets.{Seen}
+use Rattle.gateway_serve.specs.declared.sockets.Seen.{Seen}
 use Rattle.gateway_serve.specs.Bytes.{latest_of}
 use Rattle.gateway_serve.specs.Gone.{EndsBy, IsGoneSo}
 use Rattle.gateway_serve.specs.Stays.{IsOver}

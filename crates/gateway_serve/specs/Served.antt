@@ -5,7 +5,8 @@ use Rattle.tus_session.specs.History.{State, Event, Marked, Failed, history}
 use Rattle.tus_session.specs.Images.{stores_of, ShowsLast, LimitsTo}
 use Rattle.tus_session.specs.declared.connections.Connections.{Ghosts}
 use Rattle.gateway_serve.specs.Conversations.{Conversation, AreTalks}
-use Rattle.gateway_serve.specs.Sockets.{Seen, current_of, Fits, Served, Pairs}
+use Rattle.gateway_serve.specs.Sockets.{current_of, Fits, Served, Pairs}
+use Rattle.gateway_serve.specs.declared.sockets.Seen.{Seen}
 
 -- from the connections before these events to those now, images are limited to the uploads after all of the events,
 -- all but the latest, and so on

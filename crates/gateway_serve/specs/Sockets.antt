@@ -8,16 +8,7 @@ use Rattle.gateway_serve.specs.declared.reasons.Gone.{Gone}
 use Rattle.gateway_serve.specs.declared.reasons.Gone.TheVariants as Why
 use Rattle.gateway_serve.specs.declared.reasons.Reason.{Reason}
 use Rattle.gateway_serve.specs.declared.reasons.Reason.TheVariants.{Closed, Lost, Over}
-use Rattle.gateway_serve.specs.declared.sockets.Latest.{Latest}
-
--- a socket that served its connection: the connection's number, all bytes that came from the socket, all that went to
--- it, what the latest call of its stream answered, and why it ended
-pub record Seen : Type 0 where
-  pub conn : ℕ
-  pub came : List ℕ
-  pub went : List ℕ
-  pub latest : Latest
-  pub reason : Reason
+use Rattle.gateway_serve.specs.declared.sockets.Seen.{Seen}
 
 -- those of one connection
 abbrev pub current_of : ℕ → List Seen → List Seen
@@ -50,15 +41,15 @@ IsWhole Over = ⊥
 -- first that it gave, all but at most 135,167 at the end: all of them, where the reason says so. Where it says that the
 -- session closed the connection, the session wasn't told that the client is gone
 pub record Fits (s : Seen) (c : Conversation) : Type 0 where
-  pub taken : IsAllBut 4096 c.took s.came
-  pub written : IsAllBut most_waiting s.went c.gave
-  pub emptied : IsWhole s.reason → s.went ≡ c.gave
+  pub taken : IsAllBut 4096 c.took s.came.items
+  pub written : IsAllBut most_waiting s.went.items c.gave
+  pub emptied : IsWhole s.reason → s.went.items ≡ c.gave
   pub untold : s.reason ≡ Closed → c.told ≡ false
 
 -- and all that it gave went, unless the session was told that the client is gone
 pub record Served (s : Seen) (c : Conversation) : Type 0 where
   pub fits : Fits s c
-  pub whole : c.told ≡ false → s.went ≡ c.gave
+  pub whole : c.told ≡ false → s.went.items ≡ c.gave
 
 -- one for each
 abbrev pub Pairs : (Seen → Conversation → Type 0) → List Seen → List Conversation → Type 0

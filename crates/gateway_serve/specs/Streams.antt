@@ -1,7 +1,7 @@
 -- What was done with a stream since it was accepted.
 use Rattle.std.specs.Prelude.{ℕ, List, [], ◌∷◌, ◌++◌, length, Option, get_or}
 use Rattle.std.specs.Io.KnownBytes.{Consumes, Appends, Keeps}
-use Rattle.gateway_serve.specs.Sockets.{Seen}
+use Rattle.gateway_serve.specs.declared.sockets.Seen.{Seen}
 use Rattle.std.specs.declared.io.ErrorKind.{ErrorKind}
 use Rattle.gateway_serve.specs.Bytes.{came_of, went_of, stream_of, latest_of}
 use Rattle.gateway_serve.specs.declared.sockets.Latest.{Latest}
@@ -51,7 +51,7 @@ module _ {S : Type 0} (remaining contents : S → Option (List ℕ)) where
 
   -- A SOCKET THAT ENDED had a stream that was accepted
   abbrev pub Had : Seen → Type 0
-  Had s = (accepted : S) × (gone : S) × Carried remaining contents accepted gone s.came s.went s.latest
+  Had s = (accepted : S) × (gone : S) × Carried remaining contents accepted gone s.came.items s.went.items s.latest
 
   -- each of them had its own
   abbrev pub AllHad : List Seen → Type 0

@@ -35,5 +35,5 @@ IsFull s = (most_open ≤ length (places_of s)) ⊎ (vec_capacity s.places ≤ v
 pub record RestStays {S : Type 0} (s s' : Server S) : Type 0 where
   pub clients : (door_of s').clients ≡ (door_of s).clients
   pub pace : (door_of s').pace ≡ (door_of s).pace
-  pub ended : s'.ended.sockets ≡ s.ended.sockets
+  pub ended : s'.ended.items ≡ s.ended.items
   pub closed : closed_of s' ≡ closed_of s

@@ -1,8 +1,7 @@
 //! Listeners that are asked for clients.
 ghost use Rattle.std.specs.Prelude.{◌≡◌, [], ◌∷◌, List, Bool, is_some};
-ghost use Rattle.std.specs.Borrow.{ftrue};
 
-use std::marker::Model;
+use common::History;
 use std::net::{OpenListener, OpenStream};
 
 /// A listener that is asked for clients, one at a time, and never waits for one. Its ghost record has each answer.
@@ -18,32 +17,6 @@ pub trait Acceptor {
         ensures { answers self.new ≡ is_some result ∷ answers self.old };
 }
 
-/// The ghost record of a listener's answers. It takes neither memory nor time.
-#[derive(Drop)]
-struct Answers {
-    ghost given: { List Bool },
-}
-
-impl Model for Answers {
-    ghost also_owns = { λ _. ftrue };
-}
-
-impl Answers {
-    // None.
-    fn new() -> Answers
-        ensures { result.given ≡ [] }
-    {
-        Answers {}
-    }
-
-    // These and one more.
-    fn and(&self, _gave: bool) -> Answers
-        ensures { result.given ≡ _gave ∷ self.now.given }
-    {
-        Answers {}
-    }
-}
-
 /// A listener of the operating system, or one that stands for it. That each call of `accept` makes one of the inner
 /// listener, and answers what that gave, is trusted and not proved, since no contract of the kit states what a listener
 /// gives.
@@ -52,7 +25,7 @@ pub struct Listening<'a, L> {
     listener: &'a L,
     /// whether it could be made not to wait
     asks: bool,
-    answers: Answers,
+    answers: History<bool>,
 }
 
 impl<'a, L: OpenListener> Listening<'a, L> {
@@ -65,7 +38,7 @@ impl<'a, L: OpenListener> Listening<'a, L> {
         Listening {
             listener,
             asks: listener.set_nonblocking(true).is_ok(),
-            answers: Answers::new(),
+            answers: History::new(),
         }
     }
 }
@@ -97,7 +70,7 @@ where
 
     fn accept(&mut self) -> Option<L::Stream> {
         let client = self.next();
-        self.answers = self.answers.and(client.is_some());
+        self.answers = self.answers.and(&client.is_some());
         client
     }
 }

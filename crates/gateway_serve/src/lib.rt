@@ -21,5 +21,5 @@ pub use doors::Clients;
 pub use laws::known_talks;
 pub use reasons::{Gone, Reason};
 pub use serving::{Outcome, serve_on};
-pub use sockets::{Ended, Latest};
+pub use sockets::{Latest, Seen};
 pub use stays::{At, Stay};

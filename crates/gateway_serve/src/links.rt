@@ -18,8 +18,9 @@ use crate::buffers::{Input, Output, PIECE};
 use crate::idle::{Pace, Tick};
 use crate::reasons::{Gone, Reason};
 use crate::requests::Request;
-use crate::sockets::{Ended, Socket, Untouched};
+use crate::sockets::{Seen, Socket, Untouched};
 use crate::stays::{At, Stay};
+use common::History;
 use spool_disk::DiskFault;
 use std::alloc::Global;
 use std::io::{self, ErrorKind, Read, Write};
@@ -71,12 +72,12 @@ pub(crate) struct Link<S> {
 
 impl<S: Drop> Link<S> {
     /// Puts the socket to those that ended.
-    pub(crate) fn end(self, conn: usize, reason: Reason, ended: &mut Ended)
-        ensures ended { ended.new.sockets ≡ with_link conn reason self ended.old.sockets }
+    pub(crate) fn end(self, conn: usize, reason: Reason, ended: &mut History<Seen>)
+        ensures ended { ended.new.items ≡ with_link conn reason self ended.old.items }
         ensures waiting { FewWait self.output }
     {
         let _few = self.output.left();
-        ended.add(conn, self.socket, &reason);
+        *ended = ended.and(&self.socket.ended(conn, reason));
     }
 }
 

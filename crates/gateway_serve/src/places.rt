@@ -9,7 +9,8 @@ ghost use Rattle.gateway_serve.specs.Longest.{between_since};
 use crate::idle::Tick;
 use crate::links::{Left, Link};
 use crate::reasons::Reason;
-use crate::sockets::{Ended, Untouched};
+use crate::sockets::{Seen, Untouched};
+use common::History;
 use spool_disk::DiskFault;
 use std::alloc::Global;
 use std::io::{Read, Write};
@@ -71,15 +72,15 @@ impl<S: Read + Write + Drop> Place<S> {
         gateway: &mut C,
         conn: usize,
         tick: Tick,
-        ended: &mut Ended,
+        ended: &mut History<Seen>,
     ) -> Result<Turned, DiskFault>
-        ensures reasons { StayReasoned ended.old.sockets ended.new.sockets }
-        ensures streams { PlaceKeeps S.remaining S.contents self.old self.new ended.old.sockets ended.new.sockets }
+        ensures reasons { StayReasoned ended.old.items ended.new.items }
+        ensures streams { PlaceKeeps S.remaining S.contents self.old self.new ended.old.items ended.new.items }
         ensures serves { GoesAt C.Connections gateway.old gateway.new result self.old self.new
-            ended.old.sockets ended.new.sockets conn }
-        ensures others { OthersStay conn ended.old.sockets ended.new.sockets }
-        ensures more { length ended.old.sockets ≤ length ended.new.sockets }
-        ensures closed { result ≡ Ok Turned.Closed → length ended.old.sockets < length ended.new.sockets }
+            ended.old.items ended.new.items conn }
+        ensures others { OthersStay conn ended.old.items ended.new.items }
+        ensures more { length ended.old.items ≤ length ended.new.items }
+        ensures closed { result ≡ Ok Turned.Closed → length ended.old.items < length ended.new.items }
         ensures counts { Counts (IsErr result) (C.failures gateway.old) (C.failures gateway.new) }
     {
         let Place::Open(link) = self else {
@@ -108,15 +109,15 @@ impl<S: Read + Write + Drop> Place<S> {
         gateway: &mut C,
         conn: usize,
         reason: Reason,
-        ended: &mut Ended,
+        ended: &mut History<Seen>,
     ) -> Result<(), DiskFault>
         requires { MayEnd reason self.old }
-        ensures ended { ended.new.sockets ≡ with_place conn reason self.old ended.old.sockets }
-        ensures streams { PlaceKeeps S.remaining S.contents self.old self.new ended.old.sockets ended.new.sockets }
+        ensures ended { ended.new.items ≡ with_place conn reason self.old ended.old.items }
+        ensures streams { PlaceKeeps S.remaining S.contents self.old self.new ended.old.items ended.new.items }
         ensures serves { GoesAt C.Connections gateway.old gateway.new result self.old self.new
-            ended.old.sockets ended.new.sockets conn }
+            ended.old.items ended.new.items conn }
         ensures free { self.new ≡ Place.Free }
-        ensures others { OthersStay conn ended.old.sockets ended.new.sockets }
+        ensures others { OthersStay conn ended.old.items ended.new.items }
         ensures counts { Counts (IsErr result) (C.failures gateway.old) (C.failures gateway.new) }
     {
         if self.is_free() {
@@ -127,11 +128,11 @@ impl<S: Read + Write + Drop> Place<S> {
     }
 
     /// Lets the socket go for this reason, if one is there: the session isn't told.
-    pub(crate) fn free(&mut self, conn: usize, reason: Reason, ended: &mut Ended)
+    pub(crate) fn free(&mut self, conn: usize, reason: Reason, ended: &mut History<Seen>)
         ensures waiting { PlaceWaits self.old }
-        ensures streams { PlaceKeeps S.remaining S.contents self.old self.new ended.old.sockets ended.new.sockets }
+        ensures streams { PlaceKeeps S.remaining S.contents self.old self.new ended.old.items ended.new.items }
         ensures free { self.new ≡ Place.Free }
-        ensures ended { ended.new.sockets ≡ with_place conn reason self.old ended.old.sockets }
+        ensures ended { ended.new.items ≡ with_place conn reason self.old ended.old.items }
     {
         if let Place::Open(link) = mem::replace(self, Place::Free) {
             link.end(conn, reason, ended);

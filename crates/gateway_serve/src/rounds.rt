@@ -13,7 +13,8 @@ ghost use Rattle.gateway_serve.specs.Turns.{NoneIsFree};
 use crate::idle::Tick;
 use crate::places::{Place, Turned};
 use crate::reasons::Reason;
-use crate::sockets::Ended;
+use crate::sockets::Seen;
+use common::History;
 use spool_disk::DiskFault;
 use std::io::{Read, Write};
 use std::time::Duration;
@@ -116,15 +117,15 @@ pub(crate) fn first_free<S: Read + Write + Drop>(places: &[Place<S>]) -> Option<
 pub(crate) fn turn_each<S: Read + Write + Drop, C: Connections>(
     places: &mut [Place<S>],
     gateway: &mut C,
-    ended: &mut Ended,
+    ended: &mut History<Seen>,
     round: &mut Round,
 ) -> Result<(), DiskFault>
-    ensures streams { AllKeep S.remaining S.contents places.old places.new ended.old.sockets ended.new.sockets }
-    ensures reasons { StayReasoned ended.old.sockets ended.new.sockets }
+    ensures streams { AllKeep S.remaining S.contents places.old places.new ended.old.items ended.new.items }
+    ensures reasons { StayReasoned ended.old.items ended.new.items }
     ensures serves { GoesOn C.Connections gateway.old gateway.new result places.old places.new
-        ended.old.sockets ended.new.sockets }
+        ended.old.items ended.new.items }
     ensures counts { Counts (IsErr result) (C.failures gateway.old) (C.failures gateway.new) }
-    ensures closed { round.old.closed ≤ length ended.old.sockets → round.new.closed ≤ length ended.new.sockets }
+    ensures closed { round.old.closed ≤ length ended.old.items → round.new.closed ≤ length ended.new.items }
 {
     for (conn, place) in places.iter_mut().enumerate() {
         if round.closed == round.connections {
@@ -142,13 +143,13 @@ pub(crate) fn turn_each<S: Read + Write + Drop, C: Connections>(
 pub(crate) fn end_each<S: Read + Write + Drop, C: Connections>(
     places: &mut [Place<S>],
     gateway: &mut C,
-    ended: &mut Ended,
+    ended: &mut History<Seen>,
 ) -> Result<(), DiskFault>
-    ensures streams { AllKeep S.remaining S.contents places.old places.new ended.old.sockets ended.new.sockets }
-    ensures once { AtMostOnce ended.old.sockets ended.new.sockets }
-    ensures more { length ended.old.sockets ≤ length ended.new.sockets }
+    ensures streams { AllKeep S.remaining S.contents places.old places.new ended.old.items ended.new.items }
+    ensures once { AtMostOnce ended.old.items ended.new.items }
+    ensures more { length ended.old.items ≤ length ended.new.items }
     ensures serves { Ends C.Connections gateway.old gateway.new result places.old places.new
-        ended.old.sockets ended.new.sockets }
+        ended.old.items ended.new.items }
     ensures counts { Counts (IsErr result) (C.failures gateway.old) (C.failures gateway.new) }
 {
     for (conn, place) in places.iter_mut().enumerate() {
@@ -161,11 +162,11 @@ pub(crate) fn end_each<S: Read + Write + Drop, C: Connections>(
 }
 
 /// Lets all sockets go: the session isn't told.
-pub(crate) fn free_each<S: Read + Write + Drop>(places: &mut [Place<S>], ended: &mut Ended)
-    ensures streams { AllKeep S.remaining S.contents places.old places.new ended.old.sockets ended.new.sockets }
-    ensures once { AtMostOnce ended.old.sockets ended.new.sockets }
+pub(crate) fn free_each<S: Read + Write + Drop>(places: &mut [Place<S>], ended: &mut History<Seen>)
+    ensures streams { AllKeep S.remaining S.contents places.old places.new ended.old.items ended.new.items }
+    ensures once { AtMostOnce ended.old.items ended.new.items }
     ensures left { (sure : Bool) (st : State) (past : List Marked)
-        → AllFell sure places.old ended.old.sockets st past → AllLeft sure ended.new.sockets st past }
+        → AllFell sure places.old ended.old.items st past → AllLeft sure ended.new.items st past }
 {
     for (conn, place) in places.iter_mut().enumerate() {
         place.free(conn, Reason::Over, ended);

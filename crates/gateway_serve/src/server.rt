@@ -14,7 +14,8 @@ use crate::doors::Door;
 use crate::idle::{Watch, time};
 use crate::places::{Place, unless_failed};
 use crate::rounds::{Round, end_each, first_free, free_each, longest_pause, turn_each};
-use crate::sockets::{Ended, Untouched};
+use crate::sockets::{Seen, Untouched};
+use common::History;
 use spool_disk::DiskFault;
 use std::alloc::Global;
 use std::io::{Read, Write};
@@ -29,7 +30,7 @@ pub(crate) struct Server<S> {
     pub(crate) door: Door<S>,
     /// By the connections' numbers. There are at most `MOST_OPEN` places; another one is made when it is needed.
     places: Vec<Place<S>>,
-    pub(crate) ended: Ended,
+    pub(crate) ended: History<Seen>,
     closed: u64,
     /// whether anything was done in the latest turn
     busy: bool,
@@ -48,7 +49,7 @@ impl<S: Read + Write + Drop> Server<S> {
             alloc,
             door: Door::new(),
             places: Vec::new(alloc),
-            ended: Ended::new(),
+            ended: History::new(),
             closed: 0,
             busy: false,
             watch,

@@ -11,7 +11,8 @@ use crate::acceptors::Acceptor;
 use crate::doors::Clients;
 use crate::idle::{Watch, time};
 use crate::server::Server;
-use crate::sockets::Ended;
+use crate::sockets::Seen;
+use common::History;
 use spool_disk::DiskFault;
 use std::alloc::Global;
 use std::io::{Read, Write};
@@ -25,7 +26,7 @@ pub struct Outcome<C> {
     /// What became of the clients that the listener gave.
     pub clients: Clients,
     /// The sockets that served them, which only clauses read.
-    pub ended: Ended,
+    pub ended: History<Seen>,
     /// `DiskFault` where a call of the session was refused with it: serving stopped there.
     pub served: Result<(), DiskFault>,
 }
@@ -73,24 +74,24 @@ where
     // between requests or in one, all of that went.
     ensures serves { (sure : Bool) (st : State) → C.stands gateway sure st
         → Serves C.Connections sure gateway result.gateway st result.served
-        (AllServed sure result.ended.sockets st) (AllLeft sure result.ended.sockets st) }
+        (AllServed sure result.ended.items st) (AllLeft sure result.ended.items st) }
     ensures counts { Counts (IsErr result.served) (C.failures gateway) (C.failures result.gateway) }
 
     // Each of these sockets had a stream of its own, as it was accepted. That was read and written and nothing else:
     // what the reads gave is what came, what the writes took is what went, and the latest of these calls answered so.
-    ensures streams { AllHad A.Stream.remaining A.Stream.contents result.ended.sockets }
+    ensures streams { AllHad A.Stream.remaining A.Stream.contents result.ended.items }
 
     // Each of them ended for the reason that it has: the session closed its connection; or the latest call of its
     // stream was a read that gave nothing, one that failed and not because it would have waited or was interrupted, or
     // a write that took nothing; or nothing came or went for as long as it may be idle at what it was at; or serving
     // was over: at most one for each number of a connection, and where the disk failed at most one more.
-    ensures reasons { IsLeftReasoned result.ended.sockets }
+    ensures reasons { IsLeftReasoned result.ended.items }
 
     // Each client that the listener gave got a connection, or was refused one by the session, or waited for a place at
     // the end, which one does at most. Unless the disk failed or so many connections were closed before, it took so
     // many turns: in at least every 32nd in which no client waited it asked the listener.
     ensures clients { HasServed (A.answers acceptor.old) (A.answers acceptor.new) turns connections result.clients
-        result.ended.sockets (IsErr result.served) }
+        result.ended.items (IsErr result.served) }
 {
     let mut gateway = gateway;
     let mut server = Server::new(alloc, Watch::new(time(clock)));

@@ -1,41 +1,13 @@
 //! Sockets, with all bytes that came from each and all that went to it. Only clauses read these: they take no memory,
 //! and keeping them does nothing when it runs.
-ghost use Rattle.std.specs.Prelude.{◌≡◌, ℕ, List, [], ◌∷◌, ◌++◌, take, IfOk, OnErr};
-ghost use Rattle.std.specs.Borrow.{ftrue};
+ghost use Rattle.std.specs.Prelude.{◌≡◌, [], ◌++◌, take, IfOk, OnErr};
 ghost use Rattle.std.specs.Io.{ReadsAtMost, WritesAtMost};
 ghost use Rattle.std.specs.Io.KnownBytes.{ReadConsumes, WriteAppends};
-ghost use Rattle.gateway_serve.specs.Sockets.{Seen};
 
 use crate::reasons::Reason;
+use common::History;
 use std::io::{self, ErrorKind, Read, Write};
-use std::marker::{Model, PhantomData};
-
-/// Bytes in their order.
-#[derive(Drop)]
-struct Log {
-    marker: PhantomData<u8>,
-    ghost bytes: { List ℕ },
-}
-
-impl Model for Log {
-    ghost also_owns = { λ _. ftrue };
-}
-
-impl Log {
-    // No bytes.
-    fn new() -> Log
-        ensures { result.bytes ≡ [] }
-    {
-        Log {
-            marker: PhantomData,
-        }
-    }
-
-    // Puts bytes after those that are there.
-    fn add(&mut self, _bytes: &[u8])
-        ensures { self.new.bytes ≡ self.old.bytes ++ _bytes.now }
-    {}
-}
+use std::marker::Model;
 
 /// What the latest call of a stream answered.
 #[derive(Clone, Copy, Drop)]
@@ -54,8 +26,8 @@ pub enum Latest {
 #[derive(Drop)]
 pub(crate) struct Socket<S> {
     stream: S,
-    came: Log,
-    went: Log,
+    came: History<u8>,
+    went: History<u8>,
     latest: Latest,
 }
 
@@ -72,8 +44,8 @@ impl<S> Socket<S> {
     {
         Socket {
             stream,
-            came: Log::new(),
-            went: Log::new(),
+            came: History::new(),
+            went: History::new(),
             latest: Latest::None,
         }
     }
@@ -95,7 +67,7 @@ impl<S: Read + Write> Socket<S> {
     {
         match self.stream.read(buf) {
             Ok(count) => {
-                self.came.add(&buf[..count]);
+                self.came = self.came.then(&buf[..count]);
                 self.latest = Latest::Read(count);
                 Ok(count)
             }
@@ -118,7 +90,7 @@ impl<S: Read + Write> Socket<S> {
     {
         match self.stream.write(bytes) {
             Ok(count) => {
-                self.went.add(&bytes[..count]);
+                self.went = self.went.then(&bytes[..count]);
                 self.latest = Latest::Written(count);
                 Ok(count)
             }
@@ -171,46 +143,35 @@ impl<S> Untouched<S> {
     }
 }
 
-/// The sockets that served connections, the latest first. Only clauses read them.
+/// What is seen of a socket that served its connection. Only clauses read it.
 #[derive(Drop)]
-pub struct Ended {
-    marker: PhantomData<u8>,
-    pub ghost sockets: { List Seen },
+pub struct Seen {
+    /// The connection's number.
+    pub conn: usize,
+    /// All bytes that came from the socket.
+    pub came: History<u8>,
+    /// All bytes that went to it.
+    pub went: History<u8>,
+    /// What the latest call of its stream answered.
+    pub latest: Latest,
+    /// Why it ended.
+    pub reason: Reason,
 }
 
-impl Model for Ended {
-    ghost also_owns = { λ _. ftrue };
-}
-
-impl Ended {
+impl<S: Drop> Socket<S> {
     ghost use Rattle.gateway_serve.specs.Bytes.{current};
 
-    /// No socket.
-    pub(crate) fn new() -> Ended
-        ensures { result.sockets ≡ [] }
+    /// What is seen of it, where it served the connection with this number and ends for this reason: nothing comes or
+    /// goes over it any more.
+    pub(crate) fn ended(self, conn: usize, reason: Reason) -> Seen
+        ensures { result ≡ current conn self reason }
     {
-        Ended {
-            marker: PhantomData,
+        Seen {
+            conn,
+            came: self.came,
+            went: self.went,
+            latest: self.latest,
+            reason,
         }
-    }
-
-    // A socket that served the connection with this number, of which these bytes came, and to which these went. The
-    // latest call of its stream answered this, and it ended for this reason.
-    fn note(&mut self, _conn: usize, _came: &Log, _went: &Log, _latest: &Latest, _reason: &Reason)
-        ensures { self.new.sockets ≡ record {
-          conn = _conn;
-          came = _came.now.bytes;
-          went = _went.now.bytes;
-          latest = _latest.now;
-          reason = _reason.now;
-        } ∷ self.old.sockets }
-    {}
-
-    /// A socket that served the connection with this number, and ended for this reason. Nothing comes or goes over it
-    /// any more.
-    pub(crate) fn add<S: Drop>(&mut self, conn: usize, socket: Socket<S>, reason: &Reason)
-        ensures { self.new.sockets ≡ current conn socket reason.now ∷ self.old.sockets }
-    {
-        self.note(conn, &socket.came, &socket.went, &socket.latest, reason);
     }
 }

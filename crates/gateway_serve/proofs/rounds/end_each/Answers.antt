@@ -15,7 +15,7 @@ returns-in-Err-clause-serves g c = λ sure before st past went joins.
     let inside : c.loop-conn.conn < length c.loop-conn.places =
     omega (arith, c.loop-conn-test.true, c.loop-conn.auto.places) in
     among_all g.C.Connections c.loop-conn.gateway c.end.new.gateway told c.loop-conn.places c.loop-conn.conn
-    c.index-places-conn.result c.end.new.self c.loop-conn.ended.sockets c.end.new.ended.sockets
+    c.index-places-conn.result c.end.new.self c.loop-conn.ended.items c.end.new.ended.items
     c.in-Err.ensures.serves c.end.ensures.others inside sure before st s.0 s.1 s.2
 
 pub returns-in-Err-clause-streams : goal.returns-in-Err-clause-streams
@@ -24,7 +24,7 @@ returns-in-Err-clause-streams g c = λ have had.
     let inside : c.loop-conn.conn < length c.loop-conn.places =
     omega (arith, c.loop-conn-test.true, c.loop-conn.auto.places) in
     among_keep g.S.Read.remaining g.S.Write.contents c.loop-conn.places c.loop-conn.conn c.index-places-conn.result
-    c.end.new.self c.loop-conn.ended.sockets c.end.new.ended.sockets inside c.end.ensures.streams s.0 s.1
+    c.end.new.self c.loop-conn.ended.items c.end.new.ended.items inside c.end.ensures.streams s.0 s.1
 
 pub loop-conn-init : goal.loop-conn-init
 loop-conn-init g c = (
@@ -45,23 +45,23 @@ loop-conn-preserved g c =
           let s = c.loop-conn.invariant.1 sure before st past went joins in
           let told : Result (Unit {0}) DiskFault = Ok tt in
           among_all g.C.Connections c.loop-conn.gateway c.end.new.gateway told c.loop-conn.places c.loop-conn.conn
-          c.index-places-conn.result c.end.new.self c.loop-conn.ended.sockets c.end.new.ended.sockets
+          c.index-places-conn.result c.end.new.self c.loop-conn.ended.items c.end.new.ended.items
           c.in-Ok.ensures.serves c.end.ensures.others inside sure before st s.0 s.1 s.2,
       λ have had.
           let s = c.loop-conn.invariant.2 have had in
           among_keep g.S.Read.remaining g.S.Write.contents c.loop-conn.places c.loop-conn.conn
-          c.index-places-conn.result c.end.new.self c.loop-conn.ended.sockets c.end.new.ended.sockets inside
+          c.index-places-conn.result c.end.new.self c.loop-conn.ended.items c.end.new.ended.items inside
           c.end.ensures.streams s.0 s.1,
       free_before c.loop-conn.conn c.loop-conn.places c.end.new.self inside c.end.ensures.free c.loop-conn.invariant.3,
-      ended_once c.args.ended.now.sockets c.loop-conn.conn
-          (get_or c.loop-conn.places c.loop-conn.conn c.index-places-conn.result) c.loop-conn.ended.sockets
-          c.end.new.ended.sockets c.end.ensures.ended c.loop-conn.invariant.4,
+      ended_once c.args.ended.now.items c.loop-conn.conn
+          (get_or c.loop-conn.places c.loop-conn.conn c.index-places-conn.result) c.loop-conn.ended.items
+          c.end.new.ended.items c.end.ensures.ended c.loop-conn.invariant.4,
       omega (
         arith,
         c.loop-conn.invariant.5,
         more_ended c.loop-conn.conn Over
-            (get_or c.loop-conn.places c.loop-conn.conn c.index-places-conn.result) c.loop-conn.ended.sockets
-            c.end.new.ended.sockets c.end.ensures.ended,
+            (get_or c.loop-conn.places c.loop-conn.conn c.index-places-conn.result) c.loop-conn.ended.items
+            c.end.new.ended.items c.end.ensures.ended,
       ),
     )
 
@@ -72,16 +72,16 @@ returns-clause-serves g c = λ sure before st past went joins.
     omega (arith, c.loop-conn-test.false, c.loop-conn.auto.places) in (
       s.0,
       s.1,
-      all_served sure c.loop-conn.places c.loop-conn.ended.sockets st s.0
+      all_served sure c.loop-conn.places c.loop-conn.ended.items st s.0
           (λ k lt. c.loop-conn.invariant.3 k (omega (arith, lt, most))) s.2,
     )
 
 pub returns-in-Err-clause-once : goal.returns-in-Err-clause-once
 returns-in-Err-clause-once g c = (
   c.loop-conn.conn + 1,
-  ended_once c.args.ended.now.sockets c.loop-conn.conn
-      (get_or c.loop-conn.places c.loop-conn.conn c.index-places-conn.result) c.loop-conn.ended.sockets
-      c.end.new.ended.sockets c.end.ensures.ended c.loop-conn.invariant.4,
+  ended_once c.args.ended.now.items c.loop-conn.conn
+      (get_or c.loop-conn.places c.loop-conn.conn c.index-places-conn.result) c.loop-conn.ended.items
+      c.end.new.ended.items c.end.ensures.ended c.loop-conn.invariant.4,
 )
 
 pub returns-clause-once : goal.returns-clause-once
@@ -95,6 +95,6 @@ returns-in-Err-clause-more g c = omega (
   arith,
   c.loop-conn.invariant.5,
   more_ended c.loop-conn.conn Over
-      (get_or c.loop-conn.places c.loop-conn.conn c.index-places-conn.result) c.loop-conn.ended.sockets
-      c.end.new.ended.sockets c.end.ensures.ended,
+      (get_or c.loop-conn.places c.loop-conn.conn c.index-places-conn.result) c.loop-conn.ended.items
+      c.end.new.ended.items c.end.ensures.ended,
 )

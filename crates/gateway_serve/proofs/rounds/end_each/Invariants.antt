@@ -10,8 +10,8 @@ abbrev pub invariant-loop-conn : goal.invariant-loop-conn
 invariant-loop-conn g l =
     let on : Result (Unit {0}) DiskFault = Ok tt in
     (g.C.Connections.failures l.gateway ≡ g.C.Connections.failures l.fn.gateway)
-    × GoesOn g.C.Connections l.fn.gateway l.gateway on l.fn.places l.places l.fn.ended.sockets l.ended.sockets
-    × AllKeep g.S.Read.remaining g.S.Write.contents l.fn.places l.places l.fn.ended.sockets l.ended.sockets
+    × GoesOn g.C.Connections l.fn.gateway l.gateway on l.fn.places l.places l.fn.ended.items l.ended.items
+    × AllKeep g.S.Read.remaining g.S.Write.contents l.fn.places l.places l.fn.ended.items l.ended.items
     × ((k : ℕ) → k < l.conn → get_or l.places k Free ≡ Free)
-    × EndedOnce l.fn.ended.sockets l.conn l.ended.sockets
-    × (length l.fn.ended.sockets ≤ length l.ended.sockets)
+    × EndedOnce l.fn.ended.items l.conn l.ended.items
+    × (length l.fn.ended.items ≤ length l.ended.items)

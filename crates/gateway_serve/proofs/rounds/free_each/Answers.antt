@@ -7,7 +7,7 @@ use Rattle.gateway_serve.proofs.rounds.free_each.Goals as goal
 
 pub loop-conn-init : goal.loop-conn-init
 loop-conn-init g c = (
-  λ sure st past all. none_left sure c.args.places.now c.args.ended.now.sockets st past all,
+  λ sure st past all. none_left sure c.args.places.now c.args.ended.now.items st past all,
   λ have had. (have, had),
   none,
 )
@@ -18,23 +18,23 @@ loop-conn-preserved g c =
     omega (arith, c.loop-conn-test.true, c.loop-conn.auto.places) in (
       λ sure st past all. one_more_left sure c.loop-conn.conn c.loop-conn.places c.index-places-conn.result
           c.free.new.self
-          c.loop-conn.ended.sockets c.free.new.ended.sockets st past inside
+          c.loop-conn.ended.items c.free.new.ended.items st past inside
           c.free.ensures.ended c.free.ensures.waiting (c.loop-conn.invariant.0 sure st past all),
       λ have had.
           let s = c.loop-conn.invariant.1 have had in
           among_keep g.S.Read.remaining g.S.Write.contents c.loop-conn.places c.loop-conn.conn
-          c.index-places-conn.result c.free.new.self c.loop-conn.ended.sockets c.free.new.ended.sockets inside
+          c.index-places-conn.result c.free.new.self c.loop-conn.ended.items c.free.new.ended.items inside
           c.free.ensures.streams s.0 s.1,
-      ended_once c.args.ended.now.sockets c.loop-conn.conn
-          (get_or c.loop-conn.places c.loop-conn.conn c.index-places-conn.result) c.loop-conn.ended.sockets
-          c.free.new.ended.sockets c.free.ensures.ended c.loop-conn.invariant.2,
+      ended_once c.args.ended.now.items c.loop-conn.conn
+          (get_or c.loop-conn.places c.loop-conn.conn c.index-places-conn.result) c.loop-conn.ended.items
+          c.free.new.ended.items c.free.ensures.ended c.loop-conn.invariant.2,
     )
 
 pub returns-clause-left : goal.returns-clause-left
 returns-clause-left g c = λ sure st past all.
     let most : length c.loop-conn.places ≤ c.loop-conn.conn =
     omega (arith, c.loop-conn-test.false, c.loop-conn.auto.places) in
-    all_left sure c.loop-conn.conn c.loop-conn.places c.loop-conn.ended.sockets st past most
+    all_left sure c.loop-conn.conn c.loop-conn.places c.loop-conn.ended.items st past most
     (c.loop-conn.invariant.0 sure st past all)
 
 pub returns-clause-once : goal.returns-clause-once

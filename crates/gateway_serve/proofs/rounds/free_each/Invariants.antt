@@ -8,7 +8,7 @@ use Rattle.gateway_serve.proofs.rounds.free_each.Given as goal
 
 abbrev pub invariant-loop-conn : goal.invariant-loop-conn
 invariant-loop-conn g l =
-    ((sure : Bool) (st : State) (past : List Marked) → AllFell sure l.fn.places l.fn.ended.sockets st past
-    → HalfLeft sure l.conn l.places l.ended.sockets st past)
-    × AllKeep g.S.Read.remaining g.S.Write.contents l.fn.places l.places l.fn.ended.sockets l.ended.sockets
-    × EndedOnce l.fn.ended.sockets l.conn l.ended.sockets
+    ((sure : Bool) (st : State) (past : List Marked) → AllFell sure l.fn.places l.fn.ended.items st past
+    → HalfLeft sure l.conn l.places l.ended.items st past)
+    × AllKeep g.S.Read.remaining g.S.Write.contents l.fn.places l.places l.fn.ended.items l.ended.items
+    × EndedOnce l.fn.ended.items l.conn l.ended.items

@@ -9,7 +9,7 @@ abbrev pub invariant-loop-conn : goal.invariant-loop-conn
 invariant-loop-conn g l =
     let on : Result (Unit {0}) DiskFault = Ok tt in
     (g.C.Connections.failures l.gateway ≡ g.C.Connections.failures l.fn.gateway)
-    × GoesOn g.C.Connections l.fn.gateway l.gateway on l.fn.places l.places l.fn.ended.sockets l.ended.sockets
-    × AllKeep g.S.Read.remaining g.S.Write.contents l.fn.places l.places l.fn.ended.sockets l.ended.sockets
-    × StayReasoned l.fn.ended.sockets l.ended.sockets
-    × (l.fn.round.closed ≤ length l.fn.ended.sockets → l.round.closed ≤ length l.ended.sockets)
+    × GoesOn g.C.Connections l.fn.gateway l.gateway on l.fn.places l.places l.fn.ended.items l.ended.items
+    × AllKeep g.S.Read.remaining g.S.Write.contents l.fn.places l.places l.fn.ended.items l.ended.items
+    × StayReasoned l.fn.ended.items l.ended.items
+    × (l.fn.round.closed ≤ length l.fn.ended.items → l.round.closed ≤ length l.ended.items)

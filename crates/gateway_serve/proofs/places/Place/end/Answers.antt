@@ -11,8 +11,8 @@ use Rattle.gateway_serve.proofs.places.Place.end.Goals as goal
 pub returns-clause-serves : goal.returns-clause-serves
 returns-clause-serves g c = λ sure before st past went joins.
     let n = c.args.conn in
-    let ended = c.args.ended.now.sockets in
-    let ended' = c.free.new.ended.sockets in
+    let ended = c.args.ended.now.items in
+    let ended' = c.free.new.ended.items in
     let does = c.ended.ensures.does sure _ went.stands in
     let used : c.args.self.now ≡ Free → ⊥ = λ e. let f : false ≡ true = c.if-is_free.ensures.1 e in absurd (cc) in
     served g.C.Connections sure before c.args.gateway.now c.ended.new.self st past (Ended n) went

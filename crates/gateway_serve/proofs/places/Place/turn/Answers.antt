@@ -8,8 +8,8 @@ use Rattle.gateway_serve.proofs.places.Place.turn.Goals as goal
 pub returns-in-Ok-clause-serves : goal.returns-in-Ok-clause-serves
 returns-in-Ok-clause-serves g c = λ sure before st past went joins.
     let n = c.args.conn in
-    let ended = current_of n c.args.ended.now.sockets in
-    let ended' = current_of n c.end.new.ended.sockets in
+    let ended = current_of n c.args.ended.now.items in
+    let ended' = current_of n c.end.new.ended.items in
     let told : Result (Unit {0}) DiskFault = Ok tt in
     let s = c.in-Ok-Lost.ensures.serves sure before st past ended went
     (subst (λ p. PlaceJoins sure p ended st past n) c.in-Open.is joins) in
@@ -20,8 +20,8 @@ returns-in-Ok-clause-serves g c = λ sure before st past went joins.
 pub returns-in-Err-end-clause-serves : goal.returns-in-Err-end-clause-serves
 returns-in-Err-end-clause-serves g c = λ sure before st past went joins.
     let n = c.args.conn in
-    let ended = current_of n c.args.ended.now.sockets in
-    let ended' = current_of n c.end.new.ended.sockets in
+    let ended = current_of n c.args.ended.now.items in
+    let ended' = current_of n c.end.new.ended.items in
     let told : Result (Unit {0}) DiskFault = Err c.in-Err-end.fault in
     let s = c.in-Ok-Lost.ensures.serves sure before st past ended went
     (subst (λ p. PlaceJoins sure p ended st past n) c.in-Open.is joins) in

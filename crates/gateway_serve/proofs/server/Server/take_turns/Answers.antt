@@ -43,7 +43,7 @@ returns-clause-streams g c = λ have had.
 pub returns-clause-serves : goal.returns-clause-serves
 returns-clause-serves g c = λ sure before st past went joins.
     let s = c.loop-left.invariant.1 sure before st past went joins in
-    let ended = c.end_each.new.ended.sockets in
+    let ended = c.end_each.new.ended.items in
     let same = with_items_is c.loop-left.self.places c.end_each.new.places
     (omega (arith, c.end_each.auto.places, c.deref_mut.ensures.len)) in
     subst (λ places. Serves g.C.Connections sure before c.end_each.new.gateway st c.end_each.result

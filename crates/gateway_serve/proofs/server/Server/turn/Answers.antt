@@ -17,7 +17,7 @@ returns-clause-streams g c = λ have had.
 pub returns-clause-serves : goal.returns-clause-serves
 returns-clause-serves g c = λ sure before st past went joins.
     let s = c.in_ok-seat.ensures.serves sure before st past went joins in
-    let ended = c.turn_each-taken.new.ended.sockets in
+    let ended = c.turn_each-taken.new.ended.items in
     let same = with_items_is c.seat.new.self.places c.turn_each-taken.new.places
     (omega (arith, c.turn_each-taken.auto.places, c.deref_mut.ensures.len)) in
     subst (λ places. Serves g.C.Connections sure before c.turn_each-taken.new.gateway st c.turn_each-taken.result
