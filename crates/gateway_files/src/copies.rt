@@ -1,7 +1,8 @@
 //! Texts of uploads, copied to writers.
 ghost use Rattle.std.specs.Prelude.{◌≡◌, ◌<◌, ◌≤◌, ◌+◌, ◌-◌, IfErr, IfOk, IsErrOf, OnOk, drop, length, min, take, true};
 ghost use Rattle.std.specs.Io.KnownBytes.{Appends};
-ghost use Rattle.upload_rules.specs.Answers.{Counts as Fails, Quiet};
+ghost use Rattle.upload_rules.specs.Answers.{Quiet};
+ghost use Rattle.common.specs.Counts.{Counts};
 ghost use Rattle.upload_rules.specs.Reading.{text_at};
 ghost use Rattle.upload_rules.specs.Store.{upload_of};
 ghost use Rattle.upload_rules.specs.World.{World};
@@ -30,7 +31,7 @@ pub fn copy_text<W: Write, U: Uploads>(
     ensures crash { Quiet (U.moment uploads.old) (U.moment uploads.new) (U.left_only uploads.old)
         (U.left_only uploads.new) }
     ensures refused { IfErr result IsChangeFault }
-    ensures counts { Fails (IsErrOf result Fault.DiskFault) (U.failures uploads.old) (U.failures uploads.new) }
+    ensures counts { Counts (IsErrOf result Fault.DiskFault) (U.failures uploads.old) (U.failures uploads.new) }
 {
     let Some(record) = uploads.record(number) else {
         return Ok(());
@@ -54,7 +55,7 @@ fn copy_bytes<W: Write, U: Uploads>(
     ensures crash { Quiet (U.moment uploads.old) (U.moment uploads.new) (U.left_only uploads.old)
         (U.left_only uploads.new) }
     ensures refused { IfErr result IsChangeFault }
-    ensures counts { Fails (IsErrOf result Fault.DiskFault) (U.failures uploads.old) (U.failures uploads.new) }
+    ensures counts { Counts (IsErrOf result Fault.DiskFault) (U.failures uploads.old) (U.failures uploads.new) }
 {
     let mut at = 0;
     while at < len {
@@ -81,7 +82,7 @@ fn copy_piece<W: Write, U: Uploads>(
     ensures crash { Quiet (U.moment uploads.old) (U.moment uploads.new) (U.left_only uploads.old)
         (U.left_only uploads.new) }
     ensures refused { IfErr result IsChangeFault }
-    ensures counts { Fails (IsErrOf result Fault.DiskFault) (U.failures uploads.old) (U.failures uploads.new) }
+    ensures counts { Counts (IsErrOf result Fault.DiskFault) (U.failures uploads.old) (U.failures uploads.new) }
 {
     let count = (len - at).min(PIECE as u64);
     let mut buffer = [0; PIECE];
@@ -100,7 +101,7 @@ fn read_at<U: Uploads>(uploads: &mut U, number: u64, at: u64, piece: &mut [u8]) 
     ensures crash { Quiet (U.moment uploads.old) (U.moment uploads.new) (U.left_only uploads.old)
         (U.left_only uploads.new) }
     ensures refused { IfErr result IsChangeFault }
-    ensures counts { Fails (IsErrOf result Fault.DiskFault) (U.failures uploads.old) (U.failures uploads.new) }
+    ensures counts { Counts (IsErrOf result Fault.DiskFault) (U.failures uploads.old) (U.failures uploads.new) }
 {
     match uploads.read_text(number, at, piece) {
         // What no upload has is no text.

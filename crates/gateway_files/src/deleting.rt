@@ -1,9 +1,9 @@
 //! Uploads of a spool, deleted by their numbers.
 ghost use Rattle.std.specs.Prelude.{◌≡◌, ℕ, Bool, Err, IfErr, IfOk, IsErrOf, IsOk, OnOk, true};
 ghost use Rattle.std.specs.Io.KnownBytes.{Appends};
-ghost use Rattle.spool_disk.specs.Disk.{Counts};
+ghost use Rattle.common.specs.Counts.{Counts};
 ghost use Rattle.spool_load.specs.Refusals.{HasOtherVersion, IsDamaged, IsNoSpool};
-ghost use Rattle.upload_rules.specs.Answers.{Counts as Fails, Limits};
+ghost use Rattle.upload_rules.specs.Answers.{Limits};
 ghost use Rattle.upload_rules.specs.Calls.{terminated};
 ghost use Rattle.upload_rules.specs.Store.{Store, deleted_store, upload_of};
 ghost use Rattle.upload_rules.specs.World.{World, is_there};
@@ -115,7 +115,7 @@ pub fn delete_uploads<W: Write, U: Uploads>(
         → LimitsTo (U.moment uploads.old) (U.moment uploads.new) (U.left_only uploads.old) (U.left_only uploads.new)
         (stages w.store numbers.now) }
     ensures refused { IfErr result IsChangeFault }
-    ensures counts { Fails (IsErrOf result Fault.DiskFault) (U.failures uploads.old) (U.failures uploads.new) }
+    ensures counts { Counts (IsErrOf result Fault.DiskFault) (U.failures uploads.old) (U.failures uploads.new) }
 {
     let mut all = true;
     for number in numbers {
@@ -141,7 +141,7 @@ fn delete_one<W: Write, U: Uploads>(
         → Limits (U.moment uploads.old) (U.moment uploads.new) (U.left_only uploads.old) (U.left_only uploads.new)
         w.store (deleted_store w.store number) }
     ensures refused { IfErr result IsChangeFault }
-    ensures counts { Fails (IsErrOf result Fault.DiskFault) (U.failures uploads.old) (U.failures uploads.new) }
+    ensures counts { Counts (IsErrOf result Fault.DiskFault) (U.failures uploads.old) (U.failures uploads.new) }
 {
     let there = terminate(uploads, number)?;
     say_deleted(writer, number, there)?;
@@ -158,7 +158,7 @@ fn terminate<U: Uploads>(uploads: &mut U, number: u64) -> Result<bool, Fault>
         → Limits (U.moment uploads.old) (U.moment uploads.new) (U.left_only uploads.old) (U.left_only uploads.new)
         w.store (deleted_store w.store number) }
     ensures refused { IfErr result IsChangeFault }
-    ensures counts { Fails (IsErrOf result Fault.DiskFault) (U.failures uploads.old) (U.failures uploads.new) }
+    ensures counts { Counts (IsErrOf result Fault.DiskFault) (U.failures uploads.old) (U.failures uploads.new) }
 {
     match uploads.terminate(number) {
         Ok(()) => Ok(true),

@@ -2,9 +2,9 @@
 ghost use Rattle.std.specs.Prelude.{◌≡◌, [], ◌∷◌, ℕ, List, Err, IfErr, IfOk, IsErrOf, IsOk, None, OnErr, OnOk, Some};
 ghost use Rattle.std.specs.Prelude.{◌||◌, ◌==◌, length, map, not, true};
 ghost use Rattle.std.specs.Io.KnownBytes.{Appends};
-ghost use Rattle.spool_disk.specs.Disk.{Counts};
+ghost use Rattle.common.specs.Counts.{Counts};
 ghost use Rattle.spool_load.specs.Refusals.{HasOtherVersion, IsDamaged, IsNoSpool};
-ghost use Rattle.upload_rules.specs.Answers.{Counts as Fails, Quiet};
+ghost use Rattle.upload_rules.specs.Answers.{Quiet};
 ghost use Rattle.upload_rules.specs.Reading.{text_at};
 ghost use Rattle.upload_rules.specs.Store.{Store, upload_of};
 ghost use Rattle.upload_rules.specs.World.{World};
@@ -130,7 +130,7 @@ fn export_uploads<W: Write, F: Folder, U: Uploads>(
     ensures crash { Quiet (U.moment uploads.old) (U.moment uploads.new) (U.left_only uploads.old)
         (U.left_only uploads.new) }
     ensures refused { IfErr result IsChangeFault }
-    ensures counts { Fails (IsErrOf result Fault.DiskFault) (U.failures uploads.old) (U.failures uploads.new) }
+    ensures counts { Counts (IsErrOf result Fault.DiskFault) (U.failures uploads.old) (U.failures uploads.new) }
 {
     let jobs = plan(alloc, uploads, all)?;
     let done = do_jobs(writer, folder, uploads, &jobs)?;
@@ -167,7 +167,7 @@ fn do_jobs<W: Write, F: Folder, U: Uploads>(
     ensures crash { Quiet (U.moment uploads.old) (U.moment uploads.new) (U.left_only uploads.old)
         (U.left_only uploads.new) }
     ensures refused { IfErr result IsChangeFault }
-    ensures counts { Fails (IsErrOf result Fault.DiskFault) (U.failures uploads.old) (U.failures uploads.new) }
+    ensures counts { Counts (IsErrOf result Fault.DiskFault) (U.failures uploads.old) (U.failures uploads.new) }
 {
     let mut done = Done {
         exported: 0,
@@ -231,7 +231,7 @@ fn do_job<'j, W: Write, F: Folder, U: Uploads>(
     ensures crash { Quiet (U.moment uploads.old) (U.moment uploads.new) (U.left_only uploads.old)
         (U.left_only uploads.new) }
     ensures refused { IfErr result IsChangeFault }
-    ensures counts { Fails (IsErrOf result Fault.DiskFault) (U.failures uploads.old) (U.failures uploads.new) }
+    ensures counts { Counts (IsErrOf result Fault.DiskFault) (U.failures uploads.old) (U.failures uploads.new) }
 {
     match (export_job(folder, uploads, job), &job.name) {
         (Ok(outcome), _) => {
@@ -265,7 +265,7 @@ fn export_job<'j, F: Folder, U: Uploads>(
     ensures crash { Quiet (U.moment uploads.old) (U.moment uploads.new) (U.left_only uploads.old)
         (U.left_only uploads.new) }
     ensures refused { IfErr result IsChangeFault }
-    ensures counts { Fails (IsErrOf result Fault.DiskFault) (U.failures uploads.old) (U.failures uploads.new) }
+    ensures counts { Counts (IsErrOf result Fault.DiskFault) (U.failures uploads.old) (U.failures uploads.new) }
 {
     let Some(name) = &job.name else {
         return Ok(Outcome::Incomplete);
@@ -311,7 +311,7 @@ fn write_text<F: Folder, U: Uploads>(
     ensures crash { Quiet (U.moment uploads.old) (U.moment uploads.new) (U.left_only uploads.old)
         (U.left_only uploads.new) }
     ensures refused { IfErr result IsChangeFault }
-    ensures counts { Fails (IsErrOf result Fault.DiskFault) (U.failures uploads.old) (U.failures uploads.new) }
+    ensures counts { Counts (IsErrOf result Fault.DiskFault) (U.failures uploads.old) (U.failures uploads.new) }
 {
     let mut file = folder.begin()?;
     match copy_text(&mut file, uploads, number) {

@@ -1,7 +1,7 @@
 -- What serving did, after one call of the session more.
 use Rattle.std.proofs.Common.{◌≡◌, ◌↔◌, ℕ, Bool, false, true, List, ◌∷◌, Result, Ok, Err, inr, refl, subst}
 use Rattle.std.specs.Prelude.{IsErr, IsErrOf}
-use Rattle.spool_disk.specs.declared.disk.DiskFault.{DiskFault}
+use Rattle.common.specs.declared.stop.DiskFault.{DiskFault}
 use Rattle.upload_rules.specs.Answers.{Among, Limits}
 use Rattle.upload_rules.specs.Store.{Store}
 use Rattle.tus_session.specs.History.{State, Event, Marked, Served, OutOfMemory, Failed, step, history}

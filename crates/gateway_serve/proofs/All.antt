@@ -4,7 +4,7 @@ use Rattle.std.proofs.Common.{Err}
 use Rattle.std.proofs.Common.{refl, sym, ◌∙◌, ap, subst, arith, get_or-set_same, get_or-set_other}
 use Rattle.std.proofs.lemmas.Bool.{cases_eq, cases_lt}
 use Rattle.std.proofs.lemmas.List.{get_or_default, get_or_past}
-use Rattle.spool_disk.specs.declared.disk.DiskFault.{DiskFault}
+use Rattle.common.specs.declared.stop.DiskFault.{DiskFault}
 use Rattle.tus_session.specs.History.{State, Opened, Done, Refused, Marked, history, step}
 use Rattle.tus_session.specs.declared.errors.SessionError.{SessionError}
 use Rattle.tus_session.specs.Connections.{mark_of, told_done}

@@ -1,7 +1,7 @@
 -- How sockets are joined to the conversations of their connections.
 use Rattle.std.specs.Prelude.{◌≡◌, ◌⊎◌, ◌<◌, ◌≤◌, ℕ, length, Bool, true, false, List, [], ◌∷◌, ◌++◌, take, drop}
 use Rattle.std.specs.Prelude.{Option, Some, None, get_or, if◌then◌else◌, Result, Ok, Err}
-use Rattle.spool_disk.specs.declared.disk.DiskFault.{DiskFault}
+use Rattle.common.specs.declared.stop.DiskFault.{DiskFault}
 use Rattle.tus_session.specs.History.{State, Marked, history}
 use Rattle.tus_session.specs.declared.answers.Answer.{Answer}
 use Rattle.tus_session.specs.declared.errors.SessionError.{SessionError}

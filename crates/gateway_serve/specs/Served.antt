@@ -1,6 +1,6 @@
 -- What serving makes of connections.
 use Rattle.std.specs.Prelude.{◌≡◌, ℕ, Bool, true, List, ◌∷◌, Result, Ok, Err}
-use Rattle.spool_disk.specs.declared.disk.DiskFault.{DiskFault}
+use Rattle.common.specs.declared.stop.DiskFault.{DiskFault}
 use Rattle.tus_session.specs.History.{State, Event, Marked, Failed, history}
 use Rattle.tus_session.specs.Images.{stores_of, ShowsLast, LimitsTo}
 use Rattle.tus_session.specs.declared.connections.Connections.{Ghosts}

@@ -1,6 +1,6 @@
 //! A socket and its connection of the gateway.
 ghost use Rattle.std.specs.Prelude.{◌≡◌, ◌≢◌, ◌⊎◌, ◌↔◌, IsErr, IsErrOf, IfOk, IfSome, IsTrue, length};
-ghost use Rattle.upload_rules.specs.Answers.{Counts};
+ghost use Rattle.common.specs.Counts.{Counts};
 ghost use Rattle.gateway_serve.specs.Joined.{Goes, IsOver, Writes, Reads, joint_of, nothing_yet, with_link};
 ghost use Rattle.gateway_serve.specs.Joined.{stage_by, stage_after, taken_after, at_of};
 ghost use Rattle.gateway_serve.specs.Waiting.{FewWait, HasRoom};
@@ -21,7 +21,7 @@ use crate::requests::Request;
 use crate::sockets::{Seen, Socket, Untouched};
 use crate::stays::{At, Stay};
 use common::History;
-use spool_disk::DiskFault;
+use common::DiskFault;
 use std::alloc::Global;
 use std::io::{self, ErrorKind, Read, Write};
 use std::time::Duration;

@@ -1,6 +1,6 @@
 //! A place for a connection.
 ghost use Rattle.std.specs.Prelude.{◌≡◌, ◌↔◌, ◌<◌, ◌≤◌, IsTrue, IsErr, IsErrOf, Ok, length};
-ghost use Rattle.upload_rules.specs.Answers.{Counts};
+ghost use Rattle.common.specs.Counts.{Counts};
 ghost use Rattle.gateway_serve.specs.Joined.{GoesAt, OthersStay, IsNew, MayEnd, PlaceWaits, with_place};
 ghost use Rattle.gateway_serve.specs.Streams.{PlaceIsOf, PlaceKeeps};
 ghost use Rattle.gateway_serve.specs.Reasons.{StayReasoned};
@@ -11,7 +11,7 @@ use crate::links::{Left, Link};
 use crate::reasons::Reason;
 use crate::sockets::{Seen, Untouched};
 use common::History;
-use spool_disk::DiskFault;
+use common::DiskFault;
 use std::alloc::Global;
 use std::io::{Read, Write};
 use std::mem;

@@ -1,13 +1,9 @@
 //! The trait of disks.
 ghost use Rattle.std.specs.Prelude.{◌≡◌, ◌≤◌, ◌+◌, ◌↔◌, ℕ, length, IsErr, IsOk};
-ghost use Rattle.spool_disk.specs.Disk.{span, IsImage, Elapses, Writes, Syncs, Keeps, Counts};
+ghost use Rattle.spool_disk.specs.Disk.{span, IsImage, Elapses, Writes, Syncs, Keeps};
+ghost use Rattle.common.specs.Counts.{Counts};
 
-use thiserror::Error;
-
-/// A disk fault: the call failed.
-#[derive(Clone, Copy, Debug, PartialEq, Eq, Drop, Error)]
-#[error("the disk failed")]
-pub struct DiskFault;
+use common::DiskFault;
 
 /// A disk of bytes. Every call may fail; a call that failed changes nothing outside its range.
 pub trait Disk {

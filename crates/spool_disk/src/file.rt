@@ -1,6 +1,7 @@
 //! A file as a disk.
 ghost use Rattle.std.specs.Prelude.{◌≡◌, ◌↔◌, ◌++◌, ℕ, [], ◌∷◌, true, false, is_ok, IfOk, IfErr, IsErr, OnOk, Some};
-ghost use Rattle.spool_disk.specs.Disk.{Counts, IsImage};
+ghost use Rattle.spool_disk.specs.Disk.{IsImage};
+ghost use Rattle.common.specs.Counts.{Counts};
 ghost use Rattle.spool_disk.specs.Positioned.{made, opened, lengthened, created};
 
 use crate::{Disk, DiskFault, FileCall, Positioned, SystemFile};
@@ -121,12 +122,6 @@ impl<F> PositionedDisk<F> {
                 Err(DiskFault)
             }
         }
-    }
-}
-
-impl From<io::Error> for DiskFault {
-    fn from(_error: io::Error) -> Self {
-        DiskFault
     }
 }
 

@@ -2,7 +2,7 @@
 ghost use Rattle.std.specs.Prelude.{◌≡◌, ◌≤◌, ◌<◌, ◌*◌, ◌↔◌, ◌⊎◌, ℕ, false, List, [], Option, Some, None};
 ghost use Rattle.std.specs.Prelude.{get_or, slice_set, IsErrOf, IfOk};
 ghost use Rattle.std.specs.Prelude.{Bool, true};
-ghost use Rattle.spool_disk.specs.Disk.{Counts};
+ghost use Rattle.common.specs.Counts.{Counts};
 ghost use Rattle.spool_disk.specs.Views.{Lasts};
 ghost use Rattle.spool_journal.specs.Image.{journal_pages, all_pages};
 ghost use Rattle.spool_drafts.specs.Drafts.{IsPlaced, list_of, number_of};
@@ -25,8 +25,9 @@ ghost use Rattle.spool_kept.specs.Holding.{IsUsedBy};
 ghost use Rattle.spool_kept.specs.Shows.{ImageShows};
 ghost use Rattle.spool_kept.specs.Stored.{ShowsEither, Stored};
 
-use crate::extending::{ExtendError, Longer, extend};
+use crate::extending::{Longer, extend};
 use crate::kept::Kept;
+use common::Stop;
 use spool_disk::Disk;
 use spool_drafts::{DraftEnd, SpoolDraft};
 use std::alloc::Global;
@@ -203,11 +204,11 @@ fn append_to<D: Disk>(
     };
     match extend(alloc, disk, kept, &longer, draft.list(), &last) {
         Ok(()) => Ok(longer.accepted),
-        Err(ExtendError::NoMemory) => {
+        Err(Stop::NoMemory) => {
             draft.give_back(&mut kept.blocks);
             Err(UploadError::NoMemory)
         }
-        Err(ExtendError::DiskFault) => Err(UploadError::DiskFault),
+        Err(Stop::DiskFault) => Err(UploadError::DiskFault),
     }
 }
 
@@ -251,8 +252,8 @@ fn set_length<D: Disk>(
     };
     match extend(alloc, disk, kept, &longer, &[], &[]) {
         Ok(()) => Ok(longer.accepted),
-        Err(ExtendError::NoMemory) => Err(UploadError::NoMemory),
-        Err(ExtendError::DiskFault) => Err(UploadError::DiskFault),
+        Err(Stop::NoMemory) => Err(UploadError::NoMemory),
+        Err(Stop::DiskFault) => Err(UploadError::DiskFault),
     }
 }
 

@@ -2,7 +2,7 @@
 ghost use Rattle.std.specs.Prelude.{◌≡◌, ◌↔◌, ◌≤◌, ◌<◌, ◌*◌, ◌/◌, ◌++◌, ℕ, List, [], Some, None, Ok, Err, length};
 ghost use Rattle.std.specs.Prelude.{Option, get_or, drop, slice_set, IfOk, OnOk, OnErr, IsSome};
 ghost use Rattle.std.specs.Prelude.{Bool, true};
-ghost use Rattle.spool_disk.specs.Disk.{Counts};
+ghost use Rattle.common.specs.Counts.{Counts};
 ghost use Rattle.spool_disk.specs.Views.{Lasts};
 ghost use Rattle.spool_journal.specs.Image.{all_pages, journal_pages, InArea};
 ghost use Rattle.spool_blocks.specs.Blocks.{Row as HeldRow};
@@ -19,8 +19,9 @@ ghost use Rattle.spool_pages.specs.View.{SlotRecord as Said};
 use crate::kept::Kept;
 use crate::lists::blocks_from;
 use crate::records::KeptRecord;
+use common::Stop;
 use spool_blocks::BlockNo;
-use spool_disk::{Disk, DiskFault};
+use spool_disk::Disk;
 use spool_journal::{Layout, Pages};
 use spool_pages::{SlotRecord, change, fill_rows, pages_of_change};
 use spool_texts::write_last;
@@ -39,35 +40,6 @@ pub(crate) struct Longer {
     pub text_len: u64,
     /// Where transcoding stands, as `Transcoder::pack` writes it.
     pub state: [u8; 32],
-}
-
-/// Why an upload gets no longer.
-#[derive(Clone, Copy, Debug, PartialEq, Eq)]
-pub(crate) enum ExtendError {
-    /// Out of memory, and nothing has changed.
-    NoMemory,
-    /// The disk failed in this call.
-    DiskFault,
-}
-
-impl From<AllocError> for ExtendError {
-    ghost use Rattle.spool_kept.specs.declared.extending.ExtendError.{ExtendError};
-
-    ghost from_gives = { λ _ error. error ≡ ExtendError.NoMemory };
-
-    fn from(_error: AllocError) -> ExtendError {
-        ExtendError::NoMemory
-    }
-}
-
-impl From<DiskFault> for ExtendError {
-    ghost use Rattle.spool_kept.specs.declared.extending.ExtendError.{ExtendError};
-
-    ghost from_gives = { λ _ error. error ≡ ExtendError.DiskFault };
-
-    fn from(_fault: DiskFault) -> ExtendError {
-        ExtendError::DiskFault
-    }
 }
 
 // The slot's upload gets longer.
@@ -203,19 +175,19 @@ pub(crate) fn extend<D: Disk>(
     longer: &Longer,
     more: &[BlockNo],
     last: &[u8],
-) -> Result<(), ExtendError>
+) -> Result<(), Stop>
     requires room { 4096 * all_pages kept.old.layout ≤ D.size disk.old }
     requires may { MayExtend kept.old longer.now more.now }
     requires reserved { IsReserved kept.old.blocks more.now }
     ensures size { D.size disk.new ≡ D.size disk.old }
     ensures honest { D.honest disk.old ↔ D.honest disk.new }
-    ensures counts { Counts (result ≡ Err ExtendError.DiskFault) (D.failures disk.old) (D.failures disk.new) }
+    ensures counts { Counts (result ≡ Err Stop.DiskFault) (D.failures disk.old) (D.failures disk.new) }
     ensures layout { kept.new.layout ≡ kept.old.layout }
     ensures version { kept.new.version ≡ kept.old.version }
-    ensures unmade { result ≡ Err ExtendError.NoMemory → (kept.new ≡ kept.old) × (disk.new ≡ disk.old) }
-    ensures blocks { (result ≡ Err ExtendError.NoMemory → ⊥)
+    ensures unmade { result ≡ Err Stop.NoMemory → (kept.new ≡ kept.old) × (disk.new ≡ disk.old) }
+    ensures blocks { (result ≡ Err Stop.NoMemory → ⊥)
         → HandsOn kept.old.blocks.reserved kept.new.blocks.reserved more.now }
-    ensures longer { (result ≡ Err ExtendError.NoMemory → ⊥) → (r : Said)
+    ensures longer { (result ≡ Err Stop.NoMemory → ⊥) → (r : Said)
         → get_or kept.old.slots longer.now.slot None ≡ Some r → IsLonger kept.old r longer.now more.now kept.new }
 
     // The disk and what is kept stand for the store with the longer upload.

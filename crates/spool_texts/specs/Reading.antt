@@ -1,11 +1,6 @@
 -- Reading a piece of a text.
 use Rattle.std.specs.Prelude.{◌≡◌, ℕ, ◌+◌, ◌-◌, ◌*◌, ◌/◌, ◌%◌, ◌<◌, ◌≤◌, List, ◌++◌, length, get_or, take, drop, min}
 
--- n bytes of the text from `at` on were read: as many as there are and as fit. The rest of the buffer is unchanged.
-pub record IsRead (text : List ℕ) (at n : ℕ) (old new : List ℕ) : Type 0 where
-  pub count : n ≡ min (length text - at) (length old)
-  pub bytes : new ≡ take n (drop at text) ++ drop n old
-
 -- Byte `at` of the listed blocks.
 abbrev pub byte_on : (ℕ → ℕ) → ℕ → List ℕ → ℕ → ℕ
 byte_on current first list at = current (4096 * (first + get_or list (at / 4096) 0) + at % 4096)

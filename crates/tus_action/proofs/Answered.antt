@@ -5,11 +5,12 @@ use Rattle.upload_rules.specs.declared.errors.UploadRefusal.{UploadRefusal}
 use Rattle.upload_rules.specs.declared.errors.UploadError.{UploadError}
 use Rattle.upload_rules.specs.declared.errors.UploadError.TheVariants.{NoMemory, DiskFault, Refused}
 use Rattle.upload_rules.specs.declared.uploads.Uploads.{Ghosts}
-use Rattle.tus_action.specs.Faults.{stop_of, fault_of}
+use Rattle.upload_rules.specs.Errors.{stop_of}
+use Rattle.tus_action.specs.Faults.{fault_of}
 use Rattle.tus_action.specs.Serves.{Feeds, FeedsDraft, Finishes, Serves, RepliesOnly, RepliesTo}
 use Rattle.tus_action.specs.declared.bodies.OpenPatch.{OpenPatch}
-use Rattle.tus_action.specs.declared.acts.Stop.{Stop}
-use Rattle.tus_action.specs.declared.acts.Stop.TheVariants as Stops
+use Rattle.common.specs.declared.stop.Stop.{Stop}
+use Rattle.common.specs.declared.stop.Stop.TheVariants as Stops
 use Rattle.tus_action.specs.declared.acts.Done as code
 use Rattle.tus_action.specs.declared.acts.Done.TheVariants as done
 use Rattle.tus_request.specs.Replies.{reply_refused}

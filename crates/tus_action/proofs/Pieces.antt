@@ -6,7 +6,8 @@ use Rattle.std.proofs.lemmas.List.{length-take, length-drop, take_all, take-take
 use Rattle.std.proofs.lemmas.List.{length-take-le, nil_from_length}
 use Rattle.std.proofs.lemmas.Bool.{leb-true, leb-false}
 use Rattle.upload_rules.specs.Store.{Store, Upload, upload_of, text_of}
-use Rattle.upload_rules.specs.Reading.{text_at, IsRead}
+use Rattle.upload_rules.specs.Reading.{text_at}
+use Rattle.common.specs.Reading.{IsRead}
 use Rattle.upload_rules.specs.World.{World, is_there}
 use Rattle.upload_rules.specs.Records.{TellsOf, with_number}
 use Rattle.upload_rules.specs.declared.records.Record.{Record}
@@ -17,8 +18,8 @@ use Rattle.tus_action.specs.Serves.{IsGiven, Gives}
 use Rattle.tus_action.specs.Serves.{giving_after}
 use Rattle.tus_action.specs.declared.acts.Giving as given
 use Rattle.tus_action.specs.declared.acts.Given.TheVariants.{Piece, Last}
-use Rattle.tus_action.specs.declared.acts.Stop.{Stop}
-use Rattle.tus_action.specs.declared.acts.Stop.TheVariants as Stops
+use Rattle.common.specs.declared.stop.Stop.{Stop}
+use Rattle.common.specs.declared.stop.Stop.TheVariants as Stops
 
 -- what is left of the first bytes of a text
 pub left_is : (text : List ℕ) (l g : ℕ) → g ≤ l → drop g (take l text) ≡ take (l - g) (drop g text)

@@ -17,8 +17,8 @@ use Rattle.tus_action.proofs.Pieces.{appends}
 use Rattle.tus_action.specs.Serves.{draft_in, giving_in, closes_in}
 use Rattle.tus_action.specs.declared.acts.Done.TheVariants as done
 use Rattle.tus_action.specs.declared.acts.Giving as given
-use Rattle.tus_action.specs.declared.acts.Stop.{Stop}
-use Rattle.tus_action.specs.declared.acts.Stop.TheVariants as Stops
+use Rattle.common.specs.declared.stop.Stop.{Stop}
+use Rattle.common.specs.declared.stop.Stop.TheVariants as Stops
 use Rattle.tus_action.proofs.Answered.{taken_back}
 
 -- a text of which nothing was given

@@ -17,8 +17,8 @@ use Rattle.tus_action.specs.declared.bodies.OpenPatch.{OpenPatch}
 use Rattle.tus_action.specs.declared.acts.Giving as given
 use Rattle.tus_action.specs.declared.acts.Given.{Given}
 use Rattle.tus_action.specs.declared.acts.Given.TheVariants.{Piece, Last, Gone}
-use Rattle.tus_action.specs.declared.acts.Stop.{Stop}
-use Rattle.tus_action.specs.declared.acts.Stop.TheVariants.{NoMemory, DiskFault}
+use Rattle.common.specs.declared.stop.Stop.{Stop}
+use Rattle.common.specs.declared.stop.Stop.TheVariants.{NoMemory, DiskFault}
 
 -- The open draft stands for the open patch, or there is none.
 abbrev pub DraftIs : {U B : Type 0} → Ghosts U B → World → Option B → Option ℕ → Type 0

@@ -1,42 +1,6 @@
 //! The results of a request's head, and what stays open after it.
 ghost use Rattle.std.specs.Prelude.{◌≡◌};
-ghost use Rattle.tus_action.specs.Faults.{stop_of};
 ghost use Rattle.tus_action.specs.Serves.{replied_giving, giving_after};
-
-use std::alloc::AllocError;
-use upload_rules::UploadError;
-
-/// Why a call stops without a reply.
-#[derive(Clone, Copy, Debug, PartialEq, Eq, Drop)]
-pub enum Stop {
-    /// Out of memory: no upload was changed.
-    NoMemory,
-    /// A disk fault: the spool has to be opened again.
-    DiskFault,
-}
-
-impl From<AllocError> for Stop {
-    ghost use Rattle.tus_action.specs.declared.acts.Stop.{Stop};
-
-    ghost from_gives = { λ _ stop. stop ≡ Stop.NoMemory };
-
-    /// An allocation was refused.
-    fn from(_error: AllocError) -> Self {
-        Stop::NoMemory
-    }
-}
-
-impl From<UploadError> for Stop {
-    ghost from_gives = { λ error stop. stop ≡ stop_of error };
-
-    /// For calls that the rules can't refuse: a refusal doesn't occur there.
-    fn from(error: UploadError) -> Self {
-        match error {
-            UploadError::DiskFault => Stop::DiskFault,
-            UploadError::NoMemory | UploadError::Refused(_) => Stop::NoMemory,
-        }
-    }
-}
 
 /// A text of which more is still to be given.
 #[derive(Clone, Copy, Debug, PartialEq, Eq, Drop)]

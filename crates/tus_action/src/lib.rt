@@ -9,7 +9,7 @@ pub mod refusals;
 pub mod requests;
 mod writes;
 
-pub use acts::{Done, Given, Giving, Stop};
+pub use acts::{Done, Given, Giving};
 pub use bodies::{OpenPatch, cut, feed, finish};
 pub use reads::{PIECE, PieceBuffer, give_more};
 pub use refusals::fault_of;

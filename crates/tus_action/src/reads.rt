@@ -2,14 +2,16 @@
 ghost use Rattle.std.specs.Prelude.{◌≡◌, ◌+◌, Some, None, IsErrOf, Bool};
 ghost use Rattle.upload_rules.specs.Store.{Upload, upload_of};
 ghost use Rattle.upload_rules.specs.World.{World};
-ghost use Rattle.upload_rules.specs.Answers.{Quiet, Counts};
+ghost use Rattle.upload_rules.specs.Answers.{Quiet};
+ghost use Rattle.common.specs.Counts.{Counts};
 ghost use Rattle.tus_request.specs.Requests.{Request};
 ghost use Rattle.tus_action.specs.Acts.{head, get, Giving as Pending};
 ghost use Rattle.tus_action.specs.Serves.{Serves, Gives, GivesPiece, IsGiving};
 ghost use Rattle.tus_action.specs.Acts.{piece_size};
 ghost use Rattle.tus_request.specs.Replies.{longest_reply, GrowsBy};
 
-use crate::acts::{Done, Given, Giving, Stop};
+use crate::acts::{Done, Given, Giving};
+use common::Stop;
 use crate::refusals::refused;
 use std::alloc::Global;
 use tus_request::replies::{reply_head, reply_text};

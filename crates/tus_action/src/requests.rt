@@ -1,7 +1,8 @@
 //! A request whose head is complete.
 ghost use Rattle.std.specs.Prelude.{◌+◌, IsErrOf, Bool, true};
 ghost use Rattle.upload_rules.specs.World.{World};
-ghost use Rattle.upload_rules.specs.Answers.{Limits, Counts};
+ghost use Rattle.upload_rules.specs.Answers.{Limits};
+ghost use Rattle.common.specs.Counts.{Counts};
 ghost use Rattle.tus_request.specs.Requests.{Asks};
 ghost use Rattle.tus_request.specs.Shown.{request_shown};
 ghost use Rattle.tus_action.specs.Acts.{acted};
@@ -9,7 +10,8 @@ ghost use Rattle.tus_action.specs.Serves.{Serves, CanBeMade, CanBeRead};
 ghost use Rattle.tus_action.specs.Acts.{piece_size};
 ghost use Rattle.tus_request.specs.Replies.{longest_reply, GrowsBy};
 
-use crate::acts::{Done, Stop};
+use crate::acts::{Done};
+use common::Stop;
 use crate::reads::{PieceBuffer, give_text, show};
 use crate::writes::{begin, create, delete};
 use std::alloc::Global;

@@ -3,7 +3,8 @@ ghost use Rattle.std.specs.Prelude.{◌≡◌, ◌++◌, [], Some, IsErrOf, OnOk
 ghost use Rattle.upload_rules.specs.World.{World};
 ghost use Rattle.upload_rules.specs.Calls.{create_refusal, create_outcome, terminate_refusal, terminate_outcome};
 ghost use Rattle.upload_rules.specs.Calls.{begin_refusal};
-ghost use Rattle.upload_rules.specs.Answers.{Limits, Quiet, Counts};
+ghost use Rattle.upload_rules.specs.Answers.{Limits, Quiet};
+ghost use Rattle.common.specs.Counts.{Counts};
 ghost use Rattle.upload_rules.specs.Records.{IsWellFormed, IsOffered};
 ghost use Rattle.tus_request.specs.Requests.{Request};
 ghost use Rattle.tus_request.specs.Replies.{reply_continue as continue_bytes};
@@ -11,7 +12,8 @@ ghost use Rattle.tus_action.specs.Acts.{post, delete as deleted, patch};
 ghost use Rattle.tus_action.specs.Serves.{Serves};
 ghost use Rattle.tus_request.specs.Replies.{longest_reply, GrowsBy};
 
-use crate::acts::{Done, Stop};
+use crate::acts::{Done};
+use common::Stop;
 use crate::refusals::refused;
 use std::alloc::{AllocError, Global};
 use tus_request::replies::{reply_continue, reply_created, reply_deleted};

@@ -41,8 +41,8 @@ use Rattle.std.proofs.lemmas.Bool.Decides.{nat_tests}
 use Rattle.std.proofs.lemmas.Option.{same_Some}
 use Rattle.std.proofs.Math.Seq.{take-append_seam}
 use Rattle.upload_rules.specs.Calls.{first_patch, dropped}
-use Rattle.tus_action.specs.declared.acts.Stop.{Stop}
-use Rattle.tus_action.specs.declared.acts.Stop.TheVariants as stops
+use Rattle.common.specs.declared.stop.Stop.{Stop}
+use Rattle.common.specs.declared.stop.Stop.TheVariants as stops
 use Rattle.tus_action.specs.declared.bodies.OpenPatch.{OpenPatch}
 use Rattle.tus_session.proofs.Feeding.{without_first}
 use Rattle.tus_session.proofs.Growth.{patched_nothing}

@@ -14,8 +14,8 @@ use Rattle.tus_session.specs.Turns.{Conn, Turn, reader, given_up, more_on, more_
 use Rattle.tus_session.specs.Stands.{IsGivingText, LinkIs, IsPatching}
 use Rattle.tus_session.specs.Moves.{Moves}
 use Rattle.tus_session.specs.Turned.{TurnedAs, Turned, EndedAs, Ended}
-use Rattle.tus_action.specs.declared.acts.Stop.{Stop}
-use Rattle.tus_action.specs.declared.acts.Stop.TheVariants as stops
+use Rattle.common.specs.declared.stop.Stop.{Stop}
+use Rattle.common.specs.declared.stop.Stop.TheVariants as stops
 use Rattle.tus_request.specs.declared.buffer.HeadBuffer.{HeadBuffer}
 use Rattle.tus_session.specs.Bodies.{link_after}
 use Rattle.tus_session.specs.declared.answers.Answer.{Answer}

@@ -8,8 +8,8 @@ use Rattle.tus_session.specs.History.{ended_at, is_closed, has_text}
 use Rattle.tus_session.specs.Stands.{SessionStands}
 use Rattle.tus_session.specs.Turned.{Turned, TurnedAs, EndedAs, Ended as EndedBy}
 use Rattle.tus_session.specs.Faults.{error_of}
-use Rattle.tus_action.specs.declared.acts.Stop.{Stop}
-use Rattle.tus_action.specs.declared.acts.Stop.TheVariants as stops
+use Rattle.common.specs.declared.stop.Stop.{Stop}
+use Rattle.common.specs.declared.stop.Stop.TheVariants as stops
 use Rattle.tus_session.specs.Told.{Follows, Told, Ends}
 use Rattle.tus_session.specs.declared.answers.Answer.{Answer}
 use Rattle.tus_session.specs.declared.conns.Link.{Link}

@@ -2,8 +2,8 @@
 use Rattle.std.specs.Prelude.{ℕ}
 use Rattle.tus_session.specs.declared.errors.SessionError.{SessionError}
 use Rattle.tus_session.specs.declared.errors.SessionError.TheVariants.{NoMemory, DiskFault, TooMany, Closed, Down}
-use Rattle.tus_action.specs.declared.acts.Stop.{Stop}
-use Rattle.tus_action.specs.declared.acts.Stop.TheVariants as stops
+use Rattle.common.specs.declared.stop.Stop.{Stop}
+use Rattle.common.specs.declared.stop.Stop.TheVariants as stops
 
 -- The number that a script reports.
 abbrev pub error_number : SessionError → ℕ

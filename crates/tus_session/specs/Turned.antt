@@ -9,8 +9,8 @@ use Rattle.tus_session.specs.Moves.{Moves}
 use Rattle.tus_session.specs.declared.answers.Answer.{Answer}
 use Rattle.tus_session.specs.declared.conns.Link.{Link}
 use Rattle.tus_action.specs.Serves.{Appends}
-use Rattle.tus_action.specs.declared.acts.Stop.{Stop}
-use Rattle.tus_action.specs.declared.acts.Stop.TheVariants.{NoMemory, DiskFault}
+use Rattle.common.specs.declared.stop.Stop.{Stop}
+use Rattle.common.specs.declared.stop.Stop.TheVariants.{NoMemory, DiskFault}
 
 -- The store stands for the turn's world and the link for its connection, and the answer has its numbers and bytes.
 pub record TurnedAs {U B : Type 0} (u : Ghosts U B) (sure : Bool) (store : U) (link : Option (Link B)) (a : Answer)

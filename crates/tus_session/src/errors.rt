@@ -2,7 +2,7 @@
 ghost use Rattle.std.specs.Prelude.{◌≡◌};
 ghost use Rattle.tus_session.specs.Faults.{error_of};
 
-use tus_action::Stop;
+use common::Stop;
 
 /// Why a session refuses a call.
 #[derive(Clone, Copy, Debug, PartialEq, Eq, Drop)]

@@ -1,7 +1,8 @@
 //! The next piece of a pending text, and the end of a connection.
 ghost use Rattle.std.specs.Prelude.{◌≡◌, false, IsErrOf, Ok, Bool, true};
 ghost use Rattle.upload_rules.specs.World.{World};
-ghost use Rattle.upload_rules.specs.Answers.{Limits, Quiet, Counts};
+ghost use Rattle.upload_rules.specs.Answers.{Limits, Quiet};
+ghost use Rattle.common.specs.Counts.{Counts};
 ghost use Rattle.tus_request.specs.Buffers.{bytes_of};
 ghost use Rattle.tus_session.specs.Turns.{Conn, more_turn, ended_world};
 ghost use Rattle.tus_session.specs.Stands.{LinkIs, dropped_by};
@@ -10,7 +11,8 @@ ghost use Rattle.tus_session.specs.Turns.{GivesFew};
 
 use crate::Answer;
 use crate::conns::{Awaiting, Link};
-use tus_action::{Given, OpenPatch, PieceBuffer, Stop, cut, give_more};
+use common::Stop;
+use tus_action::{Given, OpenPatch, PieceBuffer, cut, give_more};
 use upload_rules::Uploads;
 
 // The answer of an open connection to which no reply was given.

@@ -45,9 +45,3 @@ pub record Quiet (moment moment' : ℕ) (left_only left_only' : Option ℕ → �
   pub later : moment ≤ moment'
   pub keeps : (blocks : Option ℕ) (t : ℕ) (ms : List Store) → t ≤ moment → left_only blocks t ms
       → left_only' blocks t ms
-
--- The count of disk faults grows exactly at a fault, up to the greatest u64.
-pub record Counts (failed : Type 0) (before now : ℕ) : Type 0 where
-  pub later : before ≤ now
-  pub counted : failed → (before < now) ⊎ (2 ^ 64 ≤ before + 1)
-  pub nothing_else : before < now → failed

@@ -2,6 +2,7 @@
 use Rattle.std.specs.Prelude.{◌≡◌, ℕ, ◌-◌, Bool, true, List, [], ◌++◌, length, take, drop, min, Option, Some, None}
 use Rattle.upload_rules.specs.declared.errors.UploadRefusal.{UploadRefusal}
 use Rattle.upload_rules.specs.declared.errors.UploadRefusal.TheVariants.{NoSuch}
+use Rattle.common.specs.Reading.{IsRead}
 use Rattle.upload_rules.specs.Store.{Upload, Store, text_of}
 
 -- NoSuch, unless the upload is there.
@@ -13,11 +14,6 @@ no_such (Some u) = None
 abbrev pub text_at : Store → Option Upload → List ℕ
 text_at m None = []
 text_at m (Some u) = text_of m.indexes u
-
--- n bytes of the text from `at` on were read: as many as there are and as fit. The rest of the buffer is unchanged.
-pub record IsRead (text : List ℕ) (at n : ℕ) (old new : List ℕ) : Type 0 where
-  pub count : n ≡ min (length text - at) (length old)
-  pub bytes : new ≡ take n (drop at text) ++ drop n old
 
 -- n bytes were read. They are the text's if that is sure.
 pub record IsReadOf (sure : Bool) (text : List ℕ) (at n : ℕ) (old new : List ℕ) : Type 0 where

@@ -1,4 +1,7 @@
 //! The errors of calls on uploads.
+ghost use Rattle.std.specs.Prelude.{◌≡◌};
+
+use common::Stop;
 
 /// Why the rules refuse a call.
 #[derive(Clone, Copy, Debug, PartialEq, Eq, Drop)]
@@ -30,4 +33,18 @@ pub enum UploadError {
     DiskFault,
     /// The rules refuse the call.
     Refused(UploadRefusal),
+}
+
+impl From<UploadError> for Stop {
+    ghost use Rattle.upload_rules.specs.Errors.{stop_of};
+
+    ghost from_gives = { λ error stop. stop ≡ stop_of error };
+
+    /// For calls that the rules can't refuse: a refusal doesn't occur there.
+    fn from(error: UploadError) -> Stop {
+        match error {
+            UploadError::DiskFault => Stop::DiskFault,
+            UploadError::NoMemory | UploadError::Refused(_) => Stop::NoMemory,
+        }
+    }
 }

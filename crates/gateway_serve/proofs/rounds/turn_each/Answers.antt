@@ -1,6 +1,6 @@
 use Rattle.std.proofs.Common.{◌<◌, length, Result, Ok, Err, ◌∙◌, ap, sym, subst, arith}
 use Rattle.std.proofs.lemmas.List.{set-get_or}
-use Rattle.spool_disk.specs.declared.disk.DiskFault.{DiskFault}
+use Rattle.common.specs.declared.stop.DiskFault.{DiskFault}
 use Rattle.tus_session.proofs.Counting.{uncounted}
 use Rattle.gateway_serve.specs.declared.places.Turned.{Turned}
 use Rattle.gateway_serve.specs.Joined.{AllJoin}

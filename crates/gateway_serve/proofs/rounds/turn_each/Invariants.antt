@@ -1,5 +1,5 @@
 use Rattle.std.proofs.Common.{◌≡◌, ◌≤◌, length, Result, Ok}
-use Rattle.spool_disk.specs.declared.disk.DiskFault.{DiskFault}
+use Rattle.common.specs.declared.stop.DiskFault.{DiskFault}
 use Rattle.gateway_serve.specs.Joined.{GoesOn}
 use Rattle.gateway_serve.specs.Streams.{AllKeep}
 use Rattle.gateway_serve.specs.Reasons.{StayReasoned}

@@ -11,7 +11,7 @@ use Rattle.upload_rules.specs.Calls.{commit_refusal, dropped}
 use Rattle.upload_rules.specs.Store.{Store}
 use Rattle.spool_kept.specs.Extending.{IsPending}
 use Rattle.spool_kept.specs.Holding.{Holding}
-use Rattle.spool_kept.specs.declared.extending.ExtendError.{ExtendError}
+use Rattle.common.specs.declared.stop.Stop.{Stop}
 use Rattle.spool_kept.specs.declared.extending.Longer.{Longer}
 use Rattle.spool_kept.proofs.commits.CommitFits.{fits_given, fits_handed}
 use Rattle.spool_kept.proofs.commits.CommitRefusals.{late}
@@ -29,7 +29,7 @@ returns-in-Err-clause-fits g c drafts number fit here =
 
 pub returns-in-Err-NoMemory-clause-fits : goal.returns-in-Err-NoMemory-clause-fits
 returns-in-Err-NoMemory-clause-fits g c drafts number fit here =
-    let short = c.in-Err-NoMemory.is ∙ ap (λ (e : ExtendError). Err e) c.in-Err-NoMemory.field-0-is in
+    let short = c.in-Err-NoMemory.is ∙ ap (λ (e : Stop). Err e) c.in-Err-NoMemory.field-0-is in
     fits_given c.ended.ensures.same fit (put_on number c.ended.new.draft here c.ended.ensures.effect.grasp)
     c.ended.ensures.reserved c.ended.ensures.placed _ c.give_back-in-Err-NoMemory.new.blocks
     (c.kept-2.view_is ∙ (c.extend.ensures.unmade short).0) c.give_back-in-Err-NoMemory.ensures
@@ -45,8 +45,8 @@ returns-in-Ok-extend-clause-fits g c drafts number fit here =
 pub returns-in-Err-DiskFault-clause-fits : goal.returns-in-Err-DiskFault-clause-fits
 returns-in-Err-DiskFault-clause-fits g c drafts number fit here =
     let may = c.in-Ok.ensures.may in
-    let fault : c.extend.result ≡ Err ExtendError.DiskFault = c.in-Err-DiskFault.is
-    ∙ ap (λ (e : ExtendError). Err e) c.in-Err-DiskFault.field-0-is in
+    let fault : c.extend.result ≡ Err Stop.DiskFault = c.in-Err-DiskFault.is
+    ∙ ap (λ (e : Stop). Err e) c.in-Err-DiskFault.field-0-is in
     fits_handed c.ended.ensures.same fit (put_on number c.ended.new.draft here c.ended.ensures.effect.grasp)
     c.ended.ensures.reserved c.ended.ensures.placed c.extend.new.kept c.in-Ok.end.0 may.used c.list.result.now
     c.list.ensures.blocks may.there (c.in-Ok.ensures.more may.used may.there)
@@ -67,8 +67,8 @@ returns-in-Ok-extend-clause-counts g c =
 
 pub returns-in-Err-DiskFault-clause-counts : goal.returns-in-Err-DiskFault-clause-counts
 returns-in-Err-DiskFault-clause-counts g c =
-    let fault : c.extend.result ≡ Err ExtendError.DiskFault = c.in-Err-DiskFault.is
-    ∙ ap (λ (e : ExtendError). Err e) c.in-Err-DiskFault.field-0-is in
+    let fault : c.extend.result ≡ Err Stop.DiskFault = c.in-Err-DiskFault.is
+    ∙ ap (λ (e : Stop). Err e) c.in-Err-DiskFault.field-0-is in
     let before = c.ended.ensures.counts in
     let after = c.extend.ensures.counts in
     record {
@@ -101,13 +101,13 @@ returns-in-Err-clause-unmade g c drafts number w p is short = c.ended.ensures.qu
 pub returns-in-Err-NoMemory-clause-unmade : goal.returns-in-Err-NoMemory-clause-unmade
 returns-in-Err-NoMemory-clause-unmade g c drafts number w p is short =
     let unmade = c.extend.ensures.unmade (c.in-Err-NoMemory.is
-    ∙ ap (λ (e : ExtendError). Err e) c.in-Err-NoMemory.field-0-is) in
+    ∙ ap (λ (e : Stop). Err e) c.in-Err-NoMemory.field-0-is) in
     rw unmade.1 (c.ended.ensures.quiet drafts number w p is)
 
 pub returns-in-Err-NoMemory-clause-crash : goal.returns-in-Err-NoMemory-clause-crash
 returns-in-Err-NoMemory-clause-crash g c drafts number w p is =
     let unmade = c.extend.ensures.unmade (c.in-Err-NoMemory.is
-    ∙ ap (λ (e : ExtendError). Err e) c.in-Err-NoMemory.field-0-is) in
+    ∙ ap (λ (e : Stop). Err e) c.in-Err-NoMemory.field-0-is) in
     rw unmade.1 (lasts_more (c.ended.ensures.quiet drafts number w p is) (λ image shows. inl shows))
 
 pub returns-in-Ok-extend-clause-crash : goal.returns-in-Ok-extend-clause-crash
@@ -136,7 +136,7 @@ returns-in-Err-clause-answer g c sure drafts number w p is =
 pub returns-in-Err-NoMemory-clause-answer : goal.returns-in-Err-NoMemory-clause-answer
 returns-in-Err-NoMemory-clause-answer g c sure drafts number w p is =
     let unmade = c.extend.ensures.unmade (c.in-Err-NoMemory.is
-    ∙ ap (λ (e : ExtendError). Err e) c.in-Err-NoMemory.field-0-is) in (
+    ∙ ap (λ (e : Stop). Err e) c.in-Err-NoMemory.field-0-is) in (
       late w number p is.allowed,
       spent.on_disk g.D.Disk c.ended.new.disk c.extend.new.disk _ (set drafts number None) (dropped w number) unmade.1
           (spent.stands_dropped c.ended.ensures.same c.ended.new.draft is c.ended.ensures.effect
@@ -184,5 +184,5 @@ returns-in-Err-clause-unwritten g c honest short = c.ended.ensures.only honest
 pub returns-in-Err-NoMemory-clause-unwritten : goal.returns-in-Err-NoMemory-clause-unwritten
 returns-in-Err-NoMemory-clause-unwritten g c honest short =
     let unmade = c.extend.ensures.unmade (c.in-Err-NoMemory.is
-    ∙ ap (λ (e : ExtendError). Err e) c.in-Err-NoMemory.field-0-is) in
+    ∙ ap (λ (e : Stop). Err e) c.in-Err-NoMemory.field-0-is) in
     subst (OnlyRead g.D.Disk c.args.disk.now) (sym unmade.1) (c.ended.ensures.only honest)

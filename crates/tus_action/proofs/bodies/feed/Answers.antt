@@ -3,7 +3,7 @@ use Rattle.std.proofs.lemmas.Result.{err_from_is_err_and}
 use Rattle.upload_rules.specs.Calls.{dropped}
 use Rattle.tus_action.specs.Acts.{fed, fed_patch}
 use Rattle.tus_action.specs.Serves.{Feeds}
-use Rattle.tus_action.specs.declared.acts.Stop.{Stop}
+use Rattle.common.specs.declared.stop.Stop.{Stop}
 use Rattle.tus_action.proofs.Answered.{feeds_stops}
 use Rattle.tus_action.proofs.bodies.feed.Goals as goal
 

@@ -1,5 +1,5 @@
 use Rattle.std.proofs.Common.{ℕ, List, Result, Ok, Err}
-use Rattle.spool_disk.specs.declared.disk.DiskFault.{DiskFault}
+use Rattle.common.specs.declared.stop.DiskFault.{DiskFault}
 use Rattle.tus_session.specs.History.{Came, Marked}
 use Rattle.gateway_serve.specs.Joined.{Alone, Joins, joint_of}
 use Rattle.gateway_serve.proofs.After.{surely, served}

@@ -1,5 +1,5 @@
 use Rattle.std.proofs.Common.{List, Result, Ok, Err, ◌∙◌}
-use Rattle.spool_disk.specs.declared.disk.DiskFault.{DiskFault}
+use Rattle.common.specs.declared.stop.DiskFault.{DiskFault}
 use Rattle.tus_session.specs.History.{Marked}
 use Rattle.tus_session.proofs.Counting.{uncounted}
 use Rattle.gateway_serve.specs.Joined.{Joins, joint_of}

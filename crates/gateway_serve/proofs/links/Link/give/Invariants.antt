@@ -1,5 +1,5 @@
 use Rattle.std.proofs.Common.{◌≡◌, Result, Ok}
-use Rattle.spool_disk.specs.declared.disk.DiskFault.{DiskFault}
+use Rattle.common.specs.declared.stop.DiskFault.{DiskFault}
 use Rattle.gateway_serve.specs.Joined.{Goes}
 use Rattle.gateway_serve.specs.Streams.{socket_of}
 use Rattle.gateway_serve.proofs.links.Link.give.Given as goal

@@ -1,5 +1,5 @@
 use Rattle.std.proofs.Common.{ℕ, List, Result, Ok, Err}
-use Rattle.spool_disk.specs.declared.disk.DiskFault.{DiskFault}
+use Rattle.common.specs.declared.stop.DiskFault.{DiskFault}
 use Rattle.tus_session.specs.History.{More, Marked}
 use Rattle.tus_session.proofs.Limiting.{quiet_limits}
 use Rattle.gateway_serve.specs.Joined.{Alone, Joins, joint_of}

@@ -1,5 +1,5 @@
 use Rattle.std.proofs.Common.{Result, Ok, Err, subst}
-use Rattle.spool_disk.specs.declared.disk.DiskFault.{DiskFault}
+use Rattle.common.specs.declared.stop.DiskFault.{DiskFault}
 use Rattle.gateway_serve.specs.Joined.{PlaceJoins, PlaceFell}
 use Rattle.gateway_serve.specs.Sockets.{current_of}
 use Rattle.gateway_serve.proofs.After.{alone_after}

@@ -1,5 +1,5 @@
 use Rattle.std.proofs.Common.{Result, Ok, Err, refl}
-use Rattle.spool_disk.specs.declared.disk.DiskFault.{DiskFault}
+use Rattle.common.specs.declared.stop.DiskFault.{DiskFault}
 use Rattle.tus_session.specs.History.{Opened}
 use Rattle.tus_session.specs.declared.errors.SessionError.{SessionError}
 use Rattle.tus_session.proofs.Limiting.{quiet_limits}
