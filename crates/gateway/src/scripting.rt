@@ -1,6 +1,6 @@
 //! Running standard input as a script over a spool.
 ghost use Rattle.std.specs.Prelude.{◌≡◌, ℕ, Some, Err, IsOk};
-ghost use Rattle.common.specs.Counts.{Counts};
+ghost use Rattle.spool_disk.specs.Disk.{Counts};
 ghost use Rattle.spool_image.specs.LeftOnly.{IsSpool};
 ghost use Rattle.upload_rules.specs.Store.{Store};
 ghost use Rattle.gateway_files.specs.Failures.{fault_in};

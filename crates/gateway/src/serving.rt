@@ -3,7 +3,7 @@ ghost use Rattle.std.specs.Prelude.{◌≡◌, ◌≢◌, [], ◌∷◌, IfOk, I
 ghost use Rattle.std.specs.Net.Addr.{ipv4_octets};
 ghost use Rattle.std.specs.Net.Socket.{v4_ip, v4_port};
 ghost use Rattle.spool_disk.specs.File.{failed_in};
-ghost use Rattle.common.specs.Counts.{Counts};
+ghost use Rattle.upload_rules.specs.Answers.{Counts};
 ghost use Rattle.gateway_engine.specs.Gateways.{disk_in};
 ghost use Rattle.gateway.specs.Addresses.{IsLocal};
 ghost use Rattle.gateway_files.specs.Failures.{fault_in};

@@ -5,8 +5,7 @@ use Rattle.std.proofs.Common.{⊎_elim, true}
 use Rattle.std.specs.Prelude.{IsErrOf}
 use Rattle.std.specs.Io.KnownBytes.{Appends}
 use Rattle.upload_rules.specs.Store.{Store}
-use Rattle.upload_rules.specs.Answers.{Among, Quiet}
-use Rattle.common.specs.Counts.{Counts}
+use Rattle.upload_rules.specs.Answers.{Among, Quiet, Counts}
 use Rattle.upload_rules.specs.declared.uploads.Uploads.{Ghosts}
 use Rattle.tus_session.proofs.Images.{first_store, all_themselves}
 use Rattle.tus_session.specs.History.{State, Mark, Marked}

@@ -2,7 +2,7 @@
 ghost use Rattle.std.specs.Prelude.{ℕ, Bool, List, Option};
 ghost use Rattle.upload_rules.specs.Store.{Store};
 ghost use Rattle.upload_rules.specs.World.{at_rest};
-ghost use Rattle.common.specs.Counts.{Counts};
+ghost use Rattle.upload_rules.specs.Answers.{Counts};
 ghost use Rattle.tus_session.specs.History.{beginning};
 ghost use Rattle.gateway_script.specs.Script.{IsScript};
 ghost use Rattle.gateway_engine.specs.Ran.{HasRun, HasFailed, HasRefused, CountsEither, handed_back};

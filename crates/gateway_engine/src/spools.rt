@@ -1,6 +1,6 @@
 //! A gateway over a spool on a disk.
 ghost use Rattle.std.specs.Prelude.{◌≡◌, ◌↔◌, ℕ, Option, true, false, List, Some, IfOk};
-ghost use Rattle.common.specs.Counts.{Counts};
+ghost use Rattle.spool_disk.specs.Disk.{Counts};
 ghost use Rattle.spool_disk.specs.Views.{Lasts};
 ghost use Rattle.spool_image.specs.LeftOnly.{AllShow, IsSpool, LeftOrShows, SpoolLeft};
 ghost use Rattle.spool_image.specs.Opening.{OpensExactly, ReadsSame, Unwritten, refusal_of};

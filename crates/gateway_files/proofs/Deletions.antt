@@ -6,8 +6,7 @@ use Rattle.std.specs.Prelude.{filter, not}
 use Rattle.std.proofs.KnownBytes.{Appends-nil, Appends-trans}
 use Rattle.std.proofs.lemmas.Bool.{cases_eq, cases_lt, ne_eqb}
 use Rattle.std.specs.Io.KnownBytes.{Appends}
-use Rattle.upload_rules.specs.Answers.{Among, Answers, Limits}
-use Rattle.common.specs.Counts.{Counts}
+use Rattle.upload_rules.specs.Answers.{Among, Answers, Counts, Limits}
 use Rattle.upload_rules.specs.Calls.{terminated}
 use Rattle.upload_rules.specs.Reading.{no_such}
 use Rattle.upload_rules.specs.Store.{Store, Upload, deleted_store, find, others, upload_of}

@@ -1,8 +1,7 @@
 -- What `list` makes of the spool in a file.
 use Rattle.std.specs.Prelude.{◌≡◌, ℕ, Bool, List, Option, Result, Err, IfErr, IfOk, IsOk, OnOk}
 use Rattle.std.specs.Io.KnownBytes.{Appends}
-use Rattle.spool_disk.specs.Disk.{IsImage}
-use Rattle.common.specs.Counts.{Counts}
+use Rattle.spool_disk.specs.Disk.{Counts, IsImage}
 use Rattle.spool_disk.specs.Views.{Lasts}
 use Rattle.spool_disk.specs.declared.disk.Disk.{Ghosts}
 use Rattle.spool_load.specs.Reads.{NeedsReplay}

@@ -1,7 +1,6 @@
 -- What `upgrade` makes of the spool in a file.
 use Rattle.std.specs.Prelude.{◌≡◌, ◌⊎◌, ◌↔◌, ◌≤◌, ◌*◌, ℕ, Result, Ok, Err, IfErr, OnOk}
-use Rattle.spool_disk.specs.Disk.{IsImage, Keeps}
-use Rattle.common.specs.Counts.{Counts}
+use Rattle.spool_disk.specs.Disk.{Counts, IsImage, Keeps}
 use Rattle.spool_disk.specs.Views.{Lasts}
 use Rattle.spool_disk.specs.declared.disk.Disk.{Ghosts}
 use Rattle.spool_kept.specs.declared.error.OpenFault.TheVariants.{DiskFault, Damaged, NotASpool, Version}

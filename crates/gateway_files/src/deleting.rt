@@ -1,9 +1,8 @@
 //! Uploads of a spool, deleted by their numbers.
 ghost use Rattle.std.specs.Prelude.{◌≡◌, ℕ, Bool, Err, IfErr, IfOk, IsErrOf, IsOk, OnOk, true};
 ghost use Rattle.std.specs.Io.KnownBytes.{Appends};
-ghost use Rattle.common.specs.Counts.{Counts};
 ghost use Rattle.spool_load.specs.Refusals.{HasOtherVersion, IsDamaged, IsNoSpool};
-ghost use Rattle.upload_rules.specs.Answers.{Limits};
+ghost use Rattle.upload_rules.specs.Answers.{Counts, Limits};
 ghost use Rattle.upload_rules.specs.Calls.{terminated};
 ghost use Rattle.upload_rules.specs.Store.{Store, deleted_store, upload_of};
 ghost use Rattle.upload_rules.specs.World.{World, is_there};

@@ -2,9 +2,8 @@
 ghost use Rattle.std.specs.Prelude.{◌≡◌, [], ◌∷◌, ℕ, List, Err, IfErr, IfOk, IsErrOf, IsOk, None, OnErr, OnOk, Some};
 ghost use Rattle.std.specs.Prelude.{◌||◌, ◌==◌, length, map, not, true};
 ghost use Rattle.std.specs.Io.KnownBytes.{Appends};
-ghost use Rattle.common.specs.Counts.{Counts};
 ghost use Rattle.spool_load.specs.Refusals.{HasOtherVersion, IsDamaged, IsNoSpool};
-ghost use Rattle.upload_rules.specs.Answers.{Quiet};
+ghost use Rattle.upload_rules.specs.Answers.{Counts, Quiet};
 ghost use Rattle.upload_rules.specs.Reading.{text_at};
 ghost use Rattle.upload_rules.specs.Store.{Store, upload_of};
 ghost use Rattle.upload_rules.specs.World.{World};

@@ -2,8 +2,7 @@
 ghost use Rattle.std.specs.Prelude.{◌≡◌, ◌↔◌, ℕ, Err, IfOk, IsErr, IsOk, OnOk, Some, true, false};
 ghost use Rattle.std.specs.IoError.{error_kind};
 ghost use Rattle.std.specs.declared.io.ErrorKind.{ErrorKind};
-ghost use Rattle.spool_disk.specs.Disk.{IsImage, Keeps};
-ghost use Rattle.common.specs.Counts.{Counts};
+ghost use Rattle.spool_disk.specs.Disk.{Counts, IsImage, Keeps};
 ghost use Rattle.spool_disk.specs.Views.{Lasts};
 ghost use Rattle.spool_journal.specs.Image.{all_pages};
 ghost use Rattle.upload_rules.specs.Store.{no_uploads};

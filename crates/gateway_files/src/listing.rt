@@ -2,8 +2,7 @@
 ghost use Rattle.std.specs.Prelude.{◌≡◌, ◌⊎◌, ◌++◌, ℕ, Err, IfErr, IfOk, IsOk, None, Ok, OnOk, Some, option_map};
 ghost use Rattle.std.specs.Prelude.{string_bytes, Bool};
 ghost use Rattle.std.specs.Io.KnownBytes.{Appends};
-ghost use Rattle.spool_disk.specs.Disk.{IsImage};
-ghost use Rattle.common.specs.Counts.{Counts};
+ghost use Rattle.spool_disk.specs.Disk.{Counts, IsImage};
 ghost use Rattle.spool_disk.specs.Views.{Lasts};
 ghost use Rattle.spool_load.specs.Reads.{NeedsReplay};
 ghost use Rattle.spool_load.specs.Refusals.{HasOtherVersion, IsDamaged, IsNoSpool};

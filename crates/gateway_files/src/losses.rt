@@ -1,7 +1,6 @@
 //! Signs of lost bytes in texts: U+FFFD, which stands for bytes that aren't of the encoding they were said to be of.
 ghost use Rattle.std.specs.Prelude.{IfErr, IsErrOf, OnOk, true};
-ghost use Rattle.upload_rules.specs.Answers.{Quiet};
-ghost use Rattle.common.specs.Counts.{Counts};
+ghost use Rattle.upload_rules.specs.Answers.{Counts, Quiet};
 ghost use Rattle.upload_rules.specs.World.{World};
 ghost use Rattle.gateway_files.specs.declared.faults.Fault.{Fault};
 ghost use Rattle.gateway_files.specs.Changing.{IsChangeFault};

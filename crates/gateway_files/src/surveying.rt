@@ -1,7 +1,6 @@
 //! How much of a spool is in use.
 ghost use Rattle.std.specs.Prelude.{◌≡◌, ◌↔◌, ℕ, Err, IfErr, IfOk, OnOk, Some, false, true};
-ghost use Rattle.spool_disk.specs.Disk.{IsImage, Keeps as KeepsAll};
-ghost use Rattle.common.specs.Counts.{Counts};
+ghost use Rattle.spool_disk.specs.Disk.{Counts, IsImage, Keeps as KeepsAll};
 ghost use Rattle.spool_disk.specs.Views.{Lasts};
 ghost use Rattle.spool_journal.specs.Image.{journal_pages, overlaid};
 ghost use Rattle.spool_journal.specs.Phases.{Settled};

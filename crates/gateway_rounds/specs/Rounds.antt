@@ -1,8 +1,7 @@
 -- The rounds of a disk's life. In each it is opened and a script is run over it, or it is brought to version 2, and
 -- then it crashes, or it goes on as it is.
 use Rattle.std.specs.Prelude.{◌≡◌, ℕ, List, [], ◌∷◌, ◌++◌, Option, Some, None, take}
-use Rattle.spool_disk.specs.Disk.{IsImage}
-use Rattle.common.specs.Counts.{Counts}
+use Rattle.spool_disk.specs.Disk.{Counts, IsImage}
 use Rattle.spool_disk.specs.declared.disk.Disk.{Ghosts}
 use Rattle.spool_image.specs.Format.{IsNewest}
 use Rattle.spool_image.specs.LeftOnly.{AllShow}

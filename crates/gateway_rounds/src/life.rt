@@ -1,7 +1,6 @@
 //! A disk's life, from its formatting on.
 ghost use Rattle.std.specs.Prelude.{◌≡◌, ◌↔◌, ℕ, List, IsOk, IfOk, IfErr};
-ghost use Rattle.spool_disk.specs.Disk.{IsImage, Keeps};
-ghost use Rattle.common.specs.Counts.{Counts};
+ghost use Rattle.spool_disk.specs.Disk.{Counts, IsImage, Keeps};
 ghost use Rattle.spool_disk.specs.Views.{Lasts};
 ghost use Rattle.spool_image.specs.Format.{FitsSpool, HasMagic, LeftByFormat};
 ghost use Rattle.upload_rules.specs.Store.{Store, no_uploads};

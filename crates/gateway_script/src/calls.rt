@@ -1,6 +1,6 @@
 //! A call on the connections, and what it writes.
 ghost use Rattle.std.specs.Prelude.{ℕ, Bool, List, Option, IsErrOf};
-ghost use Rattle.common.specs.Counts.{Counts};
+ghost use Rattle.upload_rules.specs.Answers.{Counts};
 ghost use Rattle.tus_session.specs.History.{State, Opened, Came, More, Ended};
 ghost use Rattle.gateway_script.specs.Script.{Run, call};
 ghost use Rattle.gateway_script.specs.Runs.{view, IsAt, Went, Refuses, Called, Tells};

@@ -1,6 +1,6 @@
 //! The bytes of a line, given until all are taken.
 ghost use Rattle.std.specs.Prelude.{◌≡◌, ℕ, Bool, Option, List, [], length, drop, IsErrOf};
-ghost use Rattle.common.specs.Counts.{Counts};
+ghost use Rattle.upload_rules.specs.Answers.{Counts};
 ghost use Rattle.tus_session.specs.History.{State, Gave};
 ghost use Rattle.gateway_script.specs.Script.{Run, mores, mores_after, most_calls, give_within};
 ghost use Rattle.gateway_script.specs.Runs.{view, IsAt, Went, Flowed, GivenOnce, settles};

@@ -1,7 +1,7 @@
 //! The lines of a script, one after another, and its end.
 ghost use Rattle.std.specs.Prelude.{◌≡◌, ◌≤◌, ℕ, Bool, Option, List, length, IsErrOf};
 ghost use Rattle.std.specs.Io.BufRead.{take_through};
-ghost use Rattle.common.specs.Counts.{Counts};
+ghost use Rattle.upload_rules.specs.Answers.{Counts};
 ghost use Rattle.tus_session.specs.History.{State, most_open};
 ghost use Rattle.gateway_script.specs.Script.{Run, obeyed, cut_from, run_lines, script_lines, is_long, is_bad};
 ghost use Rattle.tus_request.specs.Reading.{before};

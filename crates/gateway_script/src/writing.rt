@@ -1,7 +1,7 @@
 //! What a script's run writes.
 ghost use Rattle.std.specs.Prelude.{◌≡◌, ◌++◌, OnOk, IsErrOf};
 ghost use Rattle.std.specs.Io.KnownBytes.{Appends};
-ghost use Rattle.common.specs.Counts.{Counts};
+ghost use Rattle.upload_rules.specs.Answers.{Counts};
 ghost use Rattle.gateway_script.specs.Script.{written_bytes, written_close};
 ghost use Rattle.gateway_script.specs.Outputs.{IsWriteFault, AppendsPart, count_line, refusal_bytes};
 

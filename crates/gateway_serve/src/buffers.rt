@@ -2,8 +2,7 @@
 ghost use Rattle.std.specs.Prelude.{◌≡◌, ◌≤◌, ◌++◌, ℕ, List, [], length, take, drop, slice_range, vec_len, Bool, true};
 ghost use Rattle.std.specs.Prelude.{◌↔◌, IfOk, OnErr, IsErrOf, IsTrue, vec_capacity};
 ghost use Rattle.std.specs.Io.KnownBytes.{Consumes, Appends, Keeps, IsAtEnd};
-ghost use Rattle.upload_rules.specs.Answers.{Limits, Quiet};
-ghost use Rattle.common.specs.Counts.{Counts};
+ghost use Rattle.upload_rules.specs.Answers.{Limits, Quiet, Counts};
 ghost use Rattle.tus_session.specs.History.{State, Came, More};
 ghost use Rattle.tus_session.specs.Connections.{Gives, Falls, mark_of};
 ghost use Rattle.tus_session.specs.Images.{shown_by};

@@ -1,6 +1,6 @@
 //! A socket and its connection of the gateway.
 ghost use Rattle.std.specs.Prelude.{◌≡◌, ◌≢◌, ◌⊎◌, ◌↔◌, IsErr, IsErrOf, IfOk, IfSome, IsTrue, length};
-ghost use Rattle.common.specs.Counts.{Counts};
+ghost use Rattle.upload_rules.specs.Answers.{Counts};
 ghost use Rattle.gateway_serve.specs.Joined.{Goes, IsOver, Writes, Reads, joint_of, nothing_yet, with_link};
 ghost use Rattle.gateway_serve.specs.Joined.{stage_by, stage_after, taken_after, at_of};
 ghost use Rattle.gateway_serve.specs.Waiting.{FewWait, HasRoom};

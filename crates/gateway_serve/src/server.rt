@@ -1,7 +1,7 @@
 //! A server: the connections that are open, and the listener's clients.
 ghost use Rattle.std.specs.Prelude.{◌≡◌, ◌↔◌, ◌<◌, ◌≤◌, ◌+◌, ◌^◌, ℕ, List, [], Bool, is_some, length};
 ghost use Rattle.std.specs.Prelude.{IfSome, IsErr, IsFalse, IsNone, IsTrue, None};
-ghost use Rattle.common.specs.Counts.{Counts};
+ghost use Rattle.upload_rules.specs.Answers.{Counts};
 ghost use Rattle.gateway_serve.specs.Acceptors.{HasServed, LetsInBy, one_if};
 ghost use Rattle.gateway_serve.specs.Joined.{GoesOn, Ends, Finishes, IsFreeAt, SamePlaces, ended_of, places_of};
 ghost use Rattle.gateway_serve.specs.Longest.{IsLongest};

@@ -1,6 +1,6 @@
 //! Connections over sockets, turn by turn in one thread.
 ghost use Rattle.std.specs.Prelude.{Bool, IsErr};
-ghost use Rattle.common.specs.Counts.{Counts};
+ghost use Rattle.upload_rules.specs.Answers.{Counts};
 ghost use Rattle.tus_session.specs.History.{State};
 ghost use Rattle.gateway_serve.specs.Acceptors.{HasServed};
 ghost use Rattle.gateway_serve.specs.Reasons.{IsLeftReasoned};

@@ -2,8 +2,7 @@
 use Rattle.std.proofs.Common.{◌≡◌, ℕ, List, length, inl, inr, refl, ◌∙◌, arith, ⊎_elim, Result, Ok, Err, IsOk, IsErr}
 use Rattle.std.proofs.Common.{OnOk, subst, sym}
 use Rattle.std.proofs.lemmas.Bool.{cases_lt}
-use Rattle.spool_disk.specs.Disk.{span, In, IsImage, Elapses, Writes, Syncs, Keeps, Firm, Apart, Reads}
-use Rattle.common.specs.Counts.{Counts}
+use Rattle.spool_disk.specs.Disk.{span, In, IsImage, Elapses, Writes, Syncs, Keeps, Firm, Apart, Reads, Counts}
 use Rattle.spool_disk.specs.Views.{Lasts}
 use Rattle.spool_disk.specs.declared.disk.Disk.{Ghosts}
 use Rattle.spool_disk.proofs.Span.{span_same}

@@ -1,7 +1,6 @@
 //! The trait of disks.
 ghost use Rattle.std.specs.Prelude.{◌≡◌, ◌≤◌, ◌+◌, ◌↔◌, ℕ, length, IsErr, IsOk};
-ghost use Rattle.spool_disk.specs.Disk.{span, IsImage, Elapses, Writes, Syncs, Keeps};
-ghost use Rattle.common.specs.Counts.{Counts};
+ghost use Rattle.spool_disk.specs.Disk.{Counts, span, IsImage, Elapses, Writes, Syncs, Keeps};
 
 use common::DiskFault;
 

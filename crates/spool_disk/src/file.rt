@@ -1,7 +1,6 @@
 //! A file as a disk.
 ghost use Rattle.std.specs.Prelude.{◌≡◌, ◌↔◌, ◌++◌, ℕ, [], ◌∷◌, true, false, is_ok, IfOk, IfErr, IsErr, OnOk, Some};
-ghost use Rattle.spool_disk.specs.Disk.{IsImage};
-ghost use Rattle.common.specs.Counts.{Counts};
+ghost use Rattle.spool_disk.specs.Disk.{Counts, IsImage};
 ghost use Rattle.spool_disk.specs.Positioned.{made, opened, lengthened, created};
 
 use crate::{Disk, DiskFault, FileCall, Positioned, SystemFile};

@@ -1,7 +1,6 @@
 //! A disk with a single failing call.
 ghost use Rattle.std.specs.Prelude.{◌≡◌, ◌≤◌, ◌+◌, ◌↔◌, Some, None, IsErr, OnOk, OnErr, ℕ, length};
-ghost use Rattle.spool_disk.specs.Disk.{Elapses, Writes};
-ghost use Rattle.common.specs.Counts.{Counts};
+ghost use Rattle.spool_disk.specs.Disk.{Counts, Elapses, Writes};
 
 use crate::{CrashDisk, Disk, DiskFault};
 

@@ -2,8 +2,7 @@
 ghost use Rattle.std.specs.Prelude.{◌≡◌, ◌⊎◌, get_or, ◌≤◌, ◌*◌, ◌+◌, ◌<◌, ◌/◌, ◌-◌, ◌↔◌, ◌^◌, ℕ, List, []};
 ghost use Rattle.std.specs.Prelude.{false, min, length, IsOk, IsErrOf, OnOk, IfOk};
 ghost use Rattle.enc_model.specs.Indexes.{IndexSet as Indexes};
-ghost use Rattle.spool_disk.specs.Disk.{IsImage, Keeps as OnlyRead};
-ghost use Rattle.common.specs.Counts.{Counts};
+ghost use Rattle.spool_disk.specs.Disk.{Counts, IsImage, Keeps as OnlyRead};
 ghost use Rattle.spool_disk.specs.Views.{Lasts};
 ghost use Rattle.spool_journal.specs.Image.{journal_pages, all_pages, text_page};
 ghost use Rattle.spool_texts.specs.Drafts.{IsReserved, GivesBack, bytes_with};

@@ -1,8 +1,7 @@
 //! The new text of a draft, on reserved blocks.
 ghost use Rattle.std.specs.Prelude.{◌≡◌, get_or, ◌≤◌, ◌*◌, ◌+◌, ◌%◌, ◌/◌, ◌<◌, ◌++◌, ◌↔◌, ℕ, List, [], true};
 ghost use Rattle.std.specs.Prelude.{false, None, length, IsOk, IsErrOf, OnOk, IfOk};
-ghost use Rattle.spool_disk.specs.Disk.{IsImage, Keeps};
-ghost use Rattle.common.specs.Counts.{Counts};
+ghost use Rattle.spool_disk.specs.Disk.{Counts, IsImage, Keeps};
 ghost use Rattle.spool_disk.specs.Views.{Lasts};
 ghost use Rattle.spool_journal.specs.Image.{journal_pages, all_pages, text_page};
 ghost use Rattle.spool_texts.specs.Drafts.{IsReserved, GivesBack, bytes_with, content_on, tail_list};

@@ -1,7 +1,6 @@
 //! Upgrading a spool to version 2.
 ghost use Rattle.std.specs.Prelude.{◌≡◌, ◌⊎◌, ◌≤◌, ◌*◌, ◌↔◌, ℕ, Err, IfOk, IfErr, OnOk};
-ghost use Rattle.spool_disk.specs.Disk.{IsImage, Keeps};
-ghost use Rattle.common.specs.Counts.{Counts};
+ghost use Rattle.spool_disk.specs.Disk.{Counts, IsImage, Keeps};
 ghost use Rattle.spool_disk.specs.Views.{Lasts};
 ghost use Rattle.spool_journal.specs.Image.{all_pages, journal_pages, overlaid};
 ghost use Rattle.spool_journal.specs.Phases.{ReadsAs, Settled};

@@ -2,8 +2,7 @@
 use Rattle.std.proofs.Common.{◌≡◌, inl, inr, ℕ, zero, suc, ◌+◌, ◌*◌, ◌<◌, ◌≤◌, List, [], ◌∷◌, length, get_or, refl, sym}
 use Rattle.std.proofs.Common.{◌∙◌, ap, subst, arith, ⊎_elim, Result, Ok, Err, OnOk}
 use Rattle.std.proofs.lemmas.Bool.{cases_lt}
-use Rattle.spool_disk.specs.Disk.{span, IsImage, Writes, Syncs}
-use Rattle.common.specs.Counts.{Counts}
+use Rattle.spool_disk.specs.Disk.{span, IsImage, Writes, Syncs, Counts}
 use Rattle.spool_journal.specs.Image.{word, byte_of, count, number, content, InMeta, InJournal, Outside, InForm, InArea}
 use Rattle.spool_journal.specs.Image.{Ascends, page_number, page_byte}
 use Rattle.spool_journal.specs.Phases.{IsBefore, Idle, Staging, Copied, Ready}

@@ -1,6 +1,6 @@
 //! Commits: all of the given pages change, or none.
 ghost use Rattle.std.specs.Prelude.{◌≡◌, ◌⊎◌, ◌≤◌, ◌<◌, ◌*◌, ◌+◌, ◌↔◌, ℕ, length, IsErr, IsOk, OnOk};
-ghost use Rattle.common.specs.Counts.{Counts};
+ghost use Rattle.spool_disk.specs.Disk.{Counts};
 ghost use Rattle.spool_disk.specs.Views.{Lasts};
 ghost use Rattle.spool_journal.specs.Image.{journal_pages, all_pages, replayed, laid, page_number, InArea, Ascends};
 ghost use Rattle.spool_journal.specs.Phases.{Idle, IsBefore, ReadsAs, Matches, Placing, Upto, Settled};

@@ -1,8 +1,7 @@
 //! Recovery after a crash. It may crash too and be done again.
 ghost use Rattle.std.specs.Prelude.{◌≡◌, ◌⊎◌, ◌≤◌, ◌<◌, ◌*◌, ◌+◌, ◌↔◌, ℕ, IsErr, IfOk, OnOk, ◌==◌, true, false};
 ghost use Rattle.std.specs.Prelude.{Err};
-ghost use Rattle.spool_disk.specs.Disk.{IsImage};
-ghost use Rattle.common.specs.Counts.{Counts};
+ghost use Rattle.spool_disk.specs.Disk.{IsImage, Counts};
 ghost use Rattle.spool_disk.specs.Views.{Lasts};
 ghost use Rattle.spool_journal.specs.Image.{journal_pages, all_pages, replayed, overlaid, word, byte_of, area_end};
 ghost use Rattle.spool_journal.specs.Image.{count, number, InForm};

@@ -1,7 +1,6 @@
 //! The first half of a commit: the journal is written while the gate is closed.
 ghost use Rattle.std.specs.Prelude.{◌≡◌, ◌≤◌, ◌<◌, ◌*◌, ◌+◌, ◌↔◌, ℕ, length, IsErr, OnOk};
-ghost use Rattle.spool_disk.specs.Disk.{Apart};
-ghost use Rattle.common.specs.Counts.{Counts};
+ghost use Rattle.spool_disk.specs.Disk.{Counts, Apart};
 ghost use Rattle.spool_disk.specs.Views.{Lasts};
 ghost use Rattle.spool_journal.specs.Image.{word, byte_of, page_number, InArea, Ascends};
 ghost use Rattle.spool_journal.specs.Phases.{Idle, IsBefore, Staging, Copied, Ready};

@@ -1,6 +1,6 @@
 //! The sync between writing the places and closing the gate.
 ghost use Rattle.std.specs.Prelude.{◌≡◌, ◌≤◌, ◌↔◌, ℕ, IsErr, OnOk};
-ghost use Rattle.common.specs.Counts.{Counts};
+ghost use Rattle.spool_disk.specs.Disk.{Counts};
 ghost use Rattle.spool_disk.specs.Views.{Lasts};
 ghost use Rattle.spool_journal.specs.Image.{count, replayed};
 ghost use Rattle.spool_journal.specs.Phases.{ReadsAs, Placing, Upto, Placed};

@@ -1,7 +1,6 @@
 //! Writing text blocks.
 ghost use Rattle.std.specs.Prelude.{◌≡◌, ◌≤◌, ◌*◌, ◌+◌, ◌↔◌, ℕ, length, IsErr, IsOk};
-ghost use Rattle.spool_disk.specs.Disk.{IsImage, Writes};
-ghost use Rattle.common.specs.Counts.{Counts};
+ghost use Rattle.spool_disk.specs.Disk.{Counts, IsImage, Writes};
 ghost use Rattle.spool_disk.specs.Views.{Lasts};
 ghost use Rattle.spool_journal.specs.Image.{journal_pages, all_pages, text_page};
 ghost use Rattle.spool_journal.specs.Phases.{Idle};

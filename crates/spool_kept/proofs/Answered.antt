@@ -5,9 +5,8 @@ use Rattle.std.proofs.Common.{refl, sym, ◌∙◌, ap, subst, arith}
 use Rattle.std.proofs.lemmas.Bool.{cases_lt, cases_eq}
 use Rattle.std.proofs.lemmas.Option.{same_Some}
 use Rattle.enc_model.specs.Indexes.{IndexSet}
-use Rattle.common.specs.Reading.{IsRead as IsPieceRead}
-use Rattle.upload_rules.specs.Reading.{no_such, text_at}
-use Rattle.common.specs.Reading.{IsRead}
+use Rattle.spool_texts.specs.Reading.{IsRead as IsPieceRead}
+use Rattle.upload_rules.specs.Reading.{IsRead, no_such, text_at}
 use Rattle.upload_rules.specs.Records.{Keeps, TellsOf, above, with_number}
 use Rattle.upload_rules.specs.Store.{Upload, Store, find, upload_of, text_of}
 use Rattle.upload_rules.specs.declared.records.Record.{Record}

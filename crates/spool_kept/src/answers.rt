@@ -1,14 +1,12 @@
 //! What is told of the uploads.
 ghost use Rattle.std.specs.Prelude.{◌≡◌, ◌<◌, ◌≤◌, ◌↔◌, ◌+◌, ◌-◌, ◌*◌, ℕ, None, length, min};
 ghost use Rattle.std.specs.Prelude.{IsErrOf, MatchOption, IfSome, option_copied};
-ghost use Rattle.spool_disk.specs.Disk.{IsImage, Keeps};
-ghost use Rattle.common.specs.Counts.{Counts};
+ghost use Rattle.spool_disk.specs.Disk.{Counts, IsImage, Keeps};
 ghost use Rattle.spool_disk.specs.Views.{Lasts};
 ghost use Rattle.spool_journal.specs.Image.{all_pages, text_page};
 ghost use Rattle.spool_texts.specs.TextOn.{AllBelow};
 ghost use Rattle.upload_rules.specs.Answers.{Answers};
-ghost use Rattle.upload_rules.specs.Reading.{no_such, text_at};
-ghost use Rattle.common.specs.Reading.{IsRead};
+ghost use Rattle.upload_rules.specs.Reading.{no_such, text_at, IsRead};
 ghost use Rattle.upload_rules.specs.Records.{IsShort, TellsOf, above, with_number};
 ghost use Rattle.upload_rules.specs.Store.{Store, upload_of};
 ghost use Rattle.spool_kept.specs.Drafting.{IsKept, IsOwnedBy};

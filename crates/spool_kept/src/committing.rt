@@ -2,7 +2,6 @@
 ghost use Rattle.std.specs.Prelude.{◌≡◌, ◌≤◌, ◌<◌, ◌*◌, ◌↔◌, ◌⊎◌, ℕ, false, List, [], Option, Some, None};
 ghost use Rattle.std.specs.Prelude.{get_or, slice_set, IsErrOf, IfOk};
 ghost use Rattle.std.specs.Prelude.{Bool, true};
-ghost use Rattle.common.specs.Counts.{Counts};
 ghost use Rattle.spool_disk.specs.Views.{Lasts};
 ghost use Rattle.spool_journal.specs.Image.{journal_pages, all_pages};
 ghost use Rattle.spool_drafts.specs.Drafts.{IsPlaced, list_of, number_of};
@@ -10,7 +9,7 @@ ghost use Rattle.spool_drafts.specs.Effect.{Effect};
 ghost use Rattle.spool_drafts.specs.declared.draft.SpoolDraft.{SpoolDraft as Draft};
 ghost use Rattle.spool_pages.specs.View.{SlotRecord as Said};
 ghost use Rattle.spool_texts.specs.Drafts.{IsReserved};
-ghost use Rattle.upload_rules.specs.Answers.{Answers};
+ghost use Rattle.upload_rules.specs.Answers.{Counts, Answers};
 ghost use Rattle.upload_rules.specs.Calls.{commit_outcome, commit_refusal, committed, dropped};
 ghost use Rattle.upload_rules.specs.Drafts.{draft_at};
 ghost use Rattle.upload_rules.specs.Lengths.{is_length as length_is, is_too_large};

@@ -2,7 +2,7 @@
 ghost use Rattle.std.specs.Prelude.{◌≡◌, ◌↔◌, ◌≤◌, ◌<◌, ◌*◌, ◌/◌, ◌++◌, ℕ, List, [], Some, None, Ok, Err, length};
 ghost use Rattle.std.specs.Prelude.{Option, get_or, drop, slice_set, IfOk, OnOk, OnErr, IsSome};
 ghost use Rattle.std.specs.Prelude.{Bool, true};
-ghost use Rattle.common.specs.Counts.{Counts};
+ghost use Rattle.spool_disk.specs.Disk.{Counts};
 ghost use Rattle.spool_disk.specs.Views.{Lasts};
 ghost use Rattle.spool_journal.specs.Image.{all_pages, journal_pages, InArea};
 ghost use Rattle.spool_blocks.specs.Blocks.{Row as HeldRow};

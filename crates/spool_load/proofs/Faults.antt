@@ -1,7 +1,7 @@
 -- The error of reading a spool as an error of opening it.
 use Rattle.std.proofs.Common.{◌≡◌, ℕ, Err, ap, refl}
 use Rattle.std.specs.Prelude.{IsErrOf}
-use Rattle.common.specs.Counts.{Counts}
+use Rattle.spool_disk.specs.Disk.{Counts}
 use Rattle.spool_kept.specs.Loads.{LoadsAs}
 use Rattle.spool_kept.specs.declared.error.CheckError.TheVariants.{Damaged, NoMemory}
 use Rattle.spool_kept.specs.declared.error.OpenFault.{OpenFault}

@@ -1,8 +1,7 @@
 //! Finding a spool on a disk, and recovering it.
 ghost use Rattle.std.specs.Prelude.{◌≡◌, ◌⊎◌, ◌≤◌, ◌<◌, ◌*◌, ◌^◌, ◌↔◌};
 ghost use Rattle.std.specs.Prelude.{ℕ, Err, IsErr, IfOk, IfErr, IfSome, IsNone, IsSomeAnd, IsTrue, MatchOption, get_or};
-ghost use Rattle.spool_disk.specs.Disk.{IsImage, Keeps};
-ghost use Rattle.common.specs.Counts.{Counts};
+ghost use Rattle.spool_disk.specs.Disk.{IsImage, Counts, Keeps};
 ghost use Rattle.spool_disk.specs.Views.{Lasts};
 ghost use Rattle.spool_journal.specs.Image.{journal_pages, all_pages, byte_of, overlaid};
 ghost use Rattle.spool_journal.specs.Phases.{Settled, ReadsAs, Still};

@@ -1,7 +1,7 @@
 //! Reading a spool into memory.
 ghost use Rattle.std.specs.Prelude.{◌≡◌, ◌≤◌, ◌<◌, ◌*◌, ◌-◌};
 ghost use Rattle.std.specs.Prelude.{ℕ, None, false, replicate, length, get_or, IfOk, IsErrOf};
-ghost use Rattle.common.specs.Counts.{Counts};
+ghost use Rattle.spool_disk.specs.Disk.{Counts};
 ghost use Rattle.spool_journal.specs.Image.{all_pages, journal_pages};
 ghost use Rattle.spool_journal.specs.Phases.{Still};
 ghost use Rattle.spool_load.specs.Checks.{RowsPass};

@@ -1,8 +1,7 @@
 //! Finding, recovering and reading a spool.
 ghost use Rattle.std.specs.Prelude.{◌≡◌, ◌⊎◌, ◌≤◌, ◌*◌, ◌↔◌};
 ghost use Rattle.std.specs.Prelude.{Err, IfOk, IfErr};
-ghost use Rattle.spool_disk.specs.Disk.{IsImage, Keeps};
-ghost use Rattle.common.specs.Counts.{Counts};
+ghost use Rattle.spool_disk.specs.Disk.{IsImage, Counts, Keeps};
 ghost use Rattle.spool_disk.specs.Views.{Lasts};
 ghost use Rattle.spool_journal.specs.Image.{journal_pages, all_pages, overlaid};
 ghost use Rattle.spool_journal.specs.Phases.{Settled, ReadsAs};

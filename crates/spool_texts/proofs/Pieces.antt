@@ -7,8 +7,7 @@ use Rattle.std.proofs.lemmas.List.{get_or_append_left, get_or-append_right, get_
 use borrow.Rule.Slice.PartMut.{put_mid}
 use Rattle.spool_disk.specs.Disk.{span, Keeps, IsImage}
 use Rattle.spool_disk.proofs.Span.{length-span}
-use Rattle.spool_texts.specs.Reading.{IsPiece, Follow, byte_on}
-use Rattle.common.specs.Reading.{IsRead}
+use Rattle.spool_texts.specs.Reading.{IsRead, IsPiece, Follow, byte_on}
 use Rattle.spool_texts.specs.TextOn.{blocks_on, text_on, AllBelow}
 use Rattle.spool_texts.proofs.Shown.{length-blocks_on}
 

@@ -1,8 +1,8 @@
 -- Steps of a draft's text.
 use Rattle.std.proofs.Common.{◌≡◌, ℕ, ◌++◌, List, length, take, ◌∙◌, ap, arith}
 use Rattle.std.proofs.lemmas.List.{take_at, take_all, append-nil, drop_all}
-use Rattle.common.specs.Counts.{Counts}
-use Rattle.common.specs.Reading.{IsRead}
+use Rattle.spool_disk.specs.Disk.{Counts}
+use Rattle.spool_texts.specs.Reading.{IsRead}
 
 -- the failure count of an equivalent failure
 pub counts_same : {F G : Type 0} {a b : ℕ} → Counts F a b → (F → G) → (G → F) → Counts G a b

@@ -1,5 +1,6 @@
 -- Reading a piece of a text.
 use Rattle.std.specs.Prelude.{◌≡◌, ℕ, ◌+◌, ◌-◌, ◌*◌, ◌/◌, ◌%◌, ◌<◌, ◌≤◌, List, ◌++◌, length, get_or, take, drop, min}
+pub use Rattle.common.specs.Reading.{IsRead}
 
 -- Byte `at` of the listed blocks.
 abbrev pub byte_on : (ℕ → ℕ) → ℕ → List ℕ → ℕ → ℕ

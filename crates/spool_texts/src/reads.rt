@@ -1,11 +1,9 @@
 //! Reading a piece of a text.
 ghost use Rattle.std.specs.Prelude.{◌≡◌, ◌≢◌, ◌<◌, ◌≤◌, ◌*◌, ◌+◌, ◌-◌, ◌↔◌, length, get_or, min, IsErr, IfOk};
-ghost use Rattle.spool_disk.specs.Disk.{IsImage, Keeps};
-ghost use Rattle.common.specs.Counts.{Counts};
+ghost use Rattle.spool_disk.specs.Disk.{Counts, IsImage, Keeps};
 ghost use Rattle.spool_disk.specs.Views.{Lasts};
 ghost use Rattle.spool_journal.specs.Image.{all_pages, text_page};
-ghost use Rattle.spool_texts.specs.Reading.{IsPiece, Follow};
-ghost use Rattle.common.specs.Reading.{IsRead};
+ghost use Rattle.spool_texts.specs.Reading.{IsRead, IsPiece, Follow};
 ghost use Rattle.spool_texts.specs.TextOn.{text_on, AllBelow};
 
 use spool_blocks::BlockNo;

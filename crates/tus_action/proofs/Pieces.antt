@@ -6,8 +6,7 @@ use Rattle.std.proofs.lemmas.List.{length-take, length-drop, take_all, take-take
 use Rattle.std.proofs.lemmas.List.{length-take-le, nil_from_length}
 use Rattle.std.proofs.lemmas.Bool.{leb-true, leb-false}
 use Rattle.upload_rules.specs.Store.{Store, Upload, upload_of, text_of}
-use Rattle.upload_rules.specs.Reading.{text_at}
-use Rattle.common.specs.Reading.{IsRead}
+use Rattle.upload_rules.specs.Reading.{text_at, IsRead}
 use Rattle.upload_rules.specs.World.{World, is_there}
 use Rattle.upload_rules.specs.Records.{TellsOf, with_number}
 use Rattle.upload_rules.specs.declared.records.Record.{Record}

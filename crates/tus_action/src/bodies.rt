@@ -3,8 +3,7 @@ ghost use Rattle.std.specs.Prelude.{◌≡◌, ◌+◌, ◌≤◌, length, Some,
 ghost use Rattle.upload_rules.specs.Store.{find};
 ghost use Rattle.upload_rules.specs.World.{World, Patch, reached};
 ghost use Rattle.upload_rules.specs.Calls.{commit_refusal, commit_outcome, spent, dropped};
-ghost use Rattle.upload_rules.specs.Answers.{Limits, Quiet};
-ghost use Rattle.common.specs.Counts.{Counts};
+ghost use Rattle.upload_rules.specs.Answers.{Counts, Limits, Quiet};
 ghost use Rattle.tus_request.specs.Requests.{Request};
 ghost use Rattle.tus_action.specs.Acts.{fed, fed_patch, committed_as};
 ghost use Rattle.tus_action.specs.Serves.{Feeds, FeedsDraft, Finishes, Ends};

@@ -2,8 +2,7 @@
 ghost use Rattle.std.specs.Prelude.{◌≡◌, ◌+◌, Some, None, IsErrOf, Bool};
 ghost use Rattle.upload_rules.specs.Store.{Upload, upload_of};
 ghost use Rattle.upload_rules.specs.World.{World};
-ghost use Rattle.upload_rules.specs.Answers.{Quiet};
-ghost use Rattle.common.specs.Counts.{Counts};
+ghost use Rattle.upload_rules.specs.Answers.{Counts, Quiet};
 ghost use Rattle.tus_request.specs.Requests.{Request};
 ghost use Rattle.tus_action.specs.Acts.{head, get, Giving as Pending};
 ghost use Rattle.tus_action.specs.Serves.{Serves, Gives, GivesPiece, IsGiving};

@@ -1,8 +1,7 @@
 //! A request whose head is complete.
 ghost use Rattle.std.specs.Prelude.{◌+◌, IsErrOf, Bool, true};
 ghost use Rattle.upload_rules.specs.World.{World};
-ghost use Rattle.upload_rules.specs.Answers.{Limits};
-ghost use Rattle.common.specs.Counts.{Counts};
+ghost use Rattle.upload_rules.specs.Answers.{Counts, Limits};
 ghost use Rattle.tus_request.specs.Requests.{Asks};
 ghost use Rattle.tus_request.specs.Shown.{request_shown};
 ghost use Rattle.tus_action.specs.Acts.{acted};

@@ -3,8 +3,7 @@ ghost use Rattle.std.specs.Prelude.{◌≡◌, ◌++◌, [], Some, IsErrOf, OnOk
 ghost use Rattle.upload_rules.specs.World.{World};
 ghost use Rattle.upload_rules.specs.Calls.{create_refusal, create_outcome, terminate_refusal, terminate_outcome};
 ghost use Rattle.upload_rules.specs.Calls.{begin_refusal};
-ghost use Rattle.upload_rules.specs.Answers.{Limits, Quiet};
-ghost use Rattle.common.specs.Counts.{Counts};
+ghost use Rattle.upload_rules.specs.Answers.{Counts, Limits, Quiet};
 ghost use Rattle.upload_rules.specs.Records.{IsWellFormed, IsOffered};
 ghost use Rattle.tus_request.specs.Requests.{Request};
 ghost use Rattle.tus_request.specs.Replies.{reply_continue as continue_bytes};

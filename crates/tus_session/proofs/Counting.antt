@@ -1,7 +1,7 @@
 -- Counted failures, over one call after another.
 use Rattle.std.proofs.Common.{◌≡◌, inl, inr, ℕ, arith}
 use Rattle.std.proofs.lemmas.Bool.{cases_lt}
-use Rattle.common.specs.Counts.{Counts}
+use Rattle.upload_rules.specs.Answers.{Counts}
 
 -- a call that didn't fail isn't counted
 pub uncounted : {failed : Type 0} {a b : ℕ} → (failed → ⊥) → Counts failed a b → b ≡ a

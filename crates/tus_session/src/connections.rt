@@ -1,8 +1,7 @@
 //! The trait of connections that scripts and sockets drive.
 ghost use Rattle.std.specs.Prelude.{◌≡◌, ℕ, Bool, true, false, List, IsErrOf, Option};
 ghost use Rattle.upload_rules.specs.Store.{Store};
-ghost use Rattle.upload_rules.specs.Answers.{Among, Limits, Quiet};
-ghost use Rattle.common.specs.Counts.{Counts};
+ghost use Rattle.upload_rules.specs.Answers.{Among, Limits, Quiet, Counts};
 ghost use Rattle.tus_session.specs.History.{State, Opened, Came, More, Ended};
 ghost use Rattle.tus_session.specs.Turns.{GivesFew};
 ghost use Rattle.tus_session.specs.Connections.{Gives, Does, Falls, Unasked, mark_of};

@@ -3,8 +3,7 @@ ghost use Rattle.std.specs.Prelude.{◌≡◌, ◌+◌, ◌-◌, ◌<◌, ◌≤
 ghost use Rattle.std.specs.Prelude.{length, min, true, false, None, Some, IsErrOf, if◌then◌else◌};
 ghost use Rattle.tus_request.specs.Requests.{Asks};
 ghost use Rattle.upload_rules.specs.World.{World};
-ghost use Rattle.upload_rules.specs.Answers.{Limits};
-ghost use Rattle.common.specs.Counts.{Counts};
+ghost use Rattle.upload_rules.specs.Answers.{Counts, Limits};
 ghost use Rattle.tus_request.specs.Shown.{request_shown};
 ghost use Rattle.tus_request.specs.Buffers.{bytes_of};
 ghost use Rattle.tus_action.specs.Serves.{CanBeMade, CanBeRead};

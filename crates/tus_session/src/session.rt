@@ -6,8 +6,7 @@ ghost use Rattle.tus_session.specs.Stands.{SessionStands};
 ghost use Rattle.tus_session.specs.Told.{Opens, Told, Ends};
 ghost use Rattle.upload_rules.specs.Store.{Store};
 ghost use Rattle.upload_rules.specs.World.{at_rest};
-ghost use Rattle.upload_rules.specs.Answers.{Limits, Quiet};
-ghost use Rattle.common.specs.Counts.{Counts};
+ghost use Rattle.upload_rules.specs.Answers.{Limits, Quiet, Counts};
 ghost use Rattle.tus_session.specs.Turns.{GivesFew};
 
 use crate::conns::{Awaiting, Link};

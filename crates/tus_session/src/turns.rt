@@ -1,8 +1,7 @@
 //! The next piece of a pending text, and the end of a connection.
 ghost use Rattle.std.specs.Prelude.{◌≡◌, false, IsErrOf, Ok, Bool, true};
 ghost use Rattle.upload_rules.specs.World.{World};
-ghost use Rattle.upload_rules.specs.Answers.{Limits, Quiet};
-ghost use Rattle.common.specs.Counts.{Counts};
+ghost use Rattle.upload_rules.specs.Answers.{Counts, Limits, Quiet};
 ghost use Rattle.tus_request.specs.Buffers.{bytes_of};
 ghost use Rattle.tus_session.specs.Turns.{Conn, more_turn, ended_world};
 ghost use Rattle.tus_session.specs.Stands.{LinkIs, dropped_by};

@@ -7,6 +7,7 @@ use Rattle.upload_rules.specs.declared.errors.UploadRefusal.TheVariants.{Unencod
 use Rattle.upload_rules.specs.Store.{Upload, Store}
 use Rattle.upload_rules.specs.World.{Patch}
 use Rattle.upload_rules.specs.Calls.{first_patch}
+pub use Rattle.common.specs.Counts.{Counts}
 
 -- Out of memory or a disk fault may come instead of these refusals. The other refusals are found before either.
 abbrev pub IsLate : Option UploadRefusal → Type 0

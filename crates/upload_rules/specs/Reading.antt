@@ -2,8 +2,8 @@
 use Rattle.std.specs.Prelude.{◌≡◌, ℕ, ◌-◌, Bool, true, List, [], ◌++◌, length, take, drop, min, Option, Some, None}
 use Rattle.upload_rules.specs.declared.errors.UploadRefusal.{UploadRefusal}
 use Rattle.upload_rules.specs.declared.errors.UploadRefusal.TheVariants.{NoSuch}
-use Rattle.common.specs.Reading.{IsRead}
 use Rattle.upload_rules.specs.Store.{Upload, Store, text_of}
+pub use Rattle.common.specs.Reading.{IsRead}
 
 -- NoSuch, unless the upload is there.
 abbrev pub no_such : Option Upload → Option UploadRefusal

@@ -1,7 +1,7 @@
 //! The slots of a table, by ascending numbers.
 
 ghost use Rattle.std.specs.Prelude.{◌<◌, ◌≤◌, length, MatchOption, IfSome};
-ghost use Rattle.common.specs.Reading.{IsRead};
+ghost use Rattle.upload_rules.specs.Reading.{IsRead};
 ghost use Rattle.upload_rules.specs.Slots.{numbers, IsRising, IsDivided, IsFirstAt, IsNowhere};
 
 use crate::slot::Slot;

@@ -6,8 +6,7 @@ ghost use Rattle.upload_rules.specs.World.{Patch, World, free_number, reached};
 ghost use Rattle.upload_rules.specs.Calls.{create_refusal, created, create_outcome, terminate_refusal, terminated};
 ghost use Rattle.upload_rules.specs.Calls.{terminate_outcome, begin_refusal, begun, appended, longer, commit_refusal};
 ghost use Rattle.upload_rules.specs.Calls.{committed, commit_outcome, dropped};
-ghost use Rattle.upload_rules.specs.Answers.{Answers, IsBegun, Among, Limits, Quiet};
-ghost use Rattle.common.specs.Counts.{Counts};
+ghost use Rattle.upload_rules.specs.Answers.{Answers, IsBegun, Among, Limits, Quiet, Counts};
 ghost use Rattle.upload_rules.specs.Records.{IsShort, TellsOf, with_number, above, IsWellFormed, IsOffered};
 ghost use Rattle.upload_rules.specs.Reading.{no_such, text_at, IsReadOf};
 
