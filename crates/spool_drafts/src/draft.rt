@@ -22,6 +22,7 @@ ghost use Rattle.spool_drafts.specs.Drafts.{declare_of, committed_len_of, fresh_
 use crate::fresh::Fresh;
 use crate::growth::Growth;
 use crate::spare::Spare;
+use common::Stop;
 use enc_index::IndexSet;
 use spool_blocks::{BlockNo, Blocks};
 use spool_disk::Disk;
@@ -160,15 +161,14 @@ impl SpoolDraft {
         blocks: &mut Blocks,
         indexes: &IndexSet,
         piece: &[u8],
-    ) -> Result<(), UploadError>
+    ) -> Result<(), Stop>
         requires room { 4096 * all_pages layout.now ≤ D.size disk.old }
         requires blocks { length blocks.old.rows ≡ layout.now }
         requires reserved { IsReserved blocks.old (list_of self.old) }
         requires placed { IsPlaced layout.now self.old }
         ensures size { D.size disk.new ≡ D.size disk.old }
         ensures honest { D.honest disk.old ↔ D.honest disk.new }
-        ensures counts { Counts (IsErrOf result UploadError.DiskFault) (D.failures disk.old) (D.failures disk.new) }
-        ensures no_refusal { (e : Refusal) → IsErrOf result (UploadError.Refused e) → ⊥ }
+        ensures counts { Counts (IsErrOf result Stop.DiskFault) (D.failures disk.old) (D.failures disk.new) }
         ensures nothing { length piece.now ≡ 0
             → (self.new ≡ self.old) × (disk.new ≡ disk.old) × (blocks.new ≡ blocks.old) × IsOk result }
 
@@ -191,11 +191,11 @@ impl SpoolDraft {
             → Carries indexes.now (D.current disk.old) (text_page layout.now) p self.old
             → OnOk result (Carries indexes.now (D.current disk.new) (text_page layout.now)
             (with_piece p piece.now) self.new) }
-        ensures memory { IsErrOf result UploadError.NoMemory
+        ensures memory { IsErrOf result Stop.NoMemory
             → (list_of self.new ≡ list_of self.old) × (blocks.new ≡ blocks.old) }
-        ensures holds_on { (p : Patch) → Holds indexes.now p self.old → IsErrOf result UploadError.NoMemory
+        ensures holds_on { (p : Patch) → Holds indexes.now p self.old → IsErrOf result Stop.NoMemory
             → Holds indexes.now p self.new }
-        ensures content_on { (p : Patch) → D.honest disk.old → IsErrOf result UploadError.NoMemory
+        ensures content_on { (p : Patch) → D.honest disk.old → IsErrOf result Stop.NoMemory
             → Carries indexes.now (D.current disk.old) (text_page layout.now) p self.old
             → Carries indexes.now (D.current disk.new) (text_page layout.now) p self.new }
     {
@@ -204,7 +204,7 @@ impl SpoolDraft {
         }
         let mut text = self.spare.take(alloc);
         let Ok(fresh) = self.fresh.read_on(indexes, piece, &mut text) else {
-            return Err(UploadError::NoMemory);
+            return Err(Stop::NoMemory);
         };
         if let Fresh::Unencodable = fresh {
             self.growth.give_back(blocks);

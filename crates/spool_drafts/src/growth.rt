@@ -9,8 +9,8 @@ ghost use Rattle.spool_texts.specs.TextOn.{AllBelow, text_on};
 ghost use Rattle.spool_drafts.specs.Effect.{Effect, Regrasps};
 ghost use Rattle.spool_drafts.specs.Growth.{list_on, bytes_on, count_with, IsTailed, HoldsLen};
 ghost use Rattle.spool_drafts.specs.Growth.{GrowsTo, ClosesAs};
-ghost use Rattle.upload_rules.specs.declared.errors.UploadRefusal.{UploadRefusal as Refusal};
 
+use common::Stop;
 use spool_blocks::{BlockNo, Blocks};
 use spool_disk::Disk;
 use spool_journal::{Layout, PAGE};
@@ -109,15 +109,14 @@ impl Growth {
         layout: &Layout,
         blocks: &mut Blocks,
         bytes: &[u8],
-    ) -> Result<(), UploadError>
+    ) -> Result<(), Stop>
         requires room { 4096 * all_pages layout.now ≤ D.size disk.old }
         requires blocks { length blocks.old.rows ≡ layout.now }
         requires reserved { IsReserved blocks.old (list_on self.old.on) }
         requires tailed { IsTailed layout.now self.old }
         ensures size { D.size disk.new ≡ D.size disk.old }
         ensures honest { D.honest disk.old ↔ D.honest disk.new }
-        ensures counts { Counts (IsErrOf result UploadError.DiskFault) (D.failures disk.old) (D.failures disk.new) }
-        ensures no_refusal { (e : Refusal) → IsErrOf result (UploadError.Refused e) → ⊥ }
+        ensures counts { Counts (IsErrOf result Stop.DiskFault) (D.failures disk.old) (D.failures disk.new) }
         ensures same { (self.new.text_len ≡ self.old.text_len) × (self.new.tail ≡ self.old.tail) }
         ensures nothing { self.old.short ≡ true → (self.new ≡ self.old) × (blocks.new ≡ blocks.old) × IsOk result }
         ensures effect { Effect D.Disk (journal_pages layout.now) (list_on self.old.on) (list_on self.new.on) disk.old
@@ -130,11 +129,11 @@ impl Growth {
             ≡ bytes_on (D.current disk.old) (text_page layout.now) self.old self.old.on ++ bytes.now) }
 
         // Out of memory, the text is unchanged.
-        ensures memory { IsErrOf result UploadError.NoMemory
+        ensures memory { IsErrOf result Stop.NoMemory
             → (list_on self.new.on ≡ list_on self.old.on) × (blocks.new ≡ blocks.old)
             × (self.new.short ≡ self.old.short) }
-        ensures holds_on { (n : ℕ) → HoldsLen self.old n → IsErrOf result UploadError.NoMemory → HoldsLen self.new n }
-        ensures content_on { D.honest disk.old → IsErrOf result UploadError.NoMemory
+        ensures holds_on { (n : ℕ) → HoldsLen self.old n → IsErrOf result Stop.NoMemory → HoldsLen self.new n }
+        ensures content_on { D.honest disk.old → IsErrOf result Stop.NoMemory
             → bytes_on (D.current disk.new) (text_page layout.now) self.new self.new.on
             ≡ bytes_on (D.current disk.old) (text_page layout.now) self.old self.old.on }
     {
@@ -147,8 +146,7 @@ impl Growth {
         };
         match text.put(disk, layout, blocks, bytes) {
             Ok(()) => Ok(()),
-            Err(DraftError::NoMemory) => Err(UploadError::NoMemory),
-            Err(DraftError::DiskFault) => Err(UploadError::DiskFault),
+            Err(DraftError::Stop(stop)) => Err(stop),
             Err(DraftError::Full) => {
                 self.short = true;
                 self.give_back(blocks);
@@ -208,30 +206,22 @@ impl Growth {
         };
         match text.end(alloc, blocks, bytes) {
             Ok(last) => Ok(last),
-            Err(DraftError::NoMemory) => Err(UploadError::NoMemory),
+            Err(DraftError::Stop(stop)) => Err(UploadError::from(stop)),
             Err(DraftError::Full) => {
                 self.short = true;
                 self.give_back(blocks);
                 Err(UploadError::Refused(UploadRefusal::Full))
             }
-            // It makes no call of the disk.
-            Err(DraftError::DiskFault) => unreachable!(),
         }
     }
 
     // Begins the new text with the committed text's last bytes, unless it has begun.
-    fn open<D: Disk>(
-        &mut self,
-        alloc: Global,
-        disk: &mut D,
-        layout: &Layout,
-    ) -> Result<(), UploadError>
+    fn open<D: Disk>(&mut self, alloc: Global, disk: &mut D, layout: &Layout) -> Result<(), Stop>
         requires room { 4096 * all_pages layout.now ≤ D.size disk.old }
         requires tailed { IsTailed layout.now self.old }
         ensures size { D.size disk.new ≡ D.size disk.old }
         ensures honest { D.honest disk.old ↔ D.honest disk.new }
-        ensures counts { Counts (IsErrOf result UploadError.DiskFault) (D.failures disk.old) (D.failures disk.new) }
-        ensures no_refusal { (e : Refusal) → IsErrOf result (UploadError.Refused e) → ⊥ }
+        ensures counts { Counts (IsErrOf result Stop.DiskFault) (D.failures disk.old) (D.failures disk.new) }
         ensures same { self.new ≡ record self.old { on = self.new.on } }
         ensures unread { tail_list self.old.tail ≡ [] → disk.new ≡ disk.old }
         ensures list { list_on self.new.on ≡ list_on self.old.on }
@@ -249,15 +239,8 @@ impl Growth {
             return Ok(());
         }
         let len = (self.text_len % PAGE as u64) as usize;
-        match DraftText::begin(alloc, disk, layout, self.tail, len) {
-            Ok(text) => {
-                self.on = Some(text);
-                Ok(())
-            }
-            Err(DraftError::NoMemory) => Err(UploadError::NoMemory),
-            Err(DraftError::DiskFault) => Err(UploadError::DiskFault),
-            // No block is reserved here.
-            Err(DraftError::Full) => unreachable!(),
-        }
+        let text = DraftText::begin(alloc, disk, layout, self.tail, len)?;
+        self.on = Some(text);
+        Ok(())
     }
 }

@@ -1,13 +1,10 @@
 -- Opening a disk, whatever is on it.
 use Rattle.std.specs.Prelude.{◌≡◌, ◌⊎◌, ℕ, ◌*◌, ◌≤◌, Option, None, Some, IfSome, Result, Ok, Err}
-use Rattle.spool_disk.specs.Disk.{IsImage, Keeps}
-use Rattle.spool_disk.specs.Views.{Lasts}
-use Rattle.spool_disk.specs.declared.disk.Disk.{Ghosts}
 use Rattle.spool_journal.specs.Image.{all_pages}
 use Rattle.spool_kept.specs.Shows.{IsValid}
 use Rattle.spool_kept.specs.declared.error.OpenFault.{OpenFault}
 use Rattle.spool_kept.specs.declared.error.OpenFault.TheVariants.{NotASpool, DiskFault, Damaged, Version, NoMemory}
-use Rattle.spool_load.specs.Reads.{NeedsReplay}
+pub use Rattle.spool_load.specs.Recovered.{ReadsSame, Unwritten}
 use Rattle.spool_load.specs.Refusals.{IsNoSpool, HasOtherVersion, IsDamaged, RefusedFor}
 use Rattle.spool_pages.specs.View.{View, IsViewOf}
 
@@ -38,16 +35,3 @@ pub record OpensExactly (size : ℕ) (current : ℕ → ℕ) (refusal : Option O
   pub not_a_spool : IsNoSpool size current → IsRefusedAs refusal NotASpool
   pub version : HasOtherVersion size current → IsRefusedAs refusal Version
   pub damaged : IsDamaged size current → IsRefusedAs refusal Damaged
-
--- The disk afterwards, if no journal has to be replayed. This is so of every disk that isn't a spool, and of a spool of
--- another version with a closed gate.
-
--- Every crash image is one of before.
-abbrev pub Unwritten : {D : Type 0} → Ghosts D → D → D → Type 0
-Unwritten disk before after = (NeedsReplay (disk.size before) (disk.current before) → ⊥)
-    → Lasts disk before after (IsImage (disk.current before) (disk.unsynced before))
-
--- A read gives the same, unless there was a disk fault.
-abbrev pub ReadsSame : {D : Type 0} → Ghosts D → D → D → Type 0 → Type 0
-ReadsSame disk before after failed = (NeedsReplay (disk.size before) (disk.current before) → ⊥) → (failed → ⊥)
-    → Keeps (disk.current before) (disk.current after) (disk.unsynced before) (disk.unsynced after)

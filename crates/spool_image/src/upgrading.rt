@@ -9,6 +9,7 @@ ghost use Rattle.spool_kept.specs.Kept.{KeepsAlone, KeepsView};
 ghost use Rattle.spool_kept.specs.Shows.{IsValid};
 ghost use Rattle.spool_load.specs.Loaded.{OpenedFrom};
 ghost use Rattle.spool_load.specs.Reads.{NeedsReplay};
+ghost use Rattle.spool_load.specs.Recovered.{LeavesRead, OfView, ReadsSame, Recovered, Unwritten};
 ghost use Rattle.spool_kept.specs.declared.error.OpenFault.{OpenFault as Fault};
 ghost use Rattle.spool_load.specs.Refusals.{HasOtherVersion, IsNoSpool};
 ghost use Rattle.spool_pages.specs.Changes.{upgraded};
@@ -33,29 +34,23 @@ fn load_old<D: Disk>(alloc: Global, disk: &mut D) -> Result<Kept, UpgradeError>
     ensures counts { Counts (result ≡ Err (UpgradeError.Open Fault.DiskFault)) (D.failures disk.old)
         (D.failures disk.new) }
     ensures room { IfOk result (λ kept. 4096 * all_pages kept.layout ≤ D.size disk.old) }
-    ensures said { D.honest disk.old → (v : View) → IsValid v → IsViewOf (D.current disk.old) v
-        → 4096 * all_pages v.blocks ≤ D.size disk.old → UpgradesOf v.version result }
-    ensures kept { D.honest disk.old → (v : View) → IsValid v → IsViewOf (D.current disk.old) v
-        → 4096 * all_pages v.blocks ≤ D.size disk.old → IfOk result (λ kept. KeepsAlone kept v) }
+    ensures said { D.honest disk.old → OfView (D.size disk.old) (D.current disk.old)
+        (λ v. UpgradesOf v.version result) }
+    ensures kept { D.honest disk.old → OfView (D.size disk.old) (D.current disk.old)
+        (λ v. IfOk result (λ kept. KeepsAlone kept v)) }
     ensures valid { D.honest disk.old → IfOk result (OpenedFrom (D.size disk.old) (D.current disk.old)) }
     ensures version { IfOk result (λ kept. kept.version ≡ Known.One) }
     ensures refused { D.honest disk.old → IfErr result (UpgradeRefusedFor (D.size disk.old) (D.current disk.old)) }
     ensures settled { D.honest disk.old → IfOk result (λ kept.
-        Settled (journal_pages kept.layout) (overlaid (D.current disk.old)) (D.current disk.new)
-        (D.unsynced disk.new)) }
-    ensures stays { D.honest disk.old → (v : View) → IsValid v → IsViewOf (D.current disk.old) v
-        → 4096 * all_pages v.blocks ≤ D.size disk.old
-        → IfErr result (λ e. (e ≡ UpgradeError.Open Fault.DiskFault → ⊥)
-        → Rests v (D.current disk.new) (D.unsynced disk.new)) }
-    ensures lasts { D.honest disk.old → (v : View) → IsValid v → IsViewOf (D.current disk.old) v
-        → 4096 * all_pages v.blocks ≤ D.size disk.old → Lasts D.Disk disk.old disk.new (λ image.
-        IsImage (D.current disk.old) (D.unsynced disk.old) image
-        ⊎ ReadsAs (journal_pages v.blocks) image (overlaid (D.current disk.old))) }
-    ensures unwritten { D.honest disk.old → (NeedsReplay (D.size disk.old) (D.current disk.old) → ⊥)
-        → Lasts D.Disk disk.old disk.new (IsImage (D.current disk.old) (D.unsynced disk.old)) }
-    ensures same { D.honest disk.old → (NeedsReplay (D.size disk.old) (D.current disk.old) → ⊥)
-        → (result ≡ Err (UpgradeError.Open Fault.DiskFault) → ⊥)
-        → Keeps (D.current disk.old) (D.current disk.new) (D.unsynced disk.old) (D.unsynced disk.new) }
+        Recovered D.Disk kept.layout disk.old disk.new) }
+    ensures stays { D.honest disk.old → OfView (D.size disk.old) (D.current disk.old)
+        (λ v. IfErr result (λ e. (e ≡ UpgradeError.Open Fault.DiskFault → ⊥)
+        → Rests v (D.current disk.new) (D.unsynced disk.new))) }
+    ensures lasts { D.honest disk.old → OfView (D.size disk.old) (D.current disk.old)
+        (λ v. LeavesRead D.Disk v.blocks disk.old disk.new) }
+    ensures unwritten { D.honest disk.old → Unwritten D.Disk disk.old disk.new }
+    ensures same { D.honest disk.old → ReadsSame D.Disk disk.old disk.new
+        (result ≡ Err (UpgradeError.Open Fault.DiskFault)) }
 {
     let found = find(disk)?;
     if found.version == Version::Two {
@@ -104,8 +99,8 @@ pub fn upgrade<D: Disk>(alloc: Global, disk: &mut D) -> Result<(), UpgradeError>
         (D.failures disk.new) }
 
     // If a read gives a valid spool of version 1, it is upgraded, unless memory or the disk refuses.
-    ensures upgraded { D.honest disk.old → (v : View) → IsValid v → IsViewOf (D.current disk.old) v
-        → 4096 * all_pages v.blocks ≤ D.size disk.old → UpgradesOf v.version result }
+    ensures upgraded { D.honest disk.old → OfView (D.size disk.old) (D.current disk.old)
+        (λ v. UpgradesOf v.version result) }
 
     // It was a valid spool of version 1, and each crash image now has the same view in version 2. One commit of 257
     // pages did this; nothing else changed in the plain reading.
@@ -124,10 +119,9 @@ pub fn upgrade<D: Disk>(alloc: Global, disk: &mut D) -> Result<(), UpgradeError>
         → RefusesUpgradeAs result (UpgradeError.Open Fault.Damaged) }
 
     // An error leaves what a read gives, in the old version.
-    ensures stays { D.honest disk.old → (v : View) → IsValid v → IsViewOf (D.current disk.old) v
-        → 4096 * all_pages v.blocks ≤ D.size disk.old
-        → IfErr result (λ e. (e ≡ UpgradeError.Open Fault.DiskFault → ⊥)
-        → Rests v (D.current disk.new) (D.unsynced disk.new)) }
+    ensures stays { D.honest disk.old → OfView (D.size disk.old) (D.current disk.old)
+        (λ v. IfErr result (λ e. (e ≡ UpgradeError.Open Fault.DiskFault → ⊥)
+        → Rests v (D.current disk.new) (D.unsynced disk.new))) }
 
     // An error writes nothing if no journal has to be replayed, whatever is on the disk.
     ensures unwritten { D.honest disk.old → (NeedsReplay (D.size disk.old) (D.current disk.old) → ⊥)

@@ -117,7 +117,7 @@ pub fn append<D: Disk>(
         piece,
     );
     put_back(drafts, number, draft);
-    answer
+    Ok(answer?)
 }
 
 /// Gives the draft of a number up, and its blocks back.

@@ -3,3 +3,4 @@ pub mod Reads
 pub mod Checks
 pub mod Refusals
 pub mod Loaded
+pub mod Recovered

@@ -8,7 +8,8 @@ ghost use Rattle.spool_journal.specs.Phases.{Settled, ReadsAs, Still};
 ghost use Rattle.spool_kept.specs.Loads.{LoadsAs};
 ghost use Rattle.spool_kept.specs.Shows.{IsValid};
 ghost use Rattle.spool_load.specs.Loaded.{FoundOn, IsFoundOf, SaysState, StandsFound};
-ghost use Rattle.spool_load.specs.Reads.{NeedsReplay, OnlyReads, SaysBlocks};
+ghost use Rattle.spool_load.specs.Reads.{OnlyReads, SaysBlocks};
+ghost use Rattle.spool_load.specs.Recovered.{LeavesRead, OfView, ReadsSame, Recovered, Unwritten};
 ghost use Rattle.spool_load.specs.Refusals.{IsNoSpool, NotFoundFor, RefusedAt, SaysKnownVersion};
 ghost use Rattle.spool_pages.specs.Bytes.{IsPadded};
 ghost use Rattle.spool_pages.specs.View.{View, IsViewOf, Stands, state_page, state_place};
@@ -130,11 +131,8 @@ fn restore<D: Disk>(disk: &mut D, layout: Layout) -> Result<Found, OpenFault>
         → IfOk result (FoundOn (D.size disk.old) (D.current disk.old)) }
     ensures refused { D.honest disk.old → IfErr result (RefusedAt layout (D.current disk.old)) }
     ensures settled { D.honest disk.old → IfOk result
-        (λ found. Settled (journal_pages layout) (overlaid (D.current disk.old)) (D.current disk.new)
-        (D.unsynced disk.new)) }
-    ensures lasts { D.honest disk.old → Lasts D.Disk disk.old disk.new (λ image.
-        IsImage (D.current disk.old) (D.unsynced disk.old) image
-        ⊎ ReadsAs (journal_pages layout) image (overlaid (D.current disk.old))) }
+        (λ found. Recovered D.Disk layout disk.old disk.new) }
+    ensures lasts { D.honest disk.old → LeavesRead D.Disk layout disk.old disk.new }
     ensures unwritten { D.honest disk.old → (D.current disk.old 4096 ≡ 165 → ⊥)
         → Lasts D.Disk disk.old disk.new (IsImage (D.current disk.old) (D.unsynced disk.old)) }
     ensures same { D.honest disk.old → (D.current disk.old 4096 ≡ 165 → ⊥) → (result ≡ Err OpenFault.DiskFault → ⊥)
@@ -157,8 +155,8 @@ pub fn find<D: Disk>(disk: &mut D) -> Result<Found, OpenFault>
     ensures room { IfOk result (λ found. 4096 * all_pages found.layout ≤ D.size disk.old) }
 
     // If a read gives a valid spool, that one is found, unless there is a disk fault.
-    ensures said { D.honest disk.old → (v : View) → IsValid v → IsViewOf (D.current disk.old) v
-        → 4096 * all_pages v.blocks ≤ D.size disk.old → LoadsAs result (IsFoundOf v) }
+    ensures said { D.honest disk.old → OfView (D.size disk.old) (D.current disk.old)
+        (λ v. LoadsAs result (IsFoundOf v)) }
 
     // What is found is what a read gives, and each error has its reason.
     ensures found { D.honest disk.old → IfOk result (FoundOn (D.size disk.old) (D.current disk.old)) }
@@ -166,21 +164,15 @@ pub fn find<D: Disk>(disk: &mut D) -> Result<Found, OpenFault>
 
     // All of the disk is synced then, and the gate is closed.
     ensures settled { D.honest disk.old → IfOk result (λ found.
-        Settled (journal_pages found.layout) (overlaid (D.current disk.old)) (D.current disk.new)
-        (D.unsynced disk.new)) }
+        Recovered D.Disk found.layout disk.old disk.new) }
 
     // A crash leaves an image of before, or one that reads the same.
-    ensures lasts { D.honest disk.old → (v : View) → IsValid v → IsViewOf (D.current disk.old) v
-        → 4096 * all_pages v.blocks ≤ D.size disk.old → Lasts D.Disk disk.old disk.new (λ image.
-        IsImage (D.current disk.old) (D.unsynced disk.old) image
-        ⊎ ReadsAs (journal_pages v.blocks) image (overlaid (D.current disk.old))) }
+    ensures lasts { D.honest disk.old → OfView (D.size disk.old) (D.current disk.old)
+        (λ v. LeavesRead D.Disk v.blocks disk.old disk.new) }
 
     // Without a journal to replay nothing is written: every crash image is one of before, and a read gives the same.
-    ensures unwritten { D.honest disk.old → (NeedsReplay (D.size disk.old) (D.current disk.old) → ⊥)
-        → Lasts D.Disk disk.old disk.new (IsImage (D.current disk.old) (D.unsynced disk.old)) }
-    ensures same { D.honest disk.old → (NeedsReplay (D.size disk.old) (D.current disk.old) → ⊥)
-        → (result ≡ Err OpenFault.DiskFault → ⊥)
-        → Keeps (D.current disk.old) (D.current disk.new) (D.unsynced disk.old) (D.unsynced disk.new) }
+    ensures unwritten { D.honest disk.old → Unwritten D.Disk disk.old disk.new }
+    ensures same { D.honest disk.old → ReadsSame D.Disk disk.old disk.new (result ≡ Err OpenFault.DiskFault) }
 {
     match find_layout(disk)? {
         Some(layout) => restore(disk, layout),

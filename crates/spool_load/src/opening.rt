@@ -9,7 +9,7 @@ ghost use Rattle.spool_kept.specs.Kept.{KeepsAlone};
 ghost use Rattle.spool_kept.specs.Loads.{LoadsAs};
 ghost use Rattle.spool_kept.specs.Shows.{IsValid};
 ghost use Rattle.spool_load.specs.Loaded.{OpenedFrom};
-ghost use Rattle.spool_load.specs.Reads.{NeedsReplay};
+ghost use Rattle.spool_load.specs.Recovered.{LeavesRead, OfView, ReadsSame, Recovered, Unwritten};
 ghost use Rattle.spool_load.specs.Refusals.{RefusedFor};
 ghost use Rattle.spool_pages.specs.View.{View, IsViewOf};
 
@@ -33,8 +33,8 @@ pub fn load<D: Disk>(alloc: Global, disk: &mut D) -> Result<Kept, OpenFault>
     ensures room { IfOk result (λ kept. 4096 * all_pages kept.layout ≤ D.size disk.old) }
 
     // If a read gives a valid spool, that one is read into memory, unless memory or the disk refuses.
-    ensures said { D.honest disk.old → (v : View) → IsValid v → IsViewOf (D.current disk.old) v
-        → 4096 * all_pages v.blocks ≤ D.size disk.old → LoadsAs result (λ kept. KeepsAlone kept v) }
+    ensures said { D.honest disk.old → OfView (D.size disk.old) (D.current disk.old)
+        (λ v. LoadsAs result (λ kept. KeepsAlone kept v)) }
 
     // On any disk what is then in memory is a view.
     ensures view { IfOk result (λ kept. (v : View) × KeepsAlone kept v) }
@@ -45,21 +45,15 @@ pub fn load<D: Disk>(alloc: Global, disk: &mut D) -> Result<Kept, OpenFault>
 
     // All of the disk is synced then, and the gate is closed.
     ensures settled { D.honest disk.old → IfOk result (λ kept.
-        Settled (journal_pages kept.layout) (overlaid (D.current disk.old)) (D.current disk.new)
-        (D.unsynced disk.new)) }
+        Recovered D.Disk kept.layout disk.old disk.new) }
 
     // A crash leaves an image of before, or one that reads the same.
-    ensures lasts { D.honest disk.old → (v : View) → IsValid v → IsViewOf (D.current disk.old) v
-        → 4096 * all_pages v.blocks ≤ D.size disk.old → Lasts D.Disk disk.old disk.new (λ image.
-        IsImage (D.current disk.old) (D.unsynced disk.old) image
-        ⊎ ReadsAs (journal_pages v.blocks) image (overlaid (D.current disk.old))) }
+    ensures lasts { D.honest disk.old → OfView (D.size disk.old) (D.current disk.old)
+        (λ v. LeavesRead D.Disk v.blocks disk.old disk.new) }
 
     // Without a journal to replay nothing is written: every crash image is one of before, and a read gives the same.
-    ensures unwritten { D.honest disk.old → (NeedsReplay (D.size disk.old) (D.current disk.old) → ⊥)
-        → Lasts D.Disk disk.old disk.new (IsImage (D.current disk.old) (D.unsynced disk.old)) }
-    ensures same { D.honest disk.old → (NeedsReplay (D.size disk.old) (D.current disk.old) → ⊥)
-        → (result ≡ Err OpenFault.DiskFault → ⊥)
-        → Keeps (D.current disk.old) (D.current disk.new) (D.unsynced disk.old) (D.unsynced disk.new) }
+    ensures unwritten { D.honest disk.old → Unwritten D.Disk disk.old disk.new }
+    ensures same { D.honest disk.old → ReadsSame D.Disk disk.old disk.new (result ≡ Err OpenFault.DiskFault) }
 {
     let found = find(disk)?;
     let kept = read(alloc, disk, found)?;

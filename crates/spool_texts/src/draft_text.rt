@@ -13,6 +13,7 @@ ghost use Rattle.spool_texts.specs.TextOn.{text_on, AllBelow};
 ghost use Rattle.spool_texts.specs.Written.{WritesIn, IsImageBut, aside_blocks};
 
 use crate::{DraftError, read_text};
+use common::Stop;
 use spool_blocks::{BlockNo, Blocks};
 use spool_disk::{Disk, DiskFault};
 use spool_journal::{Layout, PAGE, write_block};
@@ -52,14 +53,13 @@ impl DraftText {
         layout: &Layout,
         tail: Option<BlockNo>,
         len: usize,
-    ) -> Result<Self, DraftError>
+    ) -> Result<Self, Stop>
         requires room { 4096 * all_pages layout.now ≤ D.size disk.old }
         requires below { AllBelow layout.now (tail_list tail) }
         requires few { len < 4096 }
         ensures size { D.size disk.new ≡ D.size disk.old }
         ensures honest { D.honest disk.old ↔ D.honest disk.new }
-        ensures counts { Counts (IsErrOf result DraftError.DiskFault) (D.failures disk.old) (D.failures disk.new) }
-        ensures enough { IsErrOf result DraftError.Full → ⊥ }
+        ensures counts { Counts (IsErrOf result Stop.DiskFault) (D.failures disk.old) (D.failures disk.new) }
         ensures unread { tail_list tail ≡ [] → disk.new ≡ disk.old }
         ensures none { IfOk result (λ text. text.blocks ≡ []) }
         ensures tail { D.honest disk.old
@@ -125,7 +125,8 @@ impl DraftText {
         requires reserved { IsReserved blocks.old self.old.blocks }
         ensures size { D.size disk.new ≡ D.size disk.old }
         ensures honest { D.honest disk.old ↔ D.honest disk.new }
-        ensures counts { Counts (IsErrOf result DraftError.DiskFault) (D.failures disk.old) (D.failures disk.new) }
+        ensures counts { Counts (IsErrOf result (DraftError.Stop Stop.DiskFault)) (D.failures disk.old)
+            (D.failures disk.new) }
         ensures nothing { length bytes.now ≡ 0
             → (self.new ≡ self.old) × (disk.new ≡ disk.old) × (blocks.new ≡ blocks.old) × IsOk result }
         ensures held { OnOk result (held_count self.new ≡ held_count self.old + length bytes.now) }
@@ -134,7 +135,7 @@ impl DraftText {
             ≡ content_on (D.current disk.old) (text_page layout.now) self.old ++ bytes.now) }
 
         // Out of memory, nothing is done.
-        ensures memory { IsErrOf result DraftError.NoMemory
+        ensures memory { IsErrOf result (DraftError.Stop Stop.NoMemory)
             → (self.new ≡ self.old) × (disk.new ≡ disk.old) × (blocks.new ≡ blocks.old) }
 
         // It reserves no more blocks than its bytes need, and keeps them when it is refused.
@@ -196,11 +197,12 @@ impl DraftText {
         requires space { held_count self.old + length bytes.now ≤ 4096 * self.old.room }
         ensures size { D.size disk.new ≡ D.size disk.old }
         ensures honest { D.honest disk.old ↔ D.honest disk.new }
-        ensures counts { Counts (IsErrOf result DraftError.DiskFault) (D.failures disk.old) (D.failures disk.new) }
+        ensures counts { Counts (IsErrOf result (DraftError.Stop Stop.DiskFault)) (D.failures disk.old)
+            (D.failures disk.new) }
         ensures some { IfOk result (λ n. 1 ≤ n) }
         ensures within { IfOk result (λ n. n ≤ length bytes.now) }
         ensures space { self.old.room ≤ self.new.room }
-        ensures no_memory { IsErrOf result DraftError.NoMemory → ⊥ }
+        ensures no_memory { IsErrOf result (DraftError.Stop Stop.NoMemory) → ⊥ }
         ensures listed { OnOk result (1 ≤ length self.new.blocks) }
         ensures few { length self.new.unfinished < 4096 }
         ensures held { IfOk result (λ n. held_count self.new ≡ held_count self.old + n) }
@@ -242,9 +244,10 @@ impl DraftText {
         bytes: &[u8],
     ) -> Result<Vec<u8>, DraftError>
         requires reserved { IsReserved blocks.old self.old.blocks }
-        ensures no_disk_fault { IsErrOf result DraftError.DiskFault → ⊥ }
+        ensures no_disk_fault { IsErrOf result (DraftError.Stop Stop.DiskFault) → ⊥ }
         ensures nothing { length bytes.now ≡ 0 → (self.new ≡ self.old) × (blocks.new ≡ blocks.old) }
-        ensures memory { IsErrOf result DraftError.NoMemory → (self.new ≡ self.old) × (blocks.new ≡ blocks.old) }
+        ensures memory { IsErrOf result (DraftError.Stop Stop.NoMemory)
+            → (self.new ≡ self.old) × (blocks.new ≡ blocks.old) }
         ensures some { IsErrOf result DraftError.Full → 1 ≤ length bytes.now }
 
         // The bytes on its blocks and the returned ones are all that it had, and the last bytes.

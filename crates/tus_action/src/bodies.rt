@@ -9,8 +9,8 @@ ghost use Rattle.tus_action.specs.Acts.{fed, fed_patch, committed_as};
 ghost use Rattle.tus_action.specs.Serves.{Feeds, FeedsDraft, Finishes, Ends};
 ghost use Rattle.tus_request.specs.Replies.{longest_reply, GrowsBy};
 
-use common::Stop;
 use crate::refusals::refuse;
+use common::Stop;
 use std::alloc::Global;
 use tus_request::replies::reply_patched;
 use upload_rules::{UploadError, Uploads};

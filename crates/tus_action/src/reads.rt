@@ -10,8 +10,8 @@ ghost use Rattle.tus_action.specs.Acts.{piece_size};
 ghost use Rattle.tus_request.specs.Replies.{longest_reply, GrowsBy};
 
 use crate::acts::{Done, Given, Giving};
-use common::Stop;
 use crate::refusals::refused;
+use common::Stop;
 use std::alloc::Global;
 use tus_request::replies::{reply_head, reply_text};
 use upload_rules::{UploadError, UploadRefusal, Uploads};

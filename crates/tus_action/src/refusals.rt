@@ -4,7 +4,7 @@ ghost use Rattle.tus_action.specs.Faults.{fault_of as fault};
 ghost use Rattle.tus_action.specs.Serves.{RepliesOnly, RepliesTo};
 ghost use Rattle.tus_request.specs.Replies.{longest_reply, GrowsBy};
 
-use crate::acts::{Done};
+use crate::acts::Done;
 use common::Stop;
 use std::alloc::Global;
 use tus_request::Fault;

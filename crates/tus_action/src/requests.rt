@@ -9,10 +9,10 @@ ghost use Rattle.tus_action.specs.Serves.{Serves, CanBeMade, CanBeRead};
 ghost use Rattle.tus_action.specs.Acts.{piece_size};
 ghost use Rattle.tus_request.specs.Replies.{longest_reply, GrowsBy};
 
-use crate::acts::{Done};
-use common::Stop;
+use crate::acts::Done;
 use crate::reads::{PieceBuffer, give_text, show};
 use crate::writes::{begin, create, delete};
+use common::Stop;
 use std::alloc::Global;
 use tus_request::replies::reply_options;
 use tus_request::{Action, Request};

@@ -11,9 +11,9 @@ ghost use Rattle.tus_action.specs.Acts.{post, delete as deleted, patch};
 ghost use Rattle.tus_action.specs.Serves.{Serves};
 ghost use Rattle.tus_request.specs.Replies.{longest_reply, GrowsBy};
 
-use crate::acts::{Done};
-use common::Stop;
+use crate::acts::Done;
 use crate::refusals::refused;
+use common::Stop;
 use std::alloc::{AllocError, Global};
 use tus_request::replies::{reply_continue, reply_created, reply_deleted};
 use upload_rules::{New, Uploads};

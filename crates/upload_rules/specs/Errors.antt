@@ -1,11 +1,16 @@
--- Why a call stops that the rules can't refuse.
+-- Why a call on uploads stops.
 use Rattle.common.specs.declared.stop.Stop.{Stop}
 use Rattle.common.specs.declared.stop.Stop.TheVariants.{NoMemory, DiskFault}
 use Rattle.upload_rules.specs.declared.errors.UploadError.{UploadError}
 use Rattle.upload_rules.specs.declared.errors.UploadError.TheVariants as errors
 
--- `Refused` doesn't occur there; it is mapped to some error.
+-- Why a call stops that the rules can't refuse: `Refused` doesn't occur there, and is mapped to some error.
 abbrev pub stop_of : UploadError → Stop
 stop_of errors.DiskFault = DiskFault
 stop_of errors.NoMemory = NoMemory
 stop_of (errors.Refused f) = NoMemory
+
+-- The error of a call that stops.
+abbrev pub stopped : Stop → UploadError
+stopped NoMemory = errors.NoMemory
+stopped DiskFault = errors.DiskFault

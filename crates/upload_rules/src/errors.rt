@@ -48,3 +48,16 @@ impl From<UploadError> for Stop {
         }
     }
 }
+
+impl From<Stop> for UploadError {
+    ghost use Rattle.upload_rules.specs.Errors.{stopped};
+
+    ghost from_gives = { λ stop error. error ≡ stopped stop };
+
+    fn from(stop: Stop) -> UploadError {
+        match stop {
+            Stop::NoMemory => UploadError::NoMemory,
+            Stop::DiskFault => UploadError::DiskFault,
+        }
+    }
+}

@@ -17,14 +17,8 @@ returns-in-Ok-clause-effect g c =
     c.put.ensures.reserved (inl (refl, refl))
     c.open.ensures.honest c.open.ensures.keeps c.open.ensures.lasts (search rules)
 
-pub returns-in-Err-NoMemory-clause-effect : goal.returns-in-Err-NoMemory-clause-effect
-returns-in-Err-NoMemory-clause-effect g c =
-    effect_put c.in-Some.text.blocks (ap list_on (sym c.in-Some.is) ∙ c.open.ensures.list) c.put.ensures.takes
-    c.put.ensures.reserved (inl (refl, refl))
-    c.open.ensures.honest c.open.ensures.keeps c.open.ensures.lasts (search rules)
-
-pub returns-in-Err-DiskFault-clause-effect : goal.returns-in-Err-DiskFault-clause-effect
-returns-in-Err-DiskFault-clause-effect g c =
+pub returns-in-Err-Stop-clause-effect : goal.returns-in-Err-Stop-clause-effect
+returns-in-Err-Stop-clause-effect g c =
     effect_put c.in-Some.text.blocks (ap list_on (sym c.in-Some.is) ∙ c.open.ensures.list) c.put.ensures.takes
     c.put.ensures.reserved (inl (refl, refl))
     c.open.ensures.honest c.open.ensures.keeps c.open.ensures.lasts (search rules)
