@@ -7,7 +7,7 @@ use crate::heads::{Client, Heads};
 use crate::ram_disk::RamDisk;
 use crate::random::Random;
 use crate::server::Server;
-use crate::texts::Sample;
+use crate::texts::{Sample, samples};
 use crate::tongues::{Tongue, in_utf8, japanese_mail, japanese_sjis, japanese_utf16, russian_koi};
 use crate::words::{Language, Material};
 use enc_model::Encoding;
@@ -28,17 +28,14 @@ pub(crate) fn run(
     material: &Material,
     mut random: Random,
 ) -> Result<Digest, Fault> {
-    let mut samples = Vec::new(alloc);
-    for tongue in [
+    let tongues = [
         japanese_mail(),
         japanese_sjis(),
         japanese_utf16(),
         in_utf8(Language::Japanese),
         russian_koi(),
-    ] {
-        let sample = Sample::new(alloc, tongue, SAMPLE, material, &mut random)?;
-        samples.push((tongue, sample))?;
-    }
+    ];
+    let samples = samples(alloc, &tongues, SAMPLE, material, &mut random)?;
     let disk = RamDisk::spool(alloc, BLOCKS, &material.indexes)?;
     let mut server = Server::open(alloc, disk, Digest::new())?;
     let outcome = send_all(alloc, &mut server, &samples, texts, &mut random);

@@ -6,7 +6,7 @@ use crate::heads::{Client, Heads};
 use crate::ram_disk::RamDisk;
 use crate::random::Random;
 use crate::server::Server;
-use crate::texts::Sample;
+use crate::texts::{Sample, samples};
 use crate::tongues::{Tongue, in_utf8, japanese_mail, japanese_sjis, russian_koi};
 use crate::words::{Language, Material};
 use std::alloc::Global;
@@ -33,16 +33,13 @@ pub(crate) fn run(
     material: &Material,
     mut random: Random,
 ) -> Result<Digest, Fault> {
-    let mut samples = Vec::new(alloc);
-    for tongue in [
+    let tongues = [
         japanese_mail(),
         japanese_sjis(),
         russian_koi(),
         in_utf8(Language::German),
-    ] {
-        let sample = Sample::new(alloc, tongue, SAMPLE, material, &mut random)?;
-        samples.push((tongue, sample))?;
-    }
+    ];
+    let samples = samples(alloc, &tongues, SAMPLE, material, &mut random)?;
     let disk = RamDisk::spool(alloc, BLOCKS, &material.indexes)?;
     let mut server = Server::open(alloc, disk, Digest::new())?;
     let outcome = import(alloc, &mut server, &samples, mails, &mut random);

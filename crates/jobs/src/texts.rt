@@ -17,6 +17,22 @@ pub(crate) struct Sample {
     starts: Vec<usize>,
 }
 
+/// A sample of at least `len` bytes in each of these tongues.
+pub(crate) fn samples(
+    alloc: Global,
+    tongues: &[Tongue],
+    len: usize,
+    material: &Material,
+    random: &mut Random,
+) -> Result<Vec<(Tongue, Sample)>, Fault> {
+    let mut samples = Vec::new(alloc);
+    for tongue in tongues {
+        let sample = Sample::new(alloc, *tongue, len, material, random)?;
+        samples.push((*tongue, sample))?;
+    }
+    Ok(samples)
+}
+
 impl Sample {
     /// At least `len` bytes of lines. A character that the encoding lacks is a numeric reference.
     pub(crate) fn new(
