@@ -4,10 +4,8 @@ use Rattle.std.specs.Prelude.{◌==◌, nat_lt, if◌then◌else◌, Option, Som
 use Rattle.std.proofs.Common.{arith, ◌∙◌, refl, zero, suc, get_or, add_assoc, inl, inr, add-one}
 use Rattle.std.specs.List.{position}
 use Rattle.std.proofs.lemmas.List.Quantifiers.{position-Some}
-use Rattle.std.proofs.lemmas.List.Sums.{fails_before_first}
-use Rattle.std.proofs.lemmas.Bool.Decides.{nat_tests}
-use Rattle.std.specs.List.{position_or_len}
 use Rattle.std.proofs.lemmas.List.{length-take-le, length-drop}
+use Rattle.tus_request.proofs.Positions.{none_passes}
 use Rattle.tus_request.specs.Lines.{lines, is_empty_line, up_to_empty, head_lines, Extent, extent_of, head_extent}
 
 pub true_or_false : (v : Bool) → (v ≡ true) ⊎ (v ≡ false)
@@ -30,13 +28,7 @@ one_line (b ∷ bytes) (suc i) inside feed none =
 
 -- bytes with no LF have no whole line
 pub lines_none : (bytes : List ℕ) → position (λ b. b == 10) bytes ≡ None → lines bytes ≡ []
-lines_none bytes e =
-    let past : length bytes ≤ position_or_len (λ b. b == 10) bytes =
-    elim (true_or_false (nat_lt (position_or_len (λ b. b == 10) bytes) (length bytes))) [
-      | inl t ↦ let k = rw t at e in absurd (cc)
-      | inr f ↦ grind (arith, nat_tests)
-    ] in
-    no_line bytes (λ k h. fails_before_first (λ b. b == 10) bytes k 0 (omega arith))
+lines_none bytes e = no_line bytes (none_passes (λ b. b == 10) bytes e)
 
 -- the first LF ends the first line
 pub lines_some : (bytes : List ℕ) (i : ℕ) → position (λ b. b == 10) bytes ≡ Some i
