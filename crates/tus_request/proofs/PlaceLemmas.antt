@@ -1,6 +1,6 @@
 -- From the route that a path has to what it names.
 use Rattle.std.specs.Prelude.{◌≡◌, ℕ, ◌⊎◌, Bool, true, false, ◌==◌, ◌&&◌, nat_eq, List, [], ◌∷◌, ◌++◌, Some, None}
-use Rattle.std.proofs.Common.{arith, refl, inl, inr}
+use Rattle.std.proofs.Common.{arith, refl, inl, inr, get_or, sym, ◌∙◌, ◌<◌, codes}
 use Rattle.std.specs.List.{list_all}
 use Rattle.std.specs.Char.{is_ascii_digit}
 use Rattle.std.proofs.lemmas.Bool.{cases_Bool, and_right}
@@ -8,7 +8,11 @@ use Rattle.std.proofs.lemmas.Bool.Decides.{nat_tests}
 use Rattle.matchit.specs.Seek.{has_slash}
 use Rattle.tus_request.specs.Number.{upload_number, is_number}
 use Rattle.tus_request.specs.Places.{place_at}
-use Rattle.tus_request.proofs.RouteLemmas.{found}
+use Rattle.matchit.specs.Seek.{first}
+use Rattle.matchit.specs.Router.{RouteOf}
+use Rattle.tus_request.specs.RouteTable.{files_route, upload_route}
+use Rattle.tus_request.specs.declared.places.Kind.{Kind}
+use Rattle.tus_request.proofs.RouteLemmas.{found, both, first_both, plain_word}
 
 -- a text with a slash writes no number
 slash_no_digits : (text : List ℕ) → has_slash text ≡ true → list_all is_ascii_digit text ≡ false
@@ -51,7 +55,7 @@ module _ {K : Type 0} where
       ]
 
   -- a path that has a route is the word, or begins with it and a slash
-  pub found_parts : (word path : List ℕ) (f u r : K) → found word path f u ≡ Some r
+  found_parts : (word path : List ℕ) (f u r : K) → found word path f u ≡ Some r
       → ((path ≡ word) × (r ≡ f)) ⊎ ((part : List ℕ) × (path ≡ word ++ 47 ∷ part) × (r ≡ u))
   found_parts [] [] f u r h = inl (refl, cc)
   found_parts [] (b ∷ []) f u r h =
@@ -76,3 +80,11 @@ module _ {K : Type 0} where
             ]
         | inr e ↦ let k = rw e at h in absurd (cc)
       ]
+
+pub route_parts : (path : List ℕ) (r : RouteOf Kind) → get_or path 7 0 < 256
+    → first (both (codes "/files") files_route upload_route) path ≡ Some r
+    → ((path ≡ codes "/files") × (r ≡ files_route))
+    ⊎ ((part : List ℕ) × (path ≡ codes "/files/" ++ part) × (r ≡ upload_route))
+route_parts path r low e =
+    found_parts (codes "/files") path files_route upload_route r
+    (sym (first_both (codes "/files") path files_route upload_route plain_word low) ∙ e)
