@@ -37,36 +37,18 @@ with_world w a = record a { world = w }
 
 pub find_bares : (d : ℕ) (es : List Entry) → find d (bares es) ≡ option_map bare (find d es)
 find_bares d [] = refl
-find_bares d (e ∷ es) = by_test (find_bares d es) (e.0 == d)
-  where
-    by_test : find d (bares es) ≡ option_map bare (find d es) → (b : Bool)
-        → (if b then Some (bare e.1) else find d (bares es)) ≡ option_map bare (if b then Some e.1 else find d es)
-    by_test ih true = refl
-    by_test ih false = ih
+find_bares d (e ∷ es) = let ih = find_bares d es in grind (arith, nat_tests)
 
 pub bares_without : (d : ℕ) (es : List Entry) → bares (without d es) ≡ without d (bares es)
 bares_without d [] = refl
-bares_without d (e ∷ es) = by_test (bares_without d es) (e.0 == d)
-  where
-    by_test : bares (without d es) ≡ without d (bares es) → (b : Bool)
-        → bares (if b then es else e ∷ without d es) ≡ (if b then bares es else (e.0, bare e.1) ∷ without d (bares es))
-    by_test ih true = refl
-    by_test ih false = ap (λ xs. (e.0, bare e.1) ∷ xs) ih
+bares_without d (e ∷ es) = let ih = bares_without d es in grind (arith, nat_tests)
 
 pub bares_replaced : (d : ℕ) (p q : Patch) (es : List Entry) → find d es ≡ Some p → bare q ≡ bare p
     → bares (replaced d q es) ≡ bares es
 bares_replaced d p q [] there same = refl
-bares_replaced d p q (e ∷ es) there same = by_test (λ there. bares_replaced d p q es there same) (e.0 == d) refl
-  where
-    by_test : (find d es ≡ Some p → bares (replaced d q es) ≡ bares es) → (b : Bool) → (e.0 == d) ≡ b
-        → bares (if b then (d, q) ∷ es else e ∷ replaced d q es) ≡ (e.0, bare e.1) ∷ bares es
-    by_test ih true is =
-        let here : e.1 ≡ p = same_Some e.1 p (sym (ap (λ b. if b then Some e.1 else find d es) is) ∙ there) in
-        let number : d ≡ e.0 = grind (arith, nat_tests) in
-        ap (λ n. (n, bare q) ∷ bares es) number ∙ ap (λ x. (e.0, x) ∷ bares es) (same ∙ ap bare (sym here))
-    by_test ih false is =
-        let rest : find d es ≡ Some p = sym (ap (λ b. if b then Some e.1 else find d es) is) ∙ there in
-        ap (λ xs. (e.0, bare e.1) ∷ xs) (ih rest)
+bares_replaced d p q (e ∷ es) there same =
+    let ih : find d es ≡ Some p → bares (replaced d q es) ≡ bares es = λ h. bares_replaced d p q es h same in
+    grind (arith, nat_tests, ih)
 
 pub bares_twice : (es : List Entry) → bares (bares es) ≡ bares es
 bares_twice [] = refl
@@ -76,16 +58,10 @@ length_bares : (es : List Entry) → length (bares es) ≡ length es
 length_bares [] = refl
 length_bares (e ∷ es) = ap suc (length_bares es)
 
-there_bare : (o : Option Patch) → is_there (option_map bare o) ≡ is_there o
-there_bare None = refl
-there_bare (Some p) = refl
-
 least_bares : (left n : ℕ) (es : List Entry) → least_from left n (bares es) ≡ least_from left n es
 least_bares zero n es = refl
 least_bares (suc left) n es =
-    ap (λ b. if b then least_from left (n + 1) (bares es) else n)
-    (ap is_there (find_bares n es) ∙ there_bare (find n es))
-    ∙ ap (λ m. if is_there (find n es) then m else n) (least_bares left (n + 1) es)
+    let ih = least_bares left (n + 1) es in let f = find_bares n es in grind arith
 
 pub free_bares : (w : World) → free_number (bared w) ≡ free_number w
 free_bares w =
@@ -97,22 +73,6 @@ abbrev SameHead : World → (World → Acted) → Type 0
 SameHead w does = does (bared w) ≡ with_world (bared (does w).world) (does w)
 
 module _ (w : World) (r : Request) where
-  post_bare : (new : New) (o : Option UploadRefusal) → SameHead w (λ v. post v r new o)
-  post_bare new None = refl
-  post_bare new (Some f) = refl
-
-  delete_bare : (number : ℕ) (o : Option UploadRefusal) → SameHead w (λ v. delete v r number o)
-  delete_bare number None = refl
-  delete_bare number (Some f) = refl
-
-  head_bare : (o : Option Upload) → SameHead w (λ v. head v r o)
-  head_bare None = refl
-  head_bare (Some u) = refl
-
-  get_bare : (number : ℕ) (o : Option Upload) → SameHead w (λ v. get v r number o)
-  get_bare number None = refl
-  get_bare number (Some u) = refl
-
   begun_bare : (number count : ℕ) (declare : Option ℕ) (o : Option Upload)
       → begun_at (bared w) number count declare o ≡ bared (begun_at w number count declare o)
   begun_bare number count declare None = refl
@@ -132,11 +92,11 @@ module _ (w : World) (r : Request) where
 
   action_bare : (action : Action) → SameHead w (λ v. acted_on v r action)
   action_bare Options = refl
-  action_bare (Create c) = post_bare (new_of c) (create_refusal w (new_of c))
-  action_bare (Head n) = head_bare (upload_of w.store n)
-  action_bare (Get n) = get_bare n (upload_of w.store n)
+  action_bare (Create c) = grind arith
+  action_bare (Head n) = grind arith
+  action_bare (Get n) = grind arith
   action_bare (Patches n offset declare) = patch_bare n declare (begin_refusal w n offset r.length declare)
-  action_bare (Delete n) = delete_bare n (terminate_refusal w n)
+  action_bare (Delete n) = grind arith
 
 pub acted_bare : (w : World) (v : Verdict) → acted (bared w) v ≡ with_world (bared (acted w v).world) (acted w v)
 acted_bare w (Asks r) = action_bare w r r.action
@@ -176,11 +136,7 @@ same_refusal : (o : Option UploadRefusal) (stays fault short : Bool)
     → (or_else o (if stays then None else if fault then Some Unencodable else refuse_if short Full) ≡ Some Full → ⊥)
     → or_else o (if stays then None else if fault then Some Unencodable else refuse_if short Full)
     ≡ or_else o (if stays then None else if fault then Some Unencodable else refuse_if false Full)
-same_refusal (Some f) stays fault short roomy = refl
-same_refusal None true fault short roomy = refl
-same_refusal None false true short roomy = refl
-same_refusal None false false true roomy = absurd (roomy refl)
-same_refusal None false false false roomy = refl
+same_refusal o stays fault short roomy = grind arith
 
 pub commit_calm : (v u : World) (d : ℕ) (p : Patch) → u.store ≡ v.store → u.blocks ≡ None
     → (commit_refusal v d p ≡ Some Full → ⊥)
@@ -225,8 +181,7 @@ ended_calm v u d p store unlimited patches roomy =
     ∙ spent_calm v u d p (commit_refusal v d p) store patches
 
 reply_calm : (p : Patch) (r : Request) (o : Option UploadRefusal) → patched_reply (calm p) r o ≡ patched_reply p r o
-reply_calm p r None = refl
-reply_calm p r (Some f) = refl
+reply_calm p r o = grind arith
 
 -- the same commit, by the verdict of its head
 pub record SameCommit (a b : Acted) : Type 0 where

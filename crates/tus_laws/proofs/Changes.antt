@@ -1,6 +1,6 @@
 -- What an event makes of the uploads.
 use Rattle.std.proofs.Common.{◌≡◌, ◌-◌, ℕ, Bool, true, false, List, length, Option, Some, None, refl, sym, ◌∙◌, ap}
-use Rattle.std.proofs.Common.{subst}
+use Rattle.std.proofs.Common.{subst, arith}
 use Rattle.std.proofs.lemmas.Option.{none-some}
 use Rattle.upload_rules.specs.declared.errors.UploadRefusal.{UploadRefusal}
 use Rattle.upload_rules.specs.Store.{New, Upload, find, upload_of}
@@ -42,11 +42,6 @@ pub head_uploads : (w : World) (draft : Option ℕ) (o : Option Asked) (d : ℕ)
 head_uploads w draft None d e = (refl, refl)
 head_uploads w draft (Some r) d e = verdict_uploads w r.verdict d e
 
-begun_uploads : (w : World) (number count : ℕ) (declare : Option ℕ) (o : Option Upload)
-    → (begun_at w number count declare o).store ≡ w.store
-begun_uploads w number count declare None = refl
-begun_uploads w number count declare (Some u) = refl
-
 module _ (st : State) (e : Event) where
   -- what a request makes of the uploads at its head
   posted : (r : Request) (new : New) (o : Option UploadRefusal) → Changed st e (post st.world r new o).world.store
@@ -58,26 +53,12 @@ module _ (st : State) (e : Event) where
   deleted r number None none = Nothing refl
   deleted r number (Some u) there = Deleted number u there refl
 
-  shown : (r : Request) (o : Option Upload) → Changed st e (head st.world r o).world.store
-  shown r None = Nothing refl
-  shown r (Some u) = Nothing refl
-
-  got : (r : Request) (number : ℕ) (o : Option Upload) → Changed st e (get st.world r number o).world.store
-  got r number None = Nothing refl
-  got r number (Some u) = Nothing refl
-
-  patched : (r : Request) (number : ℕ) (declare : Option ℕ) (o : Option UploadRefusal)
-      → Changed st e (patch st.world r number declare o).world.store
-  patched r number declare None =
-      Nothing (begun_uploads st.world number r.length declare (upload_of st.world.store number))
-  patched r number declare (Some f) = Nothing refl
-
   by_action : (r : Request) (action : Action) → Changed st e (acted_on st.world r action).world.store
   by_action r Options = Nothing refl
   by_action r (Create c) = posted r (new_of c) (create_refusal st.world (new_of c))
-  by_action r (Head n) = shown r (upload_of st.world.store n)
-  by_action r (Get n) = got r n (upload_of st.world.store n)
-  by_action r (Patches n offset declare) = patched r n declare (begin_refusal st.world n offset r.length declare)
+  by_action r (Head n) = Nothing (grind arith)
+  by_action r (Get n) = Nothing (grind arith)
+  by_action r (Patches n offset declare) = Nothing (grind arith)
   by_action r (Delete n) = deleted r n (upload_of st.world.store n) refl
 
   by_verdict : (v : Verdict) → Changed st e (acted st.world v).world.store
@@ -116,21 +97,13 @@ done_uploads st e x = done_uploads_at st e x.conn x.world x.draft x.patch x.done
 
 -- BYTES THAT CAME
 
--- a call's turn, by whether its head leaves a text to be given
-abbrev turn_by : Conn → List ℕ → ℕ → Moments → Acted → Bool → Turn
-turn_by k piece n m a text =
-    elim text as (λ _. Turn) [
-      | true ↦ turn_of k piece (n - length m.came) a
-      | false ↦ turn_of k piece n (body_step a m.came m.body a.draft)
-    ]
-
 pub with_idle : (k : Conn) (piece : List ℕ) (n : ℕ) (m : Moments) (a : Acted) → a.pending ≡ None
     → came_with k piece n m a ≡ turn_of k piece n (body_step a m.came m.body a.draft)
-with_idle k piece n m a idle = ap (turn_by k piece n m a) (ap is_pending idle)
+with_idle k piece n m a idle = grind arith
 
 pub with_text : (k : Conn) (piece : List ℕ) (n : ℕ) (m : Moments) (a : Acted) (g : Giving) → a.pending ≡ Some g
     → came_with k piece n m a ≡ turn_of k piece (n - length m.came) a
-with_text k piece n m a g text = ap (turn_by k piece n m a) (ap is_pending text)
+with_text k piece n m a g text = grind arith
 
 came_world : (w : World) (k : Conn) (piece : List ℕ) → k.pending ≡ None
     → (came_turn w k piece).world
@@ -234,17 +207,9 @@ came_changed st c piece k here (Some g) text = Nothing (ap (λ x. x.store) (came
 
 -- THE OTHER EVENTS
 
-give_case : (w : World) (k : Conn) (g : Giving) (o : Option Upload) → (give_on w k g o).world ≡ w
-give_case w k g None = refl
-give_case w k g (Some u) = refl
-
-more_case : (w : World) (k : Conn) (o : Option Giving) → (more_on w k o).world ≡ w
-more_case w k None = refl
-more_case w k (Some g) = give_case w k g (upload_of w.store g.number)
-
 more_world : (w : World) (k : Conn) → (more_turn w k).world ≡ w
 unfolding more_turn
-more_world w k = more_case w k k.pending
+more_world w k = grind arith
 
 pub ended_spent : (w : World) (k : Conn) (d : ℕ) (p : Patch) → k.draft ≡ Some d → find d w.patches ≡ Some p
     → ended_world w k ≡ spent w d p (commit_refusal w d p)

@@ -15,6 +15,7 @@ use Rattle.tus_laws.specs.Patches.{Changed, Nothing, Made, Declared, Put, Declar
 use Rattle.tus_laws.specs.Patches.{declared_store, appended_store}
 use Rattle.tus_session.proofs.Growth.{patched_nothing, patched_twice}
 use Rattle.tus_session.proofs.Unmade.{memory_same, fault_same}
+use Rattle.tus_laws.proofs.Bodies.{none_if}
 use Rattle.tus_laws.proofs.Commits.{put_is, declared_is, both_is, fitting_at}
 use Rattle.tus_laws.proofs.Changes.{done_uploads, served_changed}
 
@@ -232,19 +233,12 @@ later_same start past later above n u v there there' count =
     )
 
 -- an upload that is gone stays away
-gone_case : (start : State) (past later : List Marked) (n : ℕ) → n < (store_at start past).next
-    → upload_of (store_at start past) n ≡ None → (o : Option Upload)
-    → upload_of (store_at start (later ++ past)) n ≡ o → o ≡ None
-gone_case start past later n lt none None is = refl
-gone_case start past later n lt none (Some v) is =
-    let was = (later_keeps start past later).uploads n v lt is in
-    absurd (none-some was.upload (sym none ∙ was.there))
-
 pub later_gone : (start : State) (past between later : List Marked) → IsAbove start.world.store → (n : ℕ) (u : Upload)
     → upload_of (store_at start past) n ≡ Some u → upload_of (store_at start (between ++ past)) n ≡ None
     → upload_of (store_at start (later ++ (between ++ past))) n ≡ None
 later_gone start past between later above n u there none =
     let lt = always_above start past above n u there in
     let le = next_grows start past between in
-    gone_case start (between ++ past) later n (omega (arith, lt, le)) none
-    (upload_of (store_at start (later ++ (between ++ past))) n) refl
+    none_if _ (λ v is.
+        let was = (later_keeps start (between ++ past) later).uploads n v (omega (arith, lt, le)) is in
+        none-some was.upload (sym none ∙ was.there))

@@ -1,7 +1,7 @@
 -- A history gives what the replay of its moments gives.
 use Rattle.std.proofs.Common.{◌≡◌, ◌-◌, inl, ℕ, Bool, true, false, List, [], ◌∷◌, ◌++◌, length, take, drop}
 use Rattle.std.proofs.Common.{if◌then◌else◌, nat_lt, Option, Some, None, refl, sym, ◌∙◌, ap, subst, append-nil}
-use Rattle.std.proofs.Common.{append_assoc}
+use Rattle.std.proofs.Common.{append_assoc, arith}
 use Rattle.std.proofs.lemmas.Option.{none-some, same_Some}
 use Rattle.std.proofs.lemmas.List.{take-append-drop}
 use Rattle.upload_rules.specs.Store.{Upload, Store, find, upload_of}
@@ -31,38 +31,15 @@ use Rattle.tus_laws.specs.Cuts.{head_moment, body_moment, came_moments, cut_mome
 use Rattle.tus_laws.specs.Cuts.{all_moments, bytes_of, given, text_left, still_to_give, KeepsText, AllSmooth}
 use Rattle.tus_laws.proofs.Changes.{served_changed, with_idle, with_text, done_came, ended_spent}
 use Rattle.tus_laws.proofs.Bare.{bared, fed_there, ended_calm}
-use Rattle.tus_laws.proofs.Bodies.{Holds, DraftHolds, Brings, BringsAll, brings_all}
+use Rattle.tus_laws.proofs.Bodies.{none_if, Holds, DraftHolds, Brings, BringsAll, brings_all}
 use Rattle.tus_laws.proofs.Turning.{Opens, head_opens, body_opens, commit_idle, spent_else, Rep, replay, replay_both}
 use Rattle.tus_laws.proofs.Turning.{act_cut, here_set, else_set, Did, did_head, part_did, whole_did, found_u, store_u}
 use Rattle.tus_laws.proofs.Turning.{blocks_u, patches_u}
 use Rattle.tus_laws.proofs.Replays.{Valid, Sim, Keeps, Replays, valid_put, sim_put, sim_same, more_given, came_after}
 
 -- THE INDEXES stay
-appended_indexes : (m : Store) (n : ℕ) (bytes : List ℕ) (o : Option Upload)
-    → (appended_at m n bytes o).indexes ≡ m.indexes
-appended_indexes m n bytes None = refl
-appended_indexes m n bytes (Some u) = refl
-
-declared_indexes : (m : Store) (n total : ℕ) (o : Option Upload) → (declared_at m n total o).indexes ≡ m.indexes
-declared_indexes m n total None = refl
-declared_indexes m n total (Some u) = refl
-
 changed_indexes : (st : State) (e : Event) (after : Store) → Changed st e after → after.indexes ≡ st.world.store.indexes
-changed_indexes st e after (Nothing is) = ap (λ m. m.indexes) is
-changed_indexes st e after (Made new is) = ap (λ m. m.indexes) is
-changed_indexes st e after (Put x body accepted is) =
-    ap (λ m. m.indexes) is
-    ∙ appended_indexes st.world.store x.patch.number x.patch.body (upload_of st.world.store x.patch.number)
-changed_indexes st e after (Declared x total declares accepted is) =
-    ap (λ m. m.indexes) is
-    ∙ declared_indexes st.world.store x.patch.number total (upload_of st.world.store x.patch.number)
-changed_indexes st e after (DeclaredAndPut x total declares body accepted is) =
-    let m = st.world.store in
-    let n = x.patch.number in
-    let v = declared_store m n total in
-    ap (λ m. m.indexes) is
-    ∙ (appended_indexes v n x.patch.body (upload_of v n) ∙ declared_indexes m n total (upload_of m n))
-changed_indexes st e after (Deleted n u there is) = ap (λ m. m.indexes) is
+changed_indexes st e after changed = grind arith
 
 same_indexes : (st : State) (e : Event) → (step st e Served).state.world.store.indexes ≡ st.world.store.indexes
 same_indexes st e = changed_indexes st e (step st e Served).state.world.store (served_changed st e)
@@ -130,12 +107,8 @@ module _ (st : State) (valid : Valid st) (g : ℕ → List ℕ) (r : Rep) (sim :
         still_after (Some k) [] (ap draft_at (sym here)) (λ j is. valid.holds c j (here ∙ is))
         (λ j is. valid.idle c j (here ∙ is)) (ap still_to_give here)
 
-    text_no_draft_at : (h : Giving) → k.pending ≡ Some h → (o : Option ℕ) → k.draft ≡ o → k.draft ≡ None
-    text_no_draft_at h text None is = is
-    text_no_draft_at h text (Some d) is = absurd (none-some h (sym (valid.idle c k here d is) ∙ text))
-
     text_no_draft : (h : Giving) → k.pending ≡ Some h → k.draft ≡ None
-    text_no_draft h text = text_no_draft_at h text k.draft refl
+    text_no_draft h text = none_if k.draft (λ d is. none-some h (sym (valid.idle c k here d is) ∙ text))
 
     -- MORE of a text
     given_conn : (number : ℕ) (closes : Bool) (left bytes : List ℕ) → k.draft ≡ None
@@ -372,14 +345,10 @@ module _ (st : State) (valid : Valid st) (g : ℕ → List ℕ) (r : Rep) (sim :
           (λ d is. absurd (none-some d (sym none ∙ is)))
       by_draft no_text (Some d) is = by_moment no_text d is m.body refl
 
-      text_draft : (h : Giving) → a.pending ≡ Some h → (o : Option ℕ) → a.draft ≡ o → a.draft ≡ None
-      text_draft h e None is = is
-      text_draft h e (Some d) is = absurd (none-some h (sym (first_opens.idle d is) ∙ e))
-
       by_text : (o : Option Giving) → a.pending ≡ o → Goal
       by_text None e = by_draft e a.draft refl
       by_text (Some h) e =
-          let none = text_draft h e a.draft refl in
+          let none = none_if a.draft (λ d is. none-some h (sym (first_opens.idle d is) ∙ e)) in
           conclude (n - length m.came) a None m.body (turn_text h e) none refl first_opens first_did
           (λ d is. absurd (none-some d (sym none ∙ is)))
 

@@ -142,8 +142,7 @@ sim_put st g r r' w' c o' bytes sim x = record {
 }
 
 nothing_if : (xs : List ℕ) (b : Bool) → (if b then xs else xs) ≡ xs
-nothing_if xs true = refl
-nothing_if xs false = refl
+nothing_if xs b = grind arith
 
 pub sim_same : (st : State) (g : ℕ → List ℕ) (r : Rep) (c : ℕ) → Sim st g r → Sim st (more_given g c []) r
 sim_same st g r c sim = record {
@@ -158,20 +157,17 @@ sim_same st g r c sim = record {
 -- a connection after what was done
 draft_of : (s : List ℕ) (w : World) (own : Option ℕ) (z : Acted) → Opens w own z → (b : Bool) → z.closes ≡ b
     → draft_at (if b then None else Some (record { stream = s; draft = z.draft; pending = z.pending })) ≡ z.draft
-draft_of s w own z opens true e = sym (opens.closed e).0
-draft_of s w own z opens false e = refl
+draft_of s w own z opens b e = let h = opens.closed in grind arith
 
 text_of : (s : List ℕ) (w : World) (own : Option ℕ) (z : Acted) → Opens w own z → (b : Bool) → z.closes ≡ b
     → still_to_give (if b then None else Some (record { stream = s; draft = z.draft; pending = z.pending }))
     ≡ text_left z.pending
-text_of s w own z opens true e = ap text_left (sym (opens.closed e).1)
-text_of s w own z opens false e = refl
+text_of s w own z opens b e = let h = opens.closed in grind arith
 
 conn_left : (s : List ℕ) (z : Acted) (k : Conn) (b : Bool)
     → (if b then None else Some (record { stream = s; draft = z.draft; pending = z.pending })) ≡ Some k
     → record { stream = s; draft = z.draft; pending = z.pending } ≡ k
-conn_left s z k true e = absurd (none-some k e)
-conn_left s z k false e = same_Some (record { stream = s; draft = z.draft; pending = z.pending }) k e
+conn_left s z k b e = grind arith
 
 abbrev conn_as : List ℕ → Acted → Conn
 conn_as s z = record { stream = s; draft = z.draft; pending = z.pending }

@@ -61,33 +61,20 @@ verdict_open w (Refuses x) = record {
   others = λ e p there ne. there;
 }
 
-fed_other : (w : World) (d e : ℕ) (piece : List ℕ) (o : Option Patch) → (d ≡ e → ⊥)
-    → find e (appended_at w d piece o).patches ≡ find e w.patches
-fed_other w d e piece None ne = refl
-fed_other w d e piece (Some p) ne = find_replaced_other d e (longer w d p piece) w.patches ne
-
 pub fed_else : (w : World) (d e : ℕ) (piece : List ℕ) → (d ≡ e → ⊥) → find e (fed w d piece).patches ≡ find e w.patches
-fed_else w d e [] ne = refl
-fed_else w d e (b ∷ piece) ne = fed_other w d e (b ∷ piece) (find d w.patches) ne
+fed_else w d e piece ne = grind (arith, find_replaced_other)
 
 pub spent_else : (w : World) (d e : ℕ) (p : Patch) (o : Option UploadRefusal) → (d ≡ e → ⊥)
     → find e (spent w d p o).patches ≡ find e w.patches
-spent_else w d e p None ne = find_without_other d e w.patches ne
-spent_else w d e p (Some f) ne = find_without_other d e w.patches ne
+spent_else w d e p o ne = grind (arith, find_without_other)
 
 commit_else : (w : World) (d e : ℕ) (v : Verdict) (o : Option Patch) → (d ≡ e → ⊥)
     → find e (commit_with w d v o).world.patches ≡ find e w.patches
-commit_else w d e (Asks r) (Some p) ne = spent_else w d e p (commit_refusal w d p) ne
-commit_else w d e (Asks r) None ne = refl
-commit_else w d e (Refuses x) (Some p) ne = refl
-commit_else w d e (Refuses x) None ne = refl
+commit_else w d e v o ne = grind (arith, spent_else)
 
 pub commit_idle : (w : World) (d : ℕ) (v : Verdict) (o : Option Patch)
     → ((commit_with w d v o).draft ≡ None) × ((commit_with w d v o).pending ≡ None)
-commit_idle w d (Asks r) (Some p) = (refl, refl)
-commit_idle w d (Asks r) None = (refl, refl)
-commit_idle w d (Refuses x) (Some p) = (refl, refl)
-commit_idle w d (Refuses x) None = (refl, refl)
+commit_idle w d v o = grind arith
 
 -- a patch that is open is as old as the connection's, or new
 module _ (w : World) (own : Option ℕ) (a : Acted) (opens : Opens w own a) where
@@ -214,13 +201,8 @@ did_head w own r c (Some x) world draft =
           (r.given c ++ ((acted r.world x.verdict).bytes ++ text_left (acted r.world x.verdict).pending)) r.given ne;
     }
 
-fed_blocks_at : (w : World) (d : ℕ) (piece : List ℕ) (o : Option Patch) → (appended_at w d piece o).blocks ≡ w.blocks
-fed_blocks_at w d piece None = refl
-fed_blocks_at w d piece (Some p) = refl
-
 fed_blocks : (w : World) (d : ℕ) (piece : List ℕ) → (fed w d piece).blocks ≡ w.blocks
-fed_blocks w d [] = refl
-fed_blocks w d (b ∷ piece) = fed_blocks_at w d (b ∷ piece) (find d w.patches)
+fed_blocks w d piece = grind arith
 
 calm_fed : (w : World) (d : ℕ) (p : Patch) (piece : List ℕ)
     → record (fed_patch w d p piece) { short = false } ≡ record p { body = p.body ++ piece; short = false }
