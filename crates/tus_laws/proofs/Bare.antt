@@ -69,63 +69,25 @@ free_bares w =
 
 -- A HEAD on a bare world
 
-abbrev SameHead : World → (World → Acted) → Type 0
-SameHead w does = does (bared w) ≡ with_world (bared (does w).world) (does w)
-
-module _ (w : World) (r : Request) where
-  begun_bare : (number count : ℕ) (declare : Option ℕ) (o : Option Upload)
-      → begun_at (bared w) number count declare o ≡ bared (begun_at w number count declare o)
-  begun_bare number count declare None = refl
-  begun_bare number count declare (Some u) =
-      let p = first_patch number count declare u in
-      ap (λ d. record { store = w.store; patches = (d, p) ∷ bares w.patches; blocks = None }) (free_bares w)
-
-  patch_bare : (number : ℕ) (declare : Option ℕ) (o : Option UploadRefusal)
-      → SameHead w (λ v. patch v r number declare o)
-  patch_bare number declare None =
-      let a = patch w r number declare None in
-      let opened : World → ℕ → Acted =
-      λ v d. record { world = v; draft = Some d; bytes = a.bytes; text = []; pending = None; closes = false } in
-      ap (λ v. opened v (free_number (bared w))) (begun_bare number r.length declare (upload_of w.store number))
-      ∙ ap (opened (bared a.world)) (free_bares w)
-  patch_bare number declare (Some f) = refl
-
-  action_bare : (action : Action) → SameHead w (λ v. acted_on v r action)
-  action_bare Options = refl
-  action_bare (Create c) = grind arith
-  action_bare (Head n) = grind arith
-  action_bare (Get n) = grind arith
-  action_bare (Patches n offset declare) = patch_bare n declare (begin_refusal w n offset r.length declare)
-  action_bare (Delete n) = grind arith
-
 pub acted_bare : (w : World) (v : Verdict) → acted (bared w) v ≡ with_world (bared (acted w v).world) (acted w v)
-acted_bare w (Asks r) = action_bare w r r.action
-acted_bare w (Refuses x) = refl
+acted_bare w v = grind (arith, free_bares w)
 
 -- A BODY
 
 -- the patch with the bytes that came is there
 pub fed_there : (w : World) (d : ℕ) (p : Patch) (piece : List ℕ) → find d w.patches ≡ Some p
     → find d (fed w d piece).patches ≡ Some (fed_patch w d p piece)
-fed_there w d p [] there = there
-fed_there w d p (b ∷ piece) there =
-    ap (λ o. find d (appended_at w d (b ∷ piece) o).patches) there
-    ∙ find_replaced_same d p (longer w d p (b ∷ piece)) w.patches there
+fed_there w d p piece there = grind (arith, find_replaced_same)
 
 pub fed_bare : (w : World) (d : ℕ) (p : Patch) (piece : List ℕ) → find d w.patches ≡ Some p
     → bared (fed w d piece) ≡ bared w
-fed_bare w d p [] there = refl
-fed_bare w d p (b ∷ piece) there =
-    ap (λ o. bared (appended_at w d (b ∷ piece) o)) there
-    ∙ ap (λ es. record { store = w.store; patches = es; blocks = None })
-    (bares_replaced d p (longer w d p (b ∷ piece)) w.patches there refl)
+fed_bare w d p piece there = grind (arith, bares_replaced)
 
 -- on a bare world it is never short
 pub fed_calm : (w : World) (d : ℕ) (p : Patch) (body : List ℕ)
     → fed_patch (bared w) d (bare p) body ≡ record p { body = body; short = false }
 unfolding is_short
-fed_calm w d p [] = refl
-fed_calm w d p (b ∷ body) = refl
+fed_calm w d p body = grind arith
 
 -- A COMMIT that isn't refused for room, on a world that has no limit
 
@@ -160,18 +122,10 @@ commit_calm v u d p store unlimited roomy =
 spent_calm : (v u : World) (d : ℕ) (p : Patch) (o : Option UploadRefusal) → u.store ≡ v.store
     → bares u.patches ≡ bares v.patches
     → bared (spent u d (calm p) o) ≡ bared (spent v d p o)
-spent_calm v u d p o store patches = by_refusal o
-  where
-    rest : bares (without d u.patches) ≡ bares (without d v.patches)
-    rest = bares_without d u.patches ∙ ap (without d) patches ∙ sym (bares_without d v.patches)
-
-    by_refusal : (o : Option UploadRefusal) → bared (spent u d (calm p) o) ≡ bared (spent v d p o)
-    by_refusal None =
-        ap (λ es. record { store = committed_store u.store p; patches = es; blocks = None }) rest
-        ∙ ap (λ m. record { store = committed_store m p; patches = bares (without d v.patches); blocks = None }) store
-    by_refusal (Some f) =
-        ap (λ es. record { store = u.store; patches = es; blocks = None }) rest
-        ∙ ap (λ m. record { store = m; patches = bares (without d v.patches); blocks = None }) store
+spent_calm v u d p o store patches =
+    let rest : bares (without d u.patches) ≡ bares (without d v.patches) =
+    bares_without d u.patches ∙ ap (without d) patches ∙ sym (bares_without d v.patches) in
+    grind arith
 
 pub ended_calm : (v u : World) (d : ℕ) (p : Patch) → u.store ≡ v.store → u.blocks ≡ None
     → bares u.patches ≡ bares v.patches → (commit_refusal v d p ≡ Some Full → ⊥)
@@ -201,9 +155,7 @@ done_calm v u d p (Asks r) store unlimited patches roomy = record {
       ∙ reply_calm p r (commit_refusal v d p);
 }
 done_calm v u d p (Refuses x) store unlimited patches roomy = record {
-  world =
-      ap (λ es. record { store = u.store; patches = es; blocks = None }) patches
-      ∙ ap (λ m. record { store = m; patches = bares v.patches; blocks = None }) store;
+  world = grind arith;
   draft = refl;
   bytes = refl;
 }

@@ -28,9 +28,7 @@ use Rattle.tus_laws.proofs.Commits.{committed_changed}
 -- a head that opens a patch leaves the uploads
 leaves_uploads : (w : World) (r : Request) (a : Acted) (d : ℕ) → Leaves w r a → a.draft ≡ Some d
     → (a.world.store ≡ w.store) × (a.pending ≡ None)
-leaves_uploads w r a d (Idle moves none idle) e = absurd (none-some d (sym none ∙ e))
-leaves_uploads w r a d (Text h same none some stays) e = absurd (none-some d (sym none ∙ e))
-leaves_uploads w r a d (Patching y) e = (ap (λ x. x.store) y.world_is, y.idle)
+leaves_uploads w r a d left e = grind arith
 
 verdict_uploads : (w : World) (v : Verdict) (d : ℕ) → (acted w v).draft ≡ Some d
     → ((acted w v).world.store ≡ w.store) × ((acted w v).pending ≡ None)
@@ -84,16 +82,13 @@ module _ (st : State) (e : Event) where
       subst (Changed st e) (ap (λ m. committed_store m x.patch) (sym same)) (committed_changed st e x same is)
   spent_changed x same (Some f) is = Nothing same
 
-pub done_uploads_at : (st : State) (e : Event) (k : Conn) (v : World) (d : ℕ) (p : Patch) → IsDoneOn st e k v d p
-    → v.store ≡ st.world.store
-done_uploads_at st (Opened c) k v d p done = absurd done
-done_uploads_at st (Came c piece) k v d p done = done_uploads_came st (Came c piece) c piece k v d p done.1
-done_uploads_at st (More c) k v d p done = absurd done
-done_uploads_at st (Ended c) k v d p done = ap (λ y. y.store) done.1.world
-
 -- the uploads are those from before the event
 pub done_uploads : (st : State) (e : Event) (x : DonePatch st e) → x.world.store ≡ st.world.store
-done_uploads st e x = done_uploads_at st e x.conn x.world x.draft x.patch x.done
+done_uploads st (Opened c) x = absurd x.done
+done_uploads st (Came c piece) x =
+    done_uploads_came st (Came c piece) c piece x.conn x.world x.draft x.patch x.done.1
+done_uploads st (More c) x = absurd x.done
+done_uploads st (Ended c) x = ap (λ y. y.store) x.done.1.world
 
 -- BYTES THAT CAME
 
@@ -257,22 +252,16 @@ served_changed st (More c) = more_at_changed st c (st.conns c)
 served_changed st (Ended c) = ended_at_changed st c (st.conns c) refl
 
 -- the world after a patch that is done
-done_world_at : (st : State) (e : Event) (k : Conn) (v : World) (d : ℕ) (p : Patch) → IsDoneOn st e k v d p
-    → (step st e Served).state.world ≡ spent v d p (commit_refusal v d p)
-unfolding step
-done_world_at st (Opened c) k v d p done = absurd done
-done_world_at st (Came c piece) k v d p done =
-    ap (λ o. (came_at st c piece o).state.world) done.0 ∙ came_spent st.world k piece v d p done.1
-done_world_at st (More c) k v d p done = absurd done
-done_world_at st (Ended c) k v d p done =
-    let x = done.1 in
-    let found : find d st.world.patches ≡ Some p = subst (λ y. find d y.patches ≡ Some p) x.world x.found in
-    ap (λ o. (ended_at st c o).state.world) done.0 ∙ ended_spent st.world k d p x.draft_open found
-    ∙ ap (λ y. spent y d p (commit_refusal y d p)) (sym x.world)
-
 pub done_world : (st : State) (e : Event) (x : DonePatch st e)
     → (step st e Served).state.world ≡ spent x.world x.draft x.patch (commit_refusal x.world x.draft x.patch)
-done_world st e x = done_world_at st e x.conn x.world x.draft x.patch x.done
+unfolding step
+done_world st (Opened c) x = absurd x.done
+done_world st (Came c piece) x =
+    rw x.done.0 (came_spent st.world x.conn piece x.world x.draft x.patch x.done.1)
+done_world st (More c) x = absurd x.done
+done_world st (Ended c) x =
+    let cut = x.done.1 in
+    rw (x.done.0, cut.world) (ended_spent st.world x.conn x.draft x.patch cut.draft_open (rw cut.world at cut.found))
 
 -- one that is refused makes nothing
 pub refused_same : (st : State) (e : Event) (x : DonePatch st e) (why : UploadRefusal) → IsRefused x why

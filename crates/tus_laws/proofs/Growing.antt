@@ -51,9 +51,6 @@ same_there m n v there = record {
 itself_keeps : (m : Store) → Keeps m m
 itself_keeps m = record { next = omega arith; above = λ h. h; uploads = λ n v lt there. same_there m n v there }
 
-same_keeps : (m m' : Store) → m' ≡ m → Keeps m m'
-same_keeps m m' same = subst (Keeps m) (sym same) (itself_keeps m)
-
 keeps_both : (a b c : Store) → Keeps a b → Keeps b c → Keeps a c
 keeps_both a b c first second =
     let le : a.next ≤ b.next = first.next in
@@ -76,13 +73,8 @@ keeps_both a b c first second =
 
 found_made : (n m : ℕ) (u new : Upload) (uploads : List (ℕ × Upload)) → find n (uploads ++ (m, new) ∷ []) ≡ Some u
     → (find n uploads ≡ Some u) ⊎ (m ≡ n)
-found_made n m u new [] found = elim (cases_eq m n) [ inl is ↦ inr is | inr ne ↦ inl (grind (arith, nat_tests)) ]
-found_made n m u new (x ∷ xs) found = elim (cases_eq x.0 n) [
-  | inl is ↦ inl (grind (arith, nat_tests))
-  | inr ne ↦
-      let rest : find n (xs ++ (m, new) ∷ []) ≡ Some u = grind (arith, nat_tests) in
-      elim (found_made n m u new xs rest) [ inl old ↦ inl (grind (arith, nat_tests)) | inr is ↦ inr is ]
-]
+found_made n m u new [] found = grind (arith, nat_tests)
+found_made n m u new (x ∷ xs) found = let ih = found_made n m u new xs in grind (arith, nat_tests, ih)
 
 made_keeps : (m : Store) (new : New) → Keeps m (created_store m new)
 made_keeps m new = record {
@@ -145,47 +137,32 @@ deleted_keeps m gone = record {
   uploads = λ n v lt found. same_there m n v (found_deleted m gone n v found);
 }
 
-keeps_along : (m after after' : Store) → after ≡ after' → Keeps m after' → Keeps m after
-keeps_along m after after' e keeps = subst (Keeps m) (sym e) keeps
-
 put_keeps : (m after : Store) (number : ℕ) (declare : Option ℕ) (body : List ℕ)
     → patched_store m number declare body ≡ after → Keeps m after
 put_keeps m after number declare body is =
     subst (Keeps m) is (put_keeps_at m number declare body (upload_of m number) refl)
 
 changed_keeps : (st : State) (e : Event) (after : Store) → Changed st e after → Keeps st.world.store after
-changed_keeps st e after (Nothing is) = same_keeps st.world.store after is
-changed_keeps st e after (Made new is) =
-    let m = st.world.store in keeps_along m after (created_store m new) is (made_keeps m new)
+changed_keeps st e after (Nothing is) = rw is (itself_keeps st.world.store)
+changed_keeps st e after (Made new is) = rw is (made_keeps st.world.store new)
 changed_keeps st e after (Declared x total d accepted is) =
-    let m = st.world.store in
-    let n = x.patch.number in
-    keeps_along m after (declared_store m n total) is
-    (put_keeps m (declared_store m n total) n (Some total) []
-    (declared_is m n d.upload d.there total d.unknown))
+    rw is (put_keeps st.world.store _ x.patch.number (Some total) []
+    (declared_is st.world.store x.patch.number d.upload d.there total d.unknown))
 changed_keeps st e after (Put x body accepted is) =
-    let m = st.world.store in
-    let p = x.patch in
     let fit = fitting_at st e x (done_uploads st e x) accepted in
     let stays : known_or fit.up.declared None ≡ fit.up.declared =
     ap (λ u. u.declared) (sym (patched_nothing fit.up)) in
-    keeps_along m after (appended_store m p.number p.body) is
-    (put_keeps m (appended_store m p.number p.body) p.number None p.body
-    (put_is m p.number fit.up fit.there None p.body stays))
+    rw is (put_keeps st.world.store _ x.patch.number None x.patch.body
+    (put_is st.world.store x.patch.number fit.up fit.there None x.patch.body stays))
 changed_keeps st e after (DeclaredAndPut x total d body accepted is) =
-    let m = st.world.store in
-    let p = x.patch in
-    let both = appended_store (declared_store m p.number total) p.number p.body in
-    keeps_along m after both is
-    (put_keeps m both p.number (Some total) p.body (both_is m p.number d.upload d.there total d.unknown p.body))
-changed_keeps st e after (Deleted n u there is) =
-    let m = st.world.store in keeps_along m after (deleted_store m n) is (deleted_keeps m n)
+    rw is (put_keeps st.world.store _ x.patch.number (Some total) x.patch.body
+    (both_is st.world.store x.patch.number d.upload d.there total d.unknown x.patch.body))
+changed_keeps st e after (Deleted n u there is) = rw is (deleted_keeps st.world.store n)
 
 event_keeps : (st : State) (e : Event) (mark : Mark) → Keeps st.world.store (step st e mark).state.world.store
 event_keeps st e Served = changed_keeps st e (step st e Served).state.world.store (served_changed st e)
-event_keeps st e OutOfMemory =
-    same_keeps st.world.store (step st e OutOfMemory).state.world.store (memory_same st e)
-event_keeps st e Failed = same_keeps st.world.store (step st e Failed).state.world.store (fault_same st e)
+event_keeps st e OutOfMemory = rw (memory_same st e) (itself_keeps st.world.store)
+event_keeps st e Failed = rw (fault_same st e) (itself_keeps st.world.store)
 
 -- ALONG A HISTORY
 

@@ -190,15 +190,10 @@ did_head w own r c (Some x) world draft =
     ap (λ v. acted v x.verdict) world ∙ acted_bare w x.verdict in
     record {
       world = ap (λ a. bared a.world) same ∙ bared_twice (acted w x.verdict).world;
-      draft = here_set c (acted r.world x.verdict).draft r.drafts ∙ ap (λ a. a.draft) same;
-      bytes =
-          here_set c
-          (r.given c ++ ((acted r.world x.verdict).bytes ++ text_left (acted r.world x.verdict).pending)) r.given
-          ∙ ap (λ a. r.given c ++ (a.bytes ++ text_left a.pending)) same;
-      drafts = λ e ne. else_set c e (acted r.world x.verdict).draft r.drafts ne;
-      given =
-          λ e ne. else_set c e
-          (r.given c ++ ((acted r.world x.verdict).bytes ++ text_left (acted r.world x.verdict).pending)) r.given ne;
+      draft = grind (arith, nat_tests, same);
+      bytes = grind (arith, nat_tests, same);
+      drafts = λ e ne. grind (arith, nat_tests);
+      given = λ e ne. grind (arith, nat_tests);
     }
 
 fed_blocks : (w : World) (d : ℕ) (piece : List ℕ) → (fed w d piece).blocks ≡ w.blocks
@@ -295,6 +290,6 @@ module _ (w : World) (r r1 : Rep) (c : ℕ) (a : Acted) (first : Did r r1 c a) w
             ∙ (ap (λ y. r.given c ++ y) (sym (append_assoc a.bytes b.bytes []))
             ∙ ap (λ g. r.given c ++ ((a.bytes ++ b.bytes) ++ text_left g)) (sym done.1)))))));
         drafts = λ e ne. else_set c e z.draft r1.drafts ne ∙ first.drafts e ne;
-        given = λ e ne. else_set c e (r1.given c ++ (z.bytes ++ text_left z.pending)) r1.given ne ∙ first.given e ne;
+        given = λ e ne. let old = first.given e ne in grind (arith, nat_tests);
       } in
       subst (λ o. Did r (act_body r1 c x o) c (body_step a piece (Some x) (Some d))) (sym (first.draft ∙ is)) now
