@@ -123,12 +123,7 @@ put_keeps_at m number declare body (Some u) there = record {
 
 found_deleted : (m : Store) (gone n : ℕ) (v : Upload) → upload_of (deleted_store m gone) n ≡ Some v
     → upload_of m n ≡ Some v
-found_deleted m gone n v found = elim (cases_eq gone n) [
-  | inl is ↦
-      let here = ap (upload_of (deleted_store m gone)) is ∙ found in
-      absurd (none-some v (sym (none_in_others gone m.uploads) ∙ here))
-  | inr ne ↦ sym (find_in_others gone n m.uploads ne) ∙ found
-]
+found_deleted m gone n v found = grind (arith, none_in_others, find_in_others)
 
 deleted_keeps : (m : Store) (gone : ℕ) → Keeps m (deleted_store m gone)
 deleted_keeps m gone = record {

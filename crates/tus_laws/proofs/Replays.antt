@@ -77,23 +77,7 @@ module _ (st : State) (valid : Valid st) (w' : World) (c : ℕ) (o' : Option Con
         | inl same ↦ keeps.idle k (sym (conns_here st.conns c o') ∙ (ap conns (sym same) ∙ is))
         | inr ne ↦ valid.idle e k (sym (conns_else st.conns c e o' ne) ∙ is)
       ];
-      apart = λ a b d f h. elim (cases_eq a c) [
-        | inl is ↦ elim (cases_eq b c) [
-          | inl is' ↦ is ∙ sym is'
-          | inr ne' ↦
-              let x : draft_at o' ≡ Some d =
-              ap draft_at (sym (conns_here st.conns c o')) ∙ (ap (λ i. draft_at (conns i)) (sym is) ∙ f) in
-              absurd (not_both b d ne' x (ap draft_at (sym (conns_else st.conns c b o' ne')) ∙ h))
-        ]
-        | inr ne ↦ elim (cases_eq b c) [
-          | inl is' ↦
-              let x : draft_at o' ≡ Some d =
-              ap draft_at (sym (conns_here st.conns c o')) ∙ (ap (λ i. draft_at (conns i)) (sym is') ∙ h) in
-              absurd (not_both a d ne x (ap draft_at (sym (conns_else st.conns c a o' ne)) ∙ f))
-          | inr ne' ↦ valid.apart a b d (ap draft_at (sym (conns_else st.conns c a o' ne)) ∙ f)
-              (ap draft_at (sym (conns_else st.conns c b o' ne')) ∙ h)
-        ]
-      ];
+      apart = λ a b d f h. grind (arith, nat_tests, valid.apart, not_both);
     }
 
 -- what the replay makes of a turn
@@ -122,36 +106,15 @@ pub sim_put : (st : State) (g : ℕ → List ℕ) (r r' : Rep) (w' : World) (c :
     → Sim (put st w' c o') (more_given g c bytes) r'
 sim_put st g r r' w' c o' bytes sim x = record {
   world = x.world;
-  drafts = λ e. elim (cases_eq e c) [
-    | inl is ↦ ap r'.drafts is ∙ (x.draft ∙ (ap draft_at (sym (conns_here st.conns c o'))
-        ∙ ap (λ i. draft_at (with_conn st.conns c o' i)) (sym is)))
-    | inr ne ↦ x.drafts e ne ∙ (sim.drafts e ∙ ap draft_at (sym (conns_else st.conns c e o' ne)))
-  ];
-  given = λ e. elim (cases_eq e c) [
-    | inl is ↦
-        let P : ℕ → Type 0 = λ i. r'.given i ≡ more_given g c bytes i ++ still_to_give (with_conn st.conns c o' i) in
-        let here : P c =
-        x.bytes_are
-        ∙ (ap (λ b. b ++ still_to_give o') (sym (here_given g c bytes))
-        ∙ ap (λ y. more_given g c bytes c ++ still_to_give y) (sym (conns_here st.conns c o'))) in
-        subst P (sym is) here
-    | inr ne ↦
-        x.given e ne ∙ (sim.given e ∙ (ap (λ b. b ++ still_to_give (st.conns e)) (sym (else_given g c e bytes ne))
-        ∙ ap (λ y. more_given g c bytes e ++ still_to_give y) (sym (conns_else st.conns c e o' ne))))
-  ];
+  drafts = λ e. grind (arith, nat_tests, sim.drafts, x.drafts);
+  given = λ e. grind (arith, nat_tests, sim.given, x.given, append-nil {A = ℕ});
 }
-
-nothing_if : (xs : List ℕ) (b : Bool) → (if b then xs else xs) ≡ xs
-nothing_if xs b = grind arith
 
 pub sim_same : (st : State) (g : ℕ → List ℕ) (r : Rep) (c : ℕ) → Sim st g r → Sim st (more_given g c []) r
 sim_same st g r c sim = record {
   world = sim.world;
   drafts = sim.drafts;
-  given =
-      λ e. sim.given e
-      ∙ ap (λ b. b ++ still_to_give (st.conns e))
-      (sym (append-nil (g e)) ∙ ap (λ b. g e ++ b) (sym (nothing_if [] (c == e))));
+  given = λ e. grind (arith, sim.given, append-nil {A = ℕ});
 }
 
 -- a connection after what was done

@@ -201,8 +201,7 @@ fed_blocks w d piece = grind arith
 
 calm_fed : (w : World) (d : ℕ) (p : Patch) (piece : List ℕ)
     → record (fed_patch w d p piece) { short = false } ≡ record p { body = p.body ++ piece; short = false }
-calm_fed w d p [] = ap (λ b. record p { body = b; short = false }) (sym (append-nil p.body))
-calm_fed w d p (b ∷ piece) = refl
+calm_fed w d p piece = grind (arith, append-nil {A = ℕ})
 
 -- A WHOLE BODY, on the world and on the bare one
 module _ (w : World) (d : ℕ) (p : Patch) (piece body : List ℕ) (found : find d w.patches ≡ Some p)
@@ -281,14 +280,8 @@ module _ (w : World) (r r1 : Rep) (c : ℕ) (a : Acted) (first : Did r r1 c a) w
         world = ap (λ y. bared y.world) bare_is ∙ (same.world ∙ ap (λ y. bared y.world) real);
         draft = here_set c z.draft r1.drafts ∙ (ap (λ y. y.draft) bare_is ∙ (doneu.0 ∙ sym done.0));
         bytes =
-            here_set c (r1.given c ++ (z.bytes ++ text_left z.pending)) r1.given
-            ∙ (ap (λ y. r1.given c ++ (y.bytes ++ text_left y.pending)) bare_is
-            ∙ (ap (λ g. r1.given c ++ (bu.bytes ++ text_left g)) doneu.1
-            ∙ (ap (λ y. r1.given c ++ (y ++ [])) (same.bytes ∙ ap (λ y. y.bytes) real)
-            ∙ (ap (λ g. g ++ (b.bytes ++ [])) (no_text idle)
-            ∙ (append_assoc (r.given c) a.bytes (b.bytes ++ [])
-            ∙ (ap (λ y. r.given c ++ y) (sym (append_assoc a.bytes b.bytes []))
-            ∙ ap (λ g. r.given c ++ ((a.bytes ++ b.bytes) ++ text_left g)) (sym done.1)))))));
+            let had = no_text idle in
+            grind (arith, nat_tests, append_assoc {A = ℕ}, append-nil {A = ℕ});
         drafts = λ e ne. else_set c e z.draft r1.drafts ne ∙ first.drafts e ne;
         given = λ e ne. let old = first.given e ne in grind (arith, nat_tests);
       } in
