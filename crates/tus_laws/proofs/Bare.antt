@@ -94,29 +94,12 @@ fed_calm w d p body = grind arith
 abbrev calm : Patch → Patch
 calm p = record p { short = false }
 
-same_refusal : (o : Option UploadRefusal) (stays fault short : Bool)
-    → (or_else o (if stays then None else if fault then Some Unencodable else refuse_if short Full) ≡ Some Full → ⊥)
-    → or_else o (if stays then None else if fault then Some Unencodable else refuse_if short Full)
-    ≡ or_else o (if stays then None else if fault then Some Unencodable else refuse_if false Full)
-same_refusal o stays fault short roomy = grind arith
-
 pub commit_calm : (v u : World) (d : ℕ) (p : Patch) → u.store ≡ v.store → u.blocks ≡ None
     → (commit_refusal v d p ≡ Some Full → ⊥)
     → commit_refusal u d (calm p) ≡ commit_refusal v d p
 unfolding commit_refusal is_short patch_text
 commit_calm v u d p store unlimited roomy =
-    let done = completes v.store p in
-    let o = upload_refusal p (upload_of v.store p.number) in
-    let none : is_short u d (calm p) (completes u.store p) ≡ false =
-    let taken = used u.store.indexes u.store.uploads + needs_but d u.store.indexes u.patches in
-    ap (λ n. exceeds n taken (wants u.store.indexes (calm p) (completes u.store p))) unlimited in
-    let refusal : Store → Bool → Option UploadRefusal =
-    λ m short. or_else (upload_refusal p (upload_of m p.number)) (if text_stays m p then None
-    else if is_there (patch_text m.indexes p (completes m p)).fault then Some Unencodable
-    else refuse_if short Full) in
-    let fault = is_there (patch_text v.store.indexes p done).fault in
-    ap (refusal u.store) none ∙ ap (λ m. refusal m false) store
-    ∙ sym (same_refusal o (text_stays v.store p) fault (is_short v d p done) roomy)
+    grind arith
 
 -- what the commit makes, and its reply
 spent_calm : (v u : World) (d : ℕ) (p : Patch) (o : Option UploadRefusal) → u.store ≡ v.store
@@ -134,9 +117,6 @@ ended_calm v u d p store unlimited patches roomy =
     ap (λ o. bared (spent u d (calm p) o)) (commit_calm v u d p store unlimited roomy)
     ∙ spent_calm v u d p (commit_refusal v d p) store patches
 
-reply_calm : (p : Patch) (r : Request) (o : Option UploadRefusal) → patched_reply (calm p) r o ≡ patched_reply p r o
-reply_calm p r o = grind arith
-
 -- the same commit, by the verdict of its head
 pub record SameCommit (a b : Acted) : Type 0 where
   pub world : bared a.world ≡ bared b.world
@@ -150,9 +130,7 @@ pub done_calm : (v u : World) (d : ℕ) (p : Patch) (t : Verdict) → u.store �
 done_calm v u d p (Asks r) store unlimited patches roomy = record {
   world = ended_calm v u d p store unlimited patches (roomy r refl);
   draft = refl;
-  bytes =
-      ap (patched_reply (calm p) r) (commit_calm v u d p store unlimited (roomy r refl))
-      ∙ reply_calm p r (commit_refusal v d p);
+  bytes = let same = commit_calm v u d p store unlimited (roomy r refl) in grind arith;
 }
 done_calm v u d p (Refuses x) store unlimited patches roomy = record {
   world = grind arith;

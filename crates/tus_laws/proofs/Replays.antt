@@ -92,15 +92,6 @@ pub record Replays (st : State) (g : ℕ → List ℕ) (r r' : Rep) (w' : World)
 abbrev pub more_given : (ℕ → List ℕ) → ℕ → List ℕ → ℕ → List ℕ
 more_given g c bytes k = g k ++ (if c == k then bytes else [])
 
-here_given : (g : ℕ → List ℕ) (c : ℕ) (bytes : List ℕ) → more_given g c bytes c ≡ g c ++ bytes
-here_given g c bytes = grind (arith, nat_tests)
-
-else_if : (c e : ℕ) (bytes : List ℕ) → (e ≡ c → ⊥) → (if c == e then bytes else []) ≡ []
-else_if c e bytes ne = grind (arith, nat_tests)
-
-else_given : (g : ℕ → List ℕ) (c e : ℕ) (bytes : List ℕ) → (e ≡ c → ⊥) → more_given g c bytes e ≡ g e
-else_given g c e bytes ne = ap (λ b. g e ++ b) (else_if c e bytes ne) ∙ append-nil (g e)
-
 pub sim_put : (st : State) (g : ℕ → List ℕ) (r r' : Rep) (w' : World) (c : ℕ) (o' : Option Conn) (bytes : List ℕ)
     → Sim st g r → Replays st g r r' w' c o' bytes
     → Sim (put st w' c o') (more_given g c bytes) r'
@@ -118,15 +109,6 @@ sim_same st g r c sim = record {
 }
 
 -- a connection after what was done
-draft_of : (s : List ℕ) (w : World) (own : Option ℕ) (z : Acted) → Opens w own z → (b : Bool) → z.closes ≡ b
-    → draft_at (if b then None else Some (record { stream = s; draft = z.draft; pending = z.pending })) ≡ z.draft
-draft_of s w own z opens b e = let h = opens.closed in grind arith
-
-text_of : (s : List ℕ) (w : World) (own : Option ℕ) (z : Acted) → Opens w own z → (b : Bool) → z.closes ≡ b
-    → still_to_give (if b then None else Some (record { stream = s; draft = z.draft; pending = z.pending }))
-    ≡ text_left z.pending
-text_of s w own z opens b e = let h = opens.closed in grind arith
-
 conn_left : (s : List ℕ) (z : Acted) (k : Conn) (b : Bool)
     → (if b then None else Some (record { stream = s; draft = z.draft; pending = z.pending })) ≡ Some k
     → record { stream = s; draft = z.draft; pending = z.pending } ≡ k
@@ -148,25 +130,19 @@ module _ (st : State) (valid : Valid st) (g : ℕ → List ℕ) (r r' : Rep) (si
   came_keeps = record {
     indexes = indexes;
     others = λ e p there ne. opens.others e p there (λ own. ne (own_is ∙ own));
-    fresh = λ d is. elim (opens.fresh d (sym (draft_of s st.world k.draft z opens z.closes refl) ∙ is)) [
-      | inl old ↦ inl (own_is ∙ old)
-      | inr none ↦ inr none
-    ];
+    fresh = λ d is. let left = opens.closed in let old = opens.fresh d in grind arith;
     holds = λ j is. subst (DraftHolds z.world) (conn_left s z j z.closes is) holds;
     idle = λ j is. subst (λ x. (d : ℕ) → x.draft ≡ Some d → x.pending ≡ None) (conn_left s z j z.closes is) opens.idle;
   }
 
   came_replays : Replays st g r r' z.world c (conn_of s z) z.bytes
   came_replays =
-      let before : r.given c ≡ g c =
-      sim.given c
-      ∙ (ap (λ o. g c ++ still_to_give o) here ∙ (ap (λ p. g c ++ text_left p) no_text ∙ append-nil (g c))) in
+      let left = opens.closed in
+      let before = sim.given c in
       record {
         world = did.world;
-        draft = did.draft ∙ sym (draft_of s st.world k.draft z opens z.closes refl);
-        bytes_are = did.bytes ∙ (ap (λ b. b ++ (z.bytes ++ text_left z.pending)) before
-            ∙ (sym (append_assoc (g c) z.bytes (text_left z.pending))
-            ∙ ap (λ t. (g c ++ z.bytes) ++ t) (sym (text_of s st.world k.draft z opens z.closes refl))));
+        draft = grind arith;
+        bytes_are = grind (arith, append_assoc {A = ℕ}, append-nil {A = ℕ});
         drafts = did.drafts;
         given = did.given;
       }

@@ -36,20 +36,16 @@ leaves_open w r a (Nothing moves none idle) = record {
   others = λ e p there ne. moves.others e p ne there;
 }
 leaves_open w r a (Text h same none some stays) = record {
-  closed = λ c. let x : true ≡ false = sym c ∙ stays in absurd (cc);
-  idle = λ d e. absurd (none-some d (sym none ∙ e));
-  fresh = λ d e. absurd (none-some d (sym none ∙ e));
-  others = λ e p there ne. ap (λ v. find e v.patches) same ∙ there;
+  closed = λ c. grind arith;
+  idle = λ d e. grind arith;
+  fresh = λ d e. grind arith;
+  others = λ e p there ne. grind arith;
 }
 leaves_open w r a (Patching y) = record {
-  closed = λ c. let x : true ≡ false = sym c ∙ y.stays in absurd (cc);
+  closed = λ c. grind arith;
   idle = λ d e. y.idle;
-  fresh = λ d e. inr (ap (λ n. find n w.patches) (sym (same_Some y.d d (sym y.draft_is ∙ e))) ∙ y.free);
-  others = λ e p there ne.
-      let q = first_patch y.number r.length y.declare y.up in
-      let other : y.d ≡ e → ⊥ = λ is. none-some p (sym y.free ∙ (ap (λ n. find n w.patches) is ∙ there)) in
-      let after : find e ((y.d, q) ∷ w.patches) ≡ find e w.patches = grind (arith, nat_tests) in
-      ap (λ v. find e v.patches) y.world_is ∙ (after ∙ there);
+  fresh = λ d e. grind arith;
+  others = λ e p there ne. grind (arith, nat_tests);
 }
 
 verdict_open : (w : World) (v : Verdict) → Opens w None (acted w v)
@@ -113,8 +109,7 @@ head_opens w own None first = record {
   fresh = λ d e. inl e;
   others = λ e p there ne. there;
 }
-head_opens w own (Some r) first =
-    subst (λ x. Opens w x (acted w r.verdict)) (sym (first r refl)) (verdict_open w r.verdict)
+head_opens w own (Some r) first = rw (first r refl) (verdict_open w r.verdict)
 
 -- THE REPLAY of moments, on a bare world: each body is given as a whole
 pub record Rep : Type 0 where
@@ -240,9 +235,7 @@ module _ (w : World) (d : ℕ) (p : Patch) (piece body : List ℕ) (found : find
 
 module _ (w : World) (r r1 : Rep) (c : ℕ) (a : Acted) (first : Did r r1 c a) where
   no_text : a.pending ≡ None → r1.given c ≡ r.given c ++ a.bytes
-  no_text idle =
-      first.bytes
-      ∙ (ap (λ g. r.given c ++ (a.bytes ++ text_left g)) idle ∙ ap (λ b. r.given c ++ b) (append-nil a.bytes))
+  no_text idle = grind (arith, append-nil {A = ℕ})
 
   pub part_did : (d : ℕ) (p : Patch) (piece : List ℕ) → a.draft ≡ Some d → a.pending ≡ None
       → find d a.world.patches ≡ Some p → Did r r1 c (body_step a piece None (Some d))
@@ -275,14 +268,11 @@ module _ (w : World) (r r1 : Rep) (c : ℕ) (a : Acted) (first : Did r r1 c a) w
       ∙ ap (commit_with u1 d x.verdict) (found_u a.world d p piece x.body found whole) in
       let done = commit_idle v1 d x.verdict (find d v1.patches) in
       let doneu = commit_idle u1 d x.verdict (Some (record q1 { short = false })) in
-      let z = committing r1.world d x in
-      let now : Did r (did r1 c z) c (body_step a piece (Some x) (Some d)) = record {
+      rw (first.draft, is) (record {
         world = ap (λ y. bared y.world) bare_is ∙ (same.world ∙ ap (λ y. bared y.world) real);
-        draft = here_set c z.draft r1.drafts ∙ (ap (λ y. y.draft) bare_is ∙ (doneu.0 ∙ sym done.0));
+        draft = grind (arith, nat_tests);
         bytes =
-            let had = no_text idle in
-            grind (arith, nat_tests, append_assoc {A = ℕ}, append-nil {A = ℕ});
-        drafts = λ e ne. else_set c e z.draft r1.drafts ne ∙ first.drafts e ne;
+            let had = no_text idle in grind (arith, nat_tests, append_assoc {A = ℕ}, append-nil {A = ℕ});
+        drafts = λ e ne. let old = first.drafts e ne in grind (arith, nat_tests);
         given = λ e ne. let old = first.given e ne in grind (arith, nat_tests);
-      } in
-      subst (λ o. Did r (act_body r1 c x o) c (body_step a piece (Some x) (Some d))) (sym (first.draft ∙ is)) now
+      })
