@@ -26,13 +26,9 @@ use Rattle.tus_laws.proofs.Commits.{committed_changed}
 -- A HEAD
 
 -- a head that opens a patch leaves the uploads
-leaves_uploads : (w : World) (r : Request) (a : Acted) (d : ℕ) → Leaves w r a → a.draft ≡ Some d
-    → (a.world.store ≡ w.store) × (a.pending ≡ None)
-leaves_uploads w r a d left e = grind arith
-
 verdict_uploads : (w : World) (v : Verdict) (d : ℕ) → (acted w v).draft ≡ Some d
     → ((acted w v).world.store ≡ w.store) × ((acted w v).pending ≡ None)
-verdict_uploads w (Asks r) d e = leaves_uploads w r (acted w (Asks r)) d (leaves w r) e
+verdict_uploads w (Asks r) d e = let left = leaves w r in grind arith
 verdict_uploads w (Refuses x) d e = absurd (none-some d e)
 
 pub head_uploads : (w : World) (draft : Option ℕ) (o : Option Asked) (d : ℕ) → (at_head w draft o).draft ≡ Some d
@@ -69,24 +65,20 @@ module _ (st : State) (e : Event) where
 
   -- A PATCH THAT IS DONE
 
-  pub done_uploads_came : (c : ℕ) (piece : List ℕ) (k : Conn) (v : World) (d : ℕ) (p : Patch)
-      → BodyCame st.world k piece v d p → v.store ≡ st.world.store
-  done_uploads_came c piece k v d p x =
-      ap (λ y. y.store) x.world ∙ fed_store (at_its_head st.world k piece).world d (moments_in st.world k piece).came
-      ∙ (head_uploads st.world k.draft (moments_in st.world k piece).head d x.draft_open).0
-
   spent_changed : (x : DonePatch st e) → x.world.store ≡ st.world.store → (o : Option UploadRefusal)
       → commit_refusal x.world x.draft x.patch ≡ o
       → Changed st e (spent x.world x.draft x.patch o).store
-  spent_changed x same None is =
-      subst (Changed st e) (ap (λ m. committed_store m x.patch) (sym same)) (committed_changed st e x same is)
+  spent_changed x same None is = rw same (committed_changed st e x same is)
   spent_changed x same (Some f) is = Nothing same
 
 -- the uploads are those from before the event
 pub done_uploads : (st : State) (e : Event) (x : DonePatch st e) → x.world.store ≡ st.world.store
 done_uploads st (Opened c) x = absurd x.done
 done_uploads st (Came c piece) x =
-    done_uploads_came st (Came c piece) c piece x.conn x.world x.draft x.patch x.done.1
+    let m = moments_in st.world x.conn piece in
+    let a = at_its_head st.world x.conn piece in
+    ap (λ y. y.store) x.done.1.world ∙ fed_store a.world x.draft m.came
+    ∙ (head_uploads st.world x.conn.draft m.head x.draft x.done.1.draft_open).0
 done_uploads st (More c) x = absurd x.done
 done_uploads st (Ended c) x = ap (λ y. y.store) x.done.1.world
 
@@ -113,19 +105,9 @@ came_none w k piece g e = ap (λ g. (came_on w k piece g).world) e
 -- the world after the last byte of a body
 pub came_spent : (w : World) (k : Conn) (piece : List ℕ) (v : World) (d : ℕ) (p : Patch) → BodyCame w k piece v d p
     → (came_turn w k piece).world ≡ spent v d p (commit_refusal v d p)
+unfolding came_turn
 came_spent w k piece v d p x =
-    let m = moments_in w k piece in
-    let a = at_its_head w k piece in
-    let u = fed a.world d m.came in
-    let there : find d u.patches ≡ Some p = subst (λ y. find d y.patches ≡ Some p) x.world x.found in
-    came_world w k piece x.nothing_to_give
-    ∙ ap (λ t. t.world)
-    (with_idle k piece (taken (reader w) k.stream piece) m a (head_uploads w k.draft m.head d x.draft_open).1)
-    ∙ ap (λ o. (body_step a m.came m.body o).world) x.draft_open
-    ∙ ap (λ o. (at_body u d o).world) x.body_moment
-    ∙ ap (λ t. (commit_with u d t (find d u.patches)).world) x.asks
-    ∙ ap (λ o. (commit_with u d (Asks x.request) o).world) there
-    ∙ ap (λ y. spent y d p (commit_refusal y d p)) (sym x.world)
+    let idle = (head_uploads w k.draft (moments_in w k piece).head d x.draft_open).1 in grind arith
 
 module _ (st : State) (c : ℕ) (piece : List ℕ) (k : Conn) (here : st.conns c ≡ Some k) (idle : k.pending ≡ None) where
   abbrev w : World
@@ -163,20 +145,16 @@ module _ (st : State) (c : ℕ) (piece : List ℕ) (k : Conn) (here : st.conns c
         } in
         record { conn = k; world = v; draft = d; patch = p; done = (here, came) }
 
-    by_found : (r : Asked) (q : Request) → m.body ≡ Some r → r.verdict ≡ Asks q → (o : Option Patch)
-        → find d v.patches ≡ o → IsChanged (commit_with v d (Asks q) o).world
-    by_found r q ends asks None found = Nothing same
-    by_found r q ends asks (Some p) found =
+    by_asked : (r : Asked) → m.body ≡ Some r → (t : Verdict) → r.verdict ≡ t → (o : Option Patch)
+        → find d v.patches ≡ o → IsChanged (commit_with v d t o).world
+    by_asked r ends (Asks q) asks None found = Nothing same
+    by_asked r ends (Asks q) asks (Some p) found =
         spent_changed st (Came c piece) (done_came r q p ends asks found) same (commit_refusal v d p) refl
-
-    by_asked : (r : Asked) → m.body ≡ Some r → (t : Verdict) → r.verdict ≡ t
-        → IsChanged (commit_with v d t (find d v.patches)).world
-    by_asked r ends (Asks q) asks = by_found r q ends asks (find d v.patches) refl
-    by_asked r ends (Refuses x) asks = Nothing same
+    by_asked r ends (Refuses x) asks o found = Nothing (grind arith)
 
     by_moment : (o : Option Asked) → m.body ≡ o → IsChanged (at_body v d o).world
     by_moment None ends = Nothing same
-    by_moment (Some r) ends = by_asked r ends r.verdict refl
+    by_moment (Some r) ends = by_asked r ends r.verdict refl (find d v.patches) refl
 
   by_draft : (o : Option ℕ) → a.draft ≡ o → IsChanged (body_step a m.came m.body o).world
   by_draft None none = head_changed st (Came c piece) k.draft m.head
@@ -184,13 +162,9 @@ module _ (st : State) (c : ℕ) (piece : List ℕ) (k : Conn) (here : st.conns c
 
   by_text : (o : Option Giving) → a.pending ≡ o
       → IsChanged (came_with k piece (taken (reader w) k.stream piece) m a).world
-  by_text None e =
-      let n = taken (reader w) k.stream piece in
-      subst (λ t. IsChanged t.world) (sym (with_idle k piece n m a e)) (by_draft a.draft refl)
+  by_text None e = rw (with_idle k piece (taken (reader w) k.stream piece) m a e) (by_draft a.draft refl)
   by_text (Some g) e =
-      let n = taken (reader w) k.stream piece in
-      subst (λ t. IsChanged t.world) (sym (with_text k piece n m a g e))
-      (head_changed st (Came c piece) k.draft m.head)
+      rw (with_text k piece (taken (reader w) k.stream piece) m a g e) (head_changed st (Came c piece) k.draft m.head)
 
   idle_changed : IsChanged (came_turn st.world k piece).world
   idle_changed = subst IsChanged (sym (came_world st.world k piece idle)) (by_text a.pending refl)

@@ -1,7 +1,8 @@
 -- A history gives what the replay of its moments gives.
-use Rattle.std.proofs.Common.{◌≡◌, ◌-◌, inl, ℕ, Bool, true, false, List, [], ◌∷◌, ◌++◌, length, take, drop}
+use Rattle.std.proofs.Common.{◌≡◌, ◌-◌, inl, inr, ℕ, Bool, true, false, List, [], ◌∷◌, ◌++◌, length, take, drop}
 use Rattle.std.proofs.Common.{if◌then◌else◌, nat_lt, Option, Some, None, refl, sym, ◌∙◌, ap, subst, append-nil}
 use Rattle.std.proofs.Common.{append_assoc, arith}
+use Rattle.std.proofs.lemmas.Bool.{cases_Bool}
 use Rattle.std.proofs.lemmas.Option.{none-some, same_Some}
 use Rattle.std.proofs.lemmas.List.{take-append-drop}
 use Rattle.upload_rules.specs.Store.{Upload, Store, find, upload_of}
@@ -86,19 +87,14 @@ module _ (st : State) (valid : Valid st) (g : ℕ → List ℕ) (r : Rep) (sim :
       → still_to_give (st.conns c) ≡ bytes ++ text_left j.pending
       → Valid (put st st.world c (Some j)) × Sim (put st st.world c (Some j)) (more_given g c bytes) r
   patchless_after j bytes none own text =
-      let no_patch : (i : Conn) (d : ℕ) → Some j ≡ Some i → i.draft ≡ Some d → ⊥ =
-      λ i d is e. none-some d (sym none ∙ (ap (λ x. x.draft) (same_Some j i is) ∙ e)) in
-      still_after (Some j) bytes (none ∙ sym own) (λ i is d e. absurd (no_patch i d is e))
-      (λ i is d e. absurd (no_patch i d is e)) text
+      still_after (Some j) bytes (none ∙ sym own) (λ i is d e. absurd (cc)) (λ i is d e. absurd (cc)) text
 
   -- OPENED
-  opened_case : st.conns c ≡ None → (b : Bool)
-      → After g c r (opened_if st c b)
-  opened_case none true = patchless_after fresh [] refl (ap draft_at none) (ap still_to_give none)
-  opened_case none false = refused_after TooMany
-
   opened_after : (o : Option Conn) → st.conns c ≡ o → After g c r (opened_at st c o)
-  opened_after None none = opened_case none (nat_lt c most_open)
+  opened_after None none = elim (cases_Bool (nat_lt c most_open)) [
+    | inl t ↦ rw t (patchless_after fresh [] refl (ap draft_at none) (ap still_to_give none))
+    | inr f ↦ rw f (refused_after TooMany)
+  ]
   opened_after (Some k) is = refused_after TooMany
 
   module _ (k : Conn) (here : st.conns c ≡ Some k) where
@@ -126,8 +122,7 @@ module _ (st : State) (valid : Valid st) (g : ℕ → List ℕ) (r : Rep) (sim :
     there_case : (h : Giving) → k.pending ≡ Some h → (u : Upload) → upload_of st.world.store h.number ≡ Some u
         → After g c r (turned st c (give_on st.world k h (upload_of st.world.store h.number)))
     there_case h text u there =
-        subst (λ o. After g c r (turned st c (give_on st.world k h o))) (sym there)
-        (given_conn h.number h.closes (drop piece_size h.left) (take piece_size h.left) (text_no_draft h text)
+        rw there (given_conn h.number h.closes (drop piece_size h.left) (take piece_size h.left) (text_no_draft h text)
         (ap still_to_give here ∙ (ap text_left text ∙ sym (take-append-drop piece_size h.left))))
 
     more_case : KeepsText st (More c) → (o : Option Giving) → k.pending ≡ o
@@ -200,15 +195,11 @@ module _ (st : State) (valid : Valid st) (g : ℕ → List ℕ) (r : Rep) (sim :
       cut_after : After g c (act_cut r c body (r.drafts c))
           (record { state = put st (ended_world st.world k) c None; outcome = Done; text = [] })
       cut_after =
-          let now : After g c (act_cut r c body (Some d))
-          (record { state = put st w' c None; outcome = Done; text = [] }) = (
+          let own : r.drafts c ≡ Some d = sim.drafts c ∙ (ap draft_at here ∙ is) in
+          rw (own, ends) (
             valid_put st valid w' c None cut_keeps,
             sim_put st g r (act_cut r c body (Some d)) w' c None [] sim cut_replays,
-          ) in
-          let own : r.drafts c ≡ Some d = sim.drafts c ∙ (ap draft_at here ∙ is) in
-          let left : World → Step = λ w. record { state = put st w c None; outcome = Done; text = [] } in
-          subst (λ o. After g c (act_cut r c body o) (left (ended_world st.world k))) (sym own)
-          (subst (λ w. After g c (act_cut r c body (Some d)) (left w)) (sym ends) now)
+          )
 
     none_ended : k.draft ≡ None → ended_world st.world k ≡ st.world
     unfolding ended_world
@@ -218,8 +209,7 @@ module _ (st : State) (valid : Valid st) (g : ℕ → List ℕ) (r : Rep) (sim :
         → (o : Option ℕ) → k.draft ≡ o → After g c (replay r (cut_moment st.world c k o))
         (record { state = put st (ended_world st.world k) c None; outcome = Done; text = [] })
     end_case roomy text None none =
-        subst (λ w. After g c r (record { state = put st w c None; outcome = Done; text = [] })) (sym (none_ended none))
-        (closed_after [] (ap draft_at here ∙ none) text)
+        rw (none_ended none) (closed_after [] (ap draft_at here ∙ none) text)
     end_case roomy text (Some d) is = cut_after d is roomy text
 
     -- BYTES that came
@@ -278,15 +268,9 @@ module _ (st : State) (valid : Valid st) (g : ℕ → List ℕ) (r : Rep) (sim :
           → Holds z.world (record { stream = k.stream ++ take i piece; draft = z.draft; pending = z.pending }) d)
           → Goal
       conclude i z o x turn own ends opens did holds =
-          let r' = replay r1 (body_moment c o x) in
-          let after : After g c r' (turned st c (turn_of k piece i z)) =
-          came_after st valid g r r' sim c k here idle (k.stream ++ take i piece) z opens did
-          (turn_indexes i z turn) holds in
-          let same : replay r (head_moment c m.head ++ body_moment c a.draft m.body) ≡ r' =
-          replay_both r (head_moment c m.head) (body_moment c a.draft m.body)
-          ∙ (ap (λ y. replay r1 (body_moment c y m.body)) own ∙ ap (λ y. replay r1 (body_moment c o y)) ends) in
-          subst (λ y. After g c y (turned st c (came_turn st.world k piece))) (sym same)
-          (subst (λ t. After g c r' (turned st c t)) (sym turn) after)
+          rw (replay_both r (head_moment c m.head) (body_moment c a.draft m.body), own, ends, turn)
+          (came_after st valid g r (replay r1 (body_moment c o x)) sim c k here idle (k.stream ++ take i piece) z opens
+          did (turn_indexes i z turn) holds)
 
       module _ (no_text : a.pending ≡ None) (d : ℕ) (is : a.draft ≡ Some d) where
         abbrev b : Brings st.world k piece n m d
@@ -299,9 +283,7 @@ module _ (st : State) (valid : Valid st) (g : ℕ → List ℕ) (r : Rep) (sim :
         part_goal none =
             let z = body_step a m.came None (Some d) in
             let turn : came_turn st.world k piece ≡ turn_of k piece n z =
-            turn_body no_text
-            ∙ (ap (λ o. turn_of k piece n (body_step a m.came m.body o)) is
-            ∙ ap (λ x. turn_of k piece n (body_step a m.came x (Some d))) none) in
+            rw (is, none) at (turn_body no_text) in
             let part = b.part none in
             let s = k.stream ++ take n piece in
             let holds : Holds z.world (record { stream = s; draft = z.draft; pending = z.pending }) d = record {
@@ -321,9 +303,7 @@ module _ (st : State) (valid : Valid st) (g : ℕ → List ℕ) (r : Rep) (sim :
             let z = body_step a m.came (Some x) (Some d) in
             let v = fed a.world d m.came in
             let turn : came_turn st.world k piece ≡ turn_of k piece n z =
-            turn_body no_text
-            ∙ (ap (λ o. turn_of k piece n (body_step a m.came m.body o)) is
-            ∙ ap (λ y. turn_of k piece n (body_step a m.came y (Some d))) ends) in
+            rw (is, ends) at (turn_body no_text) in
             let found : find d v.patches ≡ Some q = fed_there a.world d b.patch m.came b.found in
             let enough : (y : Request) → x.verdict ≡ Asks y → commit_refusal v d q ≡ Some Full → ⊥ =
             λ y asks full. roomy (done_came st c piece k here idle d is x y q ends asks found) full in
@@ -365,7 +345,7 @@ module _ (st : State) (valid : Valid st) (g : ℕ → List ℕ) (r : Rep) (sim :
         → After g c (replay r (came_moments st.world c piece k o)) (turned st c (came_turn st.world k piece))
     came_case piece roomy None idle = came_goal piece idle roomy
     came_case piece roomy (Some h) text =
-        subst (λ t. After g c r (turned st c t)) (sym (nothing_taken piece h text)) same_conn
+        rw (nothing_taken piece h text) same_conn
 
 -- EACH EVENT
 
@@ -424,11 +404,8 @@ all_there m blocks (e ∷ past) (before, now) =
     let g : ℕ → List ℕ = λ c. given start c past in
     let r = replay r0 (all_moments start past) in
     let after = event_after st there.valid g r there.sim e.0 now.roomy now.text in
-    let marked : After g (conn_in e.0) (replay r (event_moments st e.0)) (step st e.0 e.1) =
-    subst (λ k. After g (conn_in e.0) (replay r (event_moments st e.0)) (step st e.0 k)) (sym now.served) after in
     let joined : After g (conn_in e.0) (replay r0 (all_moments start past ++ event_moments st e.0)) (step st e.0 e.1) =
-    subst (λ x. After g (conn_in e.0) x (step st e.0 e.1))
-    (sym (replay_both r0 (all_moments start past) (event_moments st e.0))) marked in
+    rw (replay_both r0 (all_moments start past) (event_moments st e.0), now.served) after in
     record { valid = joined.0; sim = joined.1 }
 
 pub same_bytes : (m : Store) (blocks : Option ℕ) (past other : List Marked) (c : ℕ)
