@@ -1,21 +1,19 @@
 -- Worlds without the bodies of their open patches, and without a limit of blocks.
-use Rattle.std.proofs.Common.{◌≡◌, ◌==◌, ℕ, zero, suc, ◌+◌, Bool, true, false, List, [], ◌∷◌, length, if◌then◌else◌}
+use Rattle.std.proofs.Common.{◌≡◌, ℕ, zero, suc, ◌+◌, false, List, [], ◌∷◌, length}
 use Rattle.std.proofs.Common.{Option, Some, None, option_map, refl, sym, ◌∙◌, ap, arith}
-use Rattle.std.proofs.lemmas.Option.{same_Some}
 use Rattle.std.proofs.lemmas.Bool.Decides.{nat_tests}
 use Rattle.upload_rules.specs.declared.errors.UploadRefusal.{UploadRefusal}
-use Rattle.upload_rules.specs.declared.errors.UploadRefusal.TheVariants.{Unencodable, Full}
-use Rattle.upload_rules.specs.Store.{New, Upload, Store, find, replaced, without, upload_of}
-use Rattle.upload_rules.specs.World.{Patch, World, is_there, least_from, free_number, completes, patch_text}
-use Rattle.upload_rules.specs.Room.{is_short, exceeds, used, needs_but, wants}
-use Rattle.upload_rules.specs.Calls.{or_else, refuse_if, create_refusal, terminate_refusal, begin_refusal, begun_at}
-use Rattle.upload_rules.specs.Calls.{first_patch, longer, appended_at, text_stays, upload_refusal, commit_refusal}
-use Rattle.upload_rules.specs.Calls.{committed_store, spent}
+use Rattle.upload_rules.specs.declared.errors.UploadRefusal.TheVariants.{Full}
+use Rattle.upload_rules.specs.Store.{find, replaced, without}
+use Rattle.upload_rules.specs.World.{Patch, World, least_from, free_number, patch_text}
+use Rattle.upload_rules.specs.Room.{is_short}
+use Rattle.upload_rules.specs.Calls.{commit_refusal}
+use Rattle.upload_rules.specs.Calls.{spent}
 use Rattle.upload_rules.proofs.Finds.{find_replaced_same}
-use Rattle.tus_request.specs.Requests.{Request, Action, Options, Create, Head, Get, Patch as Patches, Delete}
+use Rattle.tus_request.specs.Requests.{Request}
 use Rattle.tus_request.specs.Requests.{Asks, Refuses, Verdict}
-use Rattle.tus_action.specs.Acts.{Acted, acted, acted_on, post, delete, new_of, head, get, patch}
-use Rattle.tus_action.specs.Acts.{fed, fed_patch, commit_with, patched_reply}
+use Rattle.tus_action.specs.Acts.{Acted, acted}
+use Rattle.tus_action.specs.Acts.{fed, fed_patch, commit_with}
 
 abbrev pub Entry : Type 0
 Entry = ℕ × Patch

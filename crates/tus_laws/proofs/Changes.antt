@@ -1,25 +1,25 @@
 -- What an event makes of the uploads.
-use Rattle.std.proofs.Common.{◌≡◌, ◌-◌, ℕ, Bool, true, false, List, length, Option, Some, None, refl, sym, ◌∙◌, ap}
+use Rattle.std.proofs.Common.{◌≡◌, ◌-◌, ℕ, List, length, Option, Some, None, refl, sym, ◌∙◌, ap}
 use Rattle.std.proofs.Common.{subst, arith}
 use Rattle.std.proofs.lemmas.Option.{none-some}
 use Rattle.upload_rules.specs.declared.errors.UploadRefusal.{UploadRefusal}
 use Rattle.upload_rules.specs.Store.{New, Upload, find, upload_of}
 use Rattle.upload_rules.specs.World.{Patch, World}
-use Rattle.upload_rules.specs.Calls.{create_refusal, begin_refusal, begun_at, commit_refusal, committed_store, spent}
+use Rattle.upload_rules.specs.Calls.{create_refusal, commit_refusal, spent}
 use Rattle.tus_request.specs.Requests.{Request, Action, Options, Create, Head, Get, Patch as Patches, Delete}
 use Rattle.tus_request.specs.Requests.{Asks, Refuses, Verdict}
-use Rattle.tus_action.specs.Acts.{Acted, Giving, acted, acted_on, post, delete, new_of, head, get, patch}
-use Rattle.tus_action.specs.Acts.{is_pending, fed, commit_with}
+use Rattle.tus_action.specs.Acts.{Acted, Giving, acted, acted_on, post, delete, new_of}
+use Rattle.tus_action.specs.Acts.{fed, commit_with}
 use Rattle.upload_rules.specs.Reading.{no_such}
 use Rattle.tus_session.specs.Streams.{Asked, Moments, taken}
-use Rattle.tus_session.specs.Turns.{Conn, Turn, reader, at_head, at_body, body_step, turn_of, came_with, came_on}
-use Rattle.tus_session.specs.Turns.{came_turn, give_on, more_on, more_turn, ended_with, ended_on, ended_world}
+use Rattle.tus_session.specs.Turns.{Conn, reader, at_head, at_body, body_step, turn_of, came_with, came_on}
+use Rattle.tus_session.specs.Turns.{came_turn, more_turn, ended_with, ended_on, ended_world}
 use Rattle.tus_session.specs.History.{State, Event, Opened, Came, More, Ended, Served}
 use Rattle.tus_session.specs.History.{came_at, more_at, ended_at, step}
 use Rattle.tus_session.proofs.Feeding.{fed_store}
 use Rattle.tus_session.proofs.Unmade.{opened_uploads}
-use Rattle.tus_session.proofs.RequestLeaves.{Leaves, Nothing as Idle, Text, Patching, leaves}
-use Rattle.tus_laws.specs.Patches.{moments_in, at_its_head, BodyCame, BodyCut, IsDoneOn, DonePatch}
+use Rattle.tus_session.proofs.RequestLeaves.{leaves}
+use Rattle.tus_laws.specs.Patches.{moments_in, at_its_head, BodyCame, BodyCut, DonePatch}
 use Rattle.tus_laws.specs.Patches.{IsRefused, Changed, Nothing, Made, Deleted}
 use Rattle.tus_laws.proofs.Commits.{committed_changed}
 

@@ -1,16 +1,16 @@
 -- What the commit of a PATCH makes of the uploads: `declare`, or `append`, or both.
-use Rattle.std.proofs.Common.{◌≡◌, ◌+◌, ℕ, Bool, true, false, List, [], ◌∷◌, ◌++◌, length, Option, Some}
+use Rattle.std.proofs.Common.{◌≡◌, ℕ, Bool, true, false, List, [], ◌∷◌, Option, Some}
 use Rattle.std.proofs.Common.{None}
 use Rattle.std.proofs.Common.{refl, sym, ◌∙◌, ap, subst, arith, append-nil, if◌then◌else◌}
 use Rattle.std.proofs.lemmas.Bool.Decides.{nat_tests}
 use Rattle.upload_rules.specs.Lengths.{known_or, is_new, longest}
-use Rattle.upload_rules.specs.Store.{Upload, Store, upload_of, replaced, patched_at, patched_store}
+use Rattle.upload_rules.specs.Store.{Upload, Store, upload_of, replaced, patched_store}
 use Rattle.upload_rules.specs.World.{Patch}
 use Rattle.upload_rules.specs.Calls.{is_empty, declares_at, is_idle, committed_store}
 use Rattle.upload_rules.proofs.Finds.{find_replaced_same}
 use Rattle.tus_session.specs.History.{State, Event}
 use Rattle.tus_session.proofs.Moved.{Fitting, accepted_at}
-use Rattle.tus_laws.specs.Patches.{DonePatch, IsAccepted, HasBody, Declares, declared_at, declared_store, appended_at}
+use Rattle.tus_laws.specs.Patches.{DonePatch, IsAccepted, HasBody, Declares, declared_store}
 use Rattle.tus_laws.specs.Patches.{appended_store, Changed, Nothing, Declared, Put, DeclaredAndPut}
 
 replaced_twice : {A : Type 0} (n : ℕ) (a b : A) (xs : List (ℕ × A))

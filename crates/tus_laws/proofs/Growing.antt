@@ -12,7 +12,6 @@ use Rattle.upload_rules.proofs.Finds.{find_replaced_same, find_replaced_other}
 use Rattle.upload_rules.proofs.Deleted.{none_in_others, find_in_others}
 use Rattle.tus_session.specs.History.{State, Event, Mark, Marked, Served, OutOfMemory, Failed, step, history}
 use Rattle.tus_laws.specs.Patches.{Changed, Nothing, Made, Declared, Put, DeclaredAndPut, Deleted, IsAbove}
-use Rattle.tus_laws.specs.Patches.{declared_store, appended_store}
 use Rattle.tus_session.proofs.Growth.{patched_nothing, patched_twice}
 use Rattle.tus_session.proofs.Unmade.{memory_same, fault_same}
 use Rattle.tus_laws.proofs.Bodies.{none_if}
@@ -212,5 +211,5 @@ later_gone start past between later above n u there none =
     let lt = always_above start past above n u there in
     let le = next_grows start past between in
     none_if _ (λ v is.
-        let was = (later_keeps start (between ++ past) later).uploads n v (omega (arith, lt, le)) is in
-        none-some was.upload (sym none ∙ was.there))
+    let was = (later_keeps start (between ++ past) later).uploads n v (omega (arith, lt, le)) is in
+    none-some was.upload (sym none ∙ was.there))

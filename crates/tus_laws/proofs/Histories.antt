@@ -1,6 +1,6 @@
 -- A history gives what the replay of its moments gives.
 use Rattle.std.proofs.Common.{◌≡◌, ◌-◌, inl, inr, ℕ, Bool, true, false, List, [], ◌∷◌, ◌++◌, length, take, drop}
-use Rattle.std.proofs.Common.{if◌then◌else◌, nat_lt, Option, Some, None, refl, sym, ◌∙◌, ap, subst, append-nil}
+use Rattle.std.proofs.Common.{nat_lt, Option, Some, None, refl, sym, ◌∙◌, ap, subst, append-nil}
 use Rattle.std.proofs.Common.{append_assoc, arith}
 use Rattle.std.proofs.lemmas.Bool.{cases_Bool}
 use Rattle.std.proofs.lemmas.Option.{none-some, same_Some}
@@ -17,7 +17,7 @@ use Rattle.tus_session.specs.Turns.{give_on, more_on, more_turn, ended_with, end
 use Rattle.tus_session.specs.Turns.{came_on as came_turn_on}
 use Rattle.tus_session.specs.Turns.{ended_on as ended_world_on}
 use Rattle.tus_session.specs.History.{State, Step, Event, Opened, Came, More, Ended, Marked, Served, Done, put, kept}
-use Rattle.tus_session.specs.History.{most_open, opened_if}
+use Rattle.tus_session.specs.History.{most_open}
 use Rattle.tus_session.specs.History.{turned, opened_at, came_at, more_at, ended_at, conn_in, step, history, beginning}
 use Rattle.tus_session.specs.declared.errors.SessionError.{SessionError}
 use Rattle.tus_session.specs.declared.errors.SessionError.TheVariants.{TooMany, Closed}
@@ -25,9 +25,7 @@ use Rattle.tus_session.specs.Stands.{draft_at}
 use Rattle.tus_session.proofs.Tolds.{came_is, ended_step}
 use Rattle.tus_session.proofs.BodyTold.{rest_same}
 use Rattle.tus_session.proofs.Feeding.{fed_body}
-use Rattle.tus_laws.specs.Patches.{moments_in, at_its_head, BodyCut, DonePatch, IsRefused, Changed, Nothing}
-use Rattle.tus_laws.specs.Patches.{Made, Declared, Put, DeclaredAndPut, Deleted}
-use Rattle.tus_laws.specs.Patches.{declared_at, declared_store, appended_at}
+use Rattle.tus_laws.specs.Patches.{moments_in, at_its_head, BodyCut, DonePatch, IsRefused, Changed}
 use Rattle.tus_laws.specs.Cuts.{head_moment, body_moment, came_moments, cut_moment, came_on, ended_on, event_moments}
 use Rattle.tus_laws.specs.Cuts.{all_moments, bytes_of, given, text_left, still_to_give, KeepsText, AllSmooth}
 use Rattle.tus_laws.proofs.Changes.{served_changed, with_idle, with_text, done_came, ended_spent}

@@ -1,7 +1,7 @@
 -- The replay of a history's moments gives what the history gives.
-use Rattle.std.proofs.Common.{◌≡◌, ◌≢◌, ◌⊎◌, inl, inr, ◌==◌, ℕ, Bool, true, false, List, [], ◌++◌, if◌then◌else◌}
+use Rattle.std.proofs.Common.{◌≡◌, ◌≢◌, ◌⊎◌, inl, inr, ◌==◌, ℕ, Bool, List, [], ◌++◌, if◌then◌else◌}
 use Rattle.std.proofs.Common.{Option, Some, None, refl, sym, ◌∙◌, ap, subst, arith, append-nil, append_assoc}
-use Rattle.std.proofs.lemmas.Option.{none-some, same_Some}
+use Rattle.std.proofs.lemmas.Option.{none-some}
 use Rattle.std.proofs.lemmas.Bool.{cases_eq}
 use Rattle.std.proofs.lemmas.Bool.Decides.{nat_tests}
 use Rattle.upload_rules.specs.Store.{find}
@@ -12,7 +12,7 @@ use Rattle.tus_session.specs.Stands.{draft_at}
 use Rattle.tus_session.proofs.InPlace.{conns_here, conns_else}
 use Rattle.tus_session.proofs.BodyTold.{rest_same}
 use Rattle.tus_action.specs.Acts.{Acted}
-use Rattle.tus_laws.specs.Cuts.{text_left, still_to_give}
+use Rattle.tus_laws.specs.Cuts.{still_to_give}
 use Rattle.tus_laws.proofs.Bare.{bared}
 use Rattle.tus_laws.proofs.Bodies.{Holds, DraftHolds}
 use Rattle.tus_laws.proofs.Turning.{Opens, Rep, Did}

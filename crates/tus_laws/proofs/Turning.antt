@@ -1,13 +1,13 @@
 -- What a call that brings bytes leaves, and what its moments make of a bare world.
 use Rattle.std.proofs.Common.{◌≡◌, ◌⊎◌, inl, inr, ◌==◌, ℕ, true, false, List, [], ◌∷◌, ◌++◌, if◌then◌else◌, Option}
-use Rattle.std.proofs.Common.{Some, None, option_map, refl, sym, ◌∙◌, ap, subst, arith, append-nil, append_assoc}
-use Rattle.std.proofs.lemmas.Option.{none-some, same_Some}
+use Rattle.std.proofs.Common.{Some, None, option_map, refl, sym, ◌∙◌, ap, arith, append-nil, append_assoc}
+use Rattle.std.proofs.lemmas.Option.{none-some}
 use Rattle.std.proofs.lemmas.Bool.Decides.{nat_tests}
 use Rattle.upload_rules.specs.declared.errors.UploadRefusal.{UploadRefusal}
 use Rattle.upload_rules.specs.declared.errors.UploadRefusal.TheVariants.{Full}
 use Rattle.upload_rules.specs.Store.{find}
 use Rattle.upload_rules.specs.World.{Patch, World}
-use Rattle.upload_rules.specs.Calls.{first_patch, longer, appended_at, commit_refusal, spent}
+use Rattle.upload_rules.specs.Calls.{commit_refusal, spent}
 use Rattle.upload_rules.proofs.Finds.{find_without_other, find_replaced_other}
 use Rattle.tus_request.specs.Requests.{Request, Verdict, Asks, Refuses}
 use Rattle.tus_action.specs.Acts.{Acted, acted, fed, fed_patch, commit_with}

@@ -1,11 +1,11 @@
 -- Of two PATCHes that began at one offset of one upload at most one is accepted.
-use Rattle.std.proofs.Common.{◌≡◌, ℕ, ◌+◌, Bool, true, false, List, [], ◌∷◌, ◌++◌, length, if◌then◌else◌}
-use Rattle.std.proofs.Common.{Some, None, refl, sym, ◌∙◌, ap, arith}
+use Rattle.std.proofs.Common.{◌≡◌, ℕ, false, List, ◌∷◌, ◌++◌, length}
+use Rattle.std.proofs.Common.{Some, None, sym, ◌∙◌, ap, arith}
 use Rattle.std.proofs.lemmas.Option.{none-some}
 use Rattle.std.proofs.lemmas.List.{length-append}
 use Rattle.upload_rules.specs.declared.errors.UploadRefusal.TheVariants.{NoSuch, Offset}
 use Rattle.upload_rules.specs.Store.{Upload, Store, upload_of, patched, patched_store}
-use Rattle.upload_rules.specs.Calls.{is_empty, declares, spent}
+use Rattle.upload_rules.specs.Calls.{is_empty}
 use Rattle.upload_rules.proofs.Refusals.{no_such_upload, other_offset}
 use Rattle.tus_session.specs.History.{State, Event, Marked, Served, history}
 use Rattle.tus_laws.specs.Patches.{DonePatch, IsAccepted, IsRefused, HasBody, SamePlace, IsAbove}
