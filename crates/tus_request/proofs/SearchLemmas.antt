@@ -25,11 +25,6 @@ has : {A : Type 0} → Option A → Bool
 has None = false
 has (Some x) = true
 
-has_map : {A B : Type 0} (f : A → B) (o : Option A) → has (option_map f o) ≡ has o
-unfolding has
-has_map f None = refl
-has_map f (Some x) = refl
-
 -- whether the end of the head stands in the lines that are left
 sees : Search → Lines → Bool
 sees Front ls = has (head_lines ls)
@@ -43,62 +38,18 @@ sees Over ls = true
 -- A LF
 sees_lf : (s : Search) (ls : Lines) → sees s ((10 ∷ []) ∷ ls) ≡ sees (after_byte s 10) ls
 unfolding sees has
-sees_lf Front ls = has_map (λ more. (10 ∷ []) ∷ more) (head_lines ls)
-sees_lf FrontCr ls = has_map (λ more. (13 ∷ 10 ∷ []) ∷ more) (head_lines ls)
-sees_lf Text ls = refl
-sees_lf Start ls = refl
-sees_lf StartCr ls = refl
-sees_lf Over ls = refl
+sees_lf s ls = grind arith
 
 -- A CR
 sees_cr : (s : Search) (ls : Lines) → sees s (onto_first 13 ls) ≡ sees (after_byte s 13) ls
 unfolding sees has
-sees_cr Front ls = refl
-sees_cr FrontCr [] = refl
-sees_cr FrontCr (line ∷ ls) = has_map (λ more. (13 ∷ 13 ∷ line) ∷ more) (up_to_empty ls)
-sees_cr Text [] = refl
-sees_cr Text (line ∷ ls) = refl
-sees_cr Start ls = refl
-sees_cr StartCr [] = refl
-sees_cr StartCr (line ∷ ls) = has_map (λ more. (13 ∷ 13 ∷ line) ∷ more) (up_to_empty ls)
-sees_cr Over ls = refl
+sees_cr s ls = grind arith
 
 -- ANOTHER BYTE
-not_empty : (b : ℕ) (line : List ℕ) → (b == 10) ≡ false → (b == 13) ≡ false → is_empty_line (b ∷ line) ≡ false
-not_empty b line e f = rw (e, f) refl
-
-not_empty_cr : (b : ℕ) (line : List ℕ) → (b == 10) ≡ false → is_empty_line (13 ∷ b ∷ line) ≡ false
-not_empty_cr b line e = rw e refl
-
-head_text : (line : List ℕ) (ls : Lines) → is_empty_line line ≡ false → has (head_lines (line ∷ ls)) ≡ has
-    (up_to_empty ls)
-head_text line ls e = rw e (has_map (λ more. line ∷ more) (up_to_empty ls))
-
-up_text : (line : List ℕ) (ls : Lines) → is_empty_line line ≡ false → has (up_to_empty (line ∷ ls)) ≡ has
-    (up_to_empty ls)
-up_text line ls e = rw e (has_map (λ more. line ∷ more) (up_to_empty ls))
-
-text_case : (s : Search) (b : ℕ) (ls : Lines) → (b == 10) ≡ false → (b == 13) ≡ false
-    → sees s (onto_first b ls) ≡ sees (after_text_byte s) ls
-unfolding sees has
-text_case Front b [] e f = refl
-text_case Front b (line ∷ ls) e f = head_text (b ∷ line) ls (not_empty b line e f)
-text_case FrontCr b [] e f = refl
-text_case FrontCr b (line ∷ ls) e f = head_text (13 ∷ b ∷ line) ls (not_empty_cr b line e)
-text_case Text b [] e f = refl
-text_case Text b (line ∷ ls) e f = refl
-text_case Start b [] e f = refl
-text_case Start b (line ∷ ls) e f = up_text (b ∷ line) ls (not_empty b line e f)
-text_case StartCr b [] e f = refl
-text_case StartCr b (line ∷ ls) e f = up_text (13 ∷ b ∷ line) ls (not_empty_cr b line e)
-text_case Over b ls e f = refl
-
-becomes : (s : Search) (b : ℕ) → (b == 10) ≡ false → (b == 13) ≡ false → after_byte s b ≡ after_text_byte s
-becomes s b e f = rw (e, f) refl
-
 sees_text : (s : Search) (b : ℕ) (ls : Lines) → (b == 10) ≡ false → (b == 13) ≡ false
     → sees s (onto_first b ls) ≡ sees (after_byte s b) ls
-sees_text s b ls e f = text_case s b ls e f ∙ ap (λ t. sees t ls) (sym (becomes s b e f))
+unfolding sees has
+sees_text s b ls e f = grind arith
 
 -- ANY BYTE
 step_case : (s : Search) (b : ℕ) (bytes : List ℕ) → sees s (lines (b ∷ bytes)) ≡ sees (after_byte s b) (lines bytes)
@@ -118,21 +69,14 @@ sees_all : (s : Search) (bytes : List ℕ) → sees s (lines bytes) ≡ is_over 
 sees_all s [] = sees_none s
 sees_all s (b ∷ bytes) = step_case s b bytes ∙ sees_all (after_byte s b) bytes
 
--- an option's map is none where the option is
-none_is : {A B : Type 0} (f : A → B) (o : Option A)
-    → (has o ≡ false → option_map f o ≡ None) × (option_map f o ≡ None → has o ≡ false)
-unfolding has
-none_is f None = ((λ e. refl), (λ e. refl))
-none_is f (Some x) = ((λ e. absurd (cc)), (λ e. absurd (cc)))
-
 -- THE HEAD'S END
 no_end : (bytes : List ℕ) → is_over (after_bytes Front bytes) ≡ false → head_extent bytes ≡ None
-unfolding sees
-no_end bytes e = (none_is extent_of (head_lines (lines bytes))).0 (sees_all Front bytes ∙ e)
+unfolding sees has
+no_end bytes e = let s = sees_all Front bytes in grind arith
 
 an_end : (bytes : List ℕ) → head_extent bytes ≡ None → is_over (after_bytes Front bytes) ≡ false
-unfolding sees
-an_end bytes e = sym (sees_all Front bytes) ∙ (none_is extent_of (head_lines (lines bytes))).1 e
+unfolding sees has
+an_end bytes e = let s = sees_all Front bytes in grind arith
 
 module _ (offers : Encoding → Bool) where
   -- a head that isn't whole, and may become so
