@@ -1,21 +1,19 @@
 -- Worlds without the bodies of their open patches, and without a limit of blocks.
-use Rattle.std.proofs.Common.{◌≡◌, ◌==◌, ℕ, zero, suc, ◌+◌, Bool, true, false, List, [], ◌∷◌, length, if◌then◌else◌}
+use Rattle.std.proofs.Common.{◌≡◌, ℕ, zero, suc, ◌+◌, false, List, [], ◌∷◌, length}
 use Rattle.std.proofs.Common.{Option, Some, None, option_map, refl, sym, ◌∙◌, ap, arith}
-use Rattle.std.proofs.lemmas.Option.{same_Some}
 use Rattle.std.proofs.lemmas.Bool.Decides.{nat_tests}
 use Rattle.upload_rules.specs.declared.errors.UploadRefusal.{UploadRefusal}
-use Rattle.upload_rules.specs.declared.errors.UploadRefusal.TheVariants.{Unencodable, Full}
-use Rattle.upload_rules.specs.Store.{New, Upload, Store, find, replaced, without, upload_of}
-use Rattle.upload_rules.specs.World.{Patch, World, is_there, least_from, free_number, completes, patch_text}
-use Rattle.upload_rules.specs.Room.{is_short, exceeds, used, needs_but, wants}
-use Rattle.upload_rules.specs.Calls.{or_else, refuse_if, create_refusal, terminate_refusal, begin_refusal, begun_at}
-use Rattle.upload_rules.specs.Calls.{first_patch, longer, appended_at, text_stays, upload_refusal, commit_refusal}
-use Rattle.upload_rules.specs.Calls.{committed_store, spent}
+use Rattle.upload_rules.specs.declared.errors.UploadRefusal.TheVariants.{Full}
+use Rattle.upload_rules.specs.Store.{find, replaced, without}
+use Rattle.upload_rules.specs.World.{Patch, World, least_from, free_number, patch_text}
+use Rattle.upload_rules.specs.Room.{is_short}
+use Rattle.upload_rules.specs.Calls.{commit_refusal}
+use Rattle.upload_rules.specs.Calls.{spent}
 use Rattle.upload_rules.proofs.Finds.{find_replaced_same}
-use Rattle.tus_request.specs.Requests.{Request, Action, Options, Create, Head, Get, Patch as Patches, Delete}
+use Rattle.tus_request.specs.Requests.{Request}
 use Rattle.tus_request.specs.Requests.{Asks, Refuses, Verdict}
-use Rattle.tus_action.specs.Acts.{Acted, acted, acted_on, post, delete, new_of, head, get, patch}
-use Rattle.tus_action.specs.Acts.{fed, fed_patch, commit_with, patched_reply}
+use Rattle.tus_action.specs.Acts.{Acted, acted}
+use Rattle.tus_action.specs.Acts.{fed, fed_patch, commit_with}
 
 abbrev pub Entry : Type 0
 Entry = ℕ × Patch
@@ -37,36 +35,18 @@ with_world w a = record a { world = w }
 
 pub find_bares : (d : ℕ) (es : List Entry) → find d (bares es) ≡ option_map bare (find d es)
 find_bares d [] = refl
-find_bares d (e ∷ es) = by_test (find_bares d es) (e.0 == d)
-  where
-    by_test : find d (bares es) ≡ option_map bare (find d es) → (b : Bool)
-        → (if b then Some (bare e.1) else find d (bares es)) ≡ option_map bare (if b then Some e.1 else find d es)
-    by_test ih true = refl
-    by_test ih false = ih
+find_bares d (e ∷ es) = let ih = find_bares d es in grind (arith, nat_tests)
 
 pub bares_without : (d : ℕ) (es : List Entry) → bares (without d es) ≡ without d (bares es)
 bares_without d [] = refl
-bares_without d (e ∷ es) = by_test (bares_without d es) (e.0 == d)
-  where
-    by_test : bares (without d es) ≡ without d (bares es) → (b : Bool)
-        → bares (if b then es else e ∷ without d es) ≡ (if b then bares es else (e.0, bare e.1) ∷ without d (bares es))
-    by_test ih true = refl
-    by_test ih false = ap (λ xs. (e.0, bare e.1) ∷ xs) ih
+bares_without d (e ∷ es) = let ih = bares_without d es in grind (arith, nat_tests)
 
 pub bares_replaced : (d : ℕ) (p q : Patch) (es : List Entry) → find d es ≡ Some p → bare q ≡ bare p
     → bares (replaced d q es) ≡ bares es
 bares_replaced d p q [] there same = refl
-bares_replaced d p q (e ∷ es) there same = by_test (λ there. bares_replaced d p q es there same) (e.0 == d) refl
-  where
-    by_test : (find d es ≡ Some p → bares (replaced d q es) ≡ bares es) → (b : Bool) → (e.0 == d) ≡ b
-        → bares (if b then (d, q) ∷ es else e ∷ replaced d q es) ≡ (e.0, bare e.1) ∷ bares es
-    by_test ih true is =
-        let here : e.1 ≡ p = same_Some e.1 p (sym (ap (λ b. if b then Some e.1 else find d es) is) ∙ there) in
-        let number : d ≡ e.0 = grind (arith, nat_tests) in
-        ap (λ n. (n, bare q) ∷ bares es) number ∙ ap (λ x. (e.0, x) ∷ bares es) (same ∙ ap bare (sym here))
-    by_test ih false is =
-        let rest : find d es ≡ Some p = sym (ap (λ b. if b then Some e.1 else find d es) is) ∙ there in
-        ap (λ xs. (e.0, bare e.1) ∷ xs) (ih rest)
+bares_replaced d p q (e ∷ es) there same =
+    let ih : find d es ≡ Some p → bares (replaced d q es) ≡ bares es = λ h. bares_replaced d p q es h same in
+    grind (arith, nat_tests, ih)
 
 pub bares_twice : (es : List Entry) → bares (bares es) ≡ bares es
 bares_twice [] = refl
@@ -76,16 +56,10 @@ length_bares : (es : List Entry) → length (bares es) ≡ length es
 length_bares [] = refl
 length_bares (e ∷ es) = ap suc (length_bares es)
 
-there_bare : (o : Option Patch) → is_there (option_map bare o) ≡ is_there o
-there_bare None = refl
-there_bare (Some p) = refl
-
 least_bares : (left n : ℕ) (es : List Entry) → least_from left n (bares es) ≡ least_from left n es
 least_bares zero n es = refl
 least_bares (suc left) n es =
-    ap (λ b. if b then least_from left (n + 1) (bares es) else n)
-    (ap is_there (find_bares n es) ∙ there_bare (find n es))
-    ∙ ap (λ m. if is_there (find n es) then m else n) (least_bares left (n + 1) es)
+    let ih = least_bares left (n + 1) es in let f = find_bares n es in grind arith
 
 pub free_bares : (w : World) → free_number (bared w) ≡ free_number w
 free_bares w =
@@ -93,129 +67,46 @@ free_bares w =
 
 -- A HEAD on a bare world
 
-abbrev SameHead : World → (World → Acted) → Type 0
-SameHead w does = does (bared w) ≡ with_world (bared (does w).world) (does w)
-
-module _ (w : World) (r : Request) where
-  post_bare : (new : New) (o : Option UploadRefusal) → SameHead w (λ v. post v r new o)
-  post_bare new None = refl
-  post_bare new (Some f) = refl
-
-  delete_bare : (number : ℕ) (o : Option UploadRefusal) → SameHead w (λ v. delete v r number o)
-  delete_bare number None = refl
-  delete_bare number (Some f) = refl
-
-  head_bare : (o : Option Upload) → SameHead w (λ v. head v r o)
-  head_bare None = refl
-  head_bare (Some u) = refl
-
-  get_bare : (number : ℕ) (o : Option Upload) → SameHead w (λ v. get v r number o)
-  get_bare number None = refl
-  get_bare number (Some u) = refl
-
-  begun_bare : (number count : ℕ) (declare : Option ℕ) (o : Option Upload)
-      → begun_at (bared w) number count declare o ≡ bared (begun_at w number count declare o)
-  begun_bare number count declare None = refl
-  begun_bare number count declare (Some u) =
-      let p = first_patch number count declare u in
-      ap (λ d. record { store = w.store; patches = (d, p) ∷ bares w.patches; blocks = None }) (free_bares w)
-
-  patch_bare : (number : ℕ) (declare : Option ℕ) (o : Option UploadRefusal)
-      → SameHead w (λ v. patch v r number declare o)
-  patch_bare number declare None =
-      let a = patch w r number declare None in
-      let opened : World → ℕ → Acted =
-      λ v d. record { world = v; draft = Some d; bytes = a.bytes; text = []; pending = None; closes = false } in
-      ap (λ v. opened v (free_number (bared w))) (begun_bare number r.length declare (upload_of w.store number))
-      ∙ ap (opened (bared a.world)) (free_bares w)
-  patch_bare number declare (Some f) = refl
-
-  action_bare : (action : Action) → SameHead w (λ v. acted_on v r action)
-  action_bare Options = refl
-  action_bare (Create c) = post_bare (new_of c) (create_refusal w (new_of c))
-  action_bare (Head n) = head_bare (upload_of w.store n)
-  action_bare (Get n) = get_bare n (upload_of w.store n)
-  action_bare (Patches n offset declare) = patch_bare n declare (begin_refusal w n offset r.length declare)
-  action_bare (Delete n) = delete_bare n (terminate_refusal w n)
-
 pub acted_bare : (w : World) (v : Verdict) → acted (bared w) v ≡ with_world (bared (acted w v).world) (acted w v)
-acted_bare w (Asks r) = action_bare w r r.action
-acted_bare w (Refuses x) = refl
+acted_bare w v = grind (arith, free_bares w)
 
 -- A BODY
 
 -- the patch with the bytes that came is there
 pub fed_there : (w : World) (d : ℕ) (p : Patch) (piece : List ℕ) → find d w.patches ≡ Some p
     → find d (fed w d piece).patches ≡ Some (fed_patch w d p piece)
-fed_there w d p [] there = there
-fed_there w d p (b ∷ piece) there =
-    ap (λ o. find d (appended_at w d (b ∷ piece) o).patches) there
-    ∙ find_replaced_same d p (longer w d p (b ∷ piece)) w.patches there
+fed_there w d p piece there = grind (arith, find_replaced_same)
 
 pub fed_bare : (w : World) (d : ℕ) (p : Patch) (piece : List ℕ) → find d w.patches ≡ Some p
     → bared (fed w d piece) ≡ bared w
-fed_bare w d p [] there = refl
-fed_bare w d p (b ∷ piece) there =
-    ap (λ o. bared (appended_at w d (b ∷ piece) o)) there
-    ∙ ap (λ es. record { store = w.store; patches = es; blocks = None })
-    (bares_replaced d p (longer w d p (b ∷ piece)) w.patches there refl)
+fed_bare w d p piece there = grind (arith, bares_replaced)
 
 -- on a bare world it is never short
 pub fed_calm : (w : World) (d : ℕ) (p : Patch) (body : List ℕ)
     → fed_patch (bared w) d (bare p) body ≡ record p { body = body; short = false }
 unfolding is_short
-fed_calm w d p [] = refl
-fed_calm w d p (b ∷ body) = refl
+fed_calm w d p body = grind arith
 
 -- A COMMIT that isn't refused for room, on a world that has no limit
 
 abbrev calm : Patch → Patch
 calm p = record p { short = false }
 
-same_refusal : (o : Option UploadRefusal) (stays fault short : Bool)
-    → (or_else o (if stays then None else if fault then Some Unencodable else refuse_if short Full) ≡ Some Full → ⊥)
-    → or_else o (if stays then None else if fault then Some Unencodable else refuse_if short Full)
-    ≡ or_else o (if stays then None else if fault then Some Unencodable else refuse_if false Full)
-same_refusal (Some f) stays fault short roomy = refl
-same_refusal None true fault short roomy = refl
-same_refusal None false true short roomy = refl
-same_refusal None false false true roomy = absurd (roomy refl)
-same_refusal None false false false roomy = refl
-
 pub commit_calm : (v u : World) (d : ℕ) (p : Patch) → u.store ≡ v.store → u.blocks ≡ None
     → (commit_refusal v d p ≡ Some Full → ⊥)
     → commit_refusal u d (calm p) ≡ commit_refusal v d p
 unfolding commit_refusal is_short patch_text
 commit_calm v u d p store unlimited roomy =
-    let done = completes v.store p in
-    let o = upload_refusal p (upload_of v.store p.number) in
-    let none : is_short u d (calm p) (completes u.store p) ≡ false =
-    let taken = used u.store.indexes u.store.uploads + needs_but d u.store.indexes u.patches in
-    ap (λ n. exceeds n taken (wants u.store.indexes (calm p) (completes u.store p))) unlimited in
-    let refusal : Store → Bool → Option UploadRefusal =
-    λ m short. or_else (upload_refusal p (upload_of m p.number)) (if text_stays m p then None
-    else if is_there (patch_text m.indexes p (completes m p)).fault then Some Unencodable
-    else refuse_if short Full) in
-    let fault = is_there (patch_text v.store.indexes p done).fault in
-    ap (refusal u.store) none ∙ ap (λ m. refusal m false) store
-    ∙ sym (same_refusal o (text_stays v.store p) fault (is_short v d p done) roomy)
+    grind arith
 
 -- what the commit makes, and its reply
 spent_calm : (v u : World) (d : ℕ) (p : Patch) (o : Option UploadRefusal) → u.store ≡ v.store
     → bares u.patches ≡ bares v.patches
     → bared (spent u d (calm p) o) ≡ bared (spent v d p o)
-spent_calm v u d p o store patches = by_refusal o
-  where
-    rest : bares (without d u.patches) ≡ bares (without d v.patches)
-    rest = bares_without d u.patches ∙ ap (without d) patches ∙ sym (bares_without d v.patches)
-
-    by_refusal : (o : Option UploadRefusal) → bared (spent u d (calm p) o) ≡ bared (spent v d p o)
-    by_refusal None =
-        ap (λ es. record { store = committed_store u.store p; patches = es; blocks = None }) rest
-        ∙ ap (λ m. record { store = committed_store m p; patches = bares (without d v.patches); blocks = None }) store
-    by_refusal (Some f) =
-        ap (λ es. record { store = u.store; patches = es; blocks = None }) rest
-        ∙ ap (λ m. record { store = m; patches = bares (without d v.patches); blocks = None }) store
+spent_calm v u d p o store patches =
+    let rest : bares (without d u.patches) ≡ bares (without d v.patches) =
+    bares_without d u.patches ∙ ap (without d) patches ∙ sym (bares_without d v.patches) in
+    grind arith
 
 pub ended_calm : (v u : World) (d : ℕ) (p : Patch) → u.store ≡ v.store → u.blocks ≡ None
     → bares u.patches ≡ bares v.patches → (commit_refusal v d p ≡ Some Full → ⊥)
@@ -223,10 +114,6 @@ pub ended_calm : (v u : World) (d : ℕ) (p : Patch) → u.store ≡ v.store →
 ended_calm v u d p store unlimited patches roomy =
     ap (λ o. bared (spent u d (calm p) o)) (commit_calm v u d p store unlimited roomy)
     ∙ spent_calm v u d p (commit_refusal v d p) store patches
-
-reply_calm : (p : Patch) (r : Request) (o : Option UploadRefusal) → patched_reply (calm p) r o ≡ patched_reply p r o
-reply_calm p r None = refl
-reply_calm p r (Some f) = refl
 
 -- the same commit, by the verdict of its head
 pub record SameCommit (a b : Acted) : Type 0 where
@@ -241,14 +128,10 @@ pub done_calm : (v u : World) (d : ℕ) (p : Patch) (t : Verdict) → u.store �
 done_calm v u d p (Asks r) store unlimited patches roomy = record {
   world = ended_calm v u d p store unlimited patches (roomy r refl);
   draft = refl;
-  bytes =
-      ap (patched_reply (calm p) r) (commit_calm v u d p store unlimited (roomy r refl))
-      ∙ reply_calm p r (commit_refusal v d p);
+  bytes = let same = commit_calm v u d p store unlimited (roomy r refl) in grind arith;
 }
 done_calm v u d p (Refuses x) store unlimited patches roomy = record {
-  world =
-      ap (λ es. record { store = u.store; patches = es; blocks = None }) patches
-      ∙ ap (λ m. record { store = m; patches = bares v.patches; blocks = None }) store;
+  world = grind arith;
   draft = refl;
   bytes = refl;
 }

@@ -25,6 +25,10 @@ use Rattle.tus_session.proofs.NewRests.{head_left, head_only, head_part_rest, bo
 use Rattle.tus_session.proofs.HeadTurns.{head_within, prefix_judged, prefix_body}
 use Rattle.tus_session.proofs.RequestLeaves.{Leaves, Nothing, Text, Patching, leaves}
 
+pub none_if : {A : Type 0} (o : Option A) → ((d : A) → o ≡ Some d → ⊥) → o ≡ None
+none_if None h = refl
+none_if (Some d) h = absurd (h d refl)
+
 -- the open patch holds what came of the body
 pub record Holds (w : World) (k : Conn) (d : ℕ) : Type 0 where
   pub asked : Asked
@@ -90,11 +94,8 @@ module _ (w : World) (k : Conn) (holds : DraftHolds w k) where
     only : cut (reader w) u ≡ only_body asked
     only = left_alone (reader w) is_steady k.stream ∙ ap (λ x. record { whole = []; rest = x }) rest
 
-    same_asked : (r : Asked) → InBody r ≡ InBody asked → r ≡ asked
-    same_asked r e = ap (λ x. elim x as (λ _. Asked) [ InHead s ↦ asked | InBody a ↦ a ]) e
-
     body_is : (d : ℕ) (h : Holds w k d) → h.patch.body ≡ asked.body
-    body_is d h = h.body ∙ ap (λ r. r.body) (same_asked h.asked (sym h.rest ∙ rest))
+    body_is d h = let same : h.asked ≡ asked = cc in rw (← same) h.body
 
     part_brings : length asked.body + length piece < body_length asked.verdict
         → CallBrings w k piece
@@ -160,12 +161,8 @@ module _ (w : World) (k : Conn) (holds : DraftHolds w k) where
   -- a head is under way
   module _ (h : List ℕ) (inside : (cut (reader w) k.stream).rest ≡ InHead h) (idle : k.pending ≡ None)
       (piece : List ℕ) where
-    no_draft_at : (o : Option ℕ) → k.draft ≡ o → k.draft ≡ None
-    no_draft_at None e = e
-    no_draft_at (Some d) e = let x : InHead h ≡ InBody (holds d e).asked = sym inside ∙ (holds d e).rest in absurd (cc)
-
     no_draft : k.draft ≡ None
-    no_draft = no_draft_at k.draft refl
+    no_draft = none_if k.draft (λ d e. let x : InHead h ≡ InBody (holds d e).asked = sym inside ∙ (holds d e).rest in cc)
 
     is_inside : InsideHead w k h
     is_inside = record { rest = inside; draft = no_draft; pending = idle }

@@ -1,51 +1,40 @@
 -- What an event makes of the uploads.
-use Rattle.std.proofs.Common.{◌≡◌, ◌-◌, ℕ, Bool, true, false, List, length, Option, Some, None, refl, sym, ◌∙◌, ap}
-use Rattle.std.proofs.Common.{subst}
+use Rattle.std.proofs.Common.{◌≡◌, ◌-◌, ℕ, List, length, Option, Some, None, refl, sym, ◌∙◌, ap}
+use Rattle.std.proofs.Common.{subst, arith}
 use Rattle.std.proofs.lemmas.Option.{none-some}
 use Rattle.upload_rules.specs.declared.errors.UploadRefusal.{UploadRefusal}
 use Rattle.upload_rules.specs.Store.{New, Upload, find, upload_of}
 use Rattle.upload_rules.specs.World.{Patch, World}
-use Rattle.upload_rules.specs.Calls.{create_refusal, begin_refusal, begun_at, commit_refusal, committed_store, spent}
+use Rattle.upload_rules.specs.Calls.{create_refusal, commit_refusal, spent}
 use Rattle.tus_request.specs.Requests.{Request, Action, Options, Create, Head, Get, Patch as Patches, Delete}
 use Rattle.tus_request.specs.Requests.{Asks, Refuses, Verdict}
-use Rattle.tus_action.specs.Acts.{Acted, Giving, acted, acted_on, post, delete, new_of, head, get, patch}
-use Rattle.tus_action.specs.Acts.{is_pending, fed, commit_with}
+use Rattle.tus_action.specs.Acts.{Acted, Giving, acted, acted_on, post, delete, new_of}
+use Rattle.tus_action.specs.Acts.{fed, commit_with}
 use Rattle.upload_rules.specs.Reading.{no_such}
 use Rattle.tus_session.specs.Streams.{Asked, Moments, taken}
-use Rattle.tus_session.specs.Turns.{Conn, Turn, reader, at_head, at_body, body_step, turn_of, came_with, came_on}
-use Rattle.tus_session.specs.Turns.{came_turn, give_on, more_on, more_turn, ended_with, ended_on, ended_world}
+use Rattle.tus_session.specs.Turns.{Conn, reader, at_head, at_body, body_step, turn_of, came_with, came_on}
+use Rattle.tus_session.specs.Turns.{came_turn, more_turn, ended_with, ended_on, ended_world}
 use Rattle.tus_session.specs.History.{State, Event, Opened, Came, More, Ended, Served}
 use Rattle.tus_session.specs.History.{came_at, more_at, ended_at, step}
 use Rattle.tus_session.proofs.Feeding.{fed_store}
 use Rattle.tus_session.proofs.Unmade.{opened_uploads}
-use Rattle.tus_session.proofs.RequestLeaves.{Leaves, Nothing as Idle, Text, Patching, leaves}
-use Rattle.tus_laws.specs.Patches.{moments_in, at_its_head, BodyCame, BodyCut, IsDoneOn, DonePatch}
+use Rattle.tus_session.proofs.RequestLeaves.{leaves}
+use Rattle.tus_laws.specs.Patches.{moments_in, at_its_head, BodyCame, BodyCut, DonePatch}
 use Rattle.tus_laws.specs.Patches.{IsRefused, Changed, Nothing, Made, Deleted}
 use Rattle.tus_laws.proofs.Commits.{committed_changed}
 
 -- A HEAD
 
 -- a head that opens a patch leaves the uploads
-leaves_uploads : (w : World) (r : Request) (a : Acted) (d : ℕ) → Leaves w r a → a.draft ≡ Some d
-    → (a.world.store ≡ w.store) × (a.pending ≡ None)
-leaves_uploads w r a d (Idle moves none idle) e = absurd (none-some d (sym none ∙ e))
-leaves_uploads w r a d (Text h same none some stays) e = absurd (none-some d (sym none ∙ e))
-leaves_uploads w r a d (Patching y) e = (ap (λ x. x.store) y.world_is, y.idle)
-
 verdict_uploads : (w : World) (v : Verdict) (d : ℕ) → (acted w v).draft ≡ Some d
     → ((acted w v).world.store ≡ w.store) × ((acted w v).pending ≡ None)
-verdict_uploads w (Asks r) d e = leaves_uploads w r (acted w (Asks r)) d (leaves w r) e
+verdict_uploads w (Asks r) d e = let left = leaves w r in grind arith
 verdict_uploads w (Refuses x) d e = absurd (none-some d e)
 
 pub head_uploads : (w : World) (draft : Option ℕ) (o : Option Asked) (d : ℕ) → (at_head w draft o).draft ≡ Some d
     → ((at_head w draft o).world.store ≡ w.store) × ((at_head w draft o).pending ≡ None)
 head_uploads w draft None d e = (refl, refl)
 head_uploads w draft (Some r) d e = verdict_uploads w r.verdict d e
-
-begun_uploads : (w : World) (number count : ℕ) (declare : Option ℕ) (o : Option Upload)
-    → (begun_at w number count declare o).store ≡ w.store
-begun_uploads w number count declare None = refl
-begun_uploads w number count declare (Some u) = refl
 
 module _ (st : State) (e : Event) where
   -- what a request makes of the uploads at its head
@@ -58,26 +47,12 @@ module _ (st : State) (e : Event) where
   deleted r number None none = Nothing refl
   deleted r number (Some u) there = Deleted number u there refl
 
-  shown : (r : Request) (o : Option Upload) → Changed st e (head st.world r o).world.store
-  shown r None = Nothing refl
-  shown r (Some u) = Nothing refl
-
-  got : (r : Request) (number : ℕ) (o : Option Upload) → Changed st e (get st.world r number o).world.store
-  got r number None = Nothing refl
-  got r number (Some u) = Nothing refl
-
-  patched : (r : Request) (number : ℕ) (declare : Option ℕ) (o : Option UploadRefusal)
-      → Changed st e (patch st.world r number declare o).world.store
-  patched r number declare None =
-      Nothing (begun_uploads st.world number r.length declare (upload_of st.world.store number))
-  patched r number declare (Some f) = Nothing refl
-
   by_action : (r : Request) (action : Action) → Changed st e (acted_on st.world r action).world.store
   by_action r Options = Nothing refl
   by_action r (Create c) = posted r (new_of c) (create_refusal st.world (new_of c))
-  by_action r (Head n) = shown r (upload_of st.world.store n)
-  by_action r (Get n) = got r n (upload_of st.world.store n)
-  by_action r (Patches n offset declare) = patched r n declare (begin_refusal st.world n offset r.length declare)
+  by_action r (Head n) = Nothing (grind arith)
+  by_action r (Get n) = Nothing (grind arith)
+  by_action r (Patches n offset declare) = Nothing (grind arith)
   by_action r (Delete n) = deleted r n (upload_of st.world.store n) refl
 
   by_verdict : (v : Verdict) → Changed st e (acted st.world v).world.store
@@ -90,47 +65,32 @@ module _ (st : State) (e : Event) where
 
   -- A PATCH THAT IS DONE
 
-  pub done_uploads_came : (c : ℕ) (piece : List ℕ) (k : Conn) (v : World) (d : ℕ) (p : Patch)
-      → BodyCame st.world k piece v d p → v.store ≡ st.world.store
-  done_uploads_came c piece k v d p x =
-      ap (λ y. y.store) x.world ∙ fed_store (at_its_head st.world k piece).world d (moments_in st.world k piece).came
-      ∙ (head_uploads st.world k.draft (moments_in st.world k piece).head d x.draft_open).0
-
   spent_changed : (x : DonePatch st e) → x.world.store ≡ st.world.store → (o : Option UploadRefusal)
       → commit_refusal x.world x.draft x.patch ≡ o
       → Changed st e (spent x.world x.draft x.patch o).store
-  spent_changed x same None is =
-      subst (Changed st e) (ap (λ m. committed_store m x.patch) (sym same)) (committed_changed st e x same is)
+  spent_changed x same None is = rw same (committed_changed st e x same is)
   spent_changed x same (Some f) is = Nothing same
-
-pub done_uploads_at : (st : State) (e : Event) (k : Conn) (v : World) (d : ℕ) (p : Patch) → IsDoneOn st e k v d p
-    → v.store ≡ st.world.store
-done_uploads_at st (Opened c) k v d p done = absurd done
-done_uploads_at st (Came c piece) k v d p done = done_uploads_came st (Came c piece) c piece k v d p done.1
-done_uploads_at st (More c) k v d p done = absurd done
-done_uploads_at st (Ended c) k v d p done = ap (λ y. y.store) done.1.world
 
 -- the uploads are those from before the event
 pub done_uploads : (st : State) (e : Event) (x : DonePatch st e) → x.world.store ≡ st.world.store
-done_uploads st e x = done_uploads_at st e x.conn x.world x.draft x.patch x.done
+done_uploads st (Opened c) x = absurd x.done
+done_uploads st (Came c piece) x =
+    let m = moments_in st.world x.conn piece in
+    let a = at_its_head st.world x.conn piece in
+    ap (λ y. y.store) x.done.1.world ∙ fed_store a.world x.draft m.came
+    ∙ (head_uploads st.world x.conn.draft m.head x.draft x.done.1.draft_open).0
+done_uploads st (More c) x = absurd x.done
+done_uploads st (Ended c) x = ap (λ y. y.store) x.done.1.world
 
 -- BYTES THAT CAME
 
--- a call's turn, by whether its head leaves a text to be given
-abbrev turn_by : Conn → List ℕ → ℕ → Moments → Acted → Bool → Turn
-turn_by k piece n m a text =
-    elim text as (λ _. Turn) [
-      | true ↦ turn_of k piece (n - length m.came) a
-      | false ↦ turn_of k piece n (body_step a m.came m.body a.draft)
-    ]
-
 pub with_idle : (k : Conn) (piece : List ℕ) (n : ℕ) (m : Moments) (a : Acted) → a.pending ≡ None
     → came_with k piece n m a ≡ turn_of k piece n (body_step a m.came m.body a.draft)
-with_idle k piece n m a idle = ap (turn_by k piece n m a) (ap is_pending idle)
+with_idle k piece n m a idle = grind arith
 
 pub with_text : (k : Conn) (piece : List ℕ) (n : ℕ) (m : Moments) (a : Acted) (g : Giving) → a.pending ≡ Some g
     → came_with k piece n m a ≡ turn_of k piece (n - length m.came) a
-with_text k piece n m a g text = ap (turn_by k piece n m a) (ap is_pending text)
+with_text k piece n m a g text = grind arith
 
 came_world : (w : World) (k : Conn) (piece : List ℕ) → k.pending ≡ None
     → (came_turn w k piece).world
@@ -145,19 +105,9 @@ came_none w k piece g e = ap (λ g. (came_on w k piece g).world) e
 -- the world after the last byte of a body
 pub came_spent : (w : World) (k : Conn) (piece : List ℕ) (v : World) (d : ℕ) (p : Patch) → BodyCame w k piece v d p
     → (came_turn w k piece).world ≡ spent v d p (commit_refusal v d p)
+unfolding came_turn
 came_spent w k piece v d p x =
-    let m = moments_in w k piece in
-    let a = at_its_head w k piece in
-    let u = fed a.world d m.came in
-    let there : find d u.patches ≡ Some p = subst (λ y. find d y.patches ≡ Some p) x.world x.found in
-    came_world w k piece x.nothing_to_give
-    ∙ ap (λ t. t.world)
-    (with_idle k piece (taken (reader w) k.stream piece) m a (head_uploads w k.draft m.head d x.draft_open).1)
-    ∙ ap (λ o. (body_step a m.came m.body o).world) x.draft_open
-    ∙ ap (λ o. (at_body u d o).world) x.body_moment
-    ∙ ap (λ t. (commit_with u d t (find d u.patches)).world) x.asks
-    ∙ ap (λ o. (commit_with u d (Asks x.request) o).world) there
-    ∙ ap (λ y. spent y d p (commit_refusal y d p)) (sym x.world)
+    let idle = (head_uploads w k.draft (moments_in w k piece).head d x.draft_open).1 in grind arith
 
 module _ (st : State) (c : ℕ) (piece : List ℕ) (k : Conn) (here : st.conns c ≡ Some k) (idle : k.pending ≡ None) where
   abbrev w : World
@@ -195,20 +145,16 @@ module _ (st : State) (c : ℕ) (piece : List ℕ) (k : Conn) (here : st.conns c
         } in
         record { conn = k; world = v; draft = d; patch = p; done = (here, came) }
 
-    by_found : (r : Asked) (q : Request) → m.body ≡ Some r → r.verdict ≡ Asks q → (o : Option Patch)
-        → find d v.patches ≡ o → IsChanged (commit_with v d (Asks q) o).world
-    by_found r q ends asks None found = Nothing same
-    by_found r q ends asks (Some p) found =
+    by_asked : (r : Asked) → m.body ≡ Some r → (t : Verdict) → r.verdict ≡ t → (o : Option Patch)
+        → find d v.patches ≡ o → IsChanged (commit_with v d t o).world
+    by_asked r ends (Asks q) asks None found = Nothing same
+    by_asked r ends (Asks q) asks (Some p) found =
         spent_changed st (Came c piece) (done_came r q p ends asks found) same (commit_refusal v d p) refl
-
-    by_asked : (r : Asked) → m.body ≡ Some r → (t : Verdict) → r.verdict ≡ t
-        → IsChanged (commit_with v d t (find d v.patches)).world
-    by_asked r ends (Asks q) asks = by_found r q ends asks (find d v.patches) refl
-    by_asked r ends (Refuses x) asks = Nothing same
+    by_asked r ends (Refuses x) asks o found = Nothing (grind arith)
 
     by_moment : (o : Option Asked) → m.body ≡ o → IsChanged (at_body v d o).world
     by_moment None ends = Nothing same
-    by_moment (Some r) ends = by_asked r ends r.verdict refl
+    by_moment (Some r) ends = by_asked r ends r.verdict refl (find d v.patches) refl
 
   by_draft : (o : Option ℕ) → a.draft ≡ o → IsChanged (body_step a m.came m.body o).world
   by_draft None none = head_changed st (Came c piece) k.draft m.head
@@ -216,13 +162,9 @@ module _ (st : State) (c : ℕ) (piece : List ℕ) (k : Conn) (here : st.conns c
 
   by_text : (o : Option Giving) → a.pending ≡ o
       → IsChanged (came_with k piece (taken (reader w) k.stream piece) m a).world
-  by_text None e =
-      let n = taken (reader w) k.stream piece in
-      subst (λ t. IsChanged t.world) (sym (with_idle k piece n m a e)) (by_draft a.draft refl)
+  by_text None e = rw (with_idle k piece (taken (reader w) k.stream piece) m a e) (by_draft a.draft refl)
   by_text (Some g) e =
-      let n = taken (reader w) k.stream piece in
-      subst (λ t. IsChanged t.world) (sym (with_text k piece n m a g e))
-      (head_changed st (Came c piece) k.draft m.head)
+      rw (with_text k piece (taken (reader w) k.stream piece) m a g e) (head_changed st (Came c piece) k.draft m.head)
 
   idle_changed : IsChanged (came_turn st.world k piece).world
   idle_changed = subst IsChanged (sym (came_world st.world k piece idle)) (by_text a.pending refl)
@@ -234,17 +176,9 @@ came_changed st c piece k here (Some g) text = Nothing (ap (λ x. x.store) (came
 
 -- THE OTHER EVENTS
 
-give_case : (w : World) (k : Conn) (g : Giving) (o : Option Upload) → (give_on w k g o).world ≡ w
-give_case w k g None = refl
-give_case w k g (Some u) = refl
-
-more_case : (w : World) (k : Conn) (o : Option Giving) → (more_on w k o).world ≡ w
-more_case w k None = refl
-more_case w k (Some g) = give_case w k g (upload_of w.store g.number)
-
 more_world : (w : World) (k : Conn) → (more_turn w k).world ≡ w
 unfolding more_turn
-more_world w k = more_case w k k.pending
+more_world w k = grind arith
 
 pub ended_spent : (w : World) (k : Conn) (d : ℕ) (p : Patch) → k.draft ≡ Some d → find d w.patches ≡ Some p
     → ended_world w k ≡ spent w d p (commit_refusal w d p)
@@ -292,22 +226,16 @@ served_changed st (More c) = more_at_changed st c (st.conns c)
 served_changed st (Ended c) = ended_at_changed st c (st.conns c) refl
 
 -- the world after a patch that is done
-done_world_at : (st : State) (e : Event) (k : Conn) (v : World) (d : ℕ) (p : Patch) → IsDoneOn st e k v d p
-    → (step st e Served).state.world ≡ spent v d p (commit_refusal v d p)
-unfolding step
-done_world_at st (Opened c) k v d p done = absurd done
-done_world_at st (Came c piece) k v d p done =
-    ap (λ o. (came_at st c piece o).state.world) done.0 ∙ came_spent st.world k piece v d p done.1
-done_world_at st (More c) k v d p done = absurd done
-done_world_at st (Ended c) k v d p done =
-    let x = done.1 in
-    let found : find d st.world.patches ≡ Some p = subst (λ y. find d y.patches ≡ Some p) x.world x.found in
-    ap (λ o. (ended_at st c o).state.world) done.0 ∙ ended_spent st.world k d p x.draft_open found
-    ∙ ap (λ y. spent y d p (commit_refusal y d p)) (sym x.world)
-
 pub done_world : (st : State) (e : Event) (x : DonePatch st e)
     → (step st e Served).state.world ≡ spent x.world x.draft x.patch (commit_refusal x.world x.draft x.patch)
-done_world st e x = done_world_at st e x.conn x.world x.draft x.patch x.done
+unfolding step
+done_world st (Opened c) x = absurd x.done
+done_world st (Came c piece) x =
+    rw x.done.0 (came_spent st.world x.conn piece x.world x.draft x.patch x.done.1)
+done_world st (More c) x = absurd x.done
+done_world st (Ended c) x =
+    let cut = x.done.1 in
+    rw (x.done.0, cut.world) (ended_spent st.world x.conn x.draft x.patch cut.draft_open (rw cut.world at cut.found))
 
 -- one that is refused makes nothing
 pub refused_same : (st : State) (e : Event) (x : DonePatch st e) (why : UploadRefusal) → IsRefused x why

@@ -1,16 +1,16 @@
 -- What the commit of a PATCH makes of the uploads: `declare`, or `append`, or both.
-use Rattle.std.proofs.Common.{◌≡◌, ◌+◌, ℕ, Bool, true, false, List, [], ◌∷◌, ◌++◌, length, Option, Some}
+use Rattle.std.proofs.Common.{◌≡◌, ℕ, Bool, true, false, List, [], ◌∷◌, Option, Some}
 use Rattle.std.proofs.Common.{None}
 use Rattle.std.proofs.Common.{refl, sym, ◌∙◌, ap, subst, arith, append-nil, if◌then◌else◌}
 use Rattle.std.proofs.lemmas.Bool.Decides.{nat_tests}
 use Rattle.upload_rules.specs.Lengths.{known_or, is_new, longest}
-use Rattle.upload_rules.specs.Store.{Upload, Store, upload_of, replaced, patched_at, patched_store}
+use Rattle.upload_rules.specs.Store.{Upload, Store, upload_of, replaced, patched_store}
 use Rattle.upload_rules.specs.World.{Patch}
 use Rattle.upload_rules.specs.Calls.{is_empty, declares_at, is_idle, committed_store}
 use Rattle.upload_rules.proofs.Finds.{find_replaced_same}
 use Rattle.tus_session.specs.History.{State, Event}
 use Rattle.tus_session.proofs.Moved.{Fitting, accepted_at}
-use Rattle.tus_laws.specs.Patches.{DonePatch, IsAccepted, HasBody, Declares, declared_at, declared_store, appended_at}
+use Rattle.tus_laws.specs.Patches.{DonePatch, IsAccepted, HasBody, Declares, declared_store}
 use Rattle.tus_laws.specs.Patches.{appended_store, Changed, Nothing, Declared, Put, DeclaredAndPut}
 
 replaced_twice : {A : Type 0} (n : ℕ) (a b : A) (xs : List (ℕ × A))
@@ -22,42 +22,22 @@ module _ (m : Store) (n : ℕ) (u : Upload) (there : upload_of m n ≡ Some u) w
   -- where the length stays, only bytes come
   pub put_is : (declare : Option ℕ) (bytes : List ℕ) → known_or u.declared declare ≡ u.declared
       → patched_store m n declare bytes ≡ appended_store m n bytes
-  put_is declare bytes stays =
-      let put : Option ℕ → Store =
-      λ k. record m { uploads = replaced n (record u { declared = k; accepted = u.accepted ++ bytes }) m.uploads } in
-      ap (patched_at m n declare bytes) there ∙ (ap put stays ∙ sym (ap (appended_at m n bytes) there))
+  put_is declare bytes stays = grind arith
 
   module _ (total : ℕ) (unknown : u.declared ≡ None) where
     abbrev v : Upload
     v = record u { declared = Some total }
 
-    abbrev with_bytes : List ℕ → Store
-    with_bytes bytes = record m { uploads = replaced n (record v { accepted = bytes }) m.uploads }
-
-    named : (bytes : List ℕ) → patched_store m n (Some total) bytes ≡ with_bytes (u.accepted ++ bytes)
-    named bytes =
-        let put : Option ℕ → Store =
-        λ k. record m {
-          uploads = replaced n (record u { declared = known_or k (Some total); accepted = u.accepted ++ bytes })
-              m.uploads;
-        } in
-        ap (patched_at m n (Some total) bytes) there ∙ ap put unknown
-
     -- only a length comes
     pub declared_is : patched_store m n (Some total) [] ≡ declared_store m n total
-    declared_is = named [] ∙ (ap with_bytes (append-nil u.accepted) ∙ sym (ap (declared_at m n total) there))
+    declared_is = grind (arith, append-nil {A = ℕ})
 
     -- a length, and after it bytes
     pub both_is : (bytes : List ℕ)
         → patched_store m n (Some total) bytes ≡ appended_store (declared_store m n total) n bytes
     both_is bytes =
-        let m' : Store = declared_at m n total (Some u) in
-        let here : upload_of m' n ≡ Some v = find_replaced_same n u v m.uploads there in
-        named bytes
-        ∙ (ap (λ us. record m { uploads = us })
-        (sym (replaced_twice n v (record v { accepted = u.accepted ++ bytes }) m.uploads))
-        ∙ (sym (ap (appended_at m' n bytes) here)
-        ∙ sym (ap (λ o. appended_store (declared_at m n total o) n bytes) there)))
+        let here = find_replaced_same n u v m.uploads there in
+        grind (arith, replaced_twice {A = Upload})
 
 module _ (st : State) (e : Event) (x : DonePatch st e) (fit : Fitting x.patch
     (upload_of st.world.store x.patch.number)) (accepted : IsAccepted x) where
@@ -101,12 +81,9 @@ module _ (st : State) (e : Event) (x : DonePatch st e) (fit : Fitting x.patch
   brings : (known declare : Option ℕ) → u.declared ≡ known → p.declare ≡ declare
       → (if is_new known declare then false else is_empty p.body) ≡ false
       → Changed st e after
-  brings None None known_is declare_is busy =
-      puts (ap (λ k. known_or k p.declare) known_is ∙ (declare_is ∙ sym known_is)) busy
+  brings None None known_is declare_is busy = puts (grind arith) busy
   brings None (Some total) known_is declare_is busy = declared_case total known_is declare_is p.body refl
-  brings (Some n) None known_is declare_is busy = puts (ap (λ k. known_or k p.declare) known_is ∙ sym known_is) busy
-  brings (Some n) (Some total) known_is declare_is busy =
-      puts (ap (λ k. known_or k p.declare) known_is ∙ sym known_is) busy
+  brings (Some n) declare known_is declare_is busy = puts (grind arith) busy
 
   changed_case : (b : Bool) → is_idle m p ≡ b → Changed st e (if b then m else after)
   changed_case true idle = Nothing refl

@@ -12,9 +12,9 @@ use Rattle.upload_rules.proofs.Finds.{find_replaced_same, find_replaced_other}
 use Rattle.upload_rules.proofs.Deleted.{none_in_others, find_in_others}
 use Rattle.tus_session.specs.History.{State, Event, Mark, Marked, Served, OutOfMemory, Failed, step, history}
 use Rattle.tus_laws.specs.Patches.{Changed, Nothing, Made, Declared, Put, DeclaredAndPut, Deleted, IsAbove}
-use Rattle.tus_laws.specs.Patches.{declared_store, appended_store}
 use Rattle.tus_session.proofs.Growth.{patched_nothing, patched_twice}
 use Rattle.tus_session.proofs.Unmade.{memory_same, fault_same}
+use Rattle.tus_laws.proofs.Bodies.{none_if}
 use Rattle.tus_laws.proofs.Commits.{put_is, declared_is, both_is, fitting_at}
 use Rattle.tus_laws.proofs.Changes.{done_uploads, served_changed}
 
@@ -50,9 +50,6 @@ same_there m n v there = record {
 itself_keeps : (m : Store) → Keeps m m
 itself_keeps m = record { next = omega arith; above = λ h. h; uploads = λ n v lt there. same_there m n v there }
 
-same_keeps : (m m' : Store) → m' ≡ m → Keeps m m'
-same_keeps m m' same = subst (Keeps m) (sym same) (itself_keeps m)
-
 keeps_both : (a b c : Store) → Keeps a b → Keeps b c → Keeps a c
 keeps_both a b c first second =
     let le : a.next ≤ b.next = first.next in
@@ -75,13 +72,8 @@ keeps_both a b c first second =
 
 found_made : (n m : ℕ) (u new : Upload) (uploads : List (ℕ × Upload)) → find n (uploads ++ (m, new) ∷ []) ≡ Some u
     → (find n uploads ≡ Some u) ⊎ (m ≡ n)
-found_made n m u new [] found = elim (cases_eq m n) [ inl is ↦ inr is | inr ne ↦ inl (grind (arith, nat_tests)) ]
-found_made n m u new (x ∷ xs) found = elim (cases_eq x.0 n) [
-  | inl is ↦ inl (grind (arith, nat_tests))
-  | inr ne ↦
-      let rest : find n (xs ++ (m, new) ∷ []) ≡ Some u = grind (arith, nat_tests) in
-      elim (found_made n m u new xs rest) [ inl old ↦ inl (grind (arith, nat_tests)) | inr is ↦ inr is ]
-]
+found_made n m u new [] found = grind (arith, nat_tests)
+found_made n m u new (x ∷ xs) found = let ih = found_made n m u new xs in grind (arith, nat_tests, ih)
 
 made_keeps : (m : Store) (new : New) → Keeps m (created_store m new)
 made_keeps m new = record {
@@ -130,12 +122,7 @@ put_keeps_at m number declare body (Some u) there = record {
 
 found_deleted : (m : Store) (gone n : ℕ) (v : Upload) → upload_of (deleted_store m gone) n ≡ Some v
     → upload_of m n ≡ Some v
-found_deleted m gone n v found = elim (cases_eq gone n) [
-  | inl is ↦
-      let here = ap (upload_of (deleted_store m gone)) is ∙ found in
-      absurd (none-some v (sym (none_in_others gone m.uploads) ∙ here))
-  | inr ne ↦ sym (find_in_others gone n m.uploads ne) ∙ found
-]
+found_deleted m gone n v found = grind (arith, none_in_others, find_in_others)
 
 deleted_keeps : (m : Store) (gone : ℕ) → Keeps m (deleted_store m gone)
 deleted_keeps m gone = record {
@@ -144,47 +131,32 @@ deleted_keeps m gone = record {
   uploads = λ n v lt found. same_there m n v (found_deleted m gone n v found);
 }
 
-keeps_along : (m after after' : Store) → after ≡ after' → Keeps m after' → Keeps m after
-keeps_along m after after' e keeps = subst (Keeps m) (sym e) keeps
-
 put_keeps : (m after : Store) (number : ℕ) (declare : Option ℕ) (body : List ℕ)
     → patched_store m number declare body ≡ after → Keeps m after
 put_keeps m after number declare body is =
     subst (Keeps m) is (put_keeps_at m number declare body (upload_of m number) refl)
 
 changed_keeps : (st : State) (e : Event) (after : Store) → Changed st e after → Keeps st.world.store after
-changed_keeps st e after (Nothing is) = same_keeps st.world.store after is
-changed_keeps st e after (Made new is) =
-    let m = st.world.store in keeps_along m after (created_store m new) is (made_keeps m new)
+changed_keeps st e after (Nothing is) = rw is (itself_keeps st.world.store)
+changed_keeps st e after (Made new is) = rw is (made_keeps st.world.store new)
 changed_keeps st e after (Declared x total d accepted is) =
-    let m = st.world.store in
-    let n = x.patch.number in
-    keeps_along m after (declared_store m n total) is
-    (put_keeps m (declared_store m n total) n (Some total) []
-    (declared_is m n d.upload d.there total d.unknown))
+    rw is (put_keeps st.world.store _ x.patch.number (Some total) []
+    (declared_is st.world.store x.patch.number d.upload d.there total d.unknown))
 changed_keeps st e after (Put x body accepted is) =
-    let m = st.world.store in
-    let p = x.patch in
     let fit = fitting_at st e x (done_uploads st e x) accepted in
     let stays : known_or fit.up.declared None ≡ fit.up.declared =
     ap (λ u. u.declared) (sym (patched_nothing fit.up)) in
-    keeps_along m after (appended_store m p.number p.body) is
-    (put_keeps m (appended_store m p.number p.body) p.number None p.body
-    (put_is m p.number fit.up fit.there None p.body stays))
+    rw is (put_keeps st.world.store _ x.patch.number None x.patch.body
+    (put_is st.world.store x.patch.number fit.up fit.there None x.patch.body stays))
 changed_keeps st e after (DeclaredAndPut x total d body accepted is) =
-    let m = st.world.store in
-    let p = x.patch in
-    let both = appended_store (declared_store m p.number total) p.number p.body in
-    keeps_along m after both is
-    (put_keeps m both p.number (Some total) p.body (both_is m p.number d.upload d.there total d.unknown p.body))
-changed_keeps st e after (Deleted n u there is) =
-    let m = st.world.store in keeps_along m after (deleted_store m n) is (deleted_keeps m n)
+    rw is (put_keeps st.world.store _ x.patch.number (Some total) x.patch.body
+    (both_is st.world.store x.patch.number d.upload d.there total d.unknown x.patch.body))
+changed_keeps st e after (Deleted n u there is) = rw is (deleted_keeps st.world.store n)
 
 event_keeps : (st : State) (e : Event) (mark : Mark) → Keeps st.world.store (step st e mark).state.world.store
 event_keeps st e Served = changed_keeps st e (step st e Served).state.world.store (served_changed st e)
-event_keeps st e OutOfMemory =
-    same_keeps st.world.store (step st e OutOfMemory).state.world.store (memory_same st e)
-event_keeps st e Failed = same_keeps st.world.store (step st e Failed).state.world.store (fault_same st e)
+event_keeps st e OutOfMemory = rw (memory_same st e) (itself_keeps st.world.store)
+event_keeps st e Failed = rw (fault_same st e) (itself_keeps st.world.store)
 
 -- ALONG A HISTORY
 
@@ -232,19 +204,12 @@ later_same start past later above n u v there there' count =
     )
 
 -- an upload that is gone stays away
-gone_case : (start : State) (past later : List Marked) (n : ℕ) → n < (store_at start past).next
-    → upload_of (store_at start past) n ≡ None → (o : Option Upload)
-    → upload_of (store_at start (later ++ past)) n ≡ o → o ≡ None
-gone_case start past later n lt none None is = refl
-gone_case start past later n lt none (Some v) is =
-    let was = (later_keeps start past later).uploads n v lt is in
-    absurd (none-some was.upload (sym none ∙ was.there))
-
 pub later_gone : (start : State) (past between later : List Marked) → IsAbove start.world.store → (n : ℕ) (u : Upload)
     → upload_of (store_at start past) n ≡ Some u → upload_of (store_at start (between ++ past)) n ≡ None
     → upload_of (store_at start (later ++ (between ++ past))) n ≡ None
 later_gone start past between later above n u there none =
     let lt = always_above start past above n u there in
     let le = next_grows start past between in
-    gone_case start (between ++ past) later n (omega (arith, lt, le)) none
-    (upload_of (store_at start (later ++ (between ++ past))) n) refl
+    none_if _ (λ v is.
+    let was = (later_keeps start (between ++ past) later).uploads n v (omega (arith, lt, le)) is in
+    none-some was.upload (sym none ∙ was.there))

@@ -1,7 +1,8 @@
 -- A history gives what the replay of its moments gives.
-use Rattle.std.proofs.Common.{◌≡◌, ◌-◌, inl, ℕ, Bool, true, false, List, [], ◌∷◌, ◌++◌, length, take, drop}
-use Rattle.std.proofs.Common.{if◌then◌else◌, nat_lt, Option, Some, None, refl, sym, ◌∙◌, ap, subst, append-nil}
-use Rattle.std.proofs.Common.{append_assoc}
+use Rattle.std.proofs.Common.{◌≡◌, ◌-◌, inl, inr, ℕ, Bool, true, false, List, [], ◌∷◌, ◌++◌, length, take, drop}
+use Rattle.std.proofs.Common.{nat_lt, Option, Some, None, refl, sym, ◌∙◌, ap, subst, append-nil}
+use Rattle.std.proofs.Common.{append_assoc, arith}
+use Rattle.std.proofs.lemmas.Bool.{cases_Bool}
 use Rattle.std.proofs.lemmas.Option.{none-some, same_Some}
 use Rattle.std.proofs.lemmas.List.{take-append-drop}
 use Rattle.upload_rules.specs.Store.{Upload, Store, find, upload_of}
@@ -16,7 +17,7 @@ use Rattle.tus_session.specs.Turns.{give_on, more_on, more_turn, ended_with, end
 use Rattle.tus_session.specs.Turns.{came_on as came_turn_on}
 use Rattle.tus_session.specs.Turns.{ended_on as ended_world_on}
 use Rattle.tus_session.specs.History.{State, Step, Event, Opened, Came, More, Ended, Marked, Served, Done, put, kept}
-use Rattle.tus_session.specs.History.{most_open, opened_if}
+use Rattle.tus_session.specs.History.{most_open}
 use Rattle.tus_session.specs.History.{turned, opened_at, came_at, more_at, ended_at, conn_in, step, history, beginning}
 use Rattle.tus_session.specs.declared.errors.SessionError.{SessionError}
 use Rattle.tus_session.specs.declared.errors.SessionError.TheVariants.{TooMany, Closed}
@@ -24,45 +25,20 @@ use Rattle.tus_session.specs.Stands.{draft_at}
 use Rattle.tus_session.proofs.Tolds.{came_is, ended_step}
 use Rattle.tus_session.proofs.BodyTold.{rest_same}
 use Rattle.tus_session.proofs.Feeding.{fed_body}
-use Rattle.tus_laws.specs.Patches.{moments_in, at_its_head, BodyCut, DonePatch, IsRefused, Changed, Nothing}
-use Rattle.tus_laws.specs.Patches.{Made, Declared, Put, DeclaredAndPut, Deleted}
-use Rattle.tus_laws.specs.Patches.{declared_at, declared_store, appended_at}
+use Rattle.tus_laws.specs.Patches.{moments_in, at_its_head, BodyCut, DonePatch, IsRefused, Changed}
 use Rattle.tus_laws.specs.Cuts.{head_moment, body_moment, came_moments, cut_moment, came_on, ended_on, event_moments}
 use Rattle.tus_laws.specs.Cuts.{all_moments, bytes_of, given, text_left, still_to_give, KeepsText, AllSmooth}
 use Rattle.tus_laws.proofs.Changes.{served_changed, with_idle, with_text, done_came, ended_spent}
 use Rattle.tus_laws.proofs.Bare.{bared, fed_there, ended_calm}
-use Rattle.tus_laws.proofs.Bodies.{Holds, DraftHolds, Brings, BringsAll, brings_all}
+use Rattle.tus_laws.proofs.Bodies.{none_if, Holds, DraftHolds, Brings, BringsAll, brings_all}
 use Rattle.tus_laws.proofs.Turning.{Opens, head_opens, body_opens, commit_idle, spent_else, Rep, replay, replay_both}
 use Rattle.tus_laws.proofs.Turning.{act_cut, here_set, else_set, Did, did_head, part_did, whole_did, found_u, store_u}
 use Rattle.tus_laws.proofs.Turning.{blocks_u, patches_u}
 use Rattle.tus_laws.proofs.Replays.{Valid, Sim, Keeps, Replays, valid_put, sim_put, sim_same, more_given, came_after}
 
 -- THE INDEXES stay
-appended_indexes : (m : Store) (n : ℕ) (bytes : List ℕ) (o : Option Upload)
-    → (appended_at m n bytes o).indexes ≡ m.indexes
-appended_indexes m n bytes None = refl
-appended_indexes m n bytes (Some u) = refl
-
-declared_indexes : (m : Store) (n total : ℕ) (o : Option Upload) → (declared_at m n total o).indexes ≡ m.indexes
-declared_indexes m n total None = refl
-declared_indexes m n total (Some u) = refl
-
 changed_indexes : (st : State) (e : Event) (after : Store) → Changed st e after → after.indexes ≡ st.world.store.indexes
-changed_indexes st e after (Nothing is) = ap (λ m. m.indexes) is
-changed_indexes st e after (Made new is) = ap (λ m. m.indexes) is
-changed_indexes st e after (Put x body accepted is) =
-    ap (λ m. m.indexes) is
-    ∙ appended_indexes st.world.store x.patch.number x.patch.body (upload_of st.world.store x.patch.number)
-changed_indexes st e after (Declared x total declares accepted is) =
-    ap (λ m. m.indexes) is
-    ∙ declared_indexes st.world.store x.patch.number total (upload_of st.world.store x.patch.number)
-changed_indexes st e after (DeclaredAndPut x total declares body accepted is) =
-    let m = st.world.store in
-    let n = x.patch.number in
-    let v = declared_store m n total in
-    ap (λ m. m.indexes) is
-    ∙ (appended_indexes v n x.patch.body (upload_of v n) ∙ declared_indexes m n total (upload_of m n))
-changed_indexes st e after (Deleted n u there is) = ap (λ m. m.indexes) is
+changed_indexes st e after changed = grind arith
 
 same_indexes : (st : State) (e : Event) → (step st e Served).state.world.store.indexes ≡ st.world.store.indexes
 same_indexes st e = changed_indexes st e (step st e Served).state.world.store (served_changed st e)
@@ -109,19 +85,14 @@ module _ (st : State) (valid : Valid st) (g : ℕ → List ℕ) (r : Rep) (sim :
       → still_to_give (st.conns c) ≡ bytes ++ text_left j.pending
       → Valid (put st st.world c (Some j)) × Sim (put st st.world c (Some j)) (more_given g c bytes) r
   patchless_after j bytes none own text =
-      let no_patch : (i : Conn) (d : ℕ) → Some j ≡ Some i → i.draft ≡ Some d → ⊥ =
-      λ i d is e. none-some d (sym none ∙ (ap (λ x. x.draft) (same_Some j i is) ∙ e)) in
-      still_after (Some j) bytes (none ∙ sym own) (λ i is d e. absurd (no_patch i d is e))
-      (λ i is d e. absurd (no_patch i d is e)) text
+      still_after (Some j) bytes (none ∙ sym own) (λ i is d e. absurd (cc)) (λ i is d e. absurd (cc)) text
 
   -- OPENED
-  opened_case : st.conns c ≡ None → (b : Bool)
-      → After g c r (opened_if st c b)
-  opened_case none true = patchless_after fresh [] refl (ap draft_at none) (ap still_to_give none)
-  opened_case none false = refused_after TooMany
-
   opened_after : (o : Option Conn) → st.conns c ≡ o → After g c r (opened_at st c o)
-  opened_after None none = opened_case none (nat_lt c most_open)
+  opened_after None none = elim (cases_Bool (nat_lt c most_open)) [
+    | inl t ↦ rw t (patchless_after fresh [] refl (ap draft_at none) (ap still_to_give none))
+    | inr f ↦ rw f (refused_after TooMany)
+  ]
   opened_after (Some k) is = refused_after TooMany
 
   module _ (k : Conn) (here : st.conns c ≡ Some k) where
@@ -130,12 +101,8 @@ module _ (st : State) (valid : Valid st) (g : ℕ → List ℕ) (r : Rep) (sim :
         still_after (Some k) [] (ap draft_at (sym here)) (λ j is. valid.holds c j (here ∙ is))
         (λ j is. valid.idle c j (here ∙ is)) (ap still_to_give here)
 
-    text_no_draft_at : (h : Giving) → k.pending ≡ Some h → (o : Option ℕ) → k.draft ≡ o → k.draft ≡ None
-    text_no_draft_at h text None is = is
-    text_no_draft_at h text (Some d) is = absurd (none-some h (sym (valid.idle c k here d is) ∙ text))
-
     text_no_draft : (h : Giving) → k.pending ≡ Some h → k.draft ≡ None
-    text_no_draft h text = text_no_draft_at h text k.draft refl
+    text_no_draft h text = none_if k.draft (λ d is. none-some h (sym (valid.idle c k here d is) ∙ text))
 
     -- MORE of a text
     given_conn : (number : ℕ) (closes : Bool) (left bytes : List ℕ) → k.draft ≡ None
@@ -153,8 +120,7 @@ module _ (st : State) (valid : Valid st) (g : ℕ → List ℕ) (r : Rep) (sim :
     there_case : (h : Giving) → k.pending ≡ Some h → (u : Upload) → upload_of st.world.store h.number ≡ Some u
         → After g c r (turned st c (give_on st.world k h (upload_of st.world.store h.number)))
     there_case h text u there =
-        subst (λ o. After g c r (turned st c (give_on st.world k h o))) (sym there)
-        (given_conn h.number h.closes (drop piece_size h.left) (take piece_size h.left) (text_no_draft h text)
+        rw there (given_conn h.number h.closes (drop piece_size h.left) (take piece_size h.left) (text_no_draft h text)
         (ap still_to_give here ∙ (ap text_left text ∙ sym (take-append-drop piece_size h.left))))
 
     more_case : KeepsText st (More c) → (o : Option Giving) → k.pending ≡ o
@@ -227,15 +193,11 @@ module _ (st : State) (valid : Valid st) (g : ℕ → List ℕ) (r : Rep) (sim :
       cut_after : After g c (act_cut r c body (r.drafts c))
           (record { state = put st (ended_world st.world k) c None; outcome = Done; text = [] })
       cut_after =
-          let now : After g c (act_cut r c body (Some d))
-          (record { state = put st w' c None; outcome = Done; text = [] }) = (
+          let own : r.drafts c ≡ Some d = sim.drafts c ∙ (ap draft_at here ∙ is) in
+          rw (own, ends) (
             valid_put st valid w' c None cut_keeps,
             sim_put st g r (act_cut r c body (Some d)) w' c None [] sim cut_replays,
-          ) in
-          let own : r.drafts c ≡ Some d = sim.drafts c ∙ (ap draft_at here ∙ is) in
-          let left : World → Step = λ w. record { state = put st w c None; outcome = Done; text = [] } in
-          subst (λ o. After g c (act_cut r c body o) (left (ended_world st.world k))) (sym own)
-          (subst (λ w. After g c (act_cut r c body (Some d)) (left w)) (sym ends) now)
+          )
 
     none_ended : k.draft ≡ None → ended_world st.world k ≡ st.world
     unfolding ended_world
@@ -245,8 +207,7 @@ module _ (st : State) (valid : Valid st) (g : ℕ → List ℕ) (r : Rep) (sim :
         → (o : Option ℕ) → k.draft ≡ o → After g c (replay r (cut_moment st.world c k o))
         (record { state = put st (ended_world st.world k) c None; outcome = Done; text = [] })
     end_case roomy text None none =
-        subst (λ w. After g c r (record { state = put st w c None; outcome = Done; text = [] })) (sym (none_ended none))
-        (closed_after [] (ap draft_at here ∙ none) text)
+        rw (none_ended none) (closed_after [] (ap draft_at here ∙ none) text)
     end_case roomy text (Some d) is = cut_after d is roomy text
 
     -- BYTES that came
@@ -305,15 +266,9 @@ module _ (st : State) (valid : Valid st) (g : ℕ → List ℕ) (r : Rep) (sim :
           → Holds z.world (record { stream = k.stream ++ take i piece; draft = z.draft; pending = z.pending }) d)
           → Goal
       conclude i z o x turn own ends opens did holds =
-          let r' = replay r1 (body_moment c o x) in
-          let after : After g c r' (turned st c (turn_of k piece i z)) =
-          came_after st valid g r r' sim c k here idle (k.stream ++ take i piece) z opens did
-          (turn_indexes i z turn) holds in
-          let same : replay r (head_moment c m.head ++ body_moment c a.draft m.body) ≡ r' =
-          replay_both r (head_moment c m.head) (body_moment c a.draft m.body)
-          ∙ (ap (λ y. replay r1 (body_moment c y m.body)) own ∙ ap (λ y. replay r1 (body_moment c o y)) ends) in
-          subst (λ y. After g c y (turned st c (came_turn st.world k piece))) (sym same)
-          (subst (λ t. After g c r' (turned st c t)) (sym turn) after)
+          rw (replay_both r (head_moment c m.head) (body_moment c a.draft m.body), own, ends, turn)
+          (came_after st valid g r (replay r1 (body_moment c o x)) sim c k here idle (k.stream ++ take i piece) z opens
+          did (turn_indexes i z turn) holds)
 
       module _ (no_text : a.pending ≡ None) (d : ℕ) (is : a.draft ≡ Some d) where
         abbrev b : Brings st.world k piece n m d
@@ -326,9 +281,7 @@ module _ (st : State) (valid : Valid st) (g : ℕ → List ℕ) (r : Rep) (sim :
         part_goal none =
             let z = body_step a m.came None (Some d) in
             let turn : came_turn st.world k piece ≡ turn_of k piece n z =
-            turn_body no_text
-            ∙ (ap (λ o. turn_of k piece n (body_step a m.came m.body o)) is
-            ∙ ap (λ x. turn_of k piece n (body_step a m.came x (Some d))) none) in
+            rw (is, none) at (turn_body no_text) in
             let part = b.part none in
             let s = k.stream ++ take n piece in
             let holds : Holds z.world (record { stream = s; draft = z.draft; pending = z.pending }) d = record {
@@ -348,9 +301,7 @@ module _ (st : State) (valid : Valid st) (g : ℕ → List ℕ) (r : Rep) (sim :
             let z = body_step a m.came (Some x) (Some d) in
             let v = fed a.world d m.came in
             let turn : came_turn st.world k piece ≡ turn_of k piece n z =
-            turn_body no_text
-            ∙ (ap (λ o. turn_of k piece n (body_step a m.came m.body o)) is
-            ∙ ap (λ y. turn_of k piece n (body_step a m.came y (Some d))) ends) in
+            rw (is, ends) at (turn_body no_text) in
             let found : find d v.patches ≡ Some q = fed_there a.world d b.patch m.came b.found in
             let enough : (y : Request) → x.verdict ≡ Asks y → commit_refusal v d q ≡ Some Full → ⊥ =
             λ y asks full. roomy (done_came st c piece k here idle d is x y q ends asks found) full in
@@ -372,14 +323,10 @@ module _ (st : State) (valid : Valid st) (g : ℕ → List ℕ) (r : Rep) (sim :
           (λ d is. absurd (none-some d (sym none ∙ is)))
       by_draft no_text (Some d) is = by_moment no_text d is m.body refl
 
-      text_draft : (h : Giving) → a.pending ≡ Some h → (o : Option ℕ) → a.draft ≡ o → a.draft ≡ None
-      text_draft h e None is = is
-      text_draft h e (Some d) is = absurd (none-some h (sym (first_opens.idle d is) ∙ e))
-
       by_text : (o : Option Giving) → a.pending ≡ o → Goal
       by_text None e = by_draft e a.draft refl
       by_text (Some h) e =
-          let none = text_draft h e a.draft refl in
+          let none = none_if a.draft (λ d is. none-some h (sym (first_opens.idle d is) ∙ e)) in
           conclude (n - length m.came) a None m.body (turn_text h e) none refl first_opens first_did
           (λ d is. absurd (none-some d (sym none ∙ is)))
 
@@ -396,7 +343,7 @@ module _ (st : State) (valid : Valid st) (g : ℕ → List ℕ) (r : Rep) (sim :
         → After g c (replay r (came_moments st.world c piece k o)) (turned st c (came_turn st.world k piece))
     came_case piece roomy None idle = came_goal piece idle roomy
     came_case piece roomy (Some h) text =
-        subst (λ t. After g c r (turned st c t)) (sym (nothing_taken piece h text)) same_conn
+        rw (nothing_taken piece h text) same_conn
 
 -- EACH EVENT
 
@@ -455,11 +402,8 @@ all_there m blocks (e ∷ past) (before, now) =
     let g : ℕ → List ℕ = λ c. given start c past in
     let r = replay r0 (all_moments start past) in
     let after = event_after st there.valid g r there.sim e.0 now.roomy now.text in
-    let marked : After g (conn_in e.0) (replay r (event_moments st e.0)) (step st e.0 e.1) =
-    subst (λ k. After g (conn_in e.0) (replay r (event_moments st e.0)) (step st e.0 k)) (sym now.served) after in
     let joined : After g (conn_in e.0) (replay r0 (all_moments start past ++ event_moments st e.0)) (step st e.0 e.1) =
-    subst (λ x. After g (conn_in e.0) x (step st e.0 e.1))
-    (sym (replay_both r0 (all_moments start past) (event_moments st e.0))) marked in
+    rw (replay_both r0 (all_moments start past) (event_moments st e.0), now.served) after in
     record { valid = joined.0; sim = joined.1 }
 
 pub same_bytes : (m : Store) (blocks : Option ℕ) (past other : List Marked) (c : ℕ)

@@ -1,7 +1,7 @@
 -- The replay of a history's moments gives what the history gives.
-use Rattle.std.proofs.Common.{◌≡◌, ◌≢◌, ◌⊎◌, inl, inr, ◌==◌, ℕ, Bool, true, false, List, [], ◌++◌, if◌then◌else◌}
+use Rattle.std.proofs.Common.{◌≡◌, ◌≢◌, ◌⊎◌, inl, inr, ◌==◌, ℕ, Bool, List, [], ◌++◌, if◌then◌else◌}
 use Rattle.std.proofs.Common.{Option, Some, None, refl, sym, ◌∙◌, ap, subst, arith, append-nil, append_assoc}
-use Rattle.std.proofs.lemmas.Option.{none-some, same_Some}
+use Rattle.std.proofs.lemmas.Option.{none-some}
 use Rattle.std.proofs.lemmas.Bool.{cases_eq}
 use Rattle.std.proofs.lemmas.Bool.Decides.{nat_tests}
 use Rattle.upload_rules.specs.Store.{find}
@@ -12,7 +12,7 @@ use Rattle.tus_session.specs.Stands.{draft_at}
 use Rattle.tus_session.proofs.InPlace.{conns_here, conns_else}
 use Rattle.tus_session.proofs.BodyTold.{rest_same}
 use Rattle.tus_action.specs.Acts.{Acted}
-use Rattle.tus_laws.specs.Cuts.{text_left, still_to_give}
+use Rattle.tus_laws.specs.Cuts.{still_to_give}
 use Rattle.tus_laws.proofs.Bare.{bared}
 use Rattle.tus_laws.proofs.Bodies.{Holds, DraftHolds}
 use Rattle.tus_laws.proofs.Turning.{Opens, Rep, Did}
@@ -77,23 +77,7 @@ module _ (st : State) (valid : Valid st) (w' : World) (c : ℕ) (o' : Option Con
         | inl same ↦ keeps.idle k (sym (conns_here st.conns c o') ∙ (ap conns (sym same) ∙ is))
         | inr ne ↦ valid.idle e k (sym (conns_else st.conns c e o' ne) ∙ is)
       ];
-      apart = λ a b d f h. elim (cases_eq a c) [
-        | inl is ↦ elim (cases_eq b c) [
-          | inl is' ↦ is ∙ sym is'
-          | inr ne' ↦
-              let x : draft_at o' ≡ Some d =
-              ap draft_at (sym (conns_here st.conns c o')) ∙ (ap (λ i. draft_at (conns i)) (sym is) ∙ f) in
-              absurd (not_both b d ne' x (ap draft_at (sym (conns_else st.conns c b o' ne')) ∙ h))
-        ]
-        | inr ne ↦ elim (cases_eq b c) [
-          | inl is' ↦
-              let x : draft_at o' ≡ Some d =
-              ap draft_at (sym (conns_here st.conns c o')) ∙ (ap (λ i. draft_at (conns i)) (sym is') ∙ h) in
-              absurd (not_both a d ne x (ap draft_at (sym (conns_else st.conns c a o' ne)) ∙ f))
-          | inr ne' ↦ valid.apart a b d (ap draft_at (sym (conns_else st.conns c a o' ne)) ∙ f)
-              (ap draft_at (sym (conns_else st.conns c b o' ne')) ∙ h)
-        ]
-      ];
+      apart = λ a b d f h. grind (arith, nat_tests, valid.apart, not_both);
     }
 
 -- what the replay makes of a turn
@@ -108,70 +92,27 @@ pub record Replays (st : State) (g : ℕ → List ℕ) (r r' : Rep) (w' : World)
 abbrev pub more_given : (ℕ → List ℕ) → ℕ → List ℕ → ℕ → List ℕ
 more_given g c bytes k = g k ++ (if c == k then bytes else [])
 
-here_given : (g : ℕ → List ℕ) (c : ℕ) (bytes : List ℕ) → more_given g c bytes c ≡ g c ++ bytes
-here_given g c bytes = grind (arith, nat_tests)
-
-else_if : (c e : ℕ) (bytes : List ℕ) → (e ≡ c → ⊥) → (if c == e then bytes else []) ≡ []
-else_if c e bytes ne = grind (arith, nat_tests)
-
-else_given : (g : ℕ → List ℕ) (c e : ℕ) (bytes : List ℕ) → (e ≡ c → ⊥) → more_given g c bytes e ≡ g e
-else_given g c e bytes ne = ap (λ b. g e ++ b) (else_if c e bytes ne) ∙ append-nil (g e)
-
 pub sim_put : (st : State) (g : ℕ → List ℕ) (r r' : Rep) (w' : World) (c : ℕ) (o' : Option Conn) (bytes : List ℕ)
     → Sim st g r → Replays st g r r' w' c o' bytes
     → Sim (put st w' c o') (more_given g c bytes) r'
 sim_put st g r r' w' c o' bytes sim x = record {
   world = x.world;
-  drafts = λ e. elim (cases_eq e c) [
-    | inl is ↦ ap r'.drafts is ∙ (x.draft ∙ (ap draft_at (sym (conns_here st.conns c o'))
-        ∙ ap (λ i. draft_at (with_conn st.conns c o' i)) (sym is)))
-    | inr ne ↦ x.drafts e ne ∙ (sim.drafts e ∙ ap draft_at (sym (conns_else st.conns c e o' ne)))
-  ];
-  given = λ e. elim (cases_eq e c) [
-    | inl is ↦
-        let P : ℕ → Type 0 = λ i. r'.given i ≡ more_given g c bytes i ++ still_to_give (with_conn st.conns c o' i) in
-        let here : P c =
-        x.bytes_are
-        ∙ (ap (λ b. b ++ still_to_give o') (sym (here_given g c bytes))
-        ∙ ap (λ y. more_given g c bytes c ++ still_to_give y) (sym (conns_here st.conns c o'))) in
-        subst P (sym is) here
-    | inr ne ↦
-        x.given e ne ∙ (sim.given e ∙ (ap (λ b. b ++ still_to_give (st.conns e)) (sym (else_given g c e bytes ne))
-        ∙ ap (λ y. more_given g c bytes e ++ still_to_give y) (sym (conns_else st.conns c e o' ne))))
-  ];
+  drafts = λ e. grind (arith, nat_tests, sim.drafts, x.drafts);
+  given = λ e. grind (arith, nat_tests, sim.given, x.given, append-nil {A = ℕ});
 }
-
-nothing_if : (xs : List ℕ) (b : Bool) → (if b then xs else xs) ≡ xs
-nothing_if xs true = refl
-nothing_if xs false = refl
 
 pub sim_same : (st : State) (g : ℕ → List ℕ) (r : Rep) (c : ℕ) → Sim st g r → Sim st (more_given g c []) r
 sim_same st g r c sim = record {
   world = sim.world;
   drafts = sim.drafts;
-  given =
-      λ e. sim.given e
-      ∙ ap (λ b. b ++ still_to_give (st.conns e))
-      (sym (append-nil (g e)) ∙ ap (λ b. g e ++ b) (sym (nothing_if [] (c == e))));
+  given = λ e. grind (arith, sim.given, append-nil {A = ℕ});
 }
 
 -- a connection after what was done
-draft_of : (s : List ℕ) (w : World) (own : Option ℕ) (z : Acted) → Opens w own z → (b : Bool) → z.closes ≡ b
-    → draft_at (if b then None else Some (record { stream = s; draft = z.draft; pending = z.pending })) ≡ z.draft
-draft_of s w own z opens true e = sym (opens.closed e).0
-draft_of s w own z opens false e = refl
-
-text_of : (s : List ℕ) (w : World) (own : Option ℕ) (z : Acted) → Opens w own z → (b : Bool) → z.closes ≡ b
-    → still_to_give (if b then None else Some (record { stream = s; draft = z.draft; pending = z.pending }))
-    ≡ text_left z.pending
-text_of s w own z opens true e = ap text_left (sym (opens.closed e).1)
-text_of s w own z opens false e = refl
-
 conn_left : (s : List ℕ) (z : Acted) (k : Conn) (b : Bool)
     → (if b then None else Some (record { stream = s; draft = z.draft; pending = z.pending })) ≡ Some k
     → record { stream = s; draft = z.draft; pending = z.pending } ≡ k
-conn_left s z k true e = absurd (none-some k e)
-conn_left s z k false e = same_Some (record { stream = s; draft = z.draft; pending = z.pending }) k e
+conn_left s z k b e = grind arith
 
 abbrev conn_as : List ℕ → Acted → Conn
 conn_as s z = record { stream = s; draft = z.draft; pending = z.pending }
@@ -189,25 +130,19 @@ module _ (st : State) (valid : Valid st) (g : ℕ → List ℕ) (r r' : Rep) (si
   came_keeps = record {
     indexes = indexes;
     others = λ e p there ne. opens.others e p there (λ own. ne (own_is ∙ own));
-    fresh = λ d is. elim (opens.fresh d (sym (draft_of s st.world k.draft z opens z.closes refl) ∙ is)) [
-      | inl old ↦ inl (own_is ∙ old)
-      | inr none ↦ inr none
-    ];
+    fresh = λ d is. let left = opens.closed in let old = opens.fresh d in grind arith;
     holds = λ j is. subst (DraftHolds z.world) (conn_left s z j z.closes is) holds;
     idle = λ j is. subst (λ x. (d : ℕ) → x.draft ≡ Some d → x.pending ≡ None) (conn_left s z j z.closes is) opens.idle;
   }
 
   came_replays : Replays st g r r' z.world c (conn_of s z) z.bytes
   came_replays =
-      let before : r.given c ≡ g c =
-      sim.given c
-      ∙ (ap (λ o. g c ++ still_to_give o) here ∙ (ap (λ p. g c ++ text_left p) no_text ∙ append-nil (g c))) in
+      let left = opens.closed in
+      let before = sim.given c in
       record {
         world = did.world;
-        draft = did.draft ∙ sym (draft_of s st.world k.draft z opens z.closes refl);
-        bytes_are = did.bytes ∙ (ap (λ b. b ++ (z.bytes ++ text_left z.pending)) before
-            ∙ (sym (append_assoc (g c) z.bytes (text_left z.pending))
-            ∙ ap (λ t. (g c ++ z.bytes) ++ t) (sym (text_of s st.world k.draft z opens z.closes refl))));
+        draft = grind arith;
+        bytes_are = grind (arith, append_assoc {A = ℕ}, append-nil {A = ℕ});
         drafts = did.drafts;
         given = did.given;
       }

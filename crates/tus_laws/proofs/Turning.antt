@@ -1,13 +1,13 @@
 -- What a call that brings bytes leaves, and what its moments make of a bare world.
 use Rattle.std.proofs.Common.{◌≡◌, ◌⊎◌, inl, inr, ◌==◌, ℕ, true, false, List, [], ◌∷◌, ◌++◌, if◌then◌else◌, Option}
-use Rattle.std.proofs.Common.{Some, None, option_map, refl, sym, ◌∙◌, ap, subst, arith, append-nil, append_assoc}
-use Rattle.std.proofs.lemmas.Option.{none-some, same_Some}
+use Rattle.std.proofs.Common.{Some, None, option_map, refl, sym, ◌∙◌, ap, arith, append-nil, append_assoc}
+use Rattle.std.proofs.lemmas.Option.{none-some}
 use Rattle.std.proofs.lemmas.Bool.Decides.{nat_tests}
 use Rattle.upload_rules.specs.declared.errors.UploadRefusal.{UploadRefusal}
 use Rattle.upload_rules.specs.declared.errors.UploadRefusal.TheVariants.{Full}
 use Rattle.upload_rules.specs.Store.{find}
 use Rattle.upload_rules.specs.World.{Patch, World}
-use Rattle.upload_rules.specs.Calls.{first_patch, longer, appended_at, commit_refusal, spent}
+use Rattle.upload_rules.specs.Calls.{commit_refusal, spent}
 use Rattle.upload_rules.proofs.Finds.{find_without_other, find_replaced_other}
 use Rattle.tus_request.specs.Requests.{Request, Verdict, Asks, Refuses}
 use Rattle.tus_action.specs.Acts.{Acted, acted, fed, fed_patch, commit_with}
@@ -36,20 +36,16 @@ leaves_open w r a (Nothing moves none idle) = record {
   others = λ e p there ne. moves.others e p ne there;
 }
 leaves_open w r a (Text h same none some stays) = record {
-  closed = λ c. let x : true ≡ false = sym c ∙ stays in absurd (cc);
-  idle = λ d e. absurd (none-some d (sym none ∙ e));
-  fresh = λ d e. absurd (none-some d (sym none ∙ e));
-  others = λ e p there ne. ap (λ v. find e v.patches) same ∙ there;
+  closed = λ c. grind arith;
+  idle = λ d e. grind arith;
+  fresh = λ d e. grind arith;
+  others = λ e p there ne. grind arith;
 }
 leaves_open w r a (Patching y) = record {
-  closed = λ c. let x : true ≡ false = sym c ∙ y.stays in absurd (cc);
+  closed = λ c. grind arith;
   idle = λ d e. y.idle;
-  fresh = λ d e. inr (ap (λ n. find n w.patches) (sym (same_Some y.d d (sym y.draft_is ∙ e))) ∙ y.free);
-  others = λ e p there ne.
-      let q = first_patch y.number r.length y.declare y.up in
-      let other : y.d ≡ e → ⊥ = λ is. none-some p (sym y.free ∙ (ap (λ n. find n w.patches) is ∙ there)) in
-      let after : find e ((y.d, q) ∷ w.patches) ≡ find e w.patches = grind (arith, nat_tests) in
-      ap (λ v. find e v.patches) y.world_is ∙ (after ∙ there);
+  fresh = λ d e. grind arith;
+  others = λ e p there ne. grind (arith, nat_tests);
 }
 
 verdict_open : (w : World) (v : Verdict) → Opens w None (acted w v)
@@ -61,33 +57,20 @@ verdict_open w (Refuses x) = record {
   others = λ e p there ne. there;
 }
 
-fed_other : (w : World) (d e : ℕ) (piece : List ℕ) (o : Option Patch) → (d ≡ e → ⊥)
-    → find e (appended_at w d piece o).patches ≡ find e w.patches
-fed_other w d e piece None ne = refl
-fed_other w d e piece (Some p) ne = find_replaced_other d e (longer w d p piece) w.patches ne
-
 pub fed_else : (w : World) (d e : ℕ) (piece : List ℕ) → (d ≡ e → ⊥) → find e (fed w d piece).patches ≡ find e w.patches
-fed_else w d e [] ne = refl
-fed_else w d e (b ∷ piece) ne = fed_other w d e (b ∷ piece) (find d w.patches) ne
+fed_else w d e piece ne = grind (arith, find_replaced_other)
 
 pub spent_else : (w : World) (d e : ℕ) (p : Patch) (o : Option UploadRefusal) → (d ≡ e → ⊥)
     → find e (spent w d p o).patches ≡ find e w.patches
-spent_else w d e p None ne = find_without_other d e w.patches ne
-spent_else w d e p (Some f) ne = find_without_other d e w.patches ne
+spent_else w d e p o ne = grind (arith, find_without_other)
 
 commit_else : (w : World) (d e : ℕ) (v : Verdict) (o : Option Patch) → (d ≡ e → ⊥)
     → find e (commit_with w d v o).world.patches ≡ find e w.patches
-commit_else w d e (Asks r) (Some p) ne = spent_else w d e p (commit_refusal w d p) ne
-commit_else w d e (Asks r) None ne = refl
-commit_else w d e (Refuses x) (Some p) ne = refl
-commit_else w d e (Refuses x) None ne = refl
+commit_else w d e v o ne = grind (arith, spent_else)
 
 pub commit_idle : (w : World) (d : ℕ) (v : Verdict) (o : Option Patch)
     → ((commit_with w d v o).draft ≡ None) × ((commit_with w d v o).pending ≡ None)
-commit_idle w d (Asks r) (Some p) = (refl, refl)
-commit_idle w d (Asks r) None = (refl, refl)
-commit_idle w d (Refuses x) (Some p) = (refl, refl)
-commit_idle w d (Refuses x) None = (refl, refl)
+commit_idle w d v o = grind arith
 
 -- a patch that is open is as old as the connection's, or new
 module _ (w : World) (own : Option ℕ) (a : Acted) (opens : Opens w own a) where
@@ -126,8 +109,7 @@ head_opens w own None first = record {
   fresh = λ d e. inl e;
   others = λ e p there ne. there;
 }
-head_opens w own (Some r) first =
-    subst (λ x. Opens w x (acted w r.verdict)) (sym (first r refl)) (verdict_open w r.verdict)
+head_opens w own (Some r) first = rw (first r refl) (verdict_open w r.verdict)
 
 -- THE REPLAY of moments, on a bare world: each body is given as a whole
 pub record Rep : Type 0 where
@@ -203,29 +185,18 @@ did_head w own r c (Some x) world draft =
     ap (λ v. acted v x.verdict) world ∙ acted_bare w x.verdict in
     record {
       world = ap (λ a. bared a.world) same ∙ bared_twice (acted w x.verdict).world;
-      draft = here_set c (acted r.world x.verdict).draft r.drafts ∙ ap (λ a. a.draft) same;
-      bytes =
-          here_set c
-          (r.given c ++ ((acted r.world x.verdict).bytes ++ text_left (acted r.world x.verdict).pending)) r.given
-          ∙ ap (λ a. r.given c ++ (a.bytes ++ text_left a.pending)) same;
-      drafts = λ e ne. else_set c e (acted r.world x.verdict).draft r.drafts ne;
-      given =
-          λ e ne. else_set c e
-          (r.given c ++ ((acted r.world x.verdict).bytes ++ text_left (acted r.world x.verdict).pending)) r.given ne;
+      draft = grind (arith, nat_tests, same);
+      bytes = grind (arith, nat_tests, same);
+      drafts = λ e ne. grind (arith, nat_tests);
+      given = λ e ne. grind (arith, nat_tests);
     }
 
-fed_blocks_at : (w : World) (d : ℕ) (piece : List ℕ) (o : Option Patch) → (appended_at w d piece o).blocks ≡ w.blocks
-fed_blocks_at w d piece None = refl
-fed_blocks_at w d piece (Some p) = refl
-
 fed_blocks : (w : World) (d : ℕ) (piece : List ℕ) → (fed w d piece).blocks ≡ w.blocks
-fed_blocks w d [] = refl
-fed_blocks w d (b ∷ piece) = fed_blocks_at w d (b ∷ piece) (find d w.patches)
+fed_blocks w d piece = grind arith
 
 calm_fed : (w : World) (d : ℕ) (p : Patch) (piece : List ℕ)
     → record (fed_patch w d p piece) { short = false } ≡ record p { body = p.body ++ piece; short = false }
-calm_fed w d p [] = ap (λ b. record p { body = b; short = false }) (sym (append-nil p.body))
-calm_fed w d p (b ∷ piece) = refl
+calm_fed w d p piece = grind (arith, append-nil {A = ℕ})
 
 -- A WHOLE BODY, on the world and on the bare one
 module _ (w : World) (d : ℕ) (p : Patch) (piece body : List ℕ) (found : find d w.patches ≡ Some p)
@@ -264,9 +235,7 @@ module _ (w : World) (d : ℕ) (p : Patch) (piece body : List ℕ) (found : find
 
 module _ (w : World) (r r1 : Rep) (c : ℕ) (a : Acted) (first : Did r r1 c a) where
   no_text : a.pending ≡ None → r1.given c ≡ r.given c ++ a.bytes
-  no_text idle =
-      first.bytes
-      ∙ (ap (λ g. r.given c ++ (a.bytes ++ text_left g)) idle ∙ ap (λ b. r.given c ++ b) (append-nil a.bytes))
+  no_text idle = grind (arith, append-nil {A = ℕ})
 
   pub part_did : (d : ℕ) (p : Patch) (piece : List ℕ) → a.draft ≡ Some d → a.pending ≡ None
       → find d a.world.patches ≡ Some p → Did r r1 c (body_step a piece None (Some d))
@@ -299,20 +268,11 @@ module _ (w : World) (r r1 : Rep) (c : ℕ) (a : Acted) (first : Did r r1 c a) w
       ∙ ap (commit_with u1 d x.verdict) (found_u a.world d p piece x.body found whole) in
       let done = commit_idle v1 d x.verdict (find d v1.patches) in
       let doneu = commit_idle u1 d x.verdict (Some (record q1 { short = false })) in
-      let z = committing r1.world d x in
-      let now : Did r (did r1 c z) c (body_step a piece (Some x) (Some d)) = record {
+      rw (first.draft, is) (record {
         world = ap (λ y. bared y.world) bare_is ∙ (same.world ∙ ap (λ y. bared y.world) real);
-        draft = here_set c z.draft r1.drafts ∙ (ap (λ y. y.draft) bare_is ∙ (doneu.0 ∙ sym done.0));
+        draft = grind (arith, nat_tests);
         bytes =
-            here_set c (r1.given c ++ (z.bytes ++ text_left z.pending)) r1.given
-            ∙ (ap (λ y. r1.given c ++ (y.bytes ++ text_left y.pending)) bare_is
-            ∙ (ap (λ g. r1.given c ++ (bu.bytes ++ text_left g)) doneu.1
-            ∙ (ap (λ y. r1.given c ++ (y ++ [])) (same.bytes ∙ ap (λ y. y.bytes) real)
-            ∙ (ap (λ g. g ++ (b.bytes ++ [])) (no_text idle)
-            ∙ (append_assoc (r.given c) a.bytes (b.bytes ++ [])
-            ∙ (ap (λ y. r.given c ++ y) (sym (append_assoc a.bytes b.bytes []))
-            ∙ ap (λ g. r.given c ++ ((a.bytes ++ b.bytes) ++ text_left g)) (sym done.1)))))));
-        drafts = λ e ne. else_set c e z.draft r1.drafts ne ∙ first.drafts e ne;
-        given = λ e ne. else_set c e (r1.given c ++ (z.bytes ++ text_left z.pending)) r1.given ne ∙ first.given e ne;
-      } in
-      subst (λ o. Did r (act_body r1 c x o) c (body_step a piece (Some x) (Some d))) (sym (first.draft ∙ is)) now
+            let had = no_text idle in grind (arith, nat_tests, append_assoc {A = ℕ}, append-nil {A = ℕ});
+        drafts = λ e ne. let old = first.drafts e ne in grind (arith, nat_tests);
+        given = λ e ne. let old = first.given e ne in grind (arith, nat_tests);
+      })

@@ -1,11 +1,11 @@
 -- Of two PATCHes that began at one offset of one upload at most one is accepted.
-use Rattle.std.proofs.Common.{◌≡◌, ℕ, ◌+◌, Bool, true, false, List, [], ◌∷◌, ◌++◌, length, if◌then◌else◌}
-use Rattle.std.proofs.Common.{Some, None, refl, sym, ◌∙◌, ap, arith}
+use Rattle.std.proofs.Common.{◌≡◌, ℕ, false, List, ◌∷◌, ◌++◌, length}
+use Rattle.std.proofs.Common.{Some, None, sym, ◌∙◌, ap, arith}
 use Rattle.std.proofs.lemmas.Option.{none-some}
 use Rattle.std.proofs.lemmas.List.{length-append}
 use Rattle.upload_rules.specs.declared.errors.UploadRefusal.TheVariants.{NoSuch, Offset}
 use Rattle.upload_rules.specs.Store.{Upload, Store, upload_of, patched, patched_store}
-use Rattle.upload_rules.specs.Calls.{is_empty, declares, spent}
+use Rattle.upload_rules.specs.Calls.{is_empty}
 use Rattle.upload_rules.proofs.Refusals.{no_such_upload, other_offset}
 use Rattle.tus_session.specs.History.{State, Event, Marked, Served, history}
 use Rattle.tus_laws.specs.Patches.{DonePatch, IsAccepted, IsRefused, HasBody, SamePlace, IsAbove}
@@ -34,20 +34,12 @@ module _ (start : State) (past between : List Marked) (e f : Event) (x : DonePat
   abbrev put : Upload
   put = patched end.up x.patch.declare x.patch.body
 
-  busy : (b : Bool) → (if b then false else is_empty x.patch.body) ≡ false
-  busy true = refl
-  busy false = body
-
   -- after the first event the upload has what the first patch brought
   append_to : store_at start ((e, Served) ∷ past) ≡ patched_store m x.patch.number x.patch.declare x.patch.body
   append_to =
-      ap (λ w. w.store) (done_world (history start past) e x)
-      ∙ ap (λ o. (spent x.world x.draft x.patch o).store) accepted
-      ∙ ap (λ b. if b then x.world.store
-      else patched_store x.world.store x.patch.number x.patch.declare x.patch.body)
-      (busy (declares x.world.store x.patch))
-      ∙ ap (λ s. patched_store s x.patch.number x.patch.declare x.patch.body)
-      (done_uploads (history start past) e x)
+      let first = done_world (history start past) e x in
+      let still = done_uploads (history start past) e x in
+      grind arith
 
   after : upload_of (store_at start ((e, Served) ∷ past)) x.patch.number ≡ Some put
   after =
@@ -56,13 +48,7 @@ module _ (start : State) (past between : List Marked) (e f : Event) (x : DonePat
 
   some_bytes : (bytes : List ℕ) → is_empty bytes ≡ false → (more : List ℕ)
       → length ((end.up.accepted ++ bytes) ++ more) ≡ length end.up.accepted → ⊥
-  some_bytes [] some more count = absurd (cc)
-  some_bytes (b ∷ bytes) some more count =
-      let had = end.up.accepted in
-      let l : length ((had ++ b ∷ bytes) ++ more) ≡ length (had ++ b ∷ bytes) + length more =
-      length-append (had ++ b ∷ bytes) more in
-      let k : length (had ++ b ∷ bytes) ≡ length had + length (b ∷ bytes) = length-append had (b ∷ bytes) in
-      absurd (omega arith)
+  some_bytes bytes some more count = grind (arith, length-append {A = ℕ})
 
   -- and at the second it has no fewer bytes, if it is there
   pub later_refused : (u : Upload) → upload_of y.world.store y.patch.number ≡ Some u → IsRefused y Offset

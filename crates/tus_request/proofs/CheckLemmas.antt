@@ -1,8 +1,9 @@
 -- The checks, one after another.
 use Rattle.std.specs.Prelude.{◌≡◌, ℕ, ◌<◌, Bool, true, false, ◌&&◌, List, [], ◌∷◌, length, nat_le, if◌then◌else◌}
 use Rattle.std.specs.Prelude.{Option, Some, None, codes}
-use Rattle.std.proofs.Common.{arith, ap, sym, ◌∙◌, refl, zero, suc, get_or}
+use Rattle.std.proofs.Common.{arith, ap, sym, ◌∙◌, refl, zero, suc, get_or, inl, inr}
 use Rattle.std.specs.List.{list_all}
+use Rattle.std.proofs.lemmas.Bool.{and_parts, cases_Bool}
 use Rattle.std.proofs.lemmas.Bool.Decides.{nat_tests}
 use Rattle.std.proofs.lemmas.Str.{IsUtf8-from_ascii, IsUtf8-nil}
 use Rattle.std.specs.Str.{IsUtf8}
@@ -32,27 +33,17 @@ patch_passes x n offset declare media at length =
     ∙ ap (at_offset x n) at ∙ ap (declaring x n offset) length
     )
 
-and_true : (a b : Bool) → (a && b) ≡ true → (a ≡ true) × (b ≡ true)
-and_true true b e = (refl, e)
-and_true false b e = absurd (cc)
-
 plain_is_ascii : (bytes : List ℕ) → list_all is_plain bytes ≡ true → (i : ℕ) → get_or bytes i 0 < 128
 plain_is_ascii [] e i = omega arith
 plain_is_ascii (b ∷ bytes) e zero =
-    let p : is_plain b ≡ true = (and_true (is_plain b) (list_all is_plain bytes) e).0 in grind (arith, nat_tests)
+    let p : is_plain b ≡ true = (and_parts (is_plain b) (list_all is_plain bytes) e).0 in grind (arith, nat_tests)
 plain_is_ascii (b ∷ bytes) e (suc i) =
-    plain_is_ascii bytes (and_true (is_plain b) (list_all is_plain bytes) e).1 i
-
-no_metadata_with : (b : ℕ) (bytes : List ℕ) → ¬ (IsUtf8 (b ∷ bytes)) → (v : Bool) → is_metadata (b ∷ bytes) ≡ v
-    → v ≡ false
-no_metadata_with b bytes not false e = refl
-no_metadata_with b bytes not true e =
-    let p = and_true (nat_le (length (b ∷ bytes)) 1536) (list_all is_plain (b ∷ bytes)) e in
-    absurd (not (IsUtf8-from_ascii (b ∷ bytes) (plain_is_ascii (b ∷ bytes) p.1)))
+    plain_is_ascii bytes (and_parts (is_plain b) (list_all is_plain bytes) e).1 i
 
 -- bytes that are no text are no metadata
 pub no_metadata : (bytes : List ℕ) → ¬ (IsUtf8 bytes) → metadata_of bytes ≡ None
 no_metadata [] not = absurd (not IsUtf8-nil)
-no_metadata (b ∷ bytes) not =
-    let e : is_metadata (b ∷ bytes) ≡ false = no_metadata_with b bytes not (is_metadata (b ∷ bytes)) refl in
-    rw e
+no_metadata (b ∷ bytes) not = elim (cases_Bool (is_metadata (b ∷ bytes))) [
+  | inl t ↦ absurd (not (IsUtf8-from_ascii (b ∷ bytes) (plain_is_ascii (b ∷ bytes) (and_parts _ _ t).1)))
+  | inr f ↦ rw f
+]

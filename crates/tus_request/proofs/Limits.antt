@@ -1,9 +1,9 @@
 -- What a stream comes to, by the first 8,192 bytes of it alone.
 use Rattle.std.proofs.Common.{◌≡◌, ◌-◌, ◌≤◌, ◌<◌, ◌+◌, min, ℕ, Bool, true, false, List, [], ◌++◌, length, take, refl}
 use Rattle.std.proofs.Common.{sym, ◌∙◌, ap, arith, Option, Some, None, nat_lt, if◌then◌else◌, inl, inr}
-use Rattle.std.proofs.lemmas.List.{take_all, take-take, length-take-le}
-use Rattle.std.proofs.Math.Seq.{take-append-add}
-use Rattle.std.proofs.lemmas.Bool.{cases_lt, ltb-true, le-ltb}
+use Rattle.std.proofs.lemmas.List.{take_all, take-take, length-take, take_min}
+use Rattle.std.proofs.lemmas.Bool.Decides.{nat_tests}
+use Rattle.std.proofs.Math.Nat.{min_comm}
 use Rattle.enc_model.specs.declared.Encoding.{Encoding}
 use Rattle.tus_request.specs.Lines.{Extent, head_extent}
 use Rattle.tus_request.specs.declared.faults.Fault.TheVariants.{HeadTooLong}
@@ -13,27 +13,16 @@ use Rattle.tus_request.specs.Shown.{answer_shown}
 use Rattle.tus_request.specs.Buffers.{unfinished}
 use Rattle.tus_request.specs.declared.requests.Parsed.{Parsed}
 use Rattle.tus_request.specs.declared.requests.Parsed.TheVariants as parsed
-use Rattle.tus_request.proofs.ParseLemmas.{take_min}
-use Rattle.tus_request.proofs.Prefixes.{extent_fits, take_bound}
-
--- what a head may need of a piece
-take_onto : (n : ℕ) (a b : List ℕ) → length a ≤ n → take n (a ++ b) ≡ a ++ take (n - length a) b
-take_onto n a b within =
-    let e : n ≡ length a + (n - length a) =
-    omega arith in ap (λ k. take k (a ++ b)) e ∙ take-append-add a b (n - length a)
+use Rattle.tus_request.proofs.Prefixes.{has_head, take_onto}
+use Rattle.tus_request.proofs.SearchLemmas.{open_head}
 
 pub filled : (n : ℕ) (a b : List ℕ) (m : ℕ) → length a ≤ n → m ≡ min (length b) (n - length a)
     → a ++ take m b ≡ take n (a ++ b)
 filled n a b m within e =
-    ap (λ k. a ++ take k b) e ∙ (ap (λ ys. a ++ ys) (take_min (n - length a) b) ∙ sym (take_onto n a b within))
+    ap (λ k. a ++ take k b) e ∙ (ap (λ ys. a ++ ys) (rw min_comm (take_min (n - length a) b)) ∙ sym (take_onto n a b within))
 
 is_short : (s : List ℕ) → nat_lt (length (take 8192 s)) 8192 ≡ nat_lt (length s) 8192
-is_short s = elim (cases_lt (length s) 8192) [
-  | inl short ↦ ap (λ x. nat_lt (length x) 8192) (take_all 8192 s (omega arith))
-  | inr long ↦
-      let l : length (take 8192 s) ≡ 8192 = length-take-le 8192 s long in
-      le-ltb (length (take 8192 s)) 8192 (omega arith) ∙ sym (le-ltb (length s) 8192 long)
-]
+is_short s = rw length-take (grind (arith, nat_tests))
 
 module _ (offers : Encoding → Bool) where
   limited_case : (s : List ℕ) (o : Option Extent) → ((e : Extent) → o ≡ Some e → e.len ≤ 8192)
@@ -43,34 +32,17 @@ module _ (offers : Encoding → Bool) where
       ap (λ x. if nat_lt 65 e.texts then Judged e.len (no_head HeadTooLong) else whole_answer offers x)
       (take-take e.len 8192 s (within e refl))
 
-  prefix_within : (s : List ℕ) (e : Extent) → head_extent (take 8192 s) ≡ Some e → e.len ≤ 8192
-  prefix_within s e is = let fits = (extent_fits (take 8192 s) e is).bound in let few = take_bound 8192 s in omega arith
-
   -- THE LIMIT
   pub limited : (s : List ℕ) → answer_of offers (take 8192 s) ≡ answer_of offers s
   unfolding answer_of
   limited s =
       ap (λ x. answer_with offers (take 8192 s) (head_extent x)) (take-take 8192 8192 s (omega arith))
-      ∙ limited_case s (head_extent (take 8192 s)) (prefix_within s)
-
-  short_case : (s : List ℕ) (b : Bool) → nat_lt (length s) 8192 ≡ b
-      → (if b then More else Judged 8192 (no_head HeadTooLong)) ≡ More → take 8192 s ≡ s
-  short_case s true short e = let lt : length s < 8192 = ltb-true (length s) 8192 short in take_all 8192 s (omega arith)
-  short_case s false long e = absurd (cc)
-
-  judged_case : (s : List ℕ) (e : Extent) (b : Bool)
-      → (if b then Judged e.len (no_head HeadTooLong) else whole_answer offers (take e.len s)) ≡ More → take 8192 s ≡ s
-  judged_case s e true is = absurd (cc)
-  judged_case s e false is = absurd (cc)
-
-  more_case : (s : List ℕ) (o : Option Extent) → answer_with offers s o ≡ More → take 8192 s ≡ s
-  more_case s None is = short_case s (nat_lt (length s) 8192) refl is
-  more_case s (Some e) is = judged_case s e (nat_lt 65 e.texts) is
+      ∙ limited_case s (head_extent (take 8192 s)) (λ e is.
+      omega (arith, (has_head (take 8192 s) e is).bound, length-take 8192 s))
 
   -- an unfinished head is shorter
   pub more_short : (s : List ℕ) → answer_of offers s ≡ More → take 8192 s ≡ s
-  unfolding answer_of
-  more_short s is = more_case s (head_extent (take 8192 s)) is
+  more_short s is = take_all 8192 s (omega (arith, (open_head offers s is).0))
 
 -- a verdict leaves nothing
 pub nothing_left : (p : Parsed) (s : List ℕ) → (p ≡ parsed.More → ⊥) → unfinished (answer_shown p) s ≡ []

@@ -4,10 +4,8 @@ use Rattle.std.specs.Prelude.{◌==◌, nat_lt, if◌then◌else◌, Option, Som
 use Rattle.std.proofs.Common.{arith, ◌∙◌, refl, zero, suc, get_or, add_assoc, inl, inr, add-one}
 use Rattle.std.specs.List.{position}
 use Rattle.std.proofs.lemmas.List.Quantifiers.{position-Some}
-use Rattle.std.proofs.lemmas.List.Sums.{fails_before_first}
-use Rattle.std.proofs.lemmas.Bool.Decides.{nat_tests}
-use Rattle.std.specs.List.{position_or_len}
 use Rattle.std.proofs.lemmas.List.{length-take-le, length-drop}
+use Rattle.tus_request.proofs.Positions.{none_passes}
 use Rattle.tus_request.specs.Lines.{lines, is_empty_line, up_to_empty, head_lines, Extent, extent_of, head_extent}
 
 pub true_or_false : (v : Bool) → (v ≡ true) ⊎ (v ≡ false)
@@ -30,13 +28,7 @@ one_line (b ∷ bytes) (suc i) inside feed none =
 
 -- bytes with no LF have no whole line
 pub lines_none : (bytes : List ℕ) → position (λ b. b == 10) bytes ≡ None → lines bytes ≡ []
-lines_none bytes e =
-    let past : length bytes ≤ position_or_len (λ b. b == 10) bytes =
-    elim (true_or_false (nat_lt (position_or_len (λ b. b == 10) bytes) (length bytes))) [
-      | inl t ↦ let k = rw t at e in absurd (cc)
-      | inr f ↦ grind (arith, nat_tests)
-    ] in
-    no_line bytes (λ k h. fails_before_first (λ b. b == 10) bytes k 0 (omega arith))
+lines_none bytes e = no_line bytes (none_passes (λ b. b == 10) bytes e)
 
 -- the first LF ends the first line
 pub lines_some : (bytes : List ℕ) (i : ℕ) → position (λ b. b == 10) bytes ≡ Some i
@@ -55,47 +47,32 @@ extent_after zero rest = option_map extent_of (head_lines rest)
 extent_after (suc n) rest = option_map extent_of (up_to_empty rest)
 
 further_none : (len texts n : ℕ) → further len texts (extent_after n []) ≡ None
-further_none len texts zero = refl
-further_none len texts (suc n) = refl
+further_none len texts n = grind arith
 
 extent_cons : (line : List ℕ) (o : Option (List (List ℕ)))
     → option_map extent_of (option_map (λ more. line ∷ more) o) ≡ further (length line)
     (if is_empty_line line then 0 else 1) (option_map extent_of o)
-extent_cons line None = refl
-extent_cons line (Some head) = refl
+extent_cons line o = grind arith
 
 further_twice : (len texts m n : ℕ) (o : Option Extent) → further len texts (further m n o) ≡ further (len + m)
     (texts + n) o
-further_twice len texts m n None = refl
-further_twice len texts m n (Some e) = rw (add_assoc, add_assoc)
+further_twice len texts m n o = grind arith
 
 -- a line that isn't empty
 pub after_text : (len texts : ℕ) (line : List ℕ) (rest : List (List ℕ)) → is_empty_line line ≡ false
     → further len texts (extent_after texts (line ∷ rest)) ≡ further (len + length line) (suc texts)
     (extent_after (suc texts) rest)
-after_text len zero line rest e =
-    let k = rw e at (extent_cons line (up_to_empty rest)) in
-    rw (e, k) (further_twice len 0 (length line) 1 (option_map extent_of (up_to_empty rest)))
-after_text len (suc n) line rest e =
-    let k = rw e at (extent_cons line (up_to_empty rest)) in
-    let w : suc n + 1 ≡ suc (suc n) = add-one (suc n) in
-    rw (e, k) (rw w at (further_twice len (suc n) (length line) 1 (option_map extent_of (up_to_empty rest))))
+after_text len texts line rest e = grind arith
 
 -- an empty line at the start
 pub after_empty : (len : ℕ) (line : List ℕ) (rest : List (List ℕ)) → is_empty_line line ≡ true
     → further len 0 (extent_after 0 (line ∷ rest)) ≡ further (len + length line) 0 (extent_after 0 rest)
-after_empty len line rest e =
-    let k = rw e at (extent_cons line (head_lines rest)) in
-    rw (e, k) (further_twice len 0 (length line) 0 (option_map extent_of (head_lines rest)))
+after_empty len line rest e = grind arith
 
 -- the empty line that ends the head
 pub at_end : (len texts : ℕ) (line : List ℕ) (rest : List (List ℕ)) → 0 < texts → is_empty_line line ≡ true
     → further len texts (extent_after texts (line ∷ rest)) ≡ Some (record { len = len + length line; texts = texts })
-at_end len zero line rest some e = absurd (omega arith)
-at_end len (suc n) line rest some e =
-    let z : length line + 0 ≡ length line = omega arith in
-    let y : suc n + 0 ≡ suc n = omega arith in
-    rw (e, e, z, y)
+at_end len texts line rest some e = grind arith
 
 -- what a loop over the lines knows
 pub record IsSoFar (bytes rest : List ℕ) (len texts : ℕ) : Type 0 where
@@ -104,9 +81,7 @@ pub record IsSoFar (bytes rest : List ℕ) (len texts : ℕ) : Type 0 where
   pub few : texts ≤ len
 
 pub further_zero : (o : Option Extent) → o ≡ further 0 0 o
-further_zero None = refl
-further_zero (Some e) = let l : 0 + e.len ≡ e.len = omega arith in let t : 0 + e.texts ≡ e.texts =
-    omega arith in rw (l, t)
+further_zero o = grind arith
 
 pub at_start : (bytes : List ℕ) → IsSoFar bytes bytes 0 0
 at_start bytes = record { extent = further_zero (head_extent bytes); all = omega arith; few = omega arith }

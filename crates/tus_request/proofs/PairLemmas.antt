@@ -47,9 +47,7 @@ pairs_turn current texts n part h =
 pub pairs_bad : (current : List KeyValue) (texts : List (List ℕ)) (n : ℕ) (part : List ℕ)
     → (n < length texts) × (part ≡ get_or texts n part)
     → pair_of (trimmed (32 ∷ []) part) ≡ None → pairs_from (Some current) (drop n (trims texts)) ≡ None
-pairs_bad current texts n part h e =
-    pairs_turn current texts n part h ∙ ap (λ p. pairs_from (with_pair current p) (drop (n + 1) (trims texts))) e
-    ∙ none_left (drop (n + 1) (trims texts))
+pairs_bad current texts n part h e = rw (pairs_turn current texts n part h, e, none_left (drop (n + 1) (trims texts)))
 
 -- a pair whose key was there
 pub pairs_twice : (current : List KeyValue) (texts : List (List ℕ)) (n : ℕ) (part : List ℕ) (p : KeyValue)
@@ -57,9 +55,7 @@ pub pairs_twice : (current : List KeyValue) (texts : List (List ℕ)) (n : ℕ) 
     → pair_of (trimmed (32 ∷ []) part) ≡ Some p → has_key p.0 current ≡ true
     → pairs_from (Some current) (drop n (trims texts)) ≡ None
 pairs_twice current texts n part p h e twice =
-    pairs_turn current texts n part h ∙ ap (λ q. pairs_from (with_pair current q) (drop (n + 1) (trims texts))) e
-    ∙ ap (λ (b : Bool). pairs_from (if b then None else Some (current ++ p ∷ [])) (drop (n + 1) (trims texts))) twice
-    ∙ none_left (drop (n + 1) (trims texts))
+    rw (pairs_turn current texts n part h, e, twice, none_left (drop (n + 1) (trims texts)))
 
 -- one pair more
 pub pairs_more : (current : List KeyValue) (texts : List (List ℕ)) (n : ℕ) (part : List ℕ) (p : KeyValue)
@@ -67,9 +63,7 @@ pub pairs_more : (current : List KeyValue) (texts : List (List ℕ)) (n : ℕ) (
     → pair_of (trimmed (32 ∷ []) part) ≡ Some p → has_key p.0 current ≡ false
     → pairs_from (Some current) (drop n (trims texts)) ≡ pairs_from (Some (current ++ p ∷ [])) (drop (n + 1)
     (trims texts))
-pairs_more current texts n part p h e new =
-    pairs_turn current texts n part h ∙ ap (λ q. pairs_from (with_pair current q) (drop (n + 1) (trims texts))) e
-    ∙ ap (λ (b : Bool). pairs_from (if b then None else Some (current ++ p ∷ [])) (drop (n + 1) (trims texts))) new
+pairs_more current texts n part p h e new = rw (pairs_turn current texts n part h, e, new)
 
 -- no part is left
 pub pairs_end : (current : List KeyValue) (texts : List (List ℕ)) (n : ℕ) → n ≡ length texts

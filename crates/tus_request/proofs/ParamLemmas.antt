@@ -3,11 +3,14 @@ use Rattle.std.specs.Prelude.{◌≡◌, ℕ, ◌+◌, ◌-◌, ◌<◌, ◌≤�
 use Rattle.std.specs.Prelude.{IsUtf8, slice_index}
 use Rattle.std.proofs.Common.{arith, ap, ◌∙◌, refl, get_or, zero, suc}
 use Rattle.std.proofs.lemmas.Bool.Decides.{nat_tests}
-use Rattle.std.proofs.lemmas.Str.{IsUtf8-drop, IsCharBoundary-after_ascii, IsUtf8-from_ascii}
+use Rattle.std.proofs.lemmas.Str.{IsUtf8-drop, IsCharBoundary-after_ascii, IsUtf8-from_is_utf8}
 use Rattle.std.proofs.Math.Seq.{take-length}
 use Rattle.matchit.specs.Rows.{param_token}
 use Rattle.matchit.specs.Params.{wild_from, next_at, walk, part_of, AllText, wild_stop}
+use Rattle.std.specs.Str.{is_utf8, chars}
+use Rattle.matchit.specs.Router.{RouteOf}
 use Rattle.tus_request.specs.RouteTable.{upload_route}
+use Rattle.tus_request.specs.declared.places.Kind.{Kind}
 
 abbrev pub AreBytes : List ℕ → Type 0
 AreBytes [] = Unit {0}
@@ -51,22 +54,13 @@ upload_walk part =
     walk_one upload_route.pattern upload_route.text (codes "/files/" ++ part) (8, 14) 7 7 w
     ∙ ap (λ p. (codes "number", p) ∷ []) (seventh (codes "/files/" ++ part) part refl len)
 
-pub walk_of : (pattern text path : List ℕ) (names : List (ℕ × ℕ)) (part : List ℕ) → pattern ≡ upload_route.pattern
-    → text ≡ upload_route.text → names ≡ upload_route.names → path ≡ codes "/files/" ++ part
-    → walk pattern text path names 0 0 ≡ (codes "number", part) ∷ []
-walk_of pattern text path names part p t n e = rw (p, t, n, e) (upload_walk part)
-
-number_is_ascii : (i : ℕ) → slice_index (codes "number") i < 128
-number_is_ascii zero = omega arith
-number_is_ascii (suc zero) = omega arith
-number_is_ascii (suc (suc zero)) = omega arith
-number_is_ascii (suc (suc (suc zero))) = omega arith
-number_is_ascii (suc (suc (suc (suc zero)))) = omega arith
-number_is_ascii (suc (suc (suc (suc (suc zero))))) = omega arith
-number_is_ascii (suc (suc (suc (suc (suc (suc i)))))) = omega arith
+pub walk_of : (route : RouteOf Kind) (path part : List ℕ) → route ≡ upload_route → path ≡ codes "/files/" ++ part
+    → walk route.pattern route.text path route.names 0 0 ≡ (codes "number", part) ∷ []
+walk_of route path part is e = rw (is, e) (upload_walk part)
 
 number_is_text : IsUtf8 (codes "number")
-number_is_text = IsUtf8-from_ascii (codes "number") number_is_ascii
+unfolding is_utf8 chars lib.Utf8.encode
+number_is_text = IsUtf8-from_is_utf8 (codes "number") refl
 
 part_is_text : (path part : List ℕ) → IsUtf8 path → path ≡ codes "/files/" ++ part → IsUtf8 part
 part_is_text path part valid e =

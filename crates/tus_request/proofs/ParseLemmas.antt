@@ -2,16 +2,17 @@
 use Rattle.std.specs.Prelude.{◌≡◌, ℕ, ◌+◌, ◌<◌, ◌≤◌, Bool, true, false, List, [], ◌∷◌, ◌++◌, length, map, take, drop}
 use Rattle.std.specs.Prelude.{min, nat_le, nat_lt, if◌then◌else◌, Option, Some, None, Result, Ok, Err, IfOk, OnErr}
 use Rattle.std.proofs.Common.{arith, ap, sym, ◌∙◌, refl, inl, inr, suc, subst, Bor, option_copied}
-use Rattle.std.proofs.lemmas.List.{length-append, append_assoc, append-nil, take_all, length-take-le}
-use Rattle.std.proofs.lemmas.List.{take-append-drop, take-append-le}
+use Rattle.std.proofs.lemmas.List.{length-append, append_assoc, append-nil, length-take-le, length-take, take_min}
+use Rattle.std.proofs.lemmas.List.{take-append-drop, take-take, nil_from_length}
 use Rattle.std.proofs.lemmas.Bool.Decides.{nat_tests}
-use Rattle.tus_request.proofs.LineLemmas.{true_or_false}
+use Rattle.std.proofs.lemmas.Bool.{cases_Bool}
 use Rattle.httparse.specs.declared.borrowed.Header.{Header}
 use Rattle.httparse.specs.Borrowed.{header_parts}
 use Rattle.httparse.specs.Spans.{name_and_value, RequestOverflows}
 use Rattle.httparse.specs.Grammar.{RequestHead, ReadsRequest, HasNoRequest, print_request}
 use Rattle.httparse.proofs.GrammarLemmas.{request_unique}
 use Rattle.tus_request.specs.Lines.{Extent, head_extent}
+use Rattle.std.proofs.Math.Nat.{min_comm}
 use Rattle.enc_model.specs.declared.Encoding.{Encoding}
 use Rattle.tus_request.specs.Answers.{Answer, More, Judged, answer_with, whole_answer as answer_whole, answer_of}
 use Rattle.tus_request.specs.Grammar.{HeadPrefix, unfinished, too_long, whole, prefix_with, prefix, IsWhole}
@@ -38,11 +39,7 @@ fills head more e h rest is reads =
     let texts : e.texts ≡ suc (length h.fields) = cc in
     let sum : length head ≡ length (print_request h) + length rest =
     ap length reads.1 ∙ length-append (print_request h) rest in
-    (omega (arith, is.few), omega (arith, is.all), no_length rest (omega (arith, is.all)))
-  where
-    no_length : (xs : List ℕ) → length xs ≡ 0 → xs ≡ []
-    no_length [] e = refl
-    no_length (x ∷ xs) e = absurd (omega arith)
+    (omega (arith, is.few), omega (arith, is.all), nil_from_length rest (omega (arith, is.all)))
 
 -- where the parser fails, no prefix is a request head
 pub none_where_failed : (head : List ℕ) → IsShortHead head → RequestOverflows 64 head → HasNoRequest head
@@ -50,16 +47,6 @@ none_where_failed head is over h rest reads =
     let f = fills head is.0 is.1 h rest is.2 reads in
     let o : 64 < length h.fields = over [] h rest (reads.0, append-nil head ∙ reads.1) in
     absurd (omega (arith, f.0))
-
-pub take_min : (n : ℕ) (bytes : List ℕ) → take (min (length bytes) n) bytes ≡ take n bytes
-take_min n bytes =
-    elim (true_or_false (nat_le (length bytes) n)) [
-      | inl t ↦ let less : length bytes ≤ n = grind (arith, nat_tests) in
-          let m : min (length bytes) n ≡ length bytes = omega arith in
-          rw (m, take_all n bytes less) (take_all (length bytes) bytes (omega arith))
-      | inr f ↦ let more : n ≤ length bytes = grind (arith, nat_tests) in
-          let m : min (length bytes) n ≡ n = omega arith in rw m
-    ]
 
 -- what an option of a text shows
 pub shown_by : (o : Option (Bor (List ℕ))) (r : Bor (List ℕ)) (v : List ℕ) → o ≡ Some r → option_copied o ≡ Some v
@@ -83,7 +70,7 @@ short_head start e short some within few =
     )
 
 pub start_is : (bytes : List ℕ) (m : ℕ) → m ≡ min (length bytes) 8192 → take m bytes ≡ take 8192 bytes
-start_is bytes m e = rw e (take_min 8192 bytes)
+start_is bytes m e = rw (e, min_comm) (take_min 8192 bytes)
 
 pub start_short : (bytes : List ℕ) (m : ℕ) → m ≡ min (length bytes) 8192
     → (length (take m bytes) ≤ 8192) × (length (take m bytes) ≡ min (length bytes) 8192)
@@ -105,9 +92,7 @@ not_read head none = go (request_of head) refl
 pub whole_prefix : (bytes : List ℕ) (e : Extent) → head_extent (take 8192 bytes) ≡ Some e → e.texts ≤ 65
     → IsWhole (prefix bytes)
 whole_prefix bytes e some few =
-    let l : nat_lt 65 e.texts ≡ false = grind (arith, nat_tests) in
-    let f : prefix bytes ≡ whole (take e.len bytes) = rw (some, l) in
-    rw f tt
+    let l : nat_lt 65 e.texts ≡ false = grind (arith, nat_tests) in rw (some, l) tt
 
 pub on_err : {A E P : Type 0} (r : Result A E) → P → OnErr r P
 on_err (Ok a) p = tt
@@ -125,53 +110,28 @@ module _ (offers : Encoding → Bool) where
       e ∙ ap (λ x. checked offers x (values_in (map header_parts headers))) l
       ∙ ap (λ x. checked offers (line_of h) (values_in x)) f
 
-  pub unfinished_answer : (bytes : List ℕ) → head_extent (take 8192 bytes) ≡ None → length bytes < 8192
-      → IsAnswer offers bytes More
-  unfinished_answer bytes none short =
-      let l : nat_lt (length bytes) 8192 ≡ true = grind (arith, nat_tests) in
-      let f : prefix bytes ≡ unfinished = rw (none, l) in
-      let r : More ≡ More = refl in
-      rw f r
-
-  pub too_much_answer : (bytes : List ℕ) → head_extent (take 8192 bytes) ≡ None → 8192 ≤ length bytes
-      → IsAnswer offers bytes (Judged 8192 (no_head HeadTooLong))
-  too_much_answer bytes none long =
-      let l : nat_lt (length bytes) 8192 ≡ false = grind (arith, nat_tests) in
-      let f : prefix bytes ≡ too_long 8192 = rw (none, l) in
-      let r : Judged 8192 (no_head HeadTooLong) ≡ Judged 8192 (no_head HeadTooLong) = refl in
-      rw f r
-
   pub no_extent_answer : (bytes : List ℕ) (came : ℕ) (a : Answer) → head_extent (take 8192 bytes) ≡ None
       → came ≡ min (length bytes) 8192
       → a ≡ (if nat_lt came 8192 then More else Judged 8192 (no_head HeadTooLong)) → IsAnswer offers bytes a
   no_extent_answer bytes came a none is e =
-      elim (true_or_false (nat_lt came 8192)) [
-        | inl t ↦ let short : length bytes < 8192 = grind (arith, nat_tests) in
-            let k : a ≡ More = rw t at e in
-            subst (λ x. IsAnswer offers bytes x) (sym k) (unfinished_answer bytes none short)
-        | inr f ↦ let long : 8192 ≤ length bytes = grind (arith, nat_tests) in
-            let k : a ≡ Judged 8192 (no_head HeadTooLong) = rw f at e in
-            subst (λ x. IsAnswer offers bytes x) (sym k) (too_much_answer bytes none long)
+      let same : nat_lt (length bytes) 8192 ≡ nat_lt came 8192 = grind (arith, nat_tests) in
+      elim (cases_Bool (nat_lt came 8192)) [
+        | inl t ↦ rw (none, same, t) (rw t at e)
+        | inr f ↦ rw (none, same, f) (rw f at e)
       ]
 
   pub too_many_answer : (bytes : List ℕ) (e : Extent) → head_extent (take 8192 bytes) ≡ Some e → 65 < e.texts
       → IsAnswer offers bytes (Judged e.len (no_head HeadTooLong))
   too_many_answer bytes e some many =
-      let l : nat_lt 65 e.texts ≡ true = grind (arith, nat_tests) in
-      let f : prefix bytes ≡ too_long e.len = rw (some, l) in
-      let r : Judged e.len (no_head HeadTooLong) ≡ Judged e.len (no_head HeadTooLong) = refl in
-      rw f r
+      let l : nat_lt 65 e.texts ≡ true = grind (arith, nat_tests) in rw (some, l) refl
 
   pub whole_answer : (bytes : List ℕ) (e : Extent) (a : Answer) → head_extent (take 8192 bytes) ≡ Some e
       → e.len ≤ length (take 8192 bytes) → e.texts ≤ 65
       → IsHeadAnswer offers (take e.len (take 8192 bytes)) a → IsAnswer offers bytes a
-  whole_answer bytes e a some within few is =
+  whole_answer bytes e a some within texts is =
       let l : nat_lt 65 e.texts ≡ false = grind (arith, nat_tests) in
-      let f : prefix bytes ≡ whole (take e.len bytes) = rw (some, l) in
-      let same : take e.len bytes ≡ take e.len (take 8192 bytes) =
-      ap (take e.len) (sym (take-append-drop 8192 bytes)) ∙ take-append-le e.len (take 8192 bytes) (drop 8192 bytes)
-      within in
-      rw f (rw same is)
+      let few : e.len ≤ 8192 = omega (arith, length-take 8192 bytes) in
+      rw (some, l) (rw (take-take e.len 8192 bytes few) at is)
 
   head_answer_unique : (head : List ℕ) (x y : Answer) → IsHeadAnswer offers head x → IsHeadAnswer offers head y → x ≡ y
   head_answer_unique head x y (inl a) (inl b) = a.1 ∙ sym b.1
@@ -194,21 +154,16 @@ module _ (offers : Encoding → Bool) where
   head_answer_is head a (inl is) = is.1 ∙ ap (λ o. Judged (length head) (judged offers o)) (sym (not_read head is.0))
   head_answer_is head a (inr is) = is.2 ∙ ap (λ o. Judged (length head) (judged offers o)) (sym (finds head is.0 is.1))
 
-  none_is : (bytes : List ℕ) (a : Answer) (b : Bool) → IsPrefixAnswer offers (if b then unfinished else too_long 8192) a
-      → a ≡ (if b then More else Judged 8192 (no_head HeadTooLong))
-  none_is bytes a true is = is
-  none_is bytes a false is = is
-
-  some_is : (bytes : List ℕ) (a : Answer) (e : Extent) (b : Bool) → IsPrefixAnswer offers
-      (if b then too_long e.len else whole (take e.len bytes)) a
-      → a ≡ (if b then Judged e.len (no_head HeadTooLong) else answer_whole offers (take e.len bytes))
-  some_is bytes a e true is = is
-  some_is bytes a e false is = head_answer_is (take e.len bytes) a is
-
   answer_with_is : (bytes : List ℕ) (a : Answer) (o : Option Extent) → IsPrefixAnswer offers (prefix_with bytes o) a
       → a ≡ answer_with offers bytes o
-  answer_with_is bytes a None is = none_is bytes a (nat_lt (length bytes) 8192) is
-  answer_with_is bytes a (Some e) is = some_is bytes a e (nat_lt 65 e.texts) is
+  answer_with_is bytes a None is = elim (cases_Bool (nat_lt (length bytes) 8192)) [
+    | inl t ↦ rw t (rw t at is)
+    | inr f ↦ rw f (rw f at is)
+  ]
+  answer_with_is bytes a (Some e) is = elim (cases_Bool (nat_lt 65 e.texts)) [
+    | inl t ↦ rw t (rw t at is)
+    | inr f ↦ rw f (head_answer_is (take e.len bytes) a (rw f at is))
+  ]
 
   pub answer_is : (bytes : List ℕ) (a : Answer) → IsAnswer offers bytes a → a ≡ answer_of offers bytes
   unfolding answer_of

@@ -1,44 +1,45 @@
 -- From the route that a path has to what it names.
 use Rattle.std.specs.Prelude.{◌≡◌, ℕ, ◌⊎◌, Bool, true, false, ◌==◌, ◌&&◌, nat_eq, List, [], ◌∷◌, ◌++◌, Some, None}
-use Rattle.std.proofs.Common.{arith, refl, inl, inr}
+use Rattle.std.proofs.Common.{arith, refl, inl, inr, get_or, sym, ◌∙◌, ◌<◌, codes}
 use Rattle.std.specs.List.{list_all}
 use Rattle.std.specs.Char.{is_ascii_digit}
+use Rattle.std.proofs.lemmas.Bool.{cases_Bool, and_right}
 use Rattle.std.proofs.lemmas.Bool.Decides.{nat_tests}
 use Rattle.matchit.specs.Seek.{has_slash}
 use Rattle.tus_request.specs.Number.{upload_number, is_number}
 use Rattle.tus_request.specs.Places.{place_at}
-use Rattle.tus_request.proofs.RouteLemmas.{found, true_or_false}
+use Rattle.matchit.specs.Seek.{first}
+use Rattle.matchit.specs.Router.{RouteOf}
+use Rattle.tus_request.specs.RouteTable.{files_route, upload_route}
+use Rattle.tus_request.specs.declared.places.Kind.{Kind}
+use Rattle.tus_request.proofs.RouteLemmas.{found, both, first_both, plain_word}
 
 -- a text with a slash writes no number
 slash_no_digits : (text : List ℕ) → has_slash text ≡ true → list_all is_ascii_digit text ≡ false
 slash_no_digits [] h = absurd (cc)
 slash_no_digits (b ∷ text) h =
-    elim (true_or_false (b == 47)) [
+    elim (cases_Bool (b == 47)) [
       | inl e ↦ let d : is_ascii_digit b ≡ false = grind (arith, nat_tests) in rw d
       | inr e ↦ let k : has_slash text ≡ true = rw e at h in
-          elim (true_or_false (is_ascii_digit b)) [
+          elim (cases_Bool (is_ascii_digit b)) [
             | inl d ↦ rw (d, slash_no_digits text k)
             | inr d ↦ rw d
           ]
     ]
 
-and_false : (a b : Bool) → b ≡ false → (a && b) ≡ false
-and_false true b e = e
-and_false false b e = refl
-
 slash_no_number : (text : List ℕ) → has_slash text ≡ true → upload_number text ≡ None
 slash_no_number [] h = refl
 slash_no_number (b ∷ text) h =
-    let n : is_number (b ∷ text) ≡ false = and_false _ _ (slash_no_digits (b ∷ text) h) in
-    elim (true_or_false (b == 48)) [ inl e ↦ rw e | inr e ↦ rw (e, n) ]
+    let n : is_number (b ∷ text) ≡ false = and_right _ _ (slash_no_digits (b ∷ text) h) in
+    elim (cases_Bool (b == 48)) [ inl e ↦ rw e | inr e ↦ rw (e, n) ]
 
 module _ {K : Type 0} where
   pub none_names_nothing : (word path : List ℕ) (f u : K) → found word path f u ≡ None → place_at word path ≡ None
   none_names_nothing [] [] f u h = absurd (cc)
-  none_names_nothing [] (b ∷ []) f u h = elim (true_or_false (47 == b)) [ inl e ↦ rw e | inr e ↦ rw e ]
+  none_names_nothing [] (b ∷ []) f u h = elim (cases_Bool (47 == b)) [ inl e ↦ rw e | inr e ↦ rw e ]
   none_names_nothing [] (b ∷ c ∷ rest) f u h =
-      elim (true_or_false (47 == b)) [
-        | inl e ↦ elim (true_or_false (has_slash (c ∷ rest))) [
+      elim (cases_Bool (47 == b)) [
+        | inl e ↦ elim (cases_Bool (has_slash (c ∷ rest))) [
           | inl s ↦ rw (e, slash_no_number (c ∷ rest) s)
           | inr s ↦ let k = rw (e, s) at h in absurd (cc)
         ]
@@ -46,7 +47,7 @@ module _ {K : Type 0} where
       ]
   none_names_nothing (x ∷ word) [] f u h = refl
   none_names_nothing (x ∷ word) (b ∷ path) f u h =
-      elim (true_or_false (x == b)) [
+      elim (cases_Bool (x == b)) [
         | inl e ↦ let k : found word path f u ≡ None = rw e at h in
             let s : nat_eq b x ≡ true = grind (arith, nat_tests) in
             rw (e, s, none_names_nothing word path f u k)
@@ -54,15 +55,15 @@ module _ {K : Type 0} where
       ]
 
   -- a path that has a route is the word, or begins with it and a slash
-  pub found_parts : (word path : List ℕ) (f u r : K) → found word path f u ≡ Some r
+  found_parts : (word path : List ℕ) (f u r : K) → found word path f u ≡ Some r
       → ((path ≡ word) × (r ≡ f)) ⊎ ((part : List ℕ) × (path ≡ word ++ 47 ∷ part) × (r ≡ u))
   found_parts [] [] f u r h = inl (refl, cc)
   found_parts [] (b ∷ []) f u r h =
-      elim (true_or_false (47 == b)) [ inl e ↦ absurd (cc (rw e at h)) | inr e ↦ absurd (cc (rw e at h)) ]
+      elim (cases_Bool (47 == b)) [ inl e ↦ absurd (cc (rw e at h)) | inr e ↦ absurd (cc (rw e at h)) ]
   found_parts [] (b ∷ c ∷ rest) f u r h =
-      elim (true_or_false (47 == b)) [
+      elim (cases_Bool (47 == b)) [
         | inl e ↦ let n : b ≡ 47 = grind (arith, nat_tests) in
-            elim (true_or_false (has_slash (c ∷ rest))) [
+            elim (cases_Bool (has_slash (c ∷ rest))) [
               | inl s ↦ let k = rw (e, s) at h in absurd (cc)
               | inr s ↦ let k = rw (e, s) at h in inr (c ∷ rest, rw n refl, cc)
             ]
@@ -70,7 +71,7 @@ module _ {K : Type 0} where
       ]
   found_parts (x ∷ word) [] f u r h = absurd (cc)
   found_parts (x ∷ word) (b ∷ path) f u r h =
-      elim (true_or_false (x == b)) [
+      elim (cases_Bool (x == b)) [
         | inl e ↦ let n : b ≡ x = grind (arith, nat_tests) in
             let k : found word path f u ≡ Some r = rw e at h in
             elim (found_parts word path f u r k) [
@@ -79,3 +80,11 @@ module _ {K : Type 0} where
             ]
         | inr e ↦ let k = rw e at h in absurd (cc)
       ]
+
+pub route_parts : (path : List ℕ) (r : RouteOf Kind) → get_or path 7 0 < 256
+    → first (both (codes "/files") files_route upload_route) path ≡ Some r
+    → ((path ≡ codes "/files") × (r ≡ files_route))
+    ⊎ ((part : List ℕ) × (path ≡ codes "/files/" ++ part) × (r ≡ upload_route))
+route_parts path r low e =
+    found_parts (codes "/files") path files_route upload_route r
+    (sym (first_both (codes "/files") path files_route upload_route plain_word low) ∙ e)

@@ -6,28 +6,24 @@ use Rattle.std.proofs.lemmas.List.Quantifiers.{position-Some}
 use Rattle.std.proofs.lemmas.List.Sums.{fails_before_first}
 use Rattle.std.proofs.lemmas.Bool.Decides.{nat_tests}
 use Rattle.memchr.specs.Find.{IsFirstByte}
-use Rattle.tus_request.proofs.LineLemmas.{true_or_false}
+use Rattle.std.proofs.lemmas.Bool.{cases_Bool, both_ways}
 
 pub none_passes : (p : ℕ → Bool) (xs : List ℕ) → position p xs ≡ None → (k : ℕ) → k < length xs
     → p (get_or xs k 0) ≡ false
 none_passes p xs e k inside =
     let past : length xs ≤ position_or_len p xs =
-    elim (true_or_false (nat_lt (position_or_len p xs) (length xs))) [
+    elim (cases_Bool (nat_lt (position_or_len p xs) (length xs))) [
       | inl t ↦ let k = rw t at e in absurd (cc)
       | inr f ↦ grind (arith, nat_tests)
     ] in
     fails_before_first p xs k 0 (omega arith)
 
-both : (b : Bool) → b ≡ true → b ≡ false → ⊥
-both true t f = absurd (cc)
-both false t f = absurd (cc)
-
 same_place : (p : ℕ → Bool) (xs : List ℕ) (i k : ℕ) → p (get_or xs i 0) ≡ true
     → ((j : ℕ) → j < i → p (get_or xs j 0) ≡ false) → p (get_or xs k 0) ≡ true
     → ((j : ℕ) → j < k → ¬ (p (get_or xs j 0) ≡ true)) → k ≡ i
-same_place p xs i k at_i before_i at_k before_k = elim (true_or_false (nat_lt k i)) [
-  | inl t ↦ let l : k < i = grind (arith, nat_tests) in absurd (both (p (get_or xs k 0)) at_k (before_i k l))
-  | inr f ↦ elim (true_or_false (nat_lt i k)) [
+same_place p xs i k at_i before_i at_k before_k = elim (cases_Bool (nat_lt k i)) [
+  | inl t ↦ let l : k < i = grind (arith, nat_tests) in absurd (both_ways (p (get_or xs k 0)) (before_i k l) at_k)
+  | inr f ↦ elim (cases_Bool (nat_lt i k)) [
     | inl t ↦ let l : i < k = grind (arith, nat_tests) in absurd (before_k i l at_i)
     | inr g ↦ grind (arith, nat_tests)
   ]
@@ -38,7 +34,7 @@ first_is p xs None None e is = refl
 first_is p xs None (Some i) e is =
     let q = position-Some p xs i 0 e in absurd (is i (omega arith) q.0 q.1)
 first_is p xs (Some k) None e is =
-    absurd (both (p (get_or xs k 0)) is.1 (none_passes p xs e k is.0.high))
+    absurd (both_ways (p (get_or xs k 0)) (none_passes p xs e k is.0.high) is.1)
 first_is p xs (Some k) (Some i) e is =
     let q = position-Some p xs i 0 e in
     ap Some (same_place p xs i k q.1 q.2 is.1 (λ j l. is.0.before j (omega arith) l))

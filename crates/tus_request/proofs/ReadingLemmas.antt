@@ -10,6 +10,7 @@ use Rattle.std.proofs.lemmas.List.Sums.{AllPass-from_list_all, list_all-from_All
 use Rattle.std.proofs.lemmas.Str.{IsUtf8-from_is_utf8, is_utf8-from_IsUtf8}
 use Rattle.std.proofs.lemmas.Slice.Eq.{bytes_eq-Decides}
 use Rattle.tus_request.proofs.FieldLemmas.{bytes_eq_same}
+use Rattle.std.proofs.lemmas.Bool.{and_parts, and_from, both_ways, false_from_ne_true}
 use Rattle.std.proofs.lemmas.Bool.Decides.{nat_tests}
 use Rattle.std.proofs.lemmas.List.{append-nil}
 use Rattle.httparse.proofs.GrammarLemmas.{cons-append}
@@ -97,18 +98,10 @@ colon_is_no_token : is_token_byte 58 ≡ false
 unfolding is_token_byte
 colon_is_no_token = refl
 
-apart : (v : Bool) → v ≡ true → v ≡ false → ⊥
-apart v x y = let k : true ≡ false = sym x ∙ y in cc
-
 token_no_colon : (b : ℕ) → IsTrue (is_token_byte b) → (b == 58) ≡ false
-token_no_colon b t = go (b == 58) refl
-  where
-    go : (v : Bool) → (b == 58) ≡ v → v ≡ false
-    go false e = refl
-    go true e =
-        let n : b ≡ 58 = grind (arith, nat_tests) in
-        let k : is_token_byte b ≡ false = rw n colon_is_no_token in
-        absurd (apart (is_token_byte b) t k)
+token_no_colon b t = false_from_ne_true (b == 58) (λ e.
+    let n : b ≡ 58 = grind (arith, nat_tests) in
+    both_ways (is_token_byte b) (rw n colon_is_no_token) t)
 
 pub field_back : (f : Field) → IsField f → field_of (print_field f) ≡ f
 field_back f is =
@@ -252,13 +245,6 @@ guess_back h is =
           text,
     ) w
 
-both : (a b : Bool) → a ≡ true → b ≡ true → (a && b) ≡ true
-both a b x y = rw (x, y)
-
-both_of : (a b : Bool) → (a && b) ≡ true → (a ≡ true) × (b ≡ true)
-both_of true b e = (refl, e)
-both_of false b e = absurd (cc)
-
 nonempty : (text : List ℕ) → 0 < length text → nat_lt 0 (length text) ≡ true
 nonempty text some = grind (arith, nat_tests)
 
@@ -266,23 +252,23 @@ some_of : (text : List ℕ) → nat_lt 0 (length text) ≡ true → 0 < length t
 some_of text e = grind (arith, nat_tests)
 
 token_test : (text : List ℕ) → IsToken text → is_token text ≡ true
-token_test text is = both _ _ (nonempty text is.0) (list_all-from_AllPass is_token_byte text is.1)
+token_test text is = and_from _ _ (nonempty text is.0) (list_all-from_AllPass is_token_byte text is.1)
 
 token_of : (text : List ℕ) → is_token text ≡ true → IsToken text
-token_of text e = let p = both_of _ _ e in (some_of text p.0, AllPass-from_list_all is_token_byte text p.1)
+token_of text e = let p = and_parts _ _ e in (some_of text p.0, AllPass-from_list_all is_token_byte text p.1)
 
 fields_test : (fields : List Field) → All IsField fields → list_all is_field fields ≡ true
 fields_test [] all = refl
 fields_test (f ∷ fields) all =
     let is = All-head IsField f fields all in
-    both _ _ (both _ _ (token_test f.name is.name) (list_all-from_AllPass is_value_byte f.raw is.raw))
+    and_from _ _ (and_from _ _ (token_test f.name is.name) (list_all-from_AllPass is_value_byte f.raw is.raw))
     (fields_test fields (All-tail IsField f fields all))
 
 fields_are : (fields : List Field) → list_all is_field fields ≡ true → All IsField fields
 fields_are [] e = λ k d inside. absurd (omega arith)
 fields_are (f ∷ fields) e =
-    let p = both_of _ _ e in
-    let q = both_of _ _ p.0 in
+    let p = and_parts _ _ e in
+    let q = and_parts _ _ p.0 in
     All-cons IsField f fields (record {
       name = token_of f.name q.0;
       raw = AllPass-from_list_all is_value_byte f.raw q.1;
@@ -291,17 +277,17 @@ fields_are (f ∷ fields) e =
 head_test : (h : RequestHead) → IsRequestHead h → is_request_head h ≡ true
 head_test h is =
     let m : nat_le h.minor 1 ≡ true = let k = is.minor in grind (arith, nat_tests) in
-    both _ _ (both _ _ (both _ _ (both _ _ (both _ _ (token_test h.method is.method) (nonempty h.target is.target.0))
+    and_from _ _ (and_from _ _ (and_from _ _ (and_from _ _ (and_from _ _ (token_test h.method is.method) (nonempty h.target is.target.0))
     (list_all-from_AllPass is_uri_byte h.target is.target.1)) (is_utf8-from_IsUtf8 h.target
     is.target_text)) m) (fields_test h.fields is.fields)
 
 head_is : (h : RequestHead) → is_request_head h ≡ true → IsRequestHead h
 head_is h e =
-    let a = both_of _ _ e in
-    let b = both_of _ _ a.0 in
-    let c = both_of _ _ b.0 in
-    let d = both_of _ _ c.0 in
-    let f = both_of _ _ d.0 in
+    let a = and_parts _ _ e in
+    let b = and_parts _ _ a.0 in
+    let c = and_parts _ _ b.0 in
+    let d = and_parts _ _ c.0 in
+    let f = and_parts _ _ d.0 in
     record {
       method = token_of h.method f.0;
       target = (some_of h.target f.1, AllPass-from_list_all is_uri_byte h.target d.1);
@@ -316,7 +302,7 @@ finds head h reads =
     let e : head ≡ print_request h = reads.1 ∙ append-nil (print_request h) in
     let g : guess head ≡ h = rw e (guess_back h reads.0) in
     let t : (is_request_head (guess head) && bytes_eq head (print_request (guess head))) ≡ true =
-    rw g (both _ _ (head_test h reads.0) (rw (← e) (bytes_eq_same head))) in
+    rw g (and_from _ _ (head_test h reads.0) (rw (← e) (bytes_eq_same head))) in
     rw (t, g)
 
 -- and finds nothing else
@@ -329,6 +315,6 @@ found_reads head h e = go (is_request_head (guess head) && bytes_eq head (print_
     go true t =
         let k = rw t at e in
         let g : guess head ≡ h = cc in
-        let p = both_of _ _ t in
+        let p = and_parts _ _ t in
         let same : head ≡ print_request (guess head) = (bytes_eq-Decides head (print_request (guess head))).0 p.1 in
         (rw (← g) (head_is (guess head) p.0), rw (← g) (same ∙ sym (append-nil (print_request (guess head)))))

@@ -93,24 +93,3 @@ pub three_lines : (status a b c size : List ℕ) (n : Option ℕ) (closes : Bool
 three_lines status a b c size n closes is =
     ap (λ t. reply status (a ++ t) None closes) (sym (append_assoc b c (size ++ [])))
     ∙ two_lines status a (b ++ c) size n closes is
-
-pub refused_reply : (fault : Fault) (on_files bare closes : Bool) (status first number size : List ℕ)
-    → status ≡ status_of fault → first ≡ refusal_lead fault on_files → number ≡ refusal_line fault
-    → size ≡ length_line (unless_bare bare 0)
-    → reply status (first ++ (number ++ (size ++ []))) None closes ≡ reply_refused fault on_files bare closes
-refused_reply fault on_files bare closes status first number size stands leads line is =
-    rw (stands, leads, line) (two_lines (status_of fault) (refusal_lead fault on_files) (refusal_line fault) size
-    (unless_bare bare 0) closes is)
-
-pub head_reply : (n : ℕ) (declared : Option ℕ) (metadata : List ℕ) (bare closes : Bool) (offset known size : List ℕ)
-    → offset ≡ header (codes "Upload-Offset") (decimal n) → known ≡ declared_line declared
-    → size ≡ length_line (unless_bare bare 0)
-    → reply (codes "200 OK") (offset ++ (known ++ (metadata_line metadata ++ (size ++ [])))) None closes
-    ≡ reply_head n declared metadata bare closes
-head_reply n declared metadata bare closes offset known size first second is =
-    rw (first, second) (three_lines (codes "200 OK") (header (codes "Upload-Offset") (decimal n))
-    (declared_line declared) (metadata_line metadata) size (unless_bare bare 0) closes is)
-
--- what is short in other words is short
-pub short_as : (text said : List ℕ) (most : ℕ) → text ≡ said → length said ≤ most → length text ≤ most
-short_as text said most same short = subst (λ (t : List ℕ). length t ≤ most) (sym same) short

@@ -4,12 +4,9 @@ use Rattle.std.specs.Prelude.{Some, None, codes}
 use Rattle.std.proofs.Common.{arith, ap, ◌∙◌, refl, zero, suc, get_or, inl, inr}
 use Rattle.matchit.specs.Rows.{RowsOf, param_token, catch_all_token}
 use Rattle.matchit.specs.Seek.{seek, first, has_slash, own, or_else}
+use Rattle.std.proofs.lemmas.Bool.{cases_Bool}
 use Rattle.std.proofs.lemmas.Bool.Decides.{nat_tests}
 use Rattle.matchit.proofs.OnLiterals.{matchit_on_literals}
-
-pub true_or_false : (v : Bool) → (v ≡ true) ⊎ (v ≡ false)
-true_or_false true = inl refl
-true_or_false false = inr refl
 
 -- no token of the word is a parameter's
 abbrev pub IsPlain : List ℕ → Type 0
@@ -89,7 +86,7 @@ module _ {K : Type 0} where
   unfolding matchit_on_literals
   first_after [] f u low = refl
   first_after (b ∷ rest) f u low =
-      elim (true_or_false (47 == b)) [
+      elim (cases_Bool (47 == b)) [
         | inl e ↦ rw (e, first_param rest u low) (
             ap (λ o. or_else (after_slash rest u) o) (no_arm (has_slash (b ∷ rest)) (length (b ∷ rest)) rest)
             ∙ or_none (after_slash rest u)
@@ -103,7 +100,7 @@ module _ {K : Type 0} where
   first_both [] path f u plain low = first_after path f u low
   first_both (x ∷ word) [] f u plain low = refl
   first_both (x ∷ word) (b ∷ path) f u plain low =
-      elim (true_or_false (x == b)) [
+      elim (cases_Bool (x == b)) [
         | inl e ↦ rw (e, plain.0, plain.1, first_both word path f u plain.2 low) (
             ap (λ o. or_else (found word path f u) o) (no_arm (has_slash (b ∷ path)) (length (b ∷ path)) path)
             ∙ or_none (found word path f u)

@@ -6,7 +6,7 @@ use Rattle.std.specs.List.{position}
 use Rattle.std.proofs.lemmas.List.Quantifiers.{position-Some}
 use Rattle.tus_request.proofs.Positions.{none_passes}
 use Rattle.std.proofs.lemmas.List.{take_all}
-use Rattle.std.proofs.lemmas.Bool.{eqb-true, ltb-true, lt-ltb, leb-false, lt-leb}
+use Rattle.std.proofs.lemmas.Bool.{eqb-true, ltb-true, lt-ltb, leb-false, lt-leb, cases_Bool, both_ways, or_parts, or_from}
 use Rattle.enc_model.specs.declared.Encoding.{Encoding}
 use Rattle.tus_request.specs.Lines.{lines, onto_first, is_empty_line, up_to_empty, head_lines, Extent, extent_of}
 use Rattle.tus_request.specs.Lines.{head_extent}
@@ -17,7 +17,6 @@ use Rattle.tus_request.specs.Checks.{no_head}
 use Rattle.tus_request.specs.Answers.{More, Judged, answer_with, whole_answer, answer_of}
 use Rattle.tus_request.specs.declared.search.Search.{Search}
 use Rattle.tus_request.specs.declared.search.Search.TheVariants.{Front, FrontCr, Text, Start, StartCr, Over}
-use Rattle.tus_request.proofs.LineLemmas.{true_or_false}
 
 abbrev Lines : Type 0
 Lines = List (List ℕ)
@@ -25,11 +24,6 @@ Lines = List (List ℕ)
 has : {A : Type 0} → Option A → Bool
 has None = false
 has (Some x) = true
-
-has_map : {A B : Type 0} (f : A → B) (o : Option A) → has (option_map f o) ≡ has o
-unfolding has
-has_map f None = refl
-has_map f (Some x) = refl
 
 -- whether the end of the head stands in the lines that are left
 sees : Search → Lines → Bool
@@ -44,112 +38,45 @@ sees Over ls = true
 -- A LF
 sees_lf : (s : Search) (ls : Lines) → sees s ((10 ∷ []) ∷ ls) ≡ sees (after_byte s 10) ls
 unfolding sees has
-sees_lf Front ls = has_map (λ more. (10 ∷ []) ∷ more) (head_lines ls)
-sees_lf FrontCr ls = has_map (λ more. (13 ∷ 10 ∷ []) ∷ more) (head_lines ls)
-sees_lf Text ls = refl
-sees_lf Start ls = refl
-sees_lf StartCr ls = refl
-sees_lf Over ls = refl
+sees_lf s ls = grind arith
 
 -- A CR
 sees_cr : (s : Search) (ls : Lines) → sees s (onto_first 13 ls) ≡ sees (after_byte s 13) ls
 unfolding sees has
-sees_cr Front ls = refl
-sees_cr FrontCr [] = refl
-sees_cr FrontCr (line ∷ ls) = has_map (λ more. (13 ∷ 13 ∷ line) ∷ more) (up_to_empty ls)
-sees_cr Text [] = refl
-sees_cr Text (line ∷ ls) = refl
-sees_cr Start ls = refl
-sees_cr StartCr [] = refl
-sees_cr StartCr (line ∷ ls) = has_map (λ more. (13 ∷ 13 ∷ line) ∷ more) (up_to_empty ls)
-sees_cr Over ls = refl
+sees_cr s ls = grind arith
 
 -- ANOTHER BYTE
-not_empty : (b : ℕ) (line : List ℕ) → (b == 10) ≡ false → (b == 13) ≡ false → is_empty_line (b ∷ line) ≡ false
-not_empty b line e f = rw (e, f) refl
-
-not_empty_cr : (b : ℕ) (line : List ℕ) → (b == 10) ≡ false → is_empty_line (13 ∷ b ∷ line) ≡ false
-not_empty_cr b line e = rw e refl
-
-head_text : (line : List ℕ) (ls : Lines) → is_empty_line line ≡ false → has (head_lines (line ∷ ls)) ≡ has
-    (up_to_empty ls)
-head_text line ls e = rw e (has_map (λ more. line ∷ more) (up_to_empty ls))
-
-up_text : (line : List ℕ) (ls : Lines) → is_empty_line line ≡ false → has (up_to_empty (line ∷ ls)) ≡ has
-    (up_to_empty ls)
-up_text line ls e = rw e (has_map (λ more. line ∷ more) (up_to_empty ls))
-
-text_case : (s : Search) (b : ℕ) (ls : Lines) → (b == 10) ≡ false → (b == 13) ≡ false
-    → sees s (onto_first b ls) ≡ sees (after_text_byte s) ls
-unfolding sees has
-text_case Front b [] e f = refl
-text_case Front b (line ∷ ls) e f = head_text (b ∷ line) ls (not_empty b line e f)
-text_case FrontCr b [] e f = refl
-text_case FrontCr b (line ∷ ls) e f = head_text (13 ∷ b ∷ line) ls (not_empty_cr b line e)
-text_case Text b [] e f = refl
-text_case Text b (line ∷ ls) e f = refl
-text_case Start b [] e f = refl
-text_case Start b (line ∷ ls) e f = up_text (b ∷ line) ls (not_empty b line e f)
-text_case StartCr b [] e f = refl
-text_case StartCr b (line ∷ ls) e f = up_text (13 ∷ b ∷ line) ls (not_empty_cr b line e)
-text_case Over b ls e f = refl
-
-becomes : (s : Search) (b : ℕ) → (b == 10) ≡ false → (b == 13) ≡ false → after_byte s b ≡ after_text_byte s
-becomes s b e f = rw (e, f) refl
-
 sees_text : (s : Search) (b : ℕ) (ls : Lines) → (b == 10) ≡ false → (b == 13) ≡ false
     → sees s (onto_first b ls) ≡ sees (after_byte s b) ls
-sees_text s b ls e f = text_case s b ls e f ∙ ap (λ t. sees t ls) (sym (becomes s b e f))
+unfolding sees has
+sees_text s b ls e f = grind arith
 
 -- ANY BYTE
-lines_feed : (bytes : List ℕ) (b : ℕ) (c : Bool) → (b == 10) ≡ c
-    → lines (b ∷ bytes) ≡ (if c then (b ∷ []) ∷ lines bytes else onto_first b (lines bytes))
-lines_feed bytes b c e = rw e refl
-
-step_case : (s : Search) (b : ℕ) (bytes : List ℕ) → ((b == 10) ≡ true) ⊎ ((b == 10) ≡ false)
-    → ((b == 13) ≡ true) ⊎ ((b == 13) ≡ false)
-    → sees s (lines (b ∷ bytes)) ≡ sees (after_byte s b) (lines bytes)
-step_case s b bytes (inl lf) other =
-    let is : 10 ≡ b = sym (eqb-true b 10 lf) in
-    subst (λ c. sees s (lines (c ∷ bytes)) ≡ sees (after_byte s c) (lines bytes)) is (sees_lf s (lines bytes))
-step_case s b bytes (inr no_lf) (inl cr) =
-    let is : 13 ≡ b = sym (eqb-true b 13 cr) in
-    subst (λ c. sees s (lines (c ∷ bytes)) ≡ sees (after_byte s c) (lines bytes)) is (sees_cr s (lines bytes))
-step_case s b bytes (inr no_lf) (inr no_cr) =
-    ap (sees s) (lines_feed bytes b false no_lf) ∙ sees_text s b (lines bytes) no_lf no_cr
+step_case : (s : Search) (b : ℕ) (bytes : List ℕ) → sees s (lines (b ∷ bytes)) ≡ sees (after_byte s b) (lines bytes)
+step_case s b bytes = elim (cases_Bool (b == 10)) [
+  | inl lf ↦ rw (eqb-true b 10 lf) (sees_lf s (lines bytes))
+  | inr no_lf ↦ elim (cases_Bool (b == 13)) [
+    | inl cr ↦ rw (eqb-true b 13 cr) (sees_cr s (lines bytes))
+    | inr no_cr ↦ rw no_lf (rw no_lf at (sees_text s b (lines bytes) no_lf no_cr))
+  ]
+]
 
 sees_none : (s : Search) → sees s [] ≡ is_over s
 unfolding sees has
-sees_none Front = refl
-sees_none FrontCr = refl
-sees_none Text = refl
-sees_none Start = refl
-sees_none StartCr = refl
-sees_none Over = refl
+sees_none s = grind arith
 
 sees_all : (s : Search) (bytes : List ℕ) → sees s (lines bytes) ≡ is_over (after_bytes s bytes)
 sees_all s [] = sees_none s
-sees_all s (b ∷ bytes) = step_case s b bytes (true_or_false (b == 10)) (true_or_false (b == 13))
-    ∙ sees_all (after_byte s b) bytes
-
-has_none : {A B : Type 0} (f : A → B) (o : Option A) → has o ≡ false → option_map f o ≡ None
-unfolding has
-has_none f None e = refl
-has_none f (Some x) e = absurd (cc)
-
-has_some : {A B : Type 0} (f : A → B) (o : Option A) → option_map f o ≡ None → has o ≡ false
-unfolding has
-has_some f None e = refl
-has_some f (Some x) e = absurd (cc)
+sees_all s (b ∷ bytes) = step_case s b bytes ∙ sees_all (after_byte s b) bytes
 
 -- THE HEAD'S END
 no_end : (bytes : List ℕ) → is_over (after_bytes Front bytes) ≡ false → head_extent bytes ≡ None
-unfolding sees
-no_end bytes e = has_none extent_of (head_lines (lines bytes)) (sees_all Front bytes ∙ e)
+unfolding sees has
+no_end bytes e = let s = sees_all Front bytes in grind arith
 
 an_end : (bytes : List ℕ) → head_extent bytes ≡ None → is_over (after_bytes Front bytes) ≡ false
-unfolding sees
-an_end bytes e = sym (sees_all Front bytes) ∙ has_some extent_of (head_lines (lines bytes)) e
+unfolding sees has
+an_end bytes e = let s = sees_all Front bytes in grind arith
 
 module _ (offers : Encoding → Bool) where
   -- a head that isn't whole, and may become so
@@ -158,23 +85,18 @@ module _ (offers : Encoding → Bool) where
   unfolding answer_of
   unended bytes short e =
       let all : take 8192 bytes ≡ bytes = take_all 8192 bytes (omega arith) in
-      let none : head_extent (take 8192 bytes) ≡ None = ap head_extent all ∙ no_end bytes e in
-      let few : nat_lt (length bytes) 8192 ≡ true = lt-ltb (length bytes) 8192 short in
-      ap (answer_with offers bytes) none ∙ ap (λ b. if b then More else Judged 8192 (no_head HeadTooLong)) few
-
-  long_case : (bytes : List ℕ) (b : Bool) → (if b then More else Judged 8192 (no_head HeadTooLong)) ≡ More → b ≡ true
-  long_case bytes true e = refl
-  long_case bytes false e = absurd (cc)
-
-  judged_case : (bytes : List ℕ) (e : Extent) (b : Bool)
-      → (if b then Judged e.len (no_head HeadTooLong) else whole_answer offers (take e.len bytes)) ≡ More → ⊥
-  judged_case bytes e true is = absurd (cc)
-  judged_case bytes e false is = absurd (cc)
+      rw (all, no_end bytes e, lt-ltb (length bytes) 8192 short)
 
   open_case : (bytes : List ℕ) (o : Option Extent) → answer_with offers bytes o ≡ More
       → (length bytes < 8192) × (o ≡ None)
-  open_case bytes None is = (ltb-true (length bytes) 8192 (long_case bytes (nat_lt (length bytes) 8192) is), refl)
-  open_case bytes (Some e) is = absurd (judged_case bytes e (nat_lt 65 e.texts) is)
+  open_case bytes None is = elim (cases_Bool (nat_lt (length bytes) 8192)) [
+    | inl t ↦ (ltb-true (length bytes) 8192 t, refl)
+    | inr t ↦ absurd (cc (rw t at is))
+  ]
+  open_case bytes (Some e) is = elim (cases_Bool (nat_lt 65 e.texts)) [
+    | inl t ↦ absurd (cc (rw t at is))
+    | inr t ↦ absurd (cc (rw t at is))
+  ]
 
   -- only such a head isn't judged
   pub open_head : (bytes : List ℕ) → answer_of offers bytes ≡ More
@@ -182,52 +104,39 @@ module _ (offers : Encoding → Bool) where
   unfolding answer_of
   open_head bytes is =
       let o = open_case bytes (head_extent (take 8192 bytes)) is in
-      let all : take 8192 bytes ≡ bytes = take_all 8192 bytes (omega (arith, o.0)) in
-      (o.0, an_end bytes (sym (ap head_extent all) ∙ o.1))
-
-  neither : (a b : Bool) → (a || b) ≡ false → (a ≡ false) × (b ≡ false)
-  neither false b e = (refl, e)
-  neither true b e = absurd (cc)
+      (o.0, an_end bytes (rw (take_all 8192 bytes (omega (arith, o.0))) at o.1))
 
   pub unjudged : (bytes : List ℕ) → is_judged bytes ≡ false → answer_of offers bytes ≡ More
   unjudged bytes e =
-      let n = neither (is_over (after_bytes Front bytes)) (nat_le 8192 (length bytes)) e in
-      let short : length bytes < 8192 = leb-false 8192 (length bytes) n.1 in
-      unended bytes short n.0
+      let n = or_parts _ _ e in unended bytes (leb-false 8192 (length bytes) n.1) n.0
 
   pub judged : (bytes : List ℕ) → is_judged bytes ≡ true → answer_of offers bytes ≡ More → ⊥
   judged bytes e is =
       let o = open_head bytes is in
-      let none : is_judged bytes ≡ false =
-      ap (λ b. b || nat_le 8192 (length bytes)) o.1 ∙ lt-leb 8192 (length bytes) o.0 in
-      let both : true ≡ false = sym e ∙ none in
-      absurd (cc)
+      both_ways (is_judged bytes) (or_from _ _ o.1 (lt-leb 8192 (length bytes) o.0)) e
 
 -- THE SEARCH IN PIECES
-over_byte : (c d : Bool) → (if c then Over else if d then Over else Over) ≡ Over
-over_byte true d = refl
-over_byte false true = refl
-over_byte false false = refl
+over_byte : (b : ℕ) → after_byte Over b ≡ Over
+over_byte b = grind arith
 
 pub over_stays : (bytes : List ℕ) → after_bytes Over bytes ≡ Over
 over_stays [] = refl
-over_stays (b ∷ bytes) = ap (λ s. after_bytes s bytes) (over_byte (b == 10) (b == 13)) ∙ over_stays bytes
+over_stays (b ∷ bytes) = ap (λ s. after_bytes s bytes) (over_byte b) ∙ over_stays bytes
 
 pub search_on : (s : Search) (xs ys : List ℕ) → after_bytes s (xs ++ ys) ≡ after_bytes (after_bytes s xs) ys
 search_on s [] ys = refl
 search_on s (b ∷ xs) ys = search_on (after_byte s b) xs ys
 
 -- A LINE THAT ISN'T EMPTY
-text_byte : (b : ℕ) (c : Bool) → (b == 10) ≡ false → (b == 13) ≡ c → after_byte Text b ≡ Text
-text_byte b true e f = rw (e, f) refl
-text_byte b false e f = rw (e, f) refl
+text_byte : (b : ℕ) → (b == 10) ≡ false → after_byte Text b ≡ Text
+text_byte b e = grind arith
 
 -- without a LF it goes on
 pub text_stays : (bytes : List ℕ) → ((k : ℕ) → k < length bytes → (get_or bytes k 0 == 10) ≡ false)
     → after_bytes Text bytes ≡ Text
 text_stays [] none = refl
 text_stays (b ∷ bytes) none =
-    ap (λ s. after_bytes s bytes) (text_byte b (b == 13) (none 0 (omega arith)) refl)
+    ap (λ s. after_bytes s bytes) (text_byte b (none 0 (omega arith)))
     ∙ text_stays bytes (λ k h. none (suc k) (omega arith))
 
 -- its LF ends it
@@ -238,7 +147,7 @@ text_ends [] i inside feed none = absurd (omega arith)
 text_ends (b ∷ bytes) zero inside feed none = rw feed refl
 text_ends (b ∷ bytes) (suc i) inside feed none =
     text_ends bytes i (omega arith) feed (λ k h. none (suc k) (omega arith))
-    ∙ ap (λ s. after_bytes s bytes) (sym (text_byte b (b == 13) (none 0 (omega arith)) refl))
+    ∙ ap (λ s. after_bytes s bytes) (sym (text_byte b (none 0 (omega arith))))
 
 pub after_none : (bytes : List ℕ) → position (λ b. b == 10) bytes ≡ None → after_bytes Text bytes ≡ Text
 after_none bytes e = text_stays bytes (none_passes (λ b. b == 10) bytes e)

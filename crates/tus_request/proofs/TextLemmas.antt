@@ -4,10 +4,9 @@ use Rattle.std.specs.Prelude.{None}
 use Rattle.std.proofs.Common.{arith, ap, refl, zero, suc, get_or, inl, inr, add-one}
 use Rattle.std.specs.List.{position, position_or_len, before_first}
 use Rattle.std.proofs.lemmas.List.Quantifiers.{position-Some}
-use Rattle.std.proofs.lemmas.List.Sums.{fails_before_first}
-use Rattle.std.proofs.lemmas.Bool.Decides.{nat_tests}
 use Rattle.tus_request.specs.Reading.{before, after}
 use Rattle.tus_request.proofs.LineLemmas.{true_or_false}
+use Rattle.tus_request.proofs.Positions.{none_passes}
 
 -- the mark stands at a place, and not before
 cut_at : (mark : ℕ) (text : List ℕ) (i : ℕ) → i < length text → (get_or text i 0 == mark) ≡ true
@@ -36,13 +35,7 @@ cut_some mark text i e =
 
 pub cut_none : (mark : ℕ) (text : List ℕ) → position (λ b. b == mark) text ≡ None
     → (before mark text ≡ text) × (after mark text ≡ [])
-cut_none mark text e =
-    let past : length text ≤ position_or_len (λ b. b == mark) text =
-    elim (true_or_false (nat_lt (position_or_len (λ b. b == mark) text) (length text))) [
-      | inl t ↦ let k = rw t at e in absurd (cc)
-      | inr f ↦ grind (arith, nat_tests)
-    ] in
-    uncut mark text (λ k h. fails_before_first (λ b. b == mark) text k 0 (omega arith))
+cut_none mark text e = uncut mark text (none_passes (λ b. b == mark) text e)
 
 pub before_first_is : (mark : ℕ) (text : List ℕ) → before_first (λ b. b == mark) text ≡ before mark text
 before_first_is mark [] = refl

@@ -4,8 +4,9 @@ use Rattle.std.specs.List.{list_all}
 use Rattle.std.specs.Char.{is_ascii_digit, digit_value}
 use Rattle.std.specs.Str.Parse.{digits_value, AllDigits}
 use Rattle.std.proofs.Common.{◌≡◌, ◌<◌, ◌≤◌, ◌+◌, ◌^◌, ℕ, Bool, true, false, ◌&&◌, nat_le, nat_lt, if◌then◌else◌}
-use Rattle.std.proofs.Common.{List, [], ◌∷◌, length, Option, Some, None, refl, sym, subst, ap, ◌∙◌, arith}
-use Rattle.std.proofs.lemmas.Bool.{leb-true}
+use Rattle.std.proofs.Common.{List, [], ◌∷◌, length, Option, Some, None, refl, sym, subst, ap, ◌∙◌, arith, inl, inr}
+use Rattle.std.proofs.lemmas.Bool.{leb-true, cases_Bool, and_parts}
+use Rattle.std.proofs.lemmas.Option.{same_Some}
 use Rattle.std.proofs.lemmas.List.Elements.{All-cons}
 use Rattle.std.proofs.lemmas.Str.{digit_value_digit}
 use Rattle.std.proofs.lemmas.Int.Digits.{digits_value-lt}
@@ -32,18 +33,12 @@ use Rattle.tus_request.specs.Requests.{Action, Options, Create, Head, Get, Delet
 use Rattle.tus_request.specs.Answers.{More, Judged, answer_with, answer_of}
 use Rattle.tus_request.specs.Valid.{IsValidAction, IsValidRequest, IsValid, IsValidAnswer}
 
-both : (a b : Bool) → (a && b) ≡ true → (a ≡ true) × (b ≡ true)
-both true true p = (refl, refl)
-both true false p = absurd (cc)
-both false true p = absurd (cc)
-both false false p = absurd (cc)
-
 -- NUMBERS
 all_digits : (text : List ℕ) → list_all is_ascii_digit text ≡ true → AllDigits 10 text
 all_digits [] p = tt {0}
 all_digits (c ∷ text) p =
-    let q = both (is_ascii_digit c) (list_all is_ascii_digit text) p in
-    let r = both (nat_le 48 c) (nat_le c 57) q.0 in
+    let q = and_parts (is_ascii_digit c) (list_all is_ascii_digit text) p in
+    let r = and_parts (nat_le 48 c) (nat_le c 57) q.0 in
     let low : 48 ≤ c = leb-true 48 c r.0 in
     let high : c ≤ 57 = leb-true c 57 r.1 in
     let d : digit_value c + 48 ≡ c = digit_value_digit c (low, high) in
@@ -51,99 +46,57 @@ all_digits (c ∷ text) p =
 
 small_text : (text : List ℕ) → is_number text ≡ true → digits_value 10 text < 10 ^ 18
 small_text text p =
-    let q = both (nat_le 1 (length text) && nat_le (length text) 18) (list_all is_ascii_digit text) p in
-    let r = both (nat_le 1 (length text)) (nat_le (length text) 18) q.0 in
+    let q = and_parts (nat_le 1 (length text) && nat_le (length text) 18) (list_all is_ascii_digit text) p in
+    let r = and_parts (nat_le 1 (length text)) (nat_le (length text) 18) q.0 in
     let short : length text ≤ 18 = leb-true (length text) 18 r.1 in
     let b : digits_value 10 text < 10 ^ length text = digits_value-lt 10 text (all_digits text q.1) in
     let p : 10 ^ length text ≤ 10 ^ 18 = pow-le-pow_right {n = 10} (omega arith) {i = length text} {j = 18} short in
     omega arith
 
-number_case : (text : List ℕ) (n : ℕ) (b : Bool) → is_number text ≡ b
-    → (if b then Some (digits_value 10 text) else None) ≡ Some n → n < 10 ^ 18
-number_case text n true is q =
-    subst (λ x. x < 10 ^ 18) (ap (λ o. elim o as (λ _. ℕ) [ None ↦ 0 | Some x ↦ x ]) q) (small_text text is)
-number_case text n false is q = absurd (cc)
-
 number_small : (text : List ℕ) (n : ℕ) → number_of text ≡ Some n → n < 10 ^ 18
-number_small text n q = number_case text n (is_number text) refl q
+number_small text n q = elim (cases_Bool (is_number text)) [
+  | inl t ↦ rw (← (same_Some _ n (rw t at q))) (small_text text t)
+  | inr f ↦ absurd (cc (rw f at q))
+]
 
 when_small : (o : Option (List ℕ)) (n : ℕ) → checks.number_when o ≡ Some n → n < 10 ^ 18
 when_small None n q = absurd (cc)
 when_small (Some text) n q = number_small text n q
 
 length_small : (values : List (List ℕ)) (n : ℕ) → checks.length_in values ≡ Some n → n < 10 ^ 18
-length_small [] n q = subst (λ x. x < 10 ^ 18) (ap (λ o. elim o as (λ _. ℕ) [ None ↦ 0 | Some x ↦ x ]) q) (omega arith)
+length_small [] n q = rw (← (same_Some _ n q)) (omega arith)
 length_small (value ∷ values) n q = when_small (checks.only (value ∷ values)) n q
 
 -- METADATA
 all_plain : (bytes : List ℕ) → list_all is_plain bytes ≡ true → All (λ b. (0x20 ≤ b) × (b ≤ 0x7E)) bytes
 all_plain [] p = λ i d below. absurd (omega (arith, below))
 all_plain (b ∷ bytes) p =
-    let q = both (is_plain b) (list_all is_plain bytes) p in
-    let r = both (nat_le 32 b) (nat_le b 126) q.0 in
+    let q = and_parts (is_plain b) (list_all is_plain bytes) p in
+    let r = and_parts (nat_le 32 b) (nat_le b 126) q.0 in
     All-cons (λ b. (0x20 ≤ b) × (b ≤ 0x7E)) b bytes (leb-true 32 b r.0, leb-true b 126 r.1) (all_plain bytes q.1)
 
 abbrev IsPlainText : List ℕ → Type 0
 IsPlainText m = (length m ≤ 1536) × All (λ b. (0x20 ≤ b) × (b ≤ 0x7E)) m
 
-plain_case : (b : ℕ) (bytes : List ℕ) (o : Option (List KeyValue)) (pairs : List KeyValue) (t : Bool)
-    → is_metadata (b ∷ bytes) ≡ t → (if t then o else None) ≡ Some pairs → IsPlainText (b ∷ bytes)
-plain_case b bytes o pairs true is q =
-    let r = both (nat_le (length (b ∷ bytes)) 1536) (list_all is_plain (b ∷ bytes)) is in
-    (leb-true (length (b ∷ bytes)) 1536 r.0, all_plain (b ∷ bytes) r.1)
-plain_case b bytes o pairs false is q = absurd (cc)
-
 metadata_plain : (m : List ℕ) (pairs : List KeyValue) → metadata_of m ≡ Some pairs → IsPlainText m
 metadata_plain [] pairs q = (omega arith, all_plain [] refl)
-metadata_plain (b ∷ bytes) pairs q = plain_case b bytes _ pairs (is_metadata (b ∷ bytes)) refl q
+metadata_plain (b ∷ bytes) pairs q = elim (cases_Bool (is_metadata (b ∷ bytes))) [
+  | inl t ↦ let r = and_parts _ _ t in (leb-true (length (b ∷ bytes)) 1536 r.0, all_plain (b ∷ bytes) r.1)
+  | inr f ↦ absurd (cc (rw f at q))
+]
 
 -- ENCODINGS
 abbrev NoUtf16 : Encoding → Type 0
 NoUtf16 c = (c ≡ e.Utf16Be → ⊥) × (c ≡ e.Utf16Le → ⊥)
 
-is_utf16 : Encoding → Bool
-is_utf16 e.Utf16Be = true
-is_utf16 e.Utf16Le = true
-is_utf16 _ = false
-
-plain_output : (c : Encoding) → is_utf16 (output_of c) ≡ false
-unfolding is_utf16
-plain_output e.Utf8 = refl
-plain_output e.Utf16Be = refl
-plain_output e.Utf16Le = refl
-plain_output e.ShiftJis = refl
-plain_output e.EucJp = refl
-plain_output e.Iso2022Jp = refl
-plain_output e.Ibm866 = refl
-plain_output e.Iso8859X2 = refl
-plain_output e.Iso8859X5 = refl
-plain_output e.Iso8859X15 = refl
-plain_output e.Koi8R = refl
-plain_output e.Macintosh = refl
-plain_output e.Windows1250 = refl
-plain_output e.Windows1251 = refl
-plain_output e.Windows1252 = refl
-plain_output e.Windows1253 = refl
-plain_output e.Windows1254 = refl
-plain_output e.Windows1255 = refl
-plain_output e.Windows1256 = refl
-plain_output e.Windows1257 = refl
-plain_output e.Windows1258 = refl
-
-no_utf16 : (c : Encoding) → is_utf16 c ≡ false → NoUtf16 c
-unfolding is_utf16
-no_utf16 c p = (
-  (λ q. let r : true ≡ false = sym (ap is_utf16 q) ∙ p in absurd (cc)),
-  (λ q. let r : true ≡ false = sym (ap is_utf16 q) ∙ p in absurd (cc)),
-)
+plain_output : (c : Encoding) → NoUtf16 (output_of c)
+plain_output c = ((λ q. grind arith), (λ q. grind arith))
 
 choice_output : (a b : Option Encoding) (m : Option Mode) (c : Choice) → choice_with a b m ≡ Some c → NoUtf16 c.to
 choice_output None b m c q = absurd (cc)
 choice_output (Some from) None m c q = absurd (cc)
 choice_output (Some from) (Some to) None c q = absurd (cc)
-choice_output (Some from) (Some to) (Some mode) c q =
-    let r : output_of to ≡ c.to = ap (λ o. elim o as (λ _. Encoding) [ None ↦ e.Utf8 | Some x ↦ x.to ]) q in
-    subst NoUtf16 r (no_utf16 (output_of to) (plain_output to))
+choice_output (Some from) (Some to) (Some mode) c q = rw (← (same_Some _ c q)) (plain_output to)
 
 -- THE CHECKS
 module _ (offers : Encoding → Bool) where
@@ -151,31 +104,19 @@ module _ (offers : Encoding → Bool) where
       → IsValid offers (checks.passed x a)
   passed_valid x a small valid = record { length_is = small; action_is = valid }
 
-  choice_if : (x : checks.Asking) (declared : Option ℕ) (metadata : List ℕ) (c : Choice) (b : Bool)
-      → x.length < 10 ^ 18 → (offers c.from && offers c.to) ≡ b → NoUtf16 c.to → IsPlainText metadata
-      → IsValid offers (if b
-      then checks.passed x (Create (record {
-        declared = declared;
-        from = c.from;
-        to = c.to;
-        mode = c.mode;
-        metadata = metadata;
-      }))
-      else checks.refused x BadLabel)
-  choice_if x declared metadata c true small q to plain =
-      let r = both (offers c.from) (offers c.to) q in
-      record {
-        length_is = small;
-        action_is = record { from = r.0; to = r.1; no_utf16 = to; short = plain.0; plain = plain.1 };
-      }
-  choice_if x declared metadata c false small q to plain = tt {0}
-
   choice_valid : (x : checks.Asking) (declared : Option ℕ) (metadata : List ℕ) (o : Option Choice)
       → x.length < 10 ^ 18 → ((c : Choice) → o ≡ Some c → NoUtf16 c.to) → IsPlainText metadata
       → IsValid offers (checks.with_choice offers x declared metadata o)
   choice_valid x declared metadata None small to plain = tt {0}
-  choice_valid x declared metadata (Some c) small to plain =
-      choice_if x declared metadata c (offers c.from && offers c.to) small refl (to c refl) plain
+  choice_valid x declared metadata (Some c) small to plain = elim (cases_Bool (offers c.from && offers c.to)) [
+    | inl t ↦
+        let r = and_parts (offers c.from) (offers c.to) t in
+        rw t (record {
+          length_is = small;
+          action_is = record { from = r.0; to = r.1; no_utf16 = to c refl; short = plain.0; plain = plain.1 };
+        })
+    | inr f ↦ rw f (tt {0})
+  ]
 
   pairs_valid : (x : checks.Asking) (declared : Option ℕ) (metadata : List ℕ) (o : Option (List KeyValue))
       → x.length < 10 ^ 18 → ((pairs : List KeyValue) → o ≡ Some pairs → IsPlainText metadata)
@@ -196,16 +137,6 @@ module _ (offers : Encoding → Bool) where
   declared_valid x None small = tt {0}
   declared_valid x (Some declared) small = metadata_valid x declared (x.given (codes "upload-metadata")) small
 
-  post_if : (x : checks.Asking) (b : Bool) → x.length < 10 ^ 18
-      → IsValid offers (if b
-      then checks.refused x BadHeader
-      else checks.with_declared offers x
-      (checks.declared_in (x.given (codes "upload-length")) (x.given (codes "upload-defer-length"))))
-  post_if x true small = tt {0}
-  post_if x false small =
-      declared_valid x (checks.declared_in (x.given (codes "upload-length")) (x.given (codes "upload-defer-length")))
-      small
-
   declaring_valid : (x : checks.Asking) (n offset : ℕ) (o : Option (Option ℕ)) → x.length < 10 ^ 18
       → offset < 10 ^ 18 → IsValid offers (checks.declaring x n offset o)
   declaring_valid x n offset None small less = tt {0}
@@ -217,18 +148,12 @@ module _ (offers : Encoding → Bool) where
   offset_valid x n (Some offset) small less =
       declaring_valid x n offset (checks.optional_number_in (x.given (codes "upload-length"))) small (less offset refl)
 
-  patch_if : (x : checks.Asking) (n : ℕ) (b : Bool) → x.length < 10 ^ 18
-      → IsValid offers (if b
-      then checks.at_offset x n (checks.number_in (x.given (codes "upload-offset")))
-      else checks.refused x MediaType)
-  patch_if x n true small =
-      offset_valid x n (checks.number_in (x.given (codes "upload-offset"))) small
-      (λ m q. when_small (checks.only (x.given (codes "upload-offset"))) m q)
-  patch_if x n false small = tt {0}
-
   all_valid : (x : checks.Asking) (v : Verb) → x.length < 10 ^ 18 → IsValid offers (checks.on_all offers x v)
   all_valid x verb.Options small = passed_valid x Options small (tt {0})
-  all_valid x verb.Post small = post_if x (nat_lt 0 x.length) small
+  all_valid x verb.Post small = elim (cases_Bool (nat_lt 0 x.length)) [
+    | inl t ↦ rw t (tt {0})
+    | inr f ↦ rw f (declared_valid x _ small)
+  ]
   all_valid x verb.Head small = tt {0}
   all_valid x verb.Patch small = tt {0}
   all_valid x verb.Get small = tt {0}
@@ -240,7 +165,11 @@ module _ (offers : Encoding → Bool) where
   upload_valid x n verb.Post small = tt {0}
   upload_valid x n verb.Head small = passed_valid x (Head n) small (tt {0})
   upload_valid x n verb.Patch small =
-      patch_if x n (checks.is_patch_media (checks.only (x.given (codes "content-type")))) small
+      elim (cases_Bool (checks.is_patch_media (checks.only (x.given (codes "content-type"))))) [
+        | inl t ↦ rw t (offset_valid x n _ small (λ m q.
+            when_small (checks.only (x.given (codes "upload-offset"))) m q))
+        | inr f ↦ rw f (tt {0})
+      ]
   upload_valid x n verb.Get small = passed_valid x (Get n) small (tt {0})
   upload_valid x n verb.Delete small = passed_valid x (Delete n) small (tt {0})
   upload_valid x n verb.Other small = tt {0}
@@ -251,46 +180,29 @@ module _ (offers : Encoding → Bool) where
   place_valid x (Some place.Files) small = all_valid x x.verb small
   place_valid x (Some (place.Upload n)) small = upload_valid x n x.verb small
 
-  decided_if : (x : checks.Asking) (b : Bool) → x.length < 10 ^ 18
-      → IsValid offers (if b then checks.refused x TusVersion else checks.on_place offers x x.place)
-  decided_if x true small = tt {0}
-  decided_if x false small = place_valid x x.place small
-
   measured_valid : (line : checks.Line) (given : List ℕ → List (List ℕ)) (o : Option ℕ)
       → ((n : ℕ) → o ≡ Some n → n < 10 ^ 18) → IsValid offers (checks.measured offers line given o)
   measured_valid line given None less = tt {0}
-  measured_valid line given (Some n) less =
-      decided_if (checks.asking line given n) (checks.lacks_version (checks.asking line given n)) (less n refl)
-
-  checked_if : (line : checks.Line) (given : List ℕ → List (List ℕ)) (b : Bool)
-      → IsValid offers (if b
-      then checks.cut_off line Coding
-      else checks.measured offers line given (checks.length_in (given (codes "content-length"))))
-  checked_if line given true = tt {0}
-  checked_if line given false =
-      measured_valid line given (checks.length_in (given (codes "content-length")))
-      (λ n q. length_small (given (codes "content-length")) n q)
+  measured_valid line given (Some n) less = elim (cases_Bool (checks.lacks_version (checks.asking line given n))) [
+    | inl t ↦ rw t (tt {0})
+    | inr f ↦ rw f (place_valid (checks.asking line given n) _ (less n refl))
+  ]
 
   judged_valid : (h : Option RequestHead) → IsValid offers (checks.judged offers h)
   judged_valid None = tt {0}
   judged_valid (Some h) =
-      checked_if (checks.line_of h) (values_in (map name_and_value h.fields))
-      (checks.is_given (values_in (map name_and_value h.fields) (codes "transfer-encoding")))
-
-  few_if : (b : Bool) (n : ℕ) (bytes : List ℕ)
-      → IsValidAnswer offers (if b
-      then Judged n (checks.no_head HeadTooLong)
-      else Judged (length bytes) (checks.judged offers (request_of bytes)))
-  few_if true n bytes = tt {0}
-  few_if false n bytes = judged_valid (request_of bytes)
-
-  short_if : (b : Bool) → IsValidAnswer offers (if b then More else Judged 8192 (checks.no_head HeadTooLong))
-  short_if true = tt {0}
-  short_if false = tt {0}
+      elim (cases_Bool (checks.is_given (values_in (map name_and_value h.fields) (codes "transfer-encoding")))) [
+        | inl t ↦ rw t (tt {0})
+        | inr f ↦ rw f (measured_valid (checks.line_of h) (values_in (map name_and_value h.fields)) _
+            (λ n q. length_small (values_in (map name_and_value h.fields) (codes "content-length")) n q))
+      ]
 
   extent_valid : (bytes : List ℕ) (o : Option Extent) → IsValidAnswer offers (answer_with offers bytes o)
-  extent_valid bytes None = short_if (nat_lt (length bytes) 8192)
-  extent_valid bytes (Some x) = few_if (nat_lt 65 x.texts) x.len (take x.len bytes)
+  extent_valid bytes None = elim (cases_Bool (nat_lt (length bytes) 8192)) [ inl t ↦ rw t (tt {0}) | inr f ↦ rw f (tt {0}) ]
+  extent_valid bytes (Some x) = elim (cases_Bool (nat_lt 65 x.texts)) [
+    | inl t ↦ rw t (tt {0})
+    | inr f ↦ rw f (judged_valid (request_of (take x.len bytes)))
+  ]
 
   pub answer_valid : (bytes : List ℕ) → IsValidAnswer offers (answer_of offers bytes)
   unfolding answer_of
