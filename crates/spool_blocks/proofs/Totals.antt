@@ -1,13 +1,12 @@
 -- What the counts come to: a slot's own blocks, the owned and the reserved ones without some, and none at all.
 use Rattle.std.proofs.Common.{◌≡◌, ℕ, zero, suc, ◌+◌, ◌<◌, List, [], ◌∷◌, Bool, true, false, None, Some, length, get_or}
-use Rattle.std.proofs.Common.{slice_set, refl, sym, ◌∙◌, ap, subst, arith, ⊎_elim, ◌==◌, if◌then◌else◌, eq-eqb}
-use Rattle.std.proofs.lemmas.Bool.{cases_eq, ne_eqb}
-use Rattle.std.proofs.lemmas.Option.{none-some}
-use Rattle.spool_blocks.specs.Blocks.{Row, IsFree, free_count, reserved_count, owned_count, one_if, is_slots}
+use Rattle.std.proofs.Common.{slice_set, refl, arith, ◌==◌, if◌then◌else◌}
+use Rattle.std.proofs.lemmas.Bool.Decides.{nat_tests}
+use Rattle.spool_blocks.specs.Blocks.{Row, IsFree, free_count, reserved_count, owned_count, is_slots}
 use Rattle.spool_blocks.specs.Blocks.{slot_count, IsWhole}
 use Rattle.spool_blocks.specs.Chains.{Owns, OwnsOneEach}
 use Rattle.spool_blocks.proofs.Counts.{within}
-use Rattle.spool_blocks.proofs.Links.{same_ordinal, count_less, owns_else, owned_else, not_taken}
+use Rattle.spool_blocks.proofs.Links.{count_less, sets}
 
 -- A SLOT
 
@@ -16,37 +15,20 @@ unfolding slot_count is_slots
 none_counted slot [] none = refl
 none_counted slot (None ∷ rows) none = omega (arith, none_counted slot rows (λ b i own. none (suc b) i own))
 none_counted slot (Some o ∷ rows) none =
-    let other : (o.0 ≡ slot → ⊥) = λ e. none 0 o.1 (ap (λ (s : ℕ). Some (s, o.1)) e) in
-    omega (arith, none_counted slot rows (λ b i own. none (suc b) i own), ap one_if (ne_eqb o.0 slot other))
+    let other = none 0 o.1 in
+    grind (arith, none_counted slot rows (λ b i own. none (suc b) i own), nat_tests)
 
 -- without its highest block
 one_less : (n slot t : ℕ) (rows : List Row) → OwnsOneEach rows slot (suc n) → Owns rows t slot n
     → OwnsOneEach (slice_set rows t None) slot n
 one_less n slot t rows owns top = record {
-  there = λ i lt. let at = owns.there i
-      (omega (arith, lt)) in (
-        at.0,
-        owns_else rows t at.0 slot i None
-            (λ e. absurd (omega (
-              arith,
-              lt,
-              same_ordinal rows t slot i slot n (subst (λ (b : ℕ). Owns rows b slot i) e at.1)
-                  top,
-            ))) at.1,
-      );
-  once = λ a b i own own'. owns.once a b i (back a i own) (back b i own');
-  only = λ b i own.
-      let low = owns.only b i (back b i own) in
-      let ne : (i ≡ n → ⊥) = λ e. away b i own
-      (owns.once b t n (subst (λ (k : ℕ). Owns rows b slot k) e (back b i own)) top) in
-      omega (arith, low, ne);
+  there = λ i lt. let at = owns.there i (omega (arith, lt)) in (at.0, grind sets);
+  once = λ a b i own own'. owns.once a b i (back a i own).1 (back b i own').1;
+  only = λ b i own. let was = back b i own in grind (arith, owns.only b i was.1, owns.once b t n);
 }
   where
-    away : (b i : ℕ) → Owns (slice_set rows t None) b slot i → b ≡ t → ⊥
-    away b i own = not_taken rows t b slot i (within rows t (slot, n) top) own
-
-    back : (b i : ℕ) → Owns (slice_set rows t None) b slot i → Owns rows b slot i
-    back b i own = owned_else rows t b slot i None (away b i own) own
+    back : (b i : ℕ) → Owns (slice_set rows t None) b slot i → (b ≡ t → ⊥) × Owns rows b slot i
+    back b i own = let lt = within rows t (slot, n) top in grind sets
 
 -- as many as there are ordinals
 pub each_counted : (n slot : ℕ) (rows : List Row) → OwnsOneEach rows slot n → slot_count slot rows ≡ n
@@ -85,13 +67,7 @@ pub owned_without : (slot : ℕ) (rows : List Row) → owned_count rows ≡ slot
 unfolding owned_count slot_count is_slots rows_without row_without
 owned_without slot [] = refl
 owned_without slot (None ∷ rows) = omega (arith, owned_without slot rows)
-owned_without slot (Some o ∷ rows) = by_test (o.0 == slot) (owned_without slot rows)
-  where
-    by_test : (b : Bool) → owned_count rows ≡ slot_count slot rows + owned_count (rows_without slot rows)
-        → suc (owned_count rows) ≡ one_if b + slot_count slot rows + owned_count
-        ((if b then None else Some o) ∷ rows_without slot rows)
-    by_test true e = omega (arith, e)
-    by_test false e = omega (arith, e)
+owned_without slot (Some o ∷ rows) = grind (arith, owned_without slot rows)
 
 row_at : (slot : ℕ) (rows : List Row) (b : ℕ) → get_or (rows_without slot rows) b None ≡ row_without slot
     (get_or rows b None)
@@ -104,23 +80,12 @@ row_at slot (row ∷ rows) (suc b) = row_at slot rows b
 pub owns_without : (slot : ℕ) (rows : List Row) (b s k : ℕ) → (s ≡ slot → ⊥) → Owns rows b s k
     → Owns (rows_without slot rows) b s k
 unfolding row_without
-owns_without slot rows b s k ne own = row_at slot rows b ∙ ap (row_without slot) own ∙ rw (ne_eqb s slot ne) refl
+owns_without slot rows b s k ne own = grind (arith, row_at, nat_tests)
 
 pub owned_with : (slot : ℕ) (rows : List Row) (b s k : ℕ) → Owns (rows_without slot rows) b s k
     → (s ≡ slot → ⊥) × Owns rows b s k
 unfolding row_without
-owned_with slot rows b s k own = of (get_or rows b None) (sym (row_at slot rows b) ∙ own)
-  where
-    of : (row : Row) → row_without slot row ≡ Some (s, k) → (s ≡ slot → ⊥) × (row ≡ Some (s, k))
-    of None e = absurd cc
-    of (Some o) e = ⊎_elim
-        (λ (same : o.0 ≡ slot). absurd (none-some (s, k) (sym (rw (eq-eqb o.0 slot same) refl) ∙ e)))
-        (λ (ne : o.0 ≡ slot → ⊥). let is : Some o ≡ Some (s, k) = sym (rw (ne_eqb o.0 slot ne) refl)
-        ∙ e in ((λ f. ne (first is ∙ f)), is))
-        (cases_eq o.0 slot)
-      where
-        first : Some o ≡ Some (s, k) → o.0 ≡ s
-        first is = cc
+owned_with slot rows b s k own = grind (arith, row_at, nat_tests)
 
 -- FLAGS
 
@@ -142,12 +107,7 @@ one_reserved (row ∷ rows) [] b lt free flagged = absurd cc
 one_reserved (None ∷ rows) (true ∷ flags) zero lt free flagged = omega arith
 one_reserved (None ∷ rows) (false ∷ flags) zero lt free flagged = absurd cc
 one_reserved (Some o ∷ rows) (f ∷ flags) zero lt free flagged = absurd cc
-one_reserved (None ∷ rows) (true ∷ flags) (suc b) lt free flagged =
-    omega (arith, one_reserved rows flags b (omega (arith, lt)) free flagged)
-one_reserved (None ∷ rows) (false ∷ flags) (suc b) lt free flagged =
-    one_reserved rows flags b (omega (arith, lt)) free flagged
-one_reserved (Some o ∷ rows) (f ∷ flags) (suc b) lt free flagged =
-    one_reserved rows flags b (omega (arith, lt)) free flagged
+one_reserved (row ∷ rows) (f ∷ flags) (suc b) lt free flagged = grind (arith, one_reserved rows flags b)
 
 pub none_free : (rows : List Row) (flags : List Bool)
     → ((b : ℕ) → IsFree (record { rows = rows; reserved = flags }) b → ⊥) → free_count rows flags ≡ 0

@@ -1,13 +1,13 @@
 -- Images while the gate opens, while pages are placed, and while it closes.
 use Rattle.std.proofs.Common.{◌≡◌, ◌⊎◌, inl, inr, ℕ, suc, ◌+◌, ◌*◌, ◌/◌, ◌%◌, ◌<◌, ◌≤◌, Bool, cond, List, [], ◌∷◌}
-use Rattle.std.proofs.Common.{length, refl, sym, ◌∙◌, ap, subst, arith, ⊎_elim}
+use Rattle.std.proofs.Common.{length, refl, sym, ◌∙◌, ap, arith, ⊎_elim}
 use Rattle.std.proofs.lemmas.Bool.{cases_eq}
 use Rattle.spool_disk.specs.Disk.{span, In, IsImage, Writes, Syncs}
 use Rattle.spool_journal.specs.Image.{byte_of, count, number, content, over, replayed, overlaid, laid, InJournal}
 use Rattle.spool_journal.specs.Image.{Outside, InForm, page_number, page_byte}
 use Rattle.spool_journal.specs.Phases.{Idle, ReadsAs, IsBefore, Ready, Opened, Hit, Placing, Upto, Placed, Settled}
 use Rattle.spool_journal.proofs.Over.{over_hit, over_pass, over_none, over_same, yes, no}
-use Rattle.spool_journal.proofs.Steps.{span_at, word_same, form_same}
+use Rattle.spool_journal.proofs.Steps.{span_at, word_same, form_same, outside_journal}
 
 pub open_view : (image : ℕ → ℕ) (p : ℕ) → image 4096 ≡ 165 → overlaid image p ≡ replayed image p
 open_view image p e = ap (λ (b : Bool). cond b (replayed image p) (image p)) (yes (image 4096) 165 e)
@@ -21,23 +21,14 @@ pub record SameJournal (j : ℕ) (a b : ℕ → ℕ) : Type 0 where
 
 module _ {j : ℕ} {a b : ℕ → ℕ} where
   same_count : 1 ≤ j → SameJournal j a b → count a ≡ count b
-  same_count some same = word_same a b 8192 8192 (λ i lt. same.same (8192 + i) record {
-    from = omega arith;
-    below = omega (arith, lt, some);
-  })
+  same_count some same = word_same a b 8192 8192 (λ i lt. same.same (8192 + i) (grind arith))
 
   same_number : j ≤ 385 → 1 ≤ j → SameJournal j a b → (k : ℕ) → k < j → number a k ≡ number b k
   same_number few some same k below =
-      word_same a b (8196 + 4 * k) (8196 + 4 * k) (λ i lt. same.same (8196 + 4 * k + i) record {
-        from = omega arith;
-        below = omega (arith, lt, below, few, some);
-      })
+      word_same a b (8196 + 4 * k) (8196 + 4 * k) (λ i lt. same.same (8196 + 4 * k + i) (grind arith))
 
   same_content : SameJournal j a b → (k x : ℕ) → k < j → x < 4096 → content a k x ≡ content b k x
-  same_content same k x below lt = same.same (4096 * (3 + k) + x) record {
-    from = omega arith;
-    below = omega (arith, lt, below);
-  }
+  same_content same k x below lt = same.same (4096 * (3 + k) + x) (grind arith)
 
   -- b's journal is in form; so is a's, and replayed it gives what b's gives where the two agree elsewhere
   pub form_on : j ≤ 385 → 1 ≤ j → SameJournal j a b → InForm j (count b) (number b) → InForm j (count a) (number a)
@@ -60,6 +51,27 @@ module _ {j : ℕ} {a b : ℕ → ℕ} where
 pub hit_from : (j : ℕ) (image : ℕ → ℕ) (p : ℕ) → InForm j (count image) (number image) → Hit image p
     → 4096 * (25 + j) ≤ p
 hit_from j image p form hit = let h = form.inside hit.k hit.below in omega (arith, h.from, hit.here)
+
+-- a place outside is not the gate's byte
+gateless : (j p : ℕ) → Outside j p → p ≡ 4096 → ⊥
+gateless j p outside e = grind arith
+
+-- but for the gate's byte the two agree
+abbrev pub GateApart : (a b : ℕ → ℕ) → Type 0
+GateApart a b = (p : ℕ) → (p ≡ 4096 → ⊥) → a p ≡ b p
+
+journal_apart : {j : ℕ} {a b : ℕ → ℕ} → GateApart a b → SameJournal j a b
+journal_apart same = record { same = λ p within. same p (λ e. omega (arith, e, within.from)) }
+
+-- replayed, a staged journal lays its pages over what was there
+laid_over : {j : ℕ} {pages : List (ℕ × List ℕ)} {was current image : ℕ → ℕ} {unsynced : ℕ → Type 0} → j ≤ 385
+    → Ready j pages was current unsynced → GateApart image current → (p : ℕ) → Outside j p
+    → replayed image p ≡ laid pages was p
+laid_over {pages = pages} {was = was} {current = current} few ready same p outside =
+    replay_on few (journal_apart same) ready.form p (λ _. same p (gateless _ p outside))
+    ∙ ap (λ (n : ℕ). over (number current) (content current) current n p) ready.matches.size
+    ∙ over_same (number current) (page_number pages) (content current) (page_byte pages) current was (length pages) p
+    ready.matches.numbers ready.matches.contents (λ _. ready.same p (outside_journal _ p outside))
 
 module _ {j : ℕ} {opened current image : ℕ → ℕ} {unsynced : ℕ → Type 0} where
   pub placing_image : j ≤ 385 → Placing j opened current unsynced → IsImage current unsynced image
@@ -89,15 +101,11 @@ module _ {j : ℕ} {opened current image : ℕ → ℕ} {unsynced : ℕ → Type
         form = λ e. form_on few (omega (arith, placed.form.some, placed.form.few)) journal placed.form;
         same = λ p outside. ⊎_elim
             (λ (e : image 4096 ≡ 165). open_view image p e ∙ replay_on few journal placed.form p
-            (λ none. at p (gateless p outside) (λ hit. none hit.k hit.below hit.here)))
-            (λ (e : image 4096 ≡ 165 → ⊥). shut_view image p e ∙ same p (gateless p outside) ∙ placed.all p)
+            (λ none. at p (gateless _ p outside) (λ hit. none hit.k hit.below hit.here)))
+            (λ (e : image 4096 ≡ 165 → ⊥). shut_view image p e ∙ same p (gateless _ p outside) ∙ placed.all p)
             (cases_eq (image 4096) 165);
       }
     where
-      gateless : (p : ℕ) → Outside j p → p ≡ 4096 → ⊥
-      gateless p (inl lt) e = omega (arith, lt, e)
-      gateless p (inr le) e = omega (arith, le, e)
-
       at : (p : ℕ) → (p ≡ 4096 → ⊥) → (Hit opened p → ⊥) → image p ≡ opened p
       at p away miss = same p away ∙ placed.all p
           ∙ over_none (number opened) (content opened) opened (count opened) p (λ k lt e. miss record {
@@ -120,80 +128,59 @@ pub opening_image : {j : ℕ} {pages : List (ℕ × List ℕ)} {was current imag
 opening_image {j = j} {pages = pages} {was = was} {current = current} {image = image} few ready same =
     ⊎_elim
     (λ (e : image 4096 ≡ 165). inr (record {
-      form = λ _. form_on few (omega (arith, ready.form.some, ready.form.few)) journal ready.form;
-      same = λ p outside. open_view image p e ∙ laid_over p outside;
+      form = λ _. form_on few (omega (arith, ready.form.some, ready.form.few)) (journal_apart same) ready.form;
+      same = λ p outside. open_view image p e ∙ laid_over few ready same p outside;
     }))
-    (λ (e : image 4096 ≡ 165 → ⊥). inl (record { closed = e; same = λ p outside _. old p outside }))
+    (λ (e : image 4096 ≡ 165 → ⊥). inl (record {
+      closed = e;
+      same = λ p outside _. same p (gateless _ p outside) ∙ ready.same p (outside_journal _ p outside);
+    }))
     (cases_eq (image 4096) 165)
-  where
-    away : (p : ℕ) → Outside j p → InJournal j p → ⊥
-    away p (inl lt) within = omega (arith, lt, within.from)
-    away p (inr le) within = omega (arith, le, within.below)
-
-    gateless : (p : ℕ) → Outside j p → p ≡ 4096 → ⊥
-    gateless p (inl lt) e = omega (arith, lt, e)
-    gateless p (inr le) e = omega (arith, le, e)
-
-    old : (p : ℕ) → Outside j p → image p ≡ was p
-    old p outside = same p (gateless p outside) ∙ ready.same p (away p outside)
-
-    journal : SameJournal j image current
-    journal = record { same = λ p within. same p (λ e. omega (arith, e, within.from)) }
-
-    laid_over : (p : ℕ) → Outside j p → replayed image p ≡ laid pages was p
-    laid_over p outside =
-        replay_on few journal ready.form p (λ _. same p (gateless p outside))
-        ∙ ap (λ (n : ℕ). over (number current) (content current) current n p) ready.matches.size
-        ∙ over_same (number current) (page_number pages) (content current) (page_byte pages) current was
-        (length pages) p
-        ready.matches.numbers (λ k x lt below. ready.matches.contents k x lt below)
-        (λ _. ready.same p (away p outside))
 
 -- the gate's byte alone was written
-pub gate_step : {current current' : ℕ → ℕ} {unsynced unsynced' : ℕ → Type 0} {done : Type 0} (v : ℕ)
-    → Writes 4096 (v ∷ []) done current current' unsynced unsynced' → (p : ℕ) → (p ≡ 4096 → ⊥) → current' p ≡ current p
-gate_step v writes p away = writes.outside p (λ here. away (alone p here))
-  where
-    alone : (p : ℕ) → In 4096 1 p → p ≡ 4096
-    alone p here = omega (arith, here.from, here.below)
+alone : (p : ℕ) → In 4096 1 p → p ≡ 4096
+alone p here = omega (arith, here.from, here.below)
 
 pub gate_image : {current current' image : ℕ → ℕ} {unsynced unsynced' : ℕ → Type 0} {done : Type 0} (v : ℕ)
     → ((p : ℕ) → unsynced p → ⊥) → Writes 4096 (v ∷ []) done current current' unsynced unsynced'
-    → IsImage current' unsynced' image → (p : ℕ)
-    → (p ≡ 4096 → ⊥) → image p ≡ current p
+    → IsImage current' unsynced' image → GateApart image current
 gate_image v is_synced writes is p away =
-    is.same p (λ l. ⊎_elim (is_synced p) (λ here. away (alone p here)) (writes.unsyncs p l)) ∙ gate_step v writes p away
-  where
-    alone : (p : ℕ) → In 4096 1 p → p ≡ 4096
-    alone p here = omega (arith, here.from, here.below)
+    is.same p (λ l. ⊎_elim (is_synced p) (λ here. away (alone p here)) (writes.unsyncs p l))
+    ∙ writes.outside p (λ here. away (alone p here))
+
+-- the gate's byte is this one, all is synced, and nothing else changed
+pub record GateIs (v : ℕ) (current current' : ℕ → ℕ) (unsynced' : ℕ → Type 0) : Type 0 where
+  pub same : GateApart current' current
+  pub gate : current' 4096 ≡ v
+  pub is_synced : (p : ℕ) → unsynced' p → ⊥
 
 pub gate_now : {current current' current'' : ℕ → ℕ} {unsynced unsynced' unsynced'' : ℕ
     → Type 0} {done synced : Type 0} (v : ℕ)
     → Writes 4096 (v ∷ []) done current current' unsynced unsynced' → done
-    → Syncs synced current' current'' unsynced' unsynced'' → synced
-    → current'' 4096 ≡ v
+    → Syncs synced current' current'' unsynced' unsynced'' → synced → GateIs v current current'' unsynced''
 unfolding span
-gate_now {current' = current'} v writes wrote syncs synced =
-    syncs.same synced 4096 ∙ span_at current' 4096 (v ∷ []) 0 (writes.inside wrote) (omega arith)
+gate_now {current' = current'} v writes wrote syncs synced = record {
+  same = λ p away. syncs.same synced p ∙ writes.outside p (λ here. away (alone p here));
+  gate = syncs.same synced 4096 ∙ span_at current' 4096 (v ∷ []) 0 (writes.inside wrote) (omega arith);
+  is_synced = syncs.is_synced synced;
+}
 
 -- the gate is open
 pub opened : {j : ℕ} {pages : List (ℕ × List ℕ)} {was current current' : ℕ → ℕ} {unsynced unsynced' : ℕ → Type 0}
-    → j ≤ 385
-    → Ready j pages was current unsynced → ((p : ℕ) → (p ≡ 4096 → ⊥) → current' p ≡ current p) → current' 4096 ≡ 165
-    → ((p : ℕ) → unsynced' p → ⊥) → Opened j pages was current' unsynced'
-opened {j = j} {pages = pages} {was = was} {current = current}
-    {current' = current'} few ready same gate is_synced = record {
-      gate = gate;
-      form = form_on few some journal ready.form;
-      is_synced = is_synced;
-      matches = record {
-        size = same_count some journal ∙ ready.matches.size;
-        numbers = λ k lt. same_number few some journal k (omega (arith, lt, fits)) ∙ ready.matches.numbers k lt;
-        contents = λ k x lt below. same_content journal k x (omega (arith, lt, fits)) below
-            ∙ ready.matches.contents k x lt below;
-      };
-      laid_over = laid_over;
-    }
+    → j ≤ 385 → Ready j pages was current unsynced → GateIs 165 current current' unsynced'
+    → Opened j pages was current' unsynced'
+opened {j = j} {pages = pages} {current = current} {current' = current'} few ready now = record {
+  gate = now.gate;
+  form = form_on few some journal ready.form;
+  is_synced = now.is_synced;
+  matches = record {
+    size = same_count some journal ∙ ready.matches.size;
+    numbers = λ k lt. same_number few some journal k (omega (arith, lt, fits)) ∙ ready.matches.numbers k lt;
+    contents = λ k x lt below. same_content journal k x (omega (arith, lt, fits)) below
+        ∙ ready.matches.contents k x lt below;
+  };
+  laid_over = laid_over few ready now.same;
+}
   where
     some : 1 ≤ j
     some = omega (arith, ready.form.some, ready.form.few)
@@ -201,39 +188,17 @@ opened {j = j} {pages = pages} {was = was} {current = current}
     fits : length pages ≤ j
     fits = omega (arith, ready.form.few, ready.matches.size)
 
-    away : (p : ℕ) → Outside j p → InJournal j p → ⊥
-    away p (inl lt) within = omega (arith, lt, within.from)
-    away p (inr le) within = omega (arith, le, within.below)
-
-    gateless : (p : ℕ) → Outside j p → p ≡ 4096 → ⊥
-    gateless p (inl lt) e = omega (arith, lt, e)
-    gateless p (inr le) e = omega (arith, le, e)
-
     journal : SameJournal j current' current
-    journal = record { same = λ p within. same p (λ e. omega (arith, e, within.from)) }
-
-    laid_over : (p : ℕ) → Outside j p → replayed current' p ≡ laid pages was p
-    laid_over p outside =
-        replay_on few journal ready.form p (λ _. same p (gateless p outside))
-        ∙ ap (λ (n : ℕ). over (number current) (content current) current n p) ready.matches.size
-        ∙ over_same (number current) (page_number pages) (content current) (page_byte pages) current was
-        (length pages) p
-        ready.matches.numbers (λ k x lt below. ready.matches.contents k x lt below)
-        (λ _. ready.same p (away p outside))
+    journal = journal_apart now.same
 
 pub settled : {j : ℕ} {opened current current' : ℕ → ℕ} {unsynced unsynced' : ℕ → Type 0}
-    → Placed j opened current unsynced
-    → ((p : ℕ) → (p ≡ 4096 → ⊥) → current' p ≡ current p) → current' 4096 ≡ 0 → ((p : ℕ) → unsynced' p → ⊥)
+    → Placed j opened current unsynced → GateIs 0 current current' unsynced'
     → Settled j (replayed opened) current' unsynced'
-settled {j = j} placed same gate is_synced = record {
-  is_synced = is_synced;
-  closed = λ e. omega (arith, e, gate);
-  same = λ p outside. same p (gateless p outside) ∙ placed.all p;
+settled placed now = record {
+  is_synced = now.is_synced;
+  closed = λ e. omega (arith, e, now.gate);
+  same = λ p outside. now.same p (gateless _ p outside) ∙ placed.all p;
 }
-  where
-    gateless : (p : ℕ) → Outside j p → p ≡ 4096 → ⊥
-    gateless p (inl lt) e = omega (arith, lt, e)
-    gateless p (inr le) e = omega (arith, le, e)
 
 module _ {j : ℕ} {opened current current' : ℕ → ℕ} {unsynced unsynced' : ℕ → Type 0} {done : Type 0} where
   pub placing_writes : (i page : ℕ) (bytes : List ℕ) → Placing j opened current unsynced → i < count opened
@@ -257,22 +222,16 @@ pub upto_writes : {current current' : ℕ → ℕ} {unsynced unsynced' : ℕ →
     → Writes (4096 * page) bytes done current current' unsynced
     unsynced' → done → Upto opened current' (i + 1)
 upto_writes {current' = current'} opened i page bytes upto e size same writes wrote p =
-    let more : suc i ≡ i + 1 = omega arith in
-    subst (λ (n : ℕ). current' p ≡ over (number opened) (content opened) opened n p) more
-    (⊎_elim
-    (λ (h : number opened i ≡ p / 4096). inside h ∙ sym (over_hit (number opened) (content opened) opened i p h))
+    let more : i + 1 ≡ suc i = omega arith in
+    rw more (⊎_elim
+    (λ (h : number opened i ≡ p / 4096).
+    let at : 4096 * page + p % 4096 ≡ p = omega (arith, h, e) in
+    (rw at at (span_at current' (4096 * page) bytes (p % 4096) (writes.inside wrote) (omega (arith, size))
+    ∙ sym (same (p % 4096) (omega arith)))) ∙ sym (over_hit (number opened) (content opened) opened i p h))
     (λ (h : number opened i ≡ p / 4096 → ⊥). writes.outside p
     (λ here. h (omega (arith, here.from, here.below, e, size))) ∙ upto p
     ∙ sym (over_pass (number opened) (content opened) opened i p h))
     (cases_eq (number opened i) (p / 4096)))
-  where
-    inside : number opened i ≡ p / 4096 → current' p ≡ content opened i (p % 4096)
-    inside h =
-        let below : p % 4096 < 4096 = omega arith in
-        let at : 4096 * page + p % 4096 ≡ p = omega (arith, h, e) in
-        subst (λ (q : ℕ). current' q ≡ content opened i (p % 4096)) at
-        (span_at current' (4096 * page) bytes (p % 4096) (writes.inside wrote) (omega (arith, below, size))
-        ∙ sym (same (p % 4096) below))
 
 pub placed_syncs : {j : ℕ} {opened current current' : ℕ → ℕ} {unsynced unsynced' : ℕ → Type 0} {done : Type 0}
     → Placing j opened current unsynced → Upto opened current (count opened)

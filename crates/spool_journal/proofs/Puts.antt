@@ -1,5 +1,5 @@
 -- What is known of pages once one more is put among them.
-use Rattle.std.proofs.Common.{◌≡◌, ◌≢◌, ◌⊎◌, inl, inr, ℕ, ◌+◌, ◌-◌, ◌<◌, ◌≤◌, List, [], length, sym, ◌∙◌, ap, subst}
+use Rattle.std.proofs.Common.{◌≡◌, ◌≢◌, ◌⊎◌, inl, inr, ℕ, ◌+◌, ◌-◌, ◌<◌, ◌≤◌, List, [], length, sym, ◌∙◌, ap}
 use Rattle.std.proofs.Common.{arith, ⊎_elim}
 use Rattle.std.specs.List.{insert}
 use Rattle.std.proofs.lemmas.Bool.{cases_eq, cases_lt}
@@ -46,8 +46,8 @@ module _ {old : List (ℕ × List ℕ)} {page : ℕ} {bytes : List ℕ} {new : L
 
   pub put_area : {j : ℕ} → IsPut old page bytes new → InArea j old → InMeta j page → InArea j new
   put_area {j = j} is area inside k lt = ⊎_elim
-      (λ (e : page_number new k ≡ page). subst (InMeta j) (sym e) inside)
-      (λ (among : Among old (page_number new k)). subst (InMeta j) (sym among.here) (area among.at among.below))
+      (λ (e : page_number new k ≡ page). rw e inside)
+      (λ (among : Among old (page_number new k)). rw among.here (area among.at among.below))
       (put_number is k lt)
 
   -- a number that was not there and is not the new one

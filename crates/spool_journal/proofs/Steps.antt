@@ -1,9 +1,9 @@
 -- Steps of the phases.
-use Rattle.std.proofs.Common.{◌≡◌, inl, inr, ℕ, zero, suc, ◌+◌, ◌*◌, ◌<◌, ◌≤◌, List, [], ◌∷◌, length, get_or, refl, sym}
-use Rattle.std.proofs.Common.{◌∙◌, ap, subst, arith, ⊎_elim, Result, Ok, Err, OnOk}
+use Rattle.std.proofs.Common.{◌≡◌, ℕ, zero, suc, ◌+◌, ◌*◌, ◌<◌, ◌≤◌, List, [], ◌∷◌, length, get_or, refl, sym}
+use Rattle.std.proofs.Common.{◌∙◌, arith, ⊎_elim, Result, Ok, Err, OnOk}
 use Rattle.std.proofs.lemmas.Bool.{cases_lt}
-use Rattle.spool_disk.specs.Disk.{span, IsImage, Writes, Syncs, Counts}
-use Rattle.spool_journal.specs.Image.{word, byte_of, count, number, content, InMeta, InJournal, Outside, InForm, InArea}
+use Rattle.spool_disk.specs.Disk.{In, span, IsImage, Writes, Syncs, Counts}
+use Rattle.spool_journal.specs.Image.{word, byte_of, count, number, InMeta, InJournal, Outside, InForm, InArea}
 use Rattle.spool_journal.specs.Image.{Ascends, page_number, page_byte}
 use Rattle.spool_journal.specs.Phases.{IsBefore, Idle, Staging, Copied, Ready}
 
@@ -12,23 +12,17 @@ pub span_at : (f : ℕ → ℕ) (at : ℕ) (xs : List ℕ) (k : ℕ) → span f 
     → f (at + k) ≡ get_or xs k 0
 unfolding span
 span_at f at [] k e lt = omega (arith, lt)
-span_at f at (x ∷ xs) zero e lt =
-    let here : at ≡ at + 0 = omega arith in
-    subst (λ (n : ℕ). f n ≡ x) here (ap (λ (l : List ℕ). get_or l 0 0) e)
-span_at f at (x ∷ xs) (suc k) e lt =
-    let here : at + 1 + k ≡ at + suc k = omega arith in
-    subst (λ (n : ℕ). f n ≡ get_or xs k 0) here (span_at f (at + 1) xs k (tails _ _ _ _ e) (omega (arith, lt)))
-  where
-    tails : (a b : ℕ) (us vs : List ℕ) → a ∷ us ≡ b ∷ vs → us ≡ vs
-    tails a b us vs e = cc
+span_at f at (x ∷ xs) zero e lt = grind arith
+span_at f at (x ∷ xs) (suc k) e lt = grind (arith, span_at f (at + 1) xs k)
 
 -- the same four bytes, the same number
 pub word_same : (f g : ℕ → ℕ) (a b : ℕ) → ((i : ℕ) → i < 4 → f (a + i) ≡ g (b + i)) → word f a ≡ word g b
 unfolding word
-word_same f g a b same =
-    let e0 : f a ≡ g b = let z : a + 0 ≡ a = omega arith in let y : b + 0 ≡ b =
-    omega arith in ap f (sym z) ∙ same 0 (omega arith) ∙ ap g y in
-    omega (arith, e0, same 1 (omega arith), same 2 (omega arith), same 3 (omega arith))
+word_same f g a b same = grind (arith, same 0, same 1, same 2, same 3)
+
+-- a place outside is not in the journal
+pub outside_journal : (j p : ℕ) → Outside j p → InJournal j p → ⊥
+outside_journal j p outside within = grind arith
 
 module _ {was current : ℕ → ℕ} {risk unsynced : ℕ → Type 0} {j : ℕ} where
   pub staged_before : {image : ℕ → ℕ} → Idle j was risk → Staging j was risk current unsynced
@@ -40,12 +34,8 @@ module _ {was current : ℕ → ℕ} {risk unsynced : ℕ → Type 0} {j : ℕ} 
         closed = λ opened. idle.closed
             (sym (is.same 4096 (λ l. idle.gate (staging.is_synced 4096 gate l)) ∙ staging.same 4096 gate) ∙ opened);
         same = λ p outside is_synced. let away =
-            outside_journal p outside in is.same p (λ l. is_synced (staging.is_synced p away l)) ∙ staging.same p away;
+            outside_journal j p outside in is.same p (λ l. is_synced (staging.is_synced p away l)) ∙ staging.same p away;
       }
-    where
-      outside_journal : (p : ℕ) → Outside j p → InJournal j p → ⊥
-      outside_journal p (inl e) within = omega (arith, within.from, e)
-      outside_journal p (inr e) within = omega (arith, within.below, e)
 
   pub idle_on : Idle j was risk → Staging j was risk current unsynced → Idle j current unsynced
   idle_on idle staging =
@@ -60,15 +50,14 @@ module _ {was current : ℕ → ℕ} {risk unsynced : ℕ → Type 0} {j : ℕ} 
   pub staging_writes : {current' : ℕ → ℕ} {unsynced' : ℕ → Type 0} {at : ℕ} {bytes : List ℕ} {done : Type 0}
       → Staging j was risk current unsynced → Writes at bytes done current current' unsynced unsynced' → 8192 ≤ at
       → at + length bytes ≤ 4096 * (3 + j) → Staging j was risk current' unsynced'
-  staging_writes {current' = current'} {at = at} {bytes = bytes} staging writes from below = record {
-    same = λ p away. writes.outside p (λ here. away record {
-      from = omega (arith, here.from, from);
-      below = omega (arith, here.below, below);
-    }) ∙ staging.same p away;
-    is_synced = λ p away l. ⊎_elim (λ before. staging.is_synced p away before)
-        (λ here. absurd (away record
-        { from = omega (arith, here.from, from); below = omega (arith, here.below, below) })) (writes.unsyncs p l);
+  staging_writes {at = at} {bytes = bytes} staging writes from below = record {
+    same = λ p away. writes.outside p (λ here. away (inside p here)) ∙ staging.same p away;
+    is_synced = λ p away l. ⊎_elim (staging.is_synced p away) (λ here. absurd (away (inside p here)))
+        (writes.unsyncs p l);
   }
+    where
+      inside : (p : ℕ) → In at (length bytes) p → InJournal j p
+      inside p here = grind arith
 
 pub staging_syncs : {was current current' : ℕ → ℕ} {risk unsynced unsynced' : ℕ → Type 0} {j : ℕ} {done : Type 0}
     → Staging j was risk current unsynced → Syncs done current current' unsynced unsynced' → done
@@ -101,12 +90,8 @@ pub before_on : {was mid image : ℕ → ℕ} {risk between : ℕ → Type 0} {j
 before_on {j = j} a b = record {
   closed = b.closed;
   same = λ p outside is_synced. let away =
-      outside_journal p outside in b.same p outside (λ l. is_synced (a.is_synced p away l)) ∙ a.same p away;
+      outside_journal j p outside in b.same p outside (λ l. is_synced (a.is_synced p away l)) ∙ a.same p away;
 }
-  where
-    outside_journal : (p : ℕ) → Outside j p → InJournal j p → ⊥
-    outside_journal p (inl e) within = omega (arith, within.from, e)
-    outside_journal p (inr e) within = omega (arith, within.below, e)
 
 -- one page more in the journal
 pub copied_more : {current current' : ℕ → ℕ} {unsynced unsynced' : ℕ
@@ -114,21 +99,17 @@ pub copied_more : {current current' : ℕ → ℕ} {unsynced unsynced' : ℕ
     (bytes : List ℕ) → Copied pages current n
     → Writes (4096 * (3 + n)) bytes done current current' unsynced unsynced' → done
     → length bytes ≡ 4096 → ((x : ℕ) → page_byte pages n x ≡ get_or bytes x 0) → Copied pages current' (n + 1)
-copied_more {current = current} {current' = current'} pages n bytes copied writes done size same k x lt below =
-    ⊎_elim
+copied_more {current' = current'} pages n bytes copied writes done size same k x lt below = ⊎_elim
     (λ (before : k < n). writes.outside (4096 * (3 + k) + x) (λ here. omega (arith, here.from, before, below))
     ∙ copied k x before below)
     (λ (from : n ≤ k).
     let e : k ≡ n = omega (arith, lt, from) in
-    subst (λ (i : ℕ). content current' i x ≡ page_byte pages i x) (sym e)
-    (span_at current' (4096 * (3 + n)) bytes x (writes.inside done) (omega (arith, below, size)) ∙ sym (same x)))
+    rw e (span_at current' (4096 * (3 + n)) bytes x (writes.inside done) (omega (arith, below, size)) ∙ sym (same x)))
     (cases_lt k n)
 
 -- a call that did not fail
 pub no_failure : {F : Type 0} {a b : ℕ} → Counts F a b → (F → ⊥) → b ≡ a
-no_failure {a = a} {b = b} counts not =
-    ⊎_elim (λ (lt : a < b). absurd (not (counts.nothing_else lt))) (λ (le : b ≤ a). omega (arith, le, counts.later))
-    (cases_lt a b)
+no_failure {a = a} {b = b} counts not = grind (arith, cases_lt a b, counts.nothing_else, counts.later)
 
 -- what was written and synced, by index
 pub head_at : {current mid current' : ℕ → ℕ} {unsynced between unsynced' : ℕ → Type 0} {wrote synced : Type 0} (at : ℕ)
@@ -140,12 +121,9 @@ head_at {mid = mid} at bytes size writes wrote syncs synced i lt =
 -- the numbers of n ascending pages of an area
 pub ascends_from : (j : ℕ) (numbers : ℕ → ℕ) (n : ℕ) → ((k : ℕ) → k < n → InMeta j (numbers k))
     → ((k : ℕ) → k + 1 < n → numbers k < numbers (k + 1)) → (k : ℕ) → k < n → 25 + j + k ≤ numbers k
-ascends_from j numbers n inside ascends zero lt = let h = inside 0 lt in omega (arith, h.from)
+ascends_from j numbers n inside ascends zero lt = grind (arith, inside 0)
 ascends_from j numbers n inside ascends (suc k) lt =
-    let e : suc k ≡ k + 1 = omega arith in
-    let h : numbers k < numbers (k + 1) = ascends k (omega (arith, lt)) in
-    let h' : numbers k < numbers (suc k) = subst (λ (i : ℕ). numbers k < numbers i) (sym e) h in
-    omega (arith, h', ascends_from j numbers n inside ascends k (omega (arith, lt)))
+    grind (arith, ascends k, ascends_from j numbers n inside ascends k)
 
 -- so they are no more than its pages
 pub few_pages : (j : ℕ) (pages : List (ℕ × List ℕ)) → InArea j pages → Ascends pages → length pages ≤ j
@@ -154,23 +132,16 @@ few_pages j pages inside ascends = few (length pages) (page_number pages) inside
     few : (n : ℕ) (numbers : ℕ → ℕ) → ((k : ℕ) → k < n → InMeta j (numbers k))
         → ((k : ℕ) → k + 1 < n → numbers k < numbers (k + 1)) → n ≤ j
     few zero numbers inside ascends = omega arith
-    few (suc n) numbers inside ascends = let last =
-        inside n (omega arith) in omega
-        (arith, last.below, ascends_from j numbers (suc n) inside ascends n (omega arith))
+    few (suc n) numbers inside ascends =
+        grind (arith, inside n, ascends_from j numbers (suc n) inside ascends n)
 
 pub form_same : (j n n' : ℕ) (num num' : ℕ → ℕ) → n ≡ n' → ((k : ℕ) → k < n → num k ≡ num' k) → InForm j n num
     → InForm j n' num'
 form_same j n n' num num' e same form = record {
   some = omega (arith, e, form.some);
   few = omega (arith, e, form.few);
-  inside = λ k lt. subst (InMeta j) (same k (omega (arith, e, lt))) (form.inside k (omega (arith, e, lt)));
-  ascends = λ k lt. omega (
-    arith,
-    form.ascends k (omega (arith, e, lt)),
-    same k (omega (arith, e, lt)),
-    same (k + 1)
-        (omega (arith, e, lt)),
-  );
+  inside = λ k lt. rw (same k (omega (arith, e, lt))) at (form.inside k (omega (arith, e, lt)));
+  ascends = λ k lt. grind (arith, form.ascends k, same k, same (k + 1));
 }
 
 -- the journal is written whole
@@ -201,14 +172,11 @@ ready {current = current} {j = j} pages head some few fits inside ascends a copi
     }
   where
     size : count current ≡ length pages
-    size = word_same current (byte_of head) 8192 0
-        (λ i lt. let e : i ≡ 0 + i = omega arith in here i (omega (arith, lt)) ∙ ap (byte_of head) e) ∙ counted
+    size = word_same current (byte_of head) 8192 0 (λ i lt. grind (arith, here i)) ∙ counted
 
     numbers : (k : ℕ) → k < length pages → number current k ≡ page_number pages k
-    numbers k lt = word_same current (byte_of head) (8196 + 4 * k) (4 + 4 * k) (λ i below.
-        let e : 8192 + (4 + 4 * k + i) ≡ 8196 + 4 * k + i = omega arith in
-        subst (λ (p : ℕ). current p ≡ byte_of head (4 + 4 * k + i)) e
-        (here (4 + 4 * k + i) (omega (arith, lt, below, few)))) ∙ numbered k lt
+    numbers k lt = word_same current (byte_of head) (8196 + 4 * k) (4 + 4 * k)
+        (λ i below. grind (arith, here (4 + 4 * k + i))) ∙ numbered k lt
 
 pub ready_ok : {T E A B C F X : Type 0} (r : Result T E) → OnOk r A → OnOk r B → OnOk r C → OnOk r F
     → (A → B → C → F → X) → OnOk r X

@@ -1,20 +1,20 @@
 -- A write into a block that no row owns.
-use Rattle.std.proofs.Common.{◌≡◌, ℕ, zero, suc, ◌+◌, ◌*◌, ◌/◌, ◌≤◌, ◌++◌, Bool, true, false, cond, List, [], ◌∷◌}
-use Rattle.std.proofs.Common.{Option, None, Some, length, get_or, take, refl, sym, ◌∙◌, ap, subst, arith, ⊎_elim}
+use Rattle.std.proofs.Common.{◌≡◌, ℕ, zero, suc, ◌+◌, ◌*◌, ◌/◌, ◌≤◌, Bool, true, false, cond, List, [], ◌∷◌}
+use Rattle.std.proofs.Common.{Option, None, Some, length, get_or, take, refl, sym, ◌∙◌, ap, arith, ⊎_elim}
 use Rattle.std.proofs.lemmas.Bool.{cases_eq}
 use Rattle.spool_disk.specs.Disk.{In, IsImage, Writes}
 use Rattle.spool_disk.proofs.Span.{span_same}
 use Rattle.spool_journal.specs.Phases.{Idle}
 use Rattle.spool_journal.specs.Texts.{owns, block_at, block_bytes, joined, aside, SameBut, Frame}
-use Rattle.spool_journal.proofs.Over.{yes, no}
+use Rattle.std.proofs.lemmas.Bool.Decides.{nat_tests}
 use Rattle.spool_journal.proofs.Gate.{open_view, shut_view, SameJournal, form_on, replay_on}
 use Rattle.spool_journal.specs.Image.{area_end}
 
 pub aside_there : (page : ℕ) (was image : ℕ → ℕ) (p : ℕ) → page ≡ p / 4096 → aside page was image p ≡ was p
-aside_there page was image p e = ap (λ (b : Bool). cond b (was p) (image p)) (yes page (p / 4096) e)
+aside_there page was image p e = grind (arith, nat_tests)
 
 pub aside_else : (page : ℕ) (was image : ℕ → ℕ) (p : ℕ) → (page ≡ p / 4096 → ⊥) → aside page was image p ≡ image p
-aside_else page was image p e = ap (λ (b : Bool). cond b (was p) (image p)) (no page (p / 4096) e)
+aside_else page was image p e = grind (arith, nat_tests)
 
 -- but for the page, an image after the write is one from before it
 pub aside_image : {current current' image : ℕ → ℕ} {unsynced unsynced' : ℕ
@@ -54,21 +54,17 @@ module _ (image image' : ℕ → ℕ) (first x slot ordinal : ℕ) (same : SameB
   same_block (row ∷ rows) b none =
       cond_case (owns slot ordinal row) (Some b) (block_at slot ordinal rows (b + 1))
       (λ mine. span_same image image' (4096 * (first + b)) 4096
-      (λ p here. same p (λ e. differs mine (omega (arith, e, here.from, here.below)))))
+      (λ p here. same p (λ e. owned row (none 0) mine (omega (arith, e, here.from, here.below)))))
       (same_block rows (b + 1) (λ k e. none (suc k) (omega (arith, e))))
     where
-      unowned : (row : Option (ℕ × ℕ)) → row ≡ None → owns slot ordinal row ≡ true → ⊥
-      unowned None e mine = cc
-      unowned (Some o) e mine = cc
-
-      differs : owns slot ordinal row ≡ true → x ≡ b → ⊥
-      differs mine e = unowned row (none 0 (omega (arith, e))) mine
+      owned : (row : Option (ℕ × ℕ)) → (x ≡ b + 0 → row ≡ None) → owns slot ordinal row ≡ true → x ≡ b → ⊥
+      owned row none mine e = grind arith
 
       cond_case : (t : Bool) (a c : Option ℕ) → (t ≡ true → block_bytes image first a ≡ block_bytes image' first a)
           → block_bytes image first c ≡ block_bytes image' first c → block_bytes image first (cond t a c) ≡ block_bytes
           image' first (cond t a c)
-      cond_case true a c yes no = yes refl
-      cond_case false a c yes no = no
+      cond_case true a c here rest = here refl
+      cond_case false a c here rest = rest
 
 same_joined : (image image' : ℕ → ℕ) (first x slot : ℕ) (rows : List (Option (ℕ × ℕ)))
     → SameBut (first + x) image image' → get_or rows x None ≡ None → (ordinal n : ℕ)
@@ -76,12 +72,10 @@ same_joined : (image image' : ℕ → ℕ) (first x slot : ℕ) (rows : List (Op
 unfolding joined
 same_joined image image' first x slot rows same none ordinal zero = refl
 same_joined image image' first x slot rows same none ordinal (suc n) =
-    both (same_block image image' first x slot ordinal same rows 0
-    (λ k e. let f : x ≡ k = omega (arith, e) in subst (λ (i : ℕ). get_or rows i None ≡ None) f none)) (same_joined
-    image image' first x slot rows same none (ordinal + 1) n)
-  where
-    both : {a b c d : List ℕ} → a ≡ b → c ≡ d → a ++ c ≡ b ++ d
-    both e f = cc
+    let first_same = same_block image image' first x slot ordinal same rows 0
+    (λ k e. let f : x ≡ k = omega (arith, e) in rw f at none) in
+    let rest = same_joined image image' first x slot rows same none (ordinal + 1) n in
+    cc
 
 -- a page of text
 pub frame : (j block : ℕ) (a b : ℕ → ℕ) → j ≤ 385 → SameBut (area_end j + block) a b → Frame j (area_end j) block a b

@@ -1,6 +1,6 @@
 -- What pages make of a view.
 use Rattle.std.proofs.Common.{◌≡◌, ℕ, ◌+◌, ◌-◌, ◌*◌, ◌/◌, ◌%◌, ◌<◌, ◌≤◌, List, [], Option, Some, None, IsSome, length}
-use Rattle.std.proofs.Common.{get_or, refl, sym, ◌∙◌, ap, subst, arith, ⊎_elim}
+use Rattle.std.proofs.Common.{get_or, refl, ◌∙◌, ap, arith, ⊎_elim}
 use Rattle.std.proofs.lemmas.Bool.{cases_eq}
 use Rattle.std.proofs.lemmas.Bool.Decides.{nat_tests}
 use Rattle.std.proofs.lemmas.List.{get_or-set_same, get_or-set_other}
@@ -30,41 +30,18 @@ module _ (pages : List (ℕ × List ℕ)) (v : View) (slot : ℕ) (kept : Option
       → SaysSlot (neighbour slot) bytes (v.version, slot_at v (neighbour slot))
       → (s : ℕ) → s < 512 → Said (page_in (record_number v.blocks s) pages) (SaysSlot s) (was s) (now s)
   slots_said long few here others says beside s lt = ⊎_elim
-      (λ (e : s ≡ slot). subst (λ (t : ℕ). Said (page_in (record_number v.blocks t) pages) (SaysSlot t) (was t)
-      (now t)) (sym e) at_slot)
-      (λ (ne : s ≡ slot → ⊥). ⊎_elim
-      (λ (same : s / 2 ≡ slot / 2).
-      let is : s ≡ neighbour slot = is_neighbour s slot same ne in
-      let there : page_in (record_number v.blocks s) pages ≡ Some bytes =
-      subst (λ (k : ℕ). page_in (26 + journal_pages v.blocks + k) pages ≡ Some bytes) (sym same) here in
-      let before : SaysSlot s bytes (was s) = subst (λ (t : ℕ). SaysSlot t bytes (was t)) (sym is) beside in
-      let after : SaysSlot s bytes (now s) =
-      subst (λ (x : Option SlotRecord). SaysSlot s bytes (v.version, x)) (sym (stays s ne)) before in
-      subst (λ (o : Option (List ℕ)). Said o (SaysSlot s) (was s) (now s)) (sym there) after)
-      (λ (apart : s / 2 ≡ slot / 2 → ⊥).
-      subst (λ (o : Option (List ℕ)). Said o (SaysSlot s) (was s) (now s)) (sym (others s lt apart))
-      (ap (λ (x : Option SlotRecord). (v.version, x)) (stays s ne)))
-      (cases_eq (s / 2) (slot / 2)))
+      (λ (e : s ≡ slot). rw (e, here, get_or-set_same v.slots slot kept None (omega (arith, long, few))) says)
+      (λ (ne : s ≡ slot → ⊥). rw (get_or-set_other v.slots slot s kept None ne) (⊎_elim
+      (λ (same : s / 2 ≡ slot / 2). rw (same, here, is_neighbour s slot same ne) beside)
+      (λ (apart : s / 2 ≡ slot / 2 → ⊥). rw (others s lt apart) refl)
+      (cases_eq (s / 2) (slot / 2))))
       (cases_eq s slot)
-    where
-      stays : (s : ℕ) → (s ≡ slot → ⊥) → slot_at (with_slot v slot kept) s ≡ slot_at v s
-      stays s ne = get_or-set_other v.slots slot s kept None ne
-
-      at_slot : Said (page_in (record_number v.blocks slot) pages) (SaysSlot slot) (was slot) (now slot)
-      at_slot =
-          let new : slot_at (with_slot v slot kept) slot ≡ kept =
-          get_or-set_same v.slots slot kept None (omega (arith, long, few)) in
-          let after : SaysSlot slot bytes (now slot) =
-          subst (λ (x : Option SlotRecord). SaysSlot slot bytes (v.version, x)) (sym new) says in
-          subst (λ (o : Option (List ℕ)). Said o (SaysSlot slot) (was slot) (now slot)) (sym here) after
 
 -- what the slot beside it has, by the view's version
 pub said_beside : (v : View) {version : Version} {kept : Option SlotRecord} (slot : ℕ) (bytes : List ℕ)
     → v.version ≡ version → slot_at v (neighbour slot) ≡ kept → SaysSlot (neighbour slot) bytes (version, kept)
     → SaysSlot (neighbour slot) bytes (v.version, slot_at v (neighbour slot))
-said_beside v {kept = kept} slot bytes version beside says =
-    subst (λ (x : Option SlotRecord). SaysSlot (neighbour slot) bytes (v.version, x)) (sym beside)
-    (subst (λ (w : Version). SaysSlot (neighbour slot) bytes (w, kept)) (sym version) says)
+said_beside v slot bytes version beside says = rw (beside, version) says
 
 -- A NEW RECORD AND THE NEXT NUMBER
 
@@ -79,15 +56,13 @@ module _ {none first both : List (ℕ × List ℕ)} {state place : ℕ} {state_b
     others = record {
       blocks = refl;
       indexes = refl;
-      state = subst (λ (o : Option (List ℕ)). Said o SaysState (v.version, v.next) (v.version, next)) (sym state_in)
-          says_next;
+      state = rw state_in says_next;
       slots = slots_said both v slot (Some r) bytes long few slot_in
           (λ s lt apart. none_else (record_number v.blocks s) (omega (arith, state_is))
           (omega (arith, place_is, apart))) says beside;
       rows = λ b lt no. refl;
     };
-    rows = λ b lt. subst (λ (o : Option (List ℕ)). Said o (SaysRow b) (get_or v.rows b None) (get_or v.rows b None))
-        (sym (none_else (row_number v.blocks b) (omega (arith, state_is)) (omega (arith, place_is, few)))) refl;
+    rows = λ b lt. rw (none_else (row_number v.blocks b) (omega (arith, state_is)) (omega (arith, place_is, few))) refl;
   }
     where
       none_else : (q : ℕ) → (state ≡ q → ⊥) → (place ≡ q → ⊥) → page_in q both ≡ None
@@ -95,13 +70,11 @@ module _ {none first both : List (ℕ × List ℕ)} {state place : ℕ} {state_b
           in_put_else put_slot q not_slot ∙ in_put_else put_state q not_state ∙ in_none q none empty
 
       state_in : page_in (state_number v.blocks) both ≡ Some state_bytes
-      state_in = subst (λ (q : ℕ). page_in q both ≡ Some state_bytes) state_is
-          (in_put_else put_slot state (λ e. omega (arith, e, state_is, place_is))
+      state_in = rw state_is at (in_put_else put_slot state (λ e. omega (arith, e, state_is, place_is))
           ∙ in_put put_state (in_none state none empty))
 
       slot_in : page_in (record_number v.blocks slot) both ≡ Some bytes
-      slot_in = subst (λ (q : ℕ). page_in q both ≡ Some bytes) place_is
-          (in_put put_slot (in_put_else put_state place (λ e. omega (arith, e, state_is, place_is))
+      slot_in = rw place_is at (in_put put_slot (in_put_else put_state place (λ e. omega (arith, e, state_is, place_is))
           ∙ in_none place none empty))
 
 -- A SLOT, AND ROOM FOR ROWS
@@ -124,24 +97,18 @@ module _ (pages : List (ℕ × List ℕ)) {none first : List (ℕ × List ℕ)} 
   room_changes empty put v slot kept blocks rows prefix there place_is few long says beside same = record {
     blocks = refl;
     indexes = refl;
-    state = subst (λ (o : Option (List ℕ)). Said o SaysState (v.version, v.next) (v.version, v.next))
-        (sym (none_else (state_number v.blocks) (omega arith) (omega (arith, place_is)))) refl;
+    state = rw (none_else (state_number v.blocks) (omega arith) (omega (arith, place_is))) refl;
     slots = slots_said pages v slot kept bytes long few slot_in
         (λ s lt apart. none_else (record_number v.blocks s) (omega (arith, lt)) (omega (arith, place_is, apart))) says
         beside;
-    rows = λ b lt no. same b (λ i below e.
-        let some : IsSome (page_in (row_number v.blocks b) pages) =
-        subst (λ (x : ℕ). IsSome (page_in (row_number v.blocks x) pages)) e (there i below) in
-        let not = subst IsSome no some in
-        cc);
+    rows = λ b lt no. same b (λ i below e. let some = there i below in grind arith);
   }
     where
       none_else : (q : ℕ) → q < 282 + journal_pages v.blocks → (place ≡ q → ⊥) → page_in q pages ≡ None
       none_else q below not_slot = prefix q below ∙ in_put_else put q not_slot ∙ in_none q none empty
 
       slot_in : page_in (record_number v.blocks slot) pages ≡ Some bytes
-      slot_in = subst (λ (q : ℕ). page_in q pages ≡ Some bytes) place_is
-          (prefix place (omega (arith, place_is, few)) ∙ in_put put (in_none place none empty))
+      slot_in = rw place_is at (prefix place (omega (arith, place_is, few)) ∙ in_put put (in_none place none empty))
 
 -- THE ROWS
 
@@ -157,11 +124,8 @@ module _ (old new : List (ℕ × List ℕ)) (rows : List Row) (first : ℕ) wher
     others = record {
       blocks = changes.blocks;
       indexes = changes.indexes;
-      state = subst (λ (o : Option (List ℕ)). Said o SaysState (v.version, v.next) (v'.version, v'.next))
-          (sym (same (state_number v.blocks) (omega (arith, first_is)))) changes.state;
-      slots = λ s lt. subst (λ (o : Option (List ℕ)). Said o (SaysSlot s) (v.version, slot_at v s)
-          (v'.version, slot_at v' s)) (sym (same (record_number v.blocks s) (omega (arith, first_is, lt))))
-          (changes.slots s lt);
+      state = rw (same (state_number v.blocks) (omega (arith, first_is))) changes.state;
+      slots = λ s lt. rw (same (record_number v.blocks s) (omega (arith, first_is, lt))) (changes.slots s lt);
       rows = λ b lt no. changes.rows b lt (none_same (row_number v.blocks b) old new long numbers no);
     };
     rows = λ b lt. by b lt (page_in (row_number v.blocks b) new) refl;
@@ -174,15 +138,10 @@ module _ (old new : List (ℕ × List ℕ)) (rows : List Row) (first : ℕ) wher
       row_in : (b k : ℕ) → k < length new → page_number new k ≡ row_number v.blocks b
           → Stands (byte_of (get_or new k (0, [])).1) (8 * (b % 512)) 8 (row_bytes (get_or v'.rows b None))
       row_in b k lt e =
-          let old_lt : k < length old = omega (arith, lt, long) in
-          let number : page_number old k ≡ row_number v.blocks b = sym (numbers k old_lt) ∙ e in
-          let stands = filled k old_lt (omega (arith, number, first_is)) (b % 512) (omega arith) in
-          let at : 512 * (page_number old k - first) + b % 512 ≡ b = omega (arith, number, first_is) in
-          let here : Stands (byte_of (get_or new k (0, [])).1) (8 * (b % 512)) 8 (row_bytes (get_or rows b None)) =
-          subst (λ (x : ℕ). Stands (byte_of (get_or new k (0, [])).1) (8 * (b % 512)) 8
-          (row_bytes (get_or rows x None))) at stands in
-          subst (λ (xs : List Row). Stands (byte_of (get_or new k (0, [])).1) (8 * (b % 512)) 8
-          (row_bytes (get_or xs b None))) (sym rows_are) here
+          let number = numbers k (omega (arith, lt, long)) in
+          let at : 512 * (page_number old k - first) + b % 512 ≡ b = omega (arith, number, e, first_is) in
+          rw rows_are (rw at at (filled k (omega (arith, lt, long)) (omega (arith, number, e, first_is)) (b % 512)
+          (omega arith)))
 
       by : (b : ℕ) → b < 512 * (journal_pages v.blocks - 257) → (o : Option (List ℕ))
           → page_in (row_number v.blocks b) new ≡ o → Said o (SaysRow b) (get_or v.rows b None) (get_or v'.rows b None)

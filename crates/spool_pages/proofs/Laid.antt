@@ -1,15 +1,15 @@
 -- Changed pages laid over what stood there, page by page.
-use Rattle.std.proofs.Common.{◌≡◌, inl, inr, ℕ, zero, suc, ◌+◌, ◌-◌, ◌*◌, ◌/◌, ◌%◌, ◌<◌, ◌≤◌, Bool, cond, List, [], ◌∷◌}
-use Rattle.std.proofs.Common.{Option, None, Some, length, get_or, refl, sym, ◌∙◌, ap, subst, arith}
+use Rattle.std.proofs.Common.{◌≡◌, inl, inr, ℕ, zero, suc, ◌+◌, ◌-◌, ◌*◌, ◌/◌, ◌%◌, ◌<◌, ◌≤◌, List, [], ◌∷◌}
+use Rattle.std.proofs.Common.{Option, None, Some, length, get_or, refl, sym, ◌∙◌, ap, arith}
 use Rattle.std.proofs.lemmas.Bool.{cases_eq, cases_lt}
-use Rattle.enc_model.specs.Indexes.{IndexSet}
-use Rattle.enc_index.specs.Area.{area_byte}
 use Rattle.spool_journal.specs.Image.{byte_of, journal_pages, InMeta, over, laid, page_number, page_byte, InArea}
 use Rattle.spool_journal.specs.Image.{text_page, Ascends}
-use Rattle.spool_journal.proofs.Over.{yes, no, over_hit, over_pass, over_none}
+use Rattle.std.proofs.lemmas.Bool.Decides.{nat_tests}
+use Rattle.spool_pages.proofs.PageIn.{number_none}
+use Rattle.spool_journal.proofs.Over.{over_hit, over_pass, over_none}
 use Rattle.spool_pages.specs.Changes.{page_in, Said, Changes, state_number, record_number, row_number}
 use Rattle.spool_pages.specs.Rests.{Rests, HasTexts}
-use Rattle.spool_pages.specs.View.{SlotRecord, View, Stands, Says, first_page, state_page, slot_bytes, row_bytes}
+use Rattle.spool_pages.specs.View.{SlotRecord, View, Stands, Says, state_page, slot_bytes, row_bytes}
 use Rattle.spool_pages.specs.View.{slot_at}
 use Rattle.spool_pages.specs.declared.version.Version.{Version}
 use Rattle.spool_pages.specs.View.{index_place, state_place, slot_place, row_place}
@@ -23,42 +23,15 @@ record PageAt (n : ℕ) (pages : List (ℕ × List ℕ)) (bytes : List ℕ) : Ty
   number : page_number pages at ≡ n
   bytes_are : (get_or pages at (0, [])).1 ≡ bytes
 
-in_prefix : (n : ℕ) (entry : ℕ × List ℕ) (pages : List (ℕ × List ℕ)) → entry.0 ≡ n
-    → page_in n (entry ∷ pages) ≡ Some entry.1
-unfolding page_in
-in_prefix n entry pages e = ap (λ (b : Bool). cond b (Some entry.1) (page_in n pages)) (yes entry.0 n e)
-
-after : (n : ℕ) (entry : ℕ × List ℕ) (pages : List (ℕ × List ℕ)) → (entry.0 ≡ n → ⊥)
-    → page_in n (entry ∷ pages) ≡ page_in n pages
-unfolding page_in
-after n entry pages e = ap (λ (b : Bool). cond b (Some entry.1) (page_in n pages)) (no entry.0 n e)
-
-page_none : (n : ℕ) (pages : List (ℕ × List ℕ)) → page_in n pages ≡ None → (k : ℕ) → k < length pages
-    → page_number pages k ≡ n → ⊥
-page_none n [] e k lt is = omega (arith, lt)
-page_none n (entry ∷ pages) e zero lt is = let prefix = in_prefix n entry pages is in cc
-page_none n (entry ∷ pages) e (suc k) lt is = elim (cases_eq entry.0 n) [
-  | inl here ↦ let prefix = in_prefix n entry pages here in cc
-  | inr other ↦ page_none n pages (sym (after n entry pages other) ∙ e) k (omega (arith, lt)) is
-]
-
 page_some : (n : ℕ) (pages : List (ℕ × List ℕ)) (bytes : List ℕ) → page_in n pages ≡ Some bytes → PageAt n pages bytes
 unfolding page_in
 page_some n [] bytes e = absurd (let f : None ≡ Some bytes = e in cc)
 page_some n (entry ∷ pages) bytes e = elim (cases_eq entry.0 n) [
-  | inl here ↦ record {
-    at = 0;
-    below = omega arith;
-    number = here;
-    bytes_are = some_is (sym (in_prefix n entry pages here) ∙ e);
-  }
+  | inl here ↦ record { at = 0; below = omega arith; number = here; bytes_are = grind (arith, nat_tests) }
   | inr other ↦
-      let rest = page_some n pages bytes (sym (after n entry pages other) ∙ e) in
+      let rest = page_some n pages bytes (grind (arith, nat_tests)) in
       record { at = suc rest.at; below = omega (arith, rest.below); number = rest.number; bytes_are = rest.bytes_are }
 ]
-  where
-    some_is : {x y : List ℕ} → Some x ≡ Some y → x ≡ y
-    some_is f = cc
 
 -- a page that is the last one of its number
 over_at : (num : ℕ → ℕ) (con : ℕ → ℕ → ℕ) (base : ℕ → ℕ) (n k p : ℕ) → k < n → num k ≡ p / 4096
@@ -67,28 +40,19 @@ over_at num con base zero k p lt here last = omega (arith, lt)
 over_at num con base (suc n) k p lt here last = elim (cases_lt k n) [
   | inl below ↦ over_pass num con base n p (last n below (omega arith))
       ∙ over_at num con base n k p below here (λ i from under. last i from (omega (arith, under)))
-  | inr from ↦
-      let e : n ≡ k = omega (arith, lt, from) in
-      over_hit num con base n p (ap num e ∙ here) ∙ ap (λ (i : ℕ). con i (p % 4096)) e
+  | inr from ↦ let e : k ≡ n = omega (arith, lt, from) in rw (sym e) (over_hit num con base k p here)
 ]
 
 farther : (pages : List (ℕ × List ℕ)) → Ascends pages → (i d : ℕ) → i + d + 1 < length pages
     → page_number pages i < page_number pages (i + d + 1)
-farther pages ascends i zero lt = let e : i + 1 ≡ i + 0 + 1 =
-    omega arith in subst (λ (k : ℕ). page_number pages i < page_number pages k) e (ascends i (omega (arith, lt)))
-farther pages ascends i (suc d) lt =
-    let e : i + d + 1 + 1 ≡ i + suc d + 1 = omega arith in
-    let next : page_number pages (i + d + 1) < page_number pages (i + d + 1 + 1) =
-    ascends (i + d + 1) (omega (arith, lt)) in
-    let last : page_number pages (i + d + 1) < page_number pages (i + suc d + 1) =
-    subst (λ (k : ℕ). page_number pages (i + d + 1) < page_number pages k) e next in
-    omega (arith, last, farther pages ascends i d (omega (arith, lt)))
+farther pages ascends i zero lt = grind (arith, ascends i)
+farther pages ascends i (suc d) lt = grind (arith, ascends (i + d + 1), farther pages ascends i d)
 
 module _ (pages : List (ℕ × List ℕ)) (base : ℕ → ℕ) where
   pub laid_none : (n p : ℕ) → page_in n pages ≡ None → n ≡ p / 4096 → laid pages base p ≡ base p
   laid_none n p none here =
       over_none (page_number pages) (page_byte pages) base (length pages) p
-      (λ k lt e. page_none n pages none k lt (e ∙ sym here))
+      (λ k lt e. number_none n pages none k lt (e ∙ sym here))
 
   pub laid_some : (n p : ℕ) (bytes : List ℕ) → Ascends pages → page_in n pages ≡ Some bytes → n ≡ p / 4096
       → laid pages base p ≡ byte_of bytes (p % 4096)
@@ -99,22 +63,14 @@ module _ (pages : List (ℕ × List ℕ)) (base : ℕ → ℕ) where
     where
       later : (there : PageAt n pages bytes) (i : ℕ) → there.at < i → i < length pages → page_number pages i ≡ p / 4096
           → ⊥
-      later there i from below e = gap there (i - there.at - 1) i (omega (arith, from)) below e
-        where
-          gap : (there : PageAt n pages bytes) (d i : ℕ) → there.at + d + 1 ≡ i → i < length pages
-              → page_number pages i ≡ p / 4096 → ⊥
-          gap there d i is below e =
-              let far : page_number pages there.at < page_number pages (there.at + d + 1) =
-              farther pages ascends there.at d (omega (arith, is, below)) in
-              let far' : page_number pages there.at < page_number pages i =
-              subst (λ (k : ℕ). page_number pages there.at < page_number pages k) is far in
-              omega (arith, far', there.number, here, e)
+      later there i from below e =
+          grind (arith, farther pages ascends there.at (i - there.at - 1), there.number, here)
 
   -- outside the metadata
   pub laid_out : (j p : ℕ) → InArea j pages → (InMeta j (p / 4096) → ⊥) → laid pages base p ≡ base p
   laid_out j p inside away =
       over_none (page_number pages) (page_byte pages) base (length pages) p
-      (λ k lt e. away (subst (InMeta j) e (inside k lt)))
+      (λ k lt e. away (rw e at (inside k lt)))
 
   -- the bytes of a page that is laid over, or those that were there
   pub stands_said : {A : Type 0} (bytes_of : A → List ℕ) (old new : A) (page at size place : ℕ) → Ascends pages
@@ -146,9 +102,6 @@ module _ (pages : List (ℕ × List ℕ)) (current : ℕ → ℕ) (v v' : View)
   out : (p : ℕ) → (InMeta (journal_pages v.blocks) (p / 4096) → ⊥) → laid pages current p ≡ current p
   out p away = laid_out pages current (journal_pages v.blocks) p inside away
 
-  same_size : v.blocks ≡ v'.blocks
-  same_size = sym changes.others.blocks
-
   same_journal : journal_pages v'.blocks ≡ journal_pages v.blocks
   same_journal = ap journal_pages changes.others.blocks
 
@@ -171,27 +124,18 @@ module _ (pages : List (ℕ × List ℕ)) (current : ℕ → ℕ) (v v' : View)
 
   laid_says : Says (laid pages current) v'
   laid_says = record {
-    first = subst (λ (n : ℕ). Stands (laid pages current) 0 4096 (first_page n)) same_size record {
+    first = rw changes.others.blocks (record {
       each = λ i lt. out (0 + i) (λ within. omega (arith, within.from, lt)) ∙ says.first.each i lt;
-    };
-    area = λ i lt. area_there i lt;
-    state = subst (λ (n : ℕ). Stands (laid pages current) (state_place n) 4096
-        (state_page v'.version v'.next)) same_size
-        state_there;
-    slots = λ s lt. subst (λ (n : ℕ). Stands (laid pages current) (slot_place n s) 2048
-        (slot_bytes v'.version (slot_at v' s))) same_size (slot_there s lt);
-    rows = λ b lt. subst (λ (n : ℕ). Stands (laid pages current) (row_place n b) 8 (row_bytes (get_or v'.rows b None)))
-        same_size (row_there b (omega (arith, lt, same_journal)));
+    });
+    area = λ i lt. rw (changes.others.blocks, changes.others.indexes)
+        (out (index_place v.blocks + i) (λ within. omega (arith, within.from, lt)) ∙ says.area i lt);
+    state = rw changes.others.blocks state_there;
+    slots = λ s lt. rw changes.others.blocks (slot_there s lt);
+    rows = λ b lt. rw changes.others.blocks (row_there b (omega (arith, lt, same_journal)));
     texts = λ s r e. texts s r e ∙ sym
         (shown_same (laid pages current) current (text_page v'.blocks)
         (λ p from. out p (λ within. omega (arith, within.below, from, same_journal))) v'.rows s r.text_len);
   }
-    where
-      area_there : (i : ℕ) → i < 90112 → laid pages current (index_place v'.blocks + i) ≡ area_byte v'.indexes i
-      area_there i lt =
-          subst (λ (n : ℕ). laid pages current (index_place n + i) ≡ area_byte v'.indexes i) same_size
-          (out (index_place v.blocks + i) (λ within. omega (arith, within.from, lt)) ∙ says.area i lt
-          ∙ ap (λ (x : IndexSet). area_byte x i) (sym changes.others.indexes))
 
 -- a commit of them makes the new view of the old one
 pub changed_says : {n : ℕ} {pages : List (ℕ × List ℕ)} {current : ℕ → ℕ} {unsynced : ℕ → Type 0} {v v' : View}
@@ -199,5 +143,4 @@ pub changed_says : {n : ℕ} {pages : List (ℕ × List ℕ)} {current : ℕ →
     → InArea (journal_pages n) pages → Rests v current unsynced → Ascends pages → Changes pages v v'
     → HasTexts current v' → Says (laid pages current) v'
 changed_says {pages = pages} {current = current} {v = v} {v' = v'} size inside rests ascends changes texts =
-    laid_says pages current v v' (subst (λ (m : ℕ). InArea (journal_pages m) pages) (sym size) inside) ascends
-    changes texts (rests_says rests)
+    laid_says pages current v v' (rw size inside) ascends changes texts (rests_says rests)

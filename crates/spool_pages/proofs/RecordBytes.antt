@@ -1,13 +1,11 @@
 -- The bytes of a record.
-use Rattle.std.proofs.Common.{◌≡◌, inl, inr, ℕ, ◌+◌, ◌-◌, ◌≤◌, ◌++◌, List, [], Option, Some, None, length, get_or, drop}
-use Rattle.std.proofs.Common.{◌∷◌, ◌<◌, ◌^◌, replicate, refl, sym, ◌∙◌, ap, subst, arith}
+use Rattle.std.proofs.Common.{◌≡◌, ℕ, ◌+◌, ◌-◌, ◌≤◌, ◌++◌, List, [], Option, Some, None, length}
+use Rattle.std.proofs.Common.{◌∷◌, ◌<◌, ◌^◌, replicate, refl, sym, subst, arith}
 use Rattle.std.specs.Int.{to_be_bytes, w16, w64}
 use Rattle.std.specs.List.{slice_range}
-use Rattle.std.proofs.Common.{length-drop}
-use Rattle.std.proofs.Math.ListN.{get_or-append, length-append, length-replicate, length-take}
-use Rattle.std.proofs.Math.Seq.{get_or-append_right}
 use Rattle.std.proofs.lemmas.Bool.{cases_lt}
-use Rattle.std.proofs.lemmas.List.{get_or-append-add, get_or-take, get_or-drop, ext_get_or}
+use Rattle.std.proofs.lemmas.Grind.{common_steps}
+use Rattle.std.proofs.lemmas.List.{ext_get_or}
 use Rattle.spool_journal.specs.Image.{byte_of}
 use Rattle.spool_pages.specs.Bytes.{IsPadded}
 use Rattle.spool_pages.proofs.Bytes.{padded_zeros}
@@ -58,99 +56,58 @@ module _ (version : Version) (r : SlotRecord) where
 
   module _ (state : length r.state ≡ 32) where
     pub length-state_end : length (state_end version r) ≡ 64
-    length-state_end = omega (arith, state, length-append (four_of version r) r.state, length-four)
+    length-state_end = grind (arith, common_steps)
 
     pub length-head : length (head_of version r) ≡ 66
-    length-head = omega (
-      arith,
-      length-state_end,
-      length-append (state_end version r) (to_be_bytes w16 (length r.metadata)),
-    )
+    length-head = grind (arith, common_steps)
 
     pub length-metadata_end : length (metadata_end version r) ≡ 66 + length r.metadata
-    length-metadata_end = omega (arith, length-head, length-append (head_of version r) r.metadata)
+    length-metadata_end = grind (arith, common_steps)
 
     pub length-room_end : length r.metadata ≤ 1536 → length (room_end version r) ≡ 1602
-    length-room_end few = omega (
-      arith,
-      few,
-      length-metadata_end,
-      length-append (metadata_end version r) (replicate (1536 - length r.metadata) 0),
-      length-replicate {A = ℕ} (1536 - length r.metadata) 0,
-    )
+    length-room_end few = grind (arith, common_steps)
 
     pub length-record : length r.metadata ≤ 1536 → length (record_bytes version r) ≡ 1603
-    length-record few =
-        ap length (sym record_is)
-        ∙ omega (arith, length-room_end few, length-append (room_end version r) (length_tag version r.declared ∷ []))
+    unfolding record_bytes
+    length-record few = grind (arith, common_steps)
 
 -- PARTS
 
 pub stands_prefix : {f : ℕ → ℕ} {place size : ℕ} (xs ys : List ℕ) (k : ℕ) → length xs ≡ k → k ≤ size
     → Stands f place size (xs ++ ys) → Stands f place k xs
-stands_prefix xs ys k long fits stands =
-    record {
-      each = λ i lt.
-          stands.each i (omega (arith, lt, fits)) ∙ get_or-append xs ys 0 i (omega (arith, lt, long));
-    }
+stands_prefix xs ys k long fits stands = record { each = λ i lt. grind (arith, common_steps, stands.each i) }
 
 pub stands_beyond : {f : ℕ → ℕ} {place size : ℕ} (xs ys : List ℕ) (k m : ℕ) → length xs ≡ k → k + m ≤ size
     → Stands f place size (xs ++ ys) → Stands f (place + k) m ys
-stands_beyond {f = f} {place = place} xs ys k m long fits stands = record {
-  each = λ i lt.
-      let at : place + (k + i) ≡ place + k + i = omega arith in
-      let here : f (place + (k + i)) ≡ get_or (xs ++ ys) (k + i) 0 = stands.each (k + i) (omega (arith, lt, fits)) in
-      let there : get_or (xs ++ ys) (k + i) 0 ≡ get_or ys i 0 =
-      subst (λ (n : ℕ). get_or (xs ++ ys) (n + i) 0 ≡ get_or ys i 0) long (get_or-append-add xs ys i 0) in
-      subst (λ (p : ℕ). f p ≡ get_or ys i 0) at (here ∙ there);
-}
+stands_beyond xs ys k m long fits stands = record { each = λ i lt. grind (arith, common_steps, stands.each (k + i)) }
 
 pub stands_both : {f : ℕ → ℕ} {place : ℕ} (xs ys : List ℕ) (k m : ℕ) → length xs ≡ k → Stands f place k xs
     → Stands f (place + k) m ys → Stands f place (k + m) (xs ++ ys)
-stands_both {f = f} {place = place} xs ys k m long first second = record {
-  each = λ i lt. elim (cases_lt i k) [
-    | inl below ↦ first.each i below ∙ sym (get_or-append xs ys 0 i (omega (arith, below, long)))
-    | inr from ↦
-        let at : place + k + (i - k) ≡ place + i = omega (arith, from) in
-        let there : get_or ys (i - k) 0 ≡ get_or (xs ++ ys) i 0 =
-        subst (λ (n : ℕ). get_or ys (i - n) 0 ≡ get_or (xs ++ ys) i 0) long
-        (sym (get_or-append_right xs ys i 0 (omega (arith, from, long)))) in
-        subst (λ (p : ℕ). f p ≡ get_or (xs ++ ys) i 0) at (second.each (i - k) (omega (arith, lt, from)) ∙ there)
-  ];
+stands_both xs ys k m long first second = record {
+  each = λ i lt. grind (arith, common_steps, cases_lt, first.each i, second.each (i - k));
 }
 
 pub length-range : (bytes : List ℕ) (at end : ℕ) → end ≤ length bytes → length (slice_range bytes at end) ≡ end - at
-length-range bytes at end fits = omega (arith, length-take (end - at) (drop at bytes), length-drop at bytes, fits)
+length-range bytes at end fits = grind (arith, common_steps)
 
 -- the bytes of a range stand there
 pub range_stands : (bytes : List ℕ) (at end size : ℕ) → at + size ≡ end
     → Stands (byte_of bytes) at size (slice_range bytes at end)
-range_stands bytes at end size is = record {
-  each = λ i lt. sym (get_or-take (end - at) (drop at bytes) i 0 (omega (arith, lt, is)) ∙ get_or-drop at bytes i 0);
-}
+range_stands bytes at end size is = record { each = λ i lt. grind (arith, common_steps) }
 
 pub padded_stands : {page xs : List ℕ} (size : ℕ) → IsPadded page xs → Stands (byte_of page) 0 size xs
-padded_stands {page = page} {xs = xs} size padded = record {
-  each = λ i lt.
-      let at : i ≡ 0 + i = omega arith in
-      subst (λ (p : ℕ). get_or page p 0 ≡ get_or xs i 0) at (padded.each i);
-}
+padded_stands size padded = record { each = λ i lt. grind (arith, padded.each i) }
 
 -- zeros stand where nothing stands
 module _ {f : ℕ → ℕ} {place : ℕ} (n : ℕ) where
   pub to_zeros : Stands f place n [] → Stands f place n (replicate n 0)
-  to_zeros stands = record { each = λ i lt. stands.each i lt ∙ sym ((padded_zeros n).each i) }
+  to_zeros stands = record { each = λ i lt. grind (arith, common_steps, stands.each i) }
 
   pub of_zeros : Stands f place n (replicate n 0) → Stands f place n []
-  of_zeros stands = record { each = λ i lt. stands.each i lt ∙ (padded_zeros n).each i }
+  of_zeros stands = record { each = λ i lt. grind (arith, common_steps, stands.each i) }
 
 one_stands : {f : ℕ → ℕ} {place x : ℕ} → f place ≡ x → Stands f place 1 (x ∷ [])
-one_stands {f = f} {place = place} {x = x} e = record {
-  each = λ i lt.
-      let first : i ≡ 0 = omega (arith, lt) in
-      let at : place + i ≡ place = omega (arith, first) in
-      ap f at ∙ e ∙ sym (ap (λ (k : ℕ). get_or (x ∷ []) k 0) first);
-}
+one_stands e = record { each = λ i lt. grind (arith, common_steps) }
 
 -- a length's number fits its eight bytes
 pub number_fits : (version : Version) (declared : Option ℕ) → FitsLength declared
@@ -178,8 +135,7 @@ module _ (f : ℕ → ℕ) (version : Version) (r : SlotRecord) (size : length r
 
   pub parts_of : Stands f 0 2048 (record_bytes version r) → PartsAt f version r
   parts_of whole =
-      let all : Stands f 0 2048 (room_end version r ++ length_tag version r.declared ∷ []) =
-      subst (λ (xs : List ℕ). Stands f 0 2048 xs) (sym (record_is version r)) whole in
+      let all = rw (sym (record_is version r)) at whole in
       let long = length-metadata_end version r size in
       let room = stands_prefix (room_end version r) _ 1602 (length-room_end version r size few) (omega arith) all in
       let metadata = stands_prefix (metadata_end version r) _ (66 + length r.metadata) long (omega (arith, few)) room in
@@ -198,9 +154,8 @@ module _ (f : ℕ → ℕ) (version : Version) (r : SlotRecord) (size : length r
         metadata_len = stands_beyond (state_end version r) _ 64 2 (length-state_end version r size) (omega arith) head;
         metadata = stands_beyond (head_of version r) _ 66 (length r.metadata) (length-head version r size) (omega arith)
             metadata;
-        room = subst (λ (place : ℕ). Stands f place (1536 - length r.metadata) []) at
-            (of_zeros (1536 - length r.metadata) (stands_beyond (metadata_end version r) _ (66 + length r.metadata)
-            (1536 - length r.metadata) long (omega (arith, few)) room));
+        room = rw at at (of_zeros (1536 - length r.metadata) (stands_beyond (metadata_end version r) _
+            (66 + length r.metadata) (1536 - length r.metadata) long (omega (arith, few)) room));
         tag = tag.each 0 (omega arith);
       }
 
@@ -216,33 +171,20 @@ module _ (f : ℕ → ℕ) (version : Version) (r : SlotRecord) (size : length r
       stands_both (head_of version r) _ 66 (length r.metadata) (length-head version r size) head parts.metadata in
       let room = stands_both (metadata_end version r) _ (66 + length r.metadata) (1536 - length r.metadata)
       (length-metadata_end version r size) metadata (to_zeros (1536 - length r.metadata)
-      (subst (λ (place : ℕ). Stands f place (1536 - length r.metadata) []) (sym at) parts.room)) in
+      (rw (sym at) at parts.room)) in
       let full : 66 + length r.metadata + (1536 - length r.metadata) ≡ 1602 = omega (arith, few) in
-      let room_there : Stands f 0 1602 (room_end version r) =
-      subst (λ (n : ℕ). Stands f 0 n (room_end version r)) full room in
-      subst (λ (xs : List ℕ). Stands f 0 1603 xs) (record_is version r)
-      (stands_both (room_end version r) _ 1602 1 (length-room_end version r size few) room_there
-      (one_stands parts.tag))
+      rw (record_is version r) at (stands_both (room_end version r) _ 1602 1 (length-room_end version r size few)
+      (rw full at room) (one_stands parts.tag))
 
 -- the bytes of a range
 pub range_is : (bytes xs : List ℕ) (at end size : ℕ) → Stands (byte_of bytes) at size xs → length xs ≤ size
     → at + length xs ≡ end → end ≤ length bytes → slice_range bytes at end ≡ xs
 range_is bytes xs at end size stands few is fits =
-    ext_get_or 0 (slice_range bytes at end) xs (omega (arith, long, is)) (λ i lt.
-    get_or-take (end - at) (drop at bytes) i 0 (omega (arith, lt, long))
-    ∙ get_or-drop at bytes i 0
-    ∙ stands.each i (omega (arith, lt, long, is, few)))
-  where
-    long : length (slice_range bytes at end) ≡ end - at
-    long = length-range bytes at end fits
+    ext_get_or 0 (slice_range bytes at end) xs (grind (arith, common_steps))
+    (λ i lt. grind (arith, common_steps, stands.each i, length-range bytes at end fits))
 
 pub no_number : (bytes : List ℕ) → IsPadded bytes [] → Stands (byte_of bytes) 0 8 (to_be_bytes w64 0)
-no_number bytes padded = record {
-  each = λ i lt.
-      let at : i ≡ 0 + i = omega arith in
-      subst (λ (p : ℕ). get_or bytes p 0 ≡ get_or (to_be_bytes w64 0) i 0) at
-      (padded.each i ∙ sym ((padded_zeros 8).each i));
-}
+no_number bytes padded = record { each = λ i lt. grind (arith, padded.each i, (padded_zeros 8).each i) }
 
 pub record_eq : (r : SlotRecord) (n : ℕ) (d : Option ℕ) (a t : ℕ) (s m : List ℕ) → n ≡ r.number → d ≡ r.declared → a
     ≡ r.accepted

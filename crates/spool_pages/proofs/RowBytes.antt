@@ -1,7 +1,7 @@
 -- The bytes of a row.
-use Rattle.std.proofs.Common.{◌≡◌, ℕ, ◌+◌, ◌*◌, ◌/◌, ◌%◌, ◌<◌, ◌≤◌, ◌++◌, List, [], Option, Some, None, length, get_or}
-use Rattle.std.proofs.Common.{refl, sym, ◌∙◌, ap, subst, arith, inl, inr}
-use Rattle.std.proofs.Math.ListN.{get_or-eq_default}
+use Rattle.std.proofs.Common.{◌≡◌, ℕ, ◌+◌, ◌*◌, ◌/◌, ◌%◌, ◌<◌, ◌≤◌, List, [], Option, Some, None, length, get_or}
+use Rattle.std.proofs.Common.{refl, ◌∙◌, arith}
+use Rattle.std.proofs.lemmas.List.{get_or_past}
 use Rattle.std.proofs.lemmas.Bool.{cases_lt}
 use Rattle.std.specs.Int.{to_be_bytes, w32}
 use Rattle.spool_journal.specs.Image.{byte_of}
@@ -11,11 +11,6 @@ use Rattle.spool_pages.specs.View.{Stands, row_bytes}
 use Rattle.spool_pages.proofs.Bytes.{padded_zeros}
 use Rattle.spool_pages.proofs.Numbers.{four_are}
 use Rattle.spool_pages.proofs.RecordBytes.{stands_prefix, stands_beyond, stands_both}
-
-owned_is : (slot ordinal : ℕ)
-    → to_be_bytes w32 (slot + 1) ++ to_be_bytes w32 ordinal ≡ row_bytes (Some (slot, ordinal))
-unfolding row_bytes
-owned_is slot ordinal = refl
 
 free_is : row_bytes None ≡ []
 unfolding row_bytes
@@ -34,15 +29,11 @@ module _ (f : ℕ → ℕ) (at : ℕ) where
 
   pub free_at : Stands f at 8 (row_bytes None) → Stands f at 4 (to_be_bytes w32 0)
   unfolding row_bytes
-  free_at stands = record { each = λ i lt. stands.each i (omega (arith, lt)) ∙ sym ((padded_zeros 4).each i) }
+  free_at stands = record { each = λ i lt. grind (arith, stands.each i, (padded_zeros 4).each i) }
 
   pub free_ordinal_at : Stands f at 8 (row_bytes None) → Stands f (at + 4) 4 (to_be_bytes w32 0)
   unfolding row_bytes
-  free_ordinal_at stands = record {
-    each = λ i lt.
-        let there : at + (4 + i) ≡ at + 4 + i = omega arith in
-        subst (λ (p : ℕ). f p ≡ 0) there (stands.each (4 + i) (omega (arith, lt))) ∙ sym ((padded_zeros 4).each i);
-  }
+  free_ordinal_at stands = record { each = λ i lt. grind (arith, stands.each (4 + i), (padded_zeros 4).each i) }
 
   pub free_of_zeros : Stands f at 4 (to_be_bytes w32 0) → Stands f (at + 4) 4 (to_be_bytes w32 0)
       → Stands f at 8 (row_bytes None)
@@ -55,38 +46,29 @@ module _ (f : ℕ → ℕ) (at : ℕ) where
 
   pub owned_at : (slot ordinal : ℕ) → Stands f at 4 (to_be_bytes w32 (slot + 1))
       → Stands f (at + 4) 4 (to_be_bytes w32 ordinal) → Stands f at 8 (row_bytes (Some (slot, ordinal)))
-  owned_at slot ordinal first second =
-      subst (λ (xs : List ℕ). Stands f at 8 xs) (owned_is slot ordinal)
-      (stands_both (to_be_bytes w32 (slot + 1)) _ 4 4 refl first second)
+  unfolding row_bytes
+  owned_at slot ordinal first second = stands_both (to_be_bytes w32 (slot + 1)) _ 4 4 refl first second
 
 -- a number put into a page
 pub number_there : (new bytes : List ℕ) (at n : ℕ) → bytes ≡ to_be_bytes w32 n
     → ((k : ℕ) → k < length bytes → get_or new (at + k) 0 ≡ get_or bytes k 0)
     → Stands (byte_of new) at 4 (to_be_bytes w32 n)
 number_there new bytes at n is inside =
-    let long : length bytes ≡ 4 = ap length is in
-    record { each = λ i lt. inside i (omega (arith, lt, long)) ∙ ap (λ (xs : List ℕ). get_or xs i 0) is }
+    let stands : Stands (byte_of new) at (length bytes) bytes = record { each = inside } in rw is at stands
 
 -- zeros where no row is
 pub free_there : (page : List ℕ) (from at : ℕ) (row : Option (ℕ × ℕ))
     → ((p : ℕ) → from ≤ p → get_or page p 0 ≡ 0) → from ≤ at → row ≡ None
     → Stands (byte_of page) at 8 (row_bytes row)
-free_there page from at row blank le is = subst (λ (bytes : List ℕ). Stands (byte_of page) at 8 bytes)
-    (sym (ap row_bytes is ∙ free_is)) record { each = λ i lt. blank (at + i) (omega (arith, le)) }
+free_there page from at row blank le is = rw (is, free_is) (record { each = λ i lt. blank (at + i) (omega (arith, le)) })
 
 -- a page of free rows
 pub all_free : (page : List ℕ) → length page ≡ 4096
     → ((k : ℕ) → k < 512 → Stands (byte_of page) (8 * k) 8 (row_bytes None)) → IsPadded page []
 all_free page full rows = record {
-  each = λ i. elim (cases_lt i 4096) [
-    | inl below ↦
-        let free : Stands (byte_of page) (8 * (i / 8)) 8 [] =
-        subst (λ (bytes : List ℕ). Stands (byte_of page) (8 * (i / 8)) 8 bytes) free_is
-        (rows (i / 8) (omega (arith, below))) in
-        let at : 8 * (i / 8) + i % 8 ≡ i = omega arith in
-        subst (λ (p : ℕ). get_or page p 0 ≡ 0) at (free.each (i % 8) (omega arith))
-    | inr from ↦ get_or-eq_default page 0 (omega (arith, from, full))
-  ];
+  each = λ i.
+      let row = λ (lt : i / 8 < 512). (rw free_is at (rows (i / 8) lt)).each (i % 8) in
+      grind (arith, get_or_past, cases_lt i 4096);
 }
 
 -- a row that stands where all is zeros

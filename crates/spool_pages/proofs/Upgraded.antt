@@ -1,11 +1,11 @@
 -- The pages that bring a view to version 2.
 use Rattle.std.proofs.Common.{◌≡◌, inl, inr, ℕ, ◌+◌, ◌*◌, ◌/◌, ◌%◌, ◌<◌, ◌≤◌, List, Option, Some, None, get_or}
-use Rattle.std.proofs.Common.{refl, sym, ◌∙◌, subst, arith}
+use Rattle.std.proofs.Common.{refl, ◌∙◌, arith}
 use Rattle.std.proofs.lemmas.Bool.{cases_eq, cases_lt}
 use Rattle.spool_journal.specs.Image.{IsPut, byte_of, journal_pages}
-use Rattle.spool_pages.specs.Changes.{page_in, Said, state_number, record_number, row_number, SaysState, SaysSlot}
-use Rattle.spool_pages.specs.Changes.{SaysRow, Changes, upgraded}
-use Rattle.spool_pages.specs.View.{SlotRecord, View, Stands, slot_at, slot_bytes}
+use Rattle.spool_pages.specs.Changes.{page_in, state_number, record_number, row_number, SaysState, SaysSlot}
+use Rattle.spool_pages.specs.Changes.{Changes, upgraded}
+use Rattle.spool_pages.specs.View.{SlotRecord, View, Stands, slot_bytes}
 use Rattle.spool_pages.specs.declared.version.Version.TheVariants.{Two}
 use Rattle.spool_pages.proofs.PageIn.{in_put, in_put_else}
 
@@ -22,8 +22,8 @@ module _ (n pair : ℕ) (slots : List (Option SlotRecord)) {old new : List (ℕ 
       → Stands (byte_of bytes) place 2048 (slot_bytes Two (get_or slots s None)) → SaysAt n new s (get_or slots s None)
   put_slot none s place half is stands = record {
     bytes = bytes;
-    there = subst (λ (q : ℕ). page_in q new ≡ Some bytes) (omega (arith, here, half)) (in_put put none);
-    says = subst (λ (p : ℕ). Stands (byte_of bytes) p 2048 (slot_bytes Two (get_or slots s None))) is stands;
+    there = let q : page ≡ record_number n s = omega (arith, here, half) in rw q at (in_put put none);
+    says = rw is at stands;
   }
 
   pub slots_more : ((s : ℕ) → s < 2 * pair → SaysAt n old s (get_or slots s None)) → page_in page old ≡ None
@@ -39,12 +39,10 @@ module _ (n pair : ℕ) (slots : List (Option SlotRecord)) {old new : List (ℕ 
           says = was.says;
         }
     | inr from ↦ elim (cases_eq s (2 * pair)) [
-      | inl even ↦ put_slot none s 0 (omega (arith, even)) (omega (arith, even))
-          (subst (λ (t : ℕ). Stands (byte_of bytes) 0 2048 (slot_bytes Two (get_or slots t None))) (sym even) first)
+      | inl even ↦ put_slot none s 0 (omega (arith, even)) (omega (arith, even)) (rw even first)
       | inr other ↦
           let odd : s ≡ 2 * pair + 1 = omega (arith, lt, from, other) in
-          put_slot none s 2048 (omega (arith, odd)) (omega (arith, odd))
-          (subst (λ (t : ℕ). Stands (byte_of bytes) 2048 2048 (slot_bytes Two (get_or slots t None))) (sym odd) second)
+          put_slot none s 2048 (omega (arith, odd)) (omega (arith, odd)) (rw odd second)
     ]
   ]
 
@@ -58,18 +56,9 @@ upgraded_changes n pages slots next state state_in says_state each none v size n
   others = record {
     blocks = refl;
     indexes = refl;
-    state = subst (λ (o : Option (List ℕ)). Said o SaysState (v.version, v.next) (Two, v.next))
-        (sym (subst (λ (k : ℕ). page_in (state_number k) pages ≡ Some state) (sym size) state_in))
-        (subst (λ (k : ℕ). SaysState state (Two, k)) (sym next_is) says_state);
-    slots = λ s lt.
-        let at = each s lt in
-        subst (λ (o : Option (List ℕ)). Said o (SaysSlot s) (v.version, slot_at v s) (Two, slot_at v s))
-        (sym (subst (λ (k : ℕ). page_in (record_number k s) pages ≡ Some at.bytes) (sym size) at.there))
-        (subst (λ (xs : List (Option SlotRecord)). SaysSlot s at.bytes (Two, get_or xs s None)) (sym slots_are)
-        at.says);
+    state = rw (size, state_in, next_is) says_state;
+    slots = λ s lt. let at = each s lt in rw (size, at.there, slots_are) at.says;
     rows = λ b lt no. refl;
   };
-  rows = λ b lt. subst (λ (o : Option (List ℕ)). Said o (SaysRow b) (get_or v.rows b None) (get_or v.rows b None))
-      (sym (none (row_number v.blocks b) (subst (λ (k : ℕ). 282 + journal_pages k ≤ row_number v.blocks b) size
-      (omega arith)))) refl;
+  rows = λ b lt. rw (none (row_number v.blocks b) (rw size (omega arith))) refl;
 }

@@ -1,10 +1,10 @@
 -- A body after its upload's bytes.
-use Rattle.std.proofs.Common.{◌≡◌, ℕ, ◌+◌, ◌<◌, ◌≤◌, ◌^◌, Bool, true, false, List, [], ◌++◌, length, Option, Some}
-use Rattle.std.proofs.Common.{None, Result, Ok, Err, OnErr, refl, sym, ◌∙◌, ap, subst, arith, append-nil}
+use Rattle.std.proofs.Common.{◌≡◌, ℕ, ◌+◌, ◌<◌, ◌≤◌, ◌^◌, Bool, true, false, List, [], ◌++◌, length, Option}
+use Rattle.std.proofs.Common.{Result, Ok, Err, OnErr, refl, sym, ◌∙◌, ap, arith, append-nil}
 use Rattle.std.proofs.Common.{length-append}
 use Rattle.enc_model.specs.Indexes.{IndexSet, tables}
 use Rattle.enc_model.specs.Decode.{text}
-use Rattle.enc_stream.specs.StateBytes.{IsValid, state_bytes}
+use Rattle.enc_stream.specs.StateBytes.{state_bytes}
 use Rattle.upload_rules.specs.declared.records.Record.{Record}
 use Rattle.upload_rules.specs.declared.errors.UploadError.{UploadError}
 use Rattle.upload_rules.specs.declared.errors.UploadError.TheVariants.{NoMemory, DiskFault, Refused}
@@ -78,8 +78,7 @@ holds_with_length x u declare bytes Complete holds = still u.declared holds
   where
     still : (known : Option ℕ) → is_length known (length u.accepted) ≡ true
         → is_length (known_or known declare) (length u.accepted) ≡ true
-    still None is = absurd cc
-    still (Some n) is = is
+    still known is = grind arith
 
 module _ (x : IndexSet) (next : ℕ) (p : Patch) (o : OpenAppend) (stands : AppendStands x next p o) where
   -- with another text
@@ -129,13 +128,7 @@ module _ (x : IndexSet) (next : ℕ) (p : Patch) (o : OpenAppend) (stands : Appe
       not_put DiskFault done ended = absurd ended
       not_put (Refused refusals.Unencodable) done ended =
           (ap is_there (ap (λ r. r.fault) (patch_text_is x p done)) ∙ ended, kept)
-      not_put (Refused refusals.NoSuch) done ended = absurd ended
-      not_put (Refused refusals.Offset) done ended = absurd ended
-      not_put (Refused refusals.TooLong) done ended = absurd ended
-      not_put (Refused refusals.Slots) done ended = absurd ended
-      not_put (Refused refusals.TooLarge) done ended = absurd ended
-      not_put (Refused refusals.Full) done ended = absurd ended
-      not_put (Refused refusals.LengthSet) done ended = absurd ended
+      not_put (Refused e) done ended = absurd ended
 
       -- the slot with what the patch brings
       pub put_there : (n : ℕ) (declared : Option ℕ) (done : Bool) (state more : List ℕ) (new : Slot)
@@ -174,8 +167,7 @@ module _ (x : IndexSet) (next : ℕ) (p : Patch) (o : OpenAppend) (stands : Appe
               text = all;
               encodable = ap (λ r. r.fault) (whole_patched x u p.declare p.body)
                   ∙ ap (λ b. (text_with x u p.body b).fault) (sym is) ∙ whole.encodable;
-              valid = subst IsValid (ap (transcoder_with x u p.body) is
-                  ∙ sym (transcoder_patched x u p.declare p.body)) whole.valid;
+              valid = rw (transcoder_patched x u p.declare p.body, sym is) whole.valid;
             },
           )
 

@@ -1,10 +1,9 @@
 -- Worlds that stay grown.
-use Rattle.std.proofs.Common.{◌≡◌, ℕ, ◌<◌, List, [], ◌∷◌, ◌++◌, Option, Some, None, refl, sym, ◌∙◌, ap, subst, arith}
-use Rattle.std.proofs.Common.{Bool, inl, inr, ◌⊎◌, eq-eqb, append_assoc, append-nil}
-use Rattle.std.proofs.lemmas.Bool.{cases_eq, ne_eqb}
-use Rattle.std.proofs.lemmas.Option.{same_Some}
-use Rattle.upload_rules.specs.Store.{New, Upload, find, upload_of, replaced, without, with_length, patched}
-use Rattle.upload_rules.specs.Store.{created_store}
+use Rattle.std.proofs.Common.{◌≡◌, ℕ, ◌<◌, List, [], ◌∷◌, ◌++◌, Option, Some, None, refl, sym, arith}
+use Rattle.std.proofs.Common.{Bool, inl, inr, ◌⊎◌, append_assoc, append-nil}
+use Rattle.std.proofs.lemmas.Bool.{cases_eq}
+use Rattle.std.proofs.lemmas.Bool.Decides.{nat_tests}
+use Rattle.upload_rules.specs.Store.{New, Upload, find, upload_of, replaced, without, patched}
 use Rattle.upload_rules.specs.Lengths.{known_or}
 use Rattle.upload_rules.specs.World.{Patch, World}
 use Rattle.upload_rules.specs.Calls.{created, first_patch, dropped}
@@ -12,9 +11,6 @@ use Rattle.upload_rules.specs.Grown.{GrewFrom, IsGrown}
 use Rattle.upload_rules.specs.Apart.{IsApart}
 use Rattle.upload_rules.proofs.Finds.{find_push_other, find_without_other, find_without_same, find_replaced_same}
 use Rattle.upload_rules.proofs.Finds.{find_replaced_other}
-
-grew_along : (p : Patch) (a b : Option Upload) → a ≡ b → GrewFrom p a → GrewFrom p b
-grew_along p a b e h = subst (GrewFrom p) e h
 
 known_still : (known first second : Option ℕ) → known_or (known_or known first) second ≡ known_or known
     (known_or first second)
@@ -27,56 +23,31 @@ grew_more : (p : Patch) (u : Upload) (declare : Option ℕ) (body : List ℕ) �
 grew_more p u declare body h = (
   known_or h.0 declare,
   h.1 ++ body,
-  ap (λ v. patched v declare body) h.2
-      ∙ ap (λ d. record p.began { declared = d; accepted = (p.began.accepted ++ h.1) ++ body })
-      (known_still p.began.declared h.0 declare)
-      ∙ ap (λ z. record (with_length p.began (known_or h.0 declare)) { accepted = z })
-      (append_assoc p.began.accepted h.1 body),
+  rw (h.2, known_still, append_assoc) refl,
 )
 
-known_already : (known : Option ℕ) → known_or known None ≡ known
+pub known_already : (known : Option ℕ) → known_or known None ≡ known
 known_already None = refl
 known_already (Some n) = refl
 
 grew_at_once : (p : Patch) (u : Upload) → p.began ≡ u → GrewFrom p (Some u)
-grew_at_once p u e = (
-  None,
-  [],
-  sym e ∙ ap (λ d. record p.began { declared = d }) (sym (known_already p.began.declared))
-      ∙ ap (λ z. record (with_length p.began None) { accepted = z }) (sym (append-nil p.began.accepted)),
-)
+grew_at_once p u e = (None, [], rw (known_already, append-nil) (sym e))
 
 -- what is found after the changes of patches was there before
 kept_without : (d e : ℕ) (p : Patch) (ps : List (ℕ × Patch)) → IsApart ps → find e (without d ps) ≡ Some p
     → find e ps ≡ Some p
 kept_without d e p ps apart h =
-    elim (cases_eq d e) [
-      | inl same ↦ absurd (let n = subst (λ k. find k (without d ps) ≡ None) same
-          (find_without_same d ps apart) in let c = sym n ∙ h in cc)
-      | inr other ↦ sym (find_without_other d e ps other) ∙ h
-    ]
+    grind (arith, cases_eq d e, find_without_same d ps apart, find_without_other d e ps)
 
 kept_replaced : (d e : ℕ) (p q r : Patch) (ps : List (ℕ × Patch)) → find d ps ≡ Some p
     → find e (replaced d q ps) ≡ Some r
     → ((d ≡ e) × (q ≡ r)) ⊎ (find e ps ≡ Some r)
 kept_replaced d e p q r ps there h =
-    elim (cases_eq d e) [
-      | inl same ↦ inl (
-        same,
-        same_Some q r
-            (sym (subst (λ k. find k (replaced d q ps) ≡ Some q) same (find_replaced_same d p q ps there)) ∙ h),
-      )
-      | inr other ↦ inr (sym (find_replaced_other d e q ps other) ∙ h)
-    ]
+    grind (arith, cases_eq d e, find_replaced_same d p q ps there, find_replaced_other d e q ps)
 
 kept_more : (d e : ℕ) (q r : Patch) (ps : List (ℕ × Patch)) → find e ((d, q) ∷ ps) ≡ Some r
     → (q ≡ r) ⊎ (find e ps ≡ Some r)
-kept_more d e q r ps h =
-    elim (cases_eq d e) [
-      | inl same ↦ (let f : find e ((d, q) ∷ ps) ≡ Some q = rw (eq-eqb d e same) refl in inl
-          (same_Some q r (sym f ∙ h)))
-      | inr other ↦ (let f : find e ((d, q) ∷ ps) ≡ find e ps = rw (ne_eqb d e other) refl in inr (sym f ∙ h))
-    ]
+kept_more d e q r ps h = grind (arith, nat_tests)
 
 module _ (w : World) (grown : IsGrown w) where
   pub grown_dropped : (d : ℕ) → IsApart w.patches → IsGrown (dropped w d)
@@ -87,7 +58,7 @@ module _ (w : World) (grown : IsGrown w) where
       → IsGrown (record w { patches = replaced d (record p { body = body; short = short }) w.patches })
   grown_longer d p body short there = record {
     each = λ e r found. elim (kept_replaced d e p (record p { body = body; short = short }) r w.patches there found) [
-      | inl same ↦ subst (λ q. GrewFrom q (upload_of w.store q.number)) same.1 (grown.each d p there)
+      | inl same ↦ rw (sym same.1) (grown.each d p there)
       | inr old ↦ grown.each e r old
     ];
   }
@@ -96,9 +67,7 @@ module _ (w : World) (grown : IsGrown w) where
       → IsGrown (record w { patches = (d, first_patch n count declare u) ∷ w.patches })
   grown_begun n count declare u d there = record {
     each = λ e r found. elim (kept_more d e (first_patch n count declare u) r w.patches found) [
-      | inl same ↦ subst (λ q. GrewFrom q (upload_of w.store q.number)) same
-          (grew_along (first_patch n count declare u) (Some u) (upload_of w.store n) (sym there)
-          (grew_at_once (first_patch n count declare u) u refl))
+      | inl same ↦ rw (sym same, there) (grew_at_once (first_patch n count declare u) u refl)
       | inr old ↦ grown.each e r old
     ];
   }
@@ -108,9 +77,8 @@ module _ (w : World) (grown : IsGrown w) where
       → IsGrown (created w new)
   grown_created new below = record {
     each = λ d p there.
-        let other : w.store.next ≡ p.number → ⊥ = λ e. (let b = below d p there in omega (arith, e, b)) in
-        grew_along p (upload_of w.store p.number) (upload_of (created_store w.store new) p.number)
-        (sym (find_push_other p.number w.store.next _ w.store.uploads other)) (grown.each d p there);
+        let b = below d p there in
+        rw (find_push_other p.number w.store.next _ w.store.uploads (λ e. omega (arith, e, b))) (grown.each d p there);
   }
 
   -- with what a patch brings to an upload
@@ -120,12 +88,8 @@ module _ (w : World) (grown : IsGrown w) where
       let v = patched u declare body in
       record {
         each = λ d p found. elim (cases_eq n p.number) [
-          | inl same ↦ grew_along p (Some v) (find p.number (replaced n v w.store.uploads))
-              (sym (subst (λ k. find k (replaced n v w.store.uploads) ≡ Some v) same
-              (find_replaced_same n u v w.store.uploads there)))
-              (grew_more p u declare body (grew_along p (upload_of w.store p.number) (Some u)
-              (subst (λ k. find k w.store.uploads ≡ Some u) same there) (grown.each d p found)))
-          | inr other ↦ grew_along p (upload_of w.store p.number) (find p.number (replaced n v w.store.uploads))
-              (sym (find_replaced_other n p.number v w.store.uploads other)) (grown.each d p found)
+          | inl same ↦ rw (sym same, find_replaced_same n u v w.store.uploads there)
+              (grew_more p u declare body (rw (sym same, there) at (grown.each d p found)))
+          | inr other ↦ rw (find_replaced_other n p.number v w.store.uploads other) (grown.each d p found)
         ];
       }

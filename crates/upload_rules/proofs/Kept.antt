@@ -1,7 +1,8 @@
 -- The slots of a table and the uploads that they stand for, place by place.
 use Rattle.std.proofs.Common.{◌≡◌, ℕ, zero, suc, ◌<◌, ◌≤◌, List, [], ◌∷◌, ◌++◌, length, get_or, slice_index, Some, None}
-use Rattle.std.proofs.Common.{refl, sym, ◌∙◌, subst, arith, set, eq-eqb}
+use Rattle.std.proofs.Common.{refl, sym, ◌∙◌, arith, set, eq-eqb}
 use Rattle.std.proofs.lemmas.Bool.{ne_eqb, lt-ltb, le-ltb}
+use Rattle.std.proofs.lemmas.Bool.Decides.{nat_tests}
 use Rattle.enc_model.specs.Indexes.{IndexSet}
 use Rattle.upload_rules.specs.declared.slot.Slot.{Slot}
 use Rattle.upload_rules.specs.Store.{Upload, find, replaced}
@@ -22,12 +23,11 @@ module _ (x : IndexSet) where
       → slice_index (numbers ss) place ≡ n → ((k : ℕ) → k < place → slice_index (numbers ss) k ≡ n → ⊥)
       → s ≡ get_or ss place s
       → (u : Upload) × (find n us ≡ Some u) × SlotStands x n u s
-  found n [] [] place s all lt here before is = absurd (omega arith)
-  found n [] (t ∷ ss) place s all lt here before is = absurd all
+  found n [] ss place s all lt here before is = absurd (let c = counts [] ss all in omega arith)
   found n (u ∷ us) [] place s all lt here before is = absurd all
   found n (u ∷ us) (t ∷ ss) zero s all lt here before is =
       let e : u.0 ≡ n = sym all.0.tells.number_is ∙ here in
-      (u.1, rw (eq-eqb u.0 n e) refl, subst (SlotStands x n u.1) (sym is) (subst (λ k. SlotStands x k u.1 t) e all.0))
+      (u.1, rw (eq-eqb u.0 n e) refl, rw (is, sym e) all.0)
   found n (u ∷ us) (t ∷ ss) (suc place) s all lt here before is =
       let ne : u.0 ≡ n → ⊥ = λ e. before 0 (omega arith) (all.0.tells.number_is ∙ e) in
       let rest = found n us ss place s all.1 (omega arith) here (λ k l e. before (suc k) (omega arith) e) is in
@@ -38,8 +38,8 @@ module _ (x : IndexSet) where
   none_found n [] ss all other = refl
   none_found n (u ∷ us) [] all other = absurd all
   none_found n (u ∷ us) (t ∷ ss) all other =
-      let ne : u.0 ≡ n → ⊥ = λ e. other 0 (omega arith) (all.0.tells.number_is ∙ e) in
-      rw (ne_eqb u.0 n ne) (none_found n us ss all.1 (λ k l e. other (suc k) (omega arith) e))
+      let ih = none_found n us ss all.1 (λ k l e. other (suc k) (omega arith) e) in
+      grind (arith, nat_tests, all.0.tells.number_is, other 0)
 
   -- another slot for the upload at the number's place
   pub put : (n : ℕ) (us : List (ℕ × Upload)) (ss : List Slot) (place : ℕ) (u' : Upload) (s' : Slot) → AllStand x us ss
@@ -47,8 +47,7 @@ module _ (x : IndexSet) where
       → slice_index (numbers ss) place ≡ n → ((k : ℕ) → k < place → slice_index (numbers ss) k ≡ n → ⊥)
       → SlotStands x n u' s'
       → AllStand x (replaced n u' us) (set ss place s')
-  put n [] [] place u' s' all lt here before new = absurd (omega arith)
-  put n [] (t ∷ ss) place u' s' all lt here before new = absurd all
+  put n [] ss place u' s' all lt here before new = absurd (let c = counts [] ss all in omega arith)
   put n (u ∷ us) [] place u' s' all lt here before new = absurd all
   put n (u ∷ us) (t ∷ ss) zero u' s' all lt here before new =
       let e : u.0 ≡ n = sym all.0.tells.number_is ∙ here in
@@ -75,13 +74,12 @@ module _ (x : IndexSet) where
       → ((k : ℕ) → k < place → slice_index (numbers ss) k ≤ n) → n < slice_index (numbers ss) place
       → s ≡ get_or ss place s
       → (u : ℕ × Upload) × (above n us ≡ Some u) × SlotStands x u.0 u.1 s
-  next_found n [] [] place s all lt before here is = absurd (omega arith)
-  next_found n [] (t ∷ ss) place s all lt before here is = absurd all
+  next_found n [] ss place s all lt before here is = absurd (let c = counts [] ss all in omega arith)
   next_found n (u ∷ us) [] place s all lt before here is = absurd all
   next_found n (u ∷ us) (t ∷ ss) zero s all lt before here is =
       let number : t.record.number ≡ u.0 = all.0.tells.number_is in
       let l : n < u.0 = omega (arith, number, here) in
-      (u, rw (lt-ltb n u.0 l) refl, subst (SlotStands x u.0 u.1) (sym is) all.0)
+      (u, rw (lt-ltb n u.0 l) refl, rw is all.0)
   next_found n (u ∷ us) (t ∷ ss) (suc place) s all lt before here is =
       let number : t.record.number ≡ u.0 = all.0.tells.number_is in
       let first = before 0 (omega arith) in
@@ -94,10 +92,8 @@ module _ (x : IndexSet) where
   no_next n [] ss all before = refl
   no_next n (u ∷ us) [] all before = absurd all
   no_next n (u ∷ us) (t ∷ ss) all before =
-      let number : t.record.number ≡ u.0 = all.0.tells.number_is in
-      let first = before 0 (omega arith) in
-      let l : u.0 ≤ n = omega (arith, number, first) in
-      rw (le-ltb n u.0 l) (no_next n us ss all.1 (λ k b. before (suc k) (omega arith)))
+      let ih = no_next n us ss all.1 (λ k b. before (suc k) (omega arith)) in
+      grind (arith, nat_tests, all.0.tells.number_is, before 0)
 
   -- the numbers of the uploads are those of the slots
   pub all_below : (top : ℕ) (us : List (ℕ × Upload)) (ss : List Slot) → AllStand x us ss

@@ -1,5 +1,5 @@
 -- A table's slots by their numbers.
-use Rattle.std.proofs.Common.{◌≡◌, ℕ, ◌<◌, ◌≤◌, length, get_or, Option, Some, None, sym, subst, arith}
+use Rattle.std.proofs.Common.{◌≡◌, ℕ, ◌<◌, ◌≤◌, length, get_or, Option, Some, None, arith}
 use Rattle.enc_model.specs.Indexes.{IndexSet}
 use Rattle.upload_rules.specs.declared.records.Record.{Record}
 use Rattle.upload_rules.specs.declared.slot.Slot.{Slot}
@@ -27,13 +27,11 @@ module _ (t : Table) (w : World) (stands : TableStands t w) (n : ℕ) where
 
   pub no_slot : (o : Option Slot) → o ≡ None → IsNowhere (numbers t.slots.items) n
       → IsSlotOf w.store.indexes n (upload_of w.store n) o
-  no_slot o e other = subst (λ u. IsSlotOf w.store.indexes n u o) (sym (no_upload other))
-      (subst (IsSlotOf w.store.indexes n None) (sym e) tt)
+  no_slot o e other = rw (e, no_upload other) tt
 
   pub slot_at : (place : ℕ) (s : Slot) → IsFirstAt (numbers t.slots.items) n place → s ≡ get_or t.slots.items place s
       → IsSlotOf w.store.indexes n (upload_of w.store n) (Some s)
-  slot_at place s first is = let u =
-      upload_at place s first is in subst (λ o. IsSlotOf w.store.indexes n o (Some s)) (sym u.1) u.2
+  slot_at place s first is = let u = upload_at place s first is in rw u.1 u.2
 
   -- the upload of the least number above n
   pub following : (place : ℕ) (s : Slot) → IsDivided (numbers t.slots.items) n place → place < length t.slots.items
@@ -42,7 +40,7 @@ module _ (t : Table) (w : World) (stands : TableStands t w) (n : ℕ) where
   following place s parts lt is =
       let u = next_found w.store.indexes n w.store.uploads t.slots.items place s stands.slots lt parts.before
       (parts.after place (omega arith) (omega (arith, lt, count_of t.slots.items))) is in
-      subst (λ o. TellsOf w.store.indexes o (Some s.record)) (sym u.1) u.2.tells
+      rw u.1 u.2.tells
 
   pub none_following : (place : ℕ) (r : Option Record) → IsDivided (numbers t.slots.items) n place
       → length t.slots.items ≤ place → r ≡ None
@@ -50,7 +48,7 @@ module _ (t : Table) (w : World) (stands : TableStands t w) (n : ℕ) where
   none_following place r parts le none =
       let e = no_next w.store.indexes n w.store.uploads t.slots.items stands.slots
       (λ k lt. parts.before k (omega arith)) in
-      subst (λ o. TellsOf w.store.indexes o r) (sym e) (subst (TellsOf w.store.indexes None) (sym none) tt)
+      rw (e, none) tt
 
 -- the record reports the slot's upload
 pub told : (y : IndexSet) (n : ℕ) (u : Option Upload) (s : Slot) → IsSlotOf y n u (Some s)
@@ -60,5 +58,5 @@ told y n (Some u) s h = h.tells
 
 pub not_told : (y : IndexSet) (n : ℕ) (u : Option Upload) (r : Option Record) → r ≡ None → IsSlotOf y n u None
     → TellsOf y (with_number n u) r
-not_told y n None r e h = subst (TellsOf y None) (sym e) tt
+not_told y n None r e h = rw e tt
 not_told y n (Some u) r e h = absurd h

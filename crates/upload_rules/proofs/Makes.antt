@@ -1,6 +1,5 @@
 -- A table's `create` and `begin`.
-use Rattle.std.proofs.Common.{◌≡◌, ℕ, ◌<◌, ◌≤◌, ◌^◌, false, List, length, Option, Some, None, Ok, refl, sym, ◌∙◌, ap}
-use Rattle.std.proofs.Common.{subst}
+use Rattle.std.proofs.Common.{◌≡◌, ℕ, ◌<◌, ◌≤◌, ◌^◌, false, length, Option, Some, None, Ok, refl, ◌∙◌, ap}
 use Rattle.std.proofs.Common.{arith, Vec, Global}
 use Rattle.std.proofs.lemmas.Bool.{le-leb, lt-leb}
 use Rattle.upload_rules.specs.declared.errors.UploadRefusal.TheVariants as refusals
@@ -12,7 +11,6 @@ use Rattle.upload_rules.specs.Store.{New, Upload, upload_of}
 use Rattle.upload_rules.specs.World.{Patch, World, free_number}
 use Rattle.upload_rules.specs.Calls.{create_refusal, begin_refusal, begin_refusal_at, begun, first_patch}
 use Rattle.upload_rules.specs.Answers.{IsBegun}
-use Rattle.upload_rules.specs.Slots.{numbers, IsRising, IsBelow, AllStand}
 use Rattle.upload_rules.specs.Drafts.{IsPlaced}
 use Rattle.upload_rules.specs.Table.{TableStands, IsOpened}
 use Rattle.upload_rules.proofs.Kept.{counts}
@@ -57,7 +55,7 @@ module _ (t : Table) (w : World) (stands : TableStands t w) where
   begun_done holds any n offset count declare (Some u) o d v there opened placed =
       let b = begins t w stands n count declare u d o v there placed opened.1 in (
         ap (begin_refusal_at offset count declare) there ∙ opened.0,
-        (b.0, subst (IsBegun holds n count declare) (sym there) (any (first_patch n count declare u)), b.1),
+        (b.0, rw there (any (first_patch n count declare u)), b.1),
       )
 
   -- as it was, when out of memory
@@ -65,9 +63,9 @@ module _ (t : Table) (w : World) (stands : TableStands t w) where
   not_created v same = record {
     indexes = stands.indexes;
     next = stands.next;
-    slots = subst (AllStand w.store.indexes w.store.uploads) (sym same) stands.slots;
-    rising = subst (λ (l : List Slot). IsRising (numbers l)) (sym same) stands.rising;
-    below = subst (λ (l : List Slot). IsBelow (numbers l) w.store.next) (sym same) stands.below;
+    slots = rw same stands.slots;
+    rising = rw same stands.rising;
+    below = rw same stands.below;
     appends = stands.appends;
     apart = stands.apart;
     grown = stands.grown;

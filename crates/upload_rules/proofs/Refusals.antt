@@ -1,11 +1,13 @@
 -- Why calls are refused, and a table's commit.
-use Rattle.std.proofs.Common.{◌≡◌, ◌==◌, ℕ, zero, suc, ◌+◌, ◌<◌, ◌≤◌, ◌&&◌, Bool, true, false, List, [], ◌∷◌, ◌++◌}
+use Rattle.std.proofs.Common.{◌≡◌, ◌==◌, ℕ, ◌+◌, ◌<◌, ◌≤◌, Bool, true, false, List, [], ◌++◌}
 use Rattle.std.proofs.Common.{length, get_or, set}
-use Rattle.std.proofs.Common.{Option, Some, None, Result, Ok, Err, refl, sym, ◌∙◌, ap, subst, arith, eq-eqb, eqb-true}
+use Rattle.std.proofs.Common.{Option, Some, None, Result, Ok, Err, refl, sym, ◌∙◌, ap, subst, arith, eq-eqb}
 use Rattle.std.proofs.Common.{append-nil}
-use Rattle.std.proofs.Common.{inl, inr, if◌then◌else◌, Vec, Global}
+use Rattle.std.proofs.Common.{if◌then◌else◌, Vec, Global}
 use Rattle.std.proofs.lemmas.Bool.{ne_eqb, cases_lt}
-use Rattle.std.proofs.lemmas.List.{get_or_past}
+use Rattle.std.proofs.lemmas.Bool.Decides.{nat_tests}
+use Rattle.upload_rules.proofs.Growing.{known_already}
+use Rattle.std.proofs.lemmas.List.{get_or_past, set-set, nil_from_length}
 use Rattle.std.proofs.lemmas.Option.{same_Some}
 use Rattle.upload_rules.specs.declared.errors.UploadError.{UploadError}
 use Rattle.upload_rules.specs.declared.errors.UploadError.TheVariants.{NoMemory, DiskFault, Refused}
@@ -18,9 +20,9 @@ use Rattle.upload_rules.specs.Store.{Upload, Store, find, upload_of, with_length
 use Rattle.upload_rules.specs.Store.{patched_at, text_with, is_complete}
 use Rattle.upload_rules.specs.World.{Patch, World, is_there, reached, length_then, completes, patch_text}
 use Rattle.upload_rules.specs.Room.{is_short}
-use Rattle.upload_rules.specs.Calls.{or_else, refuse_if, length_refusal, upload_refusal, text_refusal, commit_refusal}
+use Rattle.upload_rules.specs.Calls.{or_else, length_refusal, upload_refusal, text_refusal, commit_refusal}
 use Rattle.upload_rules.specs.Calls.{is_empty, declares, declares_at, is_idle, text_stays}
-use Rattle.upload_rules.specs.Calls.{committed, committed_store, dropped, longer, appended, appended_at}
+use Rattle.upload_rules.specs.Calls.{committed, committed_store, dropped, longer, appended}
 use Rattle.enc_model.specs.Indexes.{IndexSet}
 use Rattle.upload_rules.specs.declared.errors.UploadRefusal.{UploadRefusal}
 use Rattle.upload_rules.specs.Answers.{Answers, IsLate}
@@ -35,26 +37,14 @@ use Rattle.upload_rules.proofs.Patches.{draft_of}
 use Rattle.upload_rules.proofs.Lookups.{no_upload, upload_at}
 use Rattle.upload_rules.proofs.Worlds.{Appends, drops, puts, appends_more}
 
-set_set : {A : Type 0} (xs : List A) (i : ℕ) (a b : A) → set (set xs i a) i b ≡ set xs i b
-set_set [] i a b = refl
-set_set (x ∷ xs) zero a b = refl
-set_set (x ∷ xs) (suc i) a b = ap (λ l. x ∷ l) (set_set xs i a b)
-
-nothing_in : (body : List ℕ) → length body ≡ 0 → body ≡ []
-nothing_in [] e = refl
-nothing_in (b ∷ body) e = absurd (omega (arith, e))
-
 full_of : (body : List ℕ) → 0 < length body → is_empty body ≡ false
-full_of [] lt = absurd (omega arith)
-full_of (b ∷ body) lt = refl
+full_of body lt = grind arith
 
 brings_nothing : (b : Bool) (n : ℕ) → (if b then false else n == 0) ≡ true → (n ≡ 0) × (b ≡ false)
-brings_nothing true n e = absurd cc
-brings_nothing false n e = (eqb-true n 0 e, refl)
+brings_nothing b n e = grind (arith, nat_tests)
 
 brings : (b : Bool) (n : ℕ) → (if b then false else n == 0) ≡ false → n ≡ 0 → b ≡ true
-brings true n e none = refl
-brings false n e none = absurd (let k = sym e ∙ eq-eqb n 0 none in cc)
+brings b n e none = grind (arith, nat_tests)
 
 refusal_is : (w : World) (d : ℕ) (p : Patch) → commit_refusal w d p ≡ or_else
     (upload_refusal p (upload_of w.store p.number)) (text_refusal w d p)
@@ -118,42 +108,19 @@ module _ (m : Store) (p : Patch) (u : Upload) (there : upload_of m p.number ≡ 
   -- a length or bytes
   module _ (brings : length p.body ≡ 0 → is_new u.declared p.declare ≡ true) where
     not_idle : (b : Bool) → is_new u.declared p.declare ≡ b → is_idle m p ≡ false
-    not_idle true e = rw (declares_is ∙ e) refl
-    not_idle false e = rw (declares_is ∙ e) (full_of p.body (some (length p.body) refl))
-      where
-        some : (n : ℕ) → length p.body ≡ n → 0 < n
-        some zero none = absurd (let f = sym e ∙ brings none in cc)
-        some (suc n) is = omega arith
+    not_idle b e = grind (arith, declares_is, full_of p.body)
 
     store_longer : committed_store m p ≡ record m { uploads = replaced p.number (patched u p.declare p.body) m.uploads }
     store_longer = rw (not_idle (is_new u.declared p.declare) refl) (ap (patched_at m p.number p.declare p.body) there)
 
     -- a text that stays is that of the accepted bytes, which aren't all
     stays : text_stays m p ≡ true → (p.body ≡ []) × (completes m p ≡ false)
-    stays is = go (declares m p) (completes m p) p.body refl refl refl is
-      where
-        go : (a b : Bool) (body : List ℕ) → declares m p ≡ a → completes m p ≡ b → p.body ≡ body
-            → (if a && b then false else is_empty body) ≡ true → (p.body ≡ []) × (completes m p ≡ false)
-        go true true body e f g h = absurd cc
-        go true false [] e f g h = (g, f)
-        go true false (c ∷ body) e f g h = absurd cc
-        go false b [] e f g h =
-            absurd (let k = sym e ∙ declares_is ∙ brings (ap length g) in cc)
-        go false b (c ∷ body) e f g h = absurd cc
+    stays is = grind (arith, declares_is)
 
     -- the accepted bytes aren't all: the length allows more
     pub open_still : reached p ≤ longest (known_or u.declared p.declare)
         → length u.accepted ≡ length p.began.accepted → is_complete u ≡ false
-    open_still within same = by_length u.declared refl
-      where
-        by_length : (known : Option ℕ) → u.declared ≡ known → is_length u.declared (length u.accepted) ≡ false
-        by_length None e = ap (λ k. is_length k (length u.accepted)) e
-        by_length (Some n) e =
-            let long : reached p ≤ n = subst (λ k. reached p ≤ longest (known_or k p.declare)) e within in
-            let none : (length p.body ≡ 0 → ⊥) =
-            λ empty. (let k = sym (brings empty) ∙ ap (λ k. is_new k p.declare) e in cc) in
-            ap (λ k. is_length k (length u.accepted)) e
-            ∙ ne_eqb (length u.accepted) n (λ f. none (omega (arith, long, same, f)))
+    open_still within same = grind (arith, nat_tests)
 
 no_code : (w : World) (d : ℕ) (p : Patch) → text_stays w.store p ≡ false → is_there
     (patch_text w.store.indexes p (completes w.store p)).fault ≡ true → text_refusal w d p ≡ Some refusals.Unencodable
@@ -171,36 +138,15 @@ nothing_refused w d p stays = rw (stays) refl
 abbrev Slots : Type 0
 Slots = Vec Slot Global
 
-known_already : (known : Option ℕ) → known_or known None ≡ known
-known_already None = refl
-known_already (Some n) = refl
-
 with_nothing : (u : Upload) → patched u None [] ≡ u
-with_nothing u =
-    ap (λ z. record (with_length u None) { accepted = z }) (append-nil u.accepted)
-    ∙ ap (λ k. record u { declared = k }) (known_already u.declared)
-
-late_if : (b : Bool) → IsLate (refuse_if b refusals.Full)
-late_if true = tt
-late_if false = tt
+with_nothing u = rw (append-nil, known_already) refl
 
 late_text : (w : World) (d : ℕ) (p : Patch) → IsLate (text_refusal w d p)
-late_text w d p = late_of (text_stays w.store p)
-    (is_there (patch_text w.store.indexes p (completes w.store p)).fault) (is_short w d p (completes w.store p))
-  where
-    late_of : (a b c : Bool) → IsLate
-        (if a then None else if b then Some refusals.Unencodable else refuse_if c refusals.Full)
-    late_of true b c = tt
-    late_of false true c = tt
-    late_of false false c = late_if c
+late_text w d p = grind arith
 
 in_range : (appends : List (Option OpenAppend)) (d : ℕ) (o : OpenAppend) → Some o ≡ draft_at appends d
     → d < length appends
-in_range appends d o is =
-    elim (cases_lt d (length appends)) [
-      | inl lt ↦ lt
-      | inr ge ↦ absurd (let n = is ∙ get_or_past appends d None ge in cc)
-    ]
+in_range appends d o is = grind (arith, get_or_past, cases_lt)
 
 -- a patch with a piece more is not short of room
 longer_is : (w : World) (d : ℕ) (p : Patch) (piece : List ℕ) → p.short ≡ false → w.blocks ≡ None
@@ -217,27 +163,25 @@ module _ (t : Table) (w : World) (stands : TableStands t w) (d : ℕ) (p : Patch
     append_is o is =
         let a = draft_of (AppendStands w.store.indexes w.store.next) p (find d w.patches) (draft_at t.appends.items d)
         there (stands.appends d) in
-        subst (AppendStands w.store.indexes w.store.next p) (same_Some a.0 o (sym a.1 ∙ sym is)) a.2
+        rw (same_Some a.0 o (sym a.1 ∙ sym is)) at a.2
 
     -- the append was taken out and is put back with more of its body
     module _ (o : OpenAppend) (is : Some o ≡ draft_at t.appends.items d) (taken v : Appends) (new : OpenAppend)
         (gone : taken.items ≡ set t.appends.items d None)
         (back : v.items ≡ set taken.items d (Some new)) where
       put_back : v.items ≡ set t.appends.items d (Some new)
-      put_back = back ∙ ap (λ l. set l d (Some new)) gone ∙ set_set t.appends.items d None (Some new)
+      put_back = back ∙ ap (λ l. set l d (Some new)) gone ∙ set-set t.appends.items d None (Some new)
 
       pub fed : (piece : List ℕ) → AppendStands w.store.indexes w.store.next (record p { body = p.body ++ piece }) new
           → TableStands (record t { appends = v }) (appended w d piece)
       fed piece held =
           let q = longer_is w d p piece (append_is o is).roomy stands.unlimited in
-          subst (λ a. TableStands (record t { appends = v }) (appended_at w d piece a)) (sym there)
-          (subst (λ r. TableStands (record t { appends = v }) (record w { patches = replaced d r w.patches })) (sym q)
-          (appends_more t w stands d p (p.body ++ piece) new v there (in_range t.appends.items d o is) put_back held))
+          rw (there, q)
+          (appends_more t w stands d p (p.body ++ piece) new v there (in_range t.appends.items d o is) put_back held)
 
       pub not_fed : AppendStands w.store.indexes w.store.next p new → TableStands (record t { appends = v }) w
       not_fed held =
-          subst (λ ps. TableStands (record t { appends = v }) (record w { patches = ps }))
-          (replaced_same d p w.patches there)
+          rw (replaced_same d p w.patches there) at
           (appends_more t w stands d p p.body new v there (in_range t.appends.items d o is) put_back held)
 
     module _ (v : Appends) (gone : v.items ≡ set t.appends.items d None) where
@@ -245,8 +189,7 @@ module _ (t : Table) (w : World) (stands : TableStands t w) (d : ℕ) (p : Patch
           → IsNowhere (numbers t.slots.items) o.number
           → (commit_refusal w d p ≡ Some refusals.NoSuch) × TableStands (record t { appends = v }) (dropped w d)
       refused_missing o is other = (
-        no_such_upload w d p (no_upload t w stands p.number
-            (subst (IsNowhere (numbers t.slots.items)) (append_is o is).number other)),
+        no_such_upload w d p (no_upload t w stands p.number (rw (append_is o is).number at other)),
         drops t w stands d v gone,
       )
 
@@ -257,8 +200,7 @@ module _ (t : Table) (w : World) (stands : TableStands t w) (d : ℕ) (p : Patch
         -- the upload of the slot
         abbrev pub upload : (u : Upload) × (upload_of w.store p.number ≡ Some u) × SlotStands w.store.indexes
             p.number u s
-        upload = upload_at t w stands p.number place s
-            (subst (λ n. IsFirstAt (numbers t.slots.items) n place) (append_is o is).number first) here
+        upload = upload_at t w stands p.number place s (rw (append_is o is).number at first) here
 
         pub refused_offset : (s.record.accepted ≡ o.offset → ⊥)
             → (commit_refusal w d p ≡ Some refusals.Offset) × TableStands (record t { appends = v }) (dropped w d)
@@ -292,13 +234,10 @@ module _ (t : Table) (w : World) (stands : TableStands t w) (d : ℕ) (p : Patch
           length_is : length_refusal s.record.declared o.declare (o.offset + o.came) ≡ length_refusal u.declared
               p.declare (reached p)
           length_is =
-              ap (λ k. length_refusal k o.declare (o.offset + o.came)) upload.2.tells.declared
-              ∙ ap (λ k. length_refusal u.declared k (o.offset + o.came)) (append_is o is).declare
-              ∙ ap (length_refusal u.declared p.declare) end_is
+              cc (upload.2.tells.declared, (append_is o is).declare, end_is)
 
           new_is : is_new s.record.declared o.declare ≡ is_new u.declared p.declare
-          new_is =
-              ap (λ k. is_new k o.declare) upload.2.tells.declared ∙ ap (is_new u.declared) (append_is o is).declare
+          new_is = cc (upload.2.tells.declared, (append_is o is).declare)
 
           pub refused_length : (e : UploadRefusal)
               → length_refusal s.record.declared o.declare (o.offset + o.came) ≡ Some e
@@ -322,14 +261,13 @@ module _ (t : Table) (w : World) (stands : TableStands t w) (d : ℕ) (p : Patch
                 let a = append_is o is in
                 let brought = brings_nothing (is_new s.record.declared o.declare) o.came idle in
                 let empty : length p.body ≡ 0 = sym a.came ∙ brought.0 in
-                let e = nothing_in p.body empty in
+                let e = nil_from_length p.body empty in
                 let still = sym new_is ∙ brought.1 in
                 let back : w.store ≡ committed_store w.store p = sym (store_same w.store p u there_is still e) in (
                   sym refused ∙ nothing_refused w d p (idle_stays w.store p u there_is still e),
                   (
                     omega (arith, empty, a.offset),
-                    subst (λ m. TableStands (record t { appends = v })
-                        (record w { store = m; patches = without d w.patches })) back (drops t w stands d v gone),
+                    rw (sym back) (drops t w stands d v gone),
                   ),
                 )
 
@@ -340,26 +278,22 @@ module _ (t : Table) (w : World) (stands : TableStands t w) (d : ℕ) (p : Patch
                   sym new_is ∙ brings (is_new s.record.declared o.declare) o.came busy ((append_is o is).came ∙ none)
 
               pub known_is : known_or s.record.declared o.declare ≡ known_or u.declared p.declare
-              known_is =
-                  ap (λ k. known_or k o.declare) upload.2.tells.declared ∙ ap (known_or u.declared)
-                  (append_is o is).declare
+              known_is = cc (upload.2.tells.declared, (append_is o is).declare)
 
               pub still_open : (declared : Option ℕ) → declared ≡ known_or s.record.declared o.declare
                   → o.offset + o.came ≤ longest declared → is_complete u ≡ false
               still_open declared known within =
-                  open_still w.store p u there_is brings_is
-                  (subst (λ n. n ≤ longest (known_or u.declared p.declare)) end_is
-                  (subst (λ k. o.offset + o.came ≤ longest k) (known ∙ known_is) within)) as_long
+                  open_still w.store p u there_is brings_is (rw (end_is, known ∙ known_is) at within) as_long
 
               first_of_patch : IsFirstAt (numbers t.slots.items) p.number place
-              first_of_patch = subst (λ n. IsFirstAt (numbers t.slots.items) n place) (append_is o is).number first
+              first_of_patch = rw (append_is o is).number at first
 
               inside : place < length t.slots.items
               inside = let l = first.within in omega (arith, l, count_of t.slots.items)
 
               -- out of memory may come in place of these
               late : IsLate (commit_refusal w d p)
-              late = subst IsLate refused (late_text w d p)
+              late = rw refused at (late_text w d p)
 
               slots_same : (new : Slot) (slots : Slots) → slots.items ≡ set t.slots.items place new
                   → SlotStands w.store.indexes p.number u new
@@ -413,10 +347,7 @@ module _ (t : Table) (w : World) (stands : TableStands t w) (d : ℕ) (p : Patch
                     stands.unlimited,
                 (
                   put.0,
-                  subst (λ m. TableStands (record t { slots = slots; appends = v })
-                      (record w { store = m; patches = without d w.patches })) (sym
-                      (store_longer w.store p u there_is brings_is))
-                      (puts (record t { appends = v }) (dropped w d) (drops t w stands d v gone) p.number u p.declare
+                  rw (store_longer w.store p u there_is brings_is) (puts (record t { appends = v }) (dropped w d) (drops t w stands d v gone) p.number u p.declare
                       p.body place new slots there_is first_of_patch inside after_put put.2),
                 ),
               )
@@ -425,10 +356,4 @@ module _ (t : Table) (w : World) (stands : TableStands t w) (d : ℕ) (p : Patch
               commits (Err DiskFault) done new slots is_done unfinished after_put kept = absurd kept
               commits (Err (Refused refusals.Unencodable)) done new slots is_done unfinished after_put kept =
                   (no_value done is_done unfinished kept.0, slots_same new slots after_put kept.1)
-              commits (Err (Refused refusals.NoSuch)) done new slots is_done unfinished after_put kept = absurd kept
-              commits (Err (Refused refusals.Offset)) done new slots is_done unfinished after_put kept = absurd kept
-              commits (Err (Refused refusals.TooLong)) done new slots is_done unfinished after_put kept = absurd kept
-              commits (Err (Refused refusals.Slots)) done new slots is_done unfinished after_put kept = absurd kept
-              commits (Err (Refused refusals.TooLarge)) done new slots is_done unfinished after_put kept = absurd kept
-              commits (Err (Refused refusals.Full)) done new slots is_done unfinished after_put kept = absurd kept
-              commits (Err (Refused refusals.LengthSet)) done new slots is_done unfinished after_put kept = absurd kept
+              commits (Err (Refused e)) done new slots is_done unfinished after_put kept = absurd kept

@@ -1,5 +1,5 @@
 -- The text of more bytes: what a prefix of them comes to, and more led_by it.
-use Rattle.std.proofs.Common.{◌≡◌, ℕ, Bool, true, false, List, ◌++◌, Option, Some, None, refl, sym, ◌∙◌, ap, subst}
+use Rattle.std.proofs.Common.{◌≡◌, ℕ, Bool, true, false, List, ◌++◌, Option, Some, None, refl, sym, ◌∙◌, ap}
 use Rattle.std.proofs.Common.{append_assoc, inl, inr}
 use Rattle.std.proofs.lemmas.Bool.{cases_Bool}
 use Rattle.enc_model.specs.declared.Encoding.{Encoding}
@@ -45,10 +45,10 @@ pub decode_end : (t : Tables) (e : Encoding) (b : List ℕ) →
     (phase_of (decoded t e b false))
 decode_end t e b =
     elim (cases_Bool (undecided b)) [
-      | inl held ↦ subst (EndsAs t e b) (sym (decoded_held t e b held)) (end_held t e b)
+      | inl held ↦ rw (decoded_held t e b held) (end_held t e b)
       | inr reading ↦
           let is = decoded_reading t e b reading in
-          subst (EndsAs t e b) (sym is) (end_reading t e b _ (ap (conclude t e) (sym is) ∙ conclude_all t e b))
+          rw is (end_reading t e b _ (ap (conclude t e) (sym is) ∙ conclude_all t e b))
     ]
 
 decode_open : (t : Tables) (e : Encoding) (b : List ℕ) (done : Bool) → decode t e b done ≡ decoded_text

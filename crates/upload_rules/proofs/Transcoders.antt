@@ -1,12 +1,12 @@
 -- A transcoder that stands at an upload's bytes, one piece further and at the end.
-use Rattle.std.proofs.Common.{◌≡◌, ℕ, Bool, true, false, List, [], ◌++◌, Option, Some, None, refl, sym, ◌∙◌, ap, subst}
+use Rattle.std.proofs.Common.{◌≡◌, ℕ, Bool, true, false, List, [], ◌++◌, Option, Some, None, refl, sym, ◌∙◌, ap}
 use Rattle.std.proofs.Common.{append_assoc, append-nil, Vec, Global}
 use Rattle.enc_model.specs.declared.Encoding.{Encoding}
 use Rattle.enc_model.specs.declared.Mode.{Mode}
 use Rattle.enc_model.specs.Indexes.{IndexSet, tables}
 use Rattle.enc_model.specs.Encode.{Tables, InAscii, Coded, led_by, coded, encoder, ended_coded}
 use Rattle.enc_model.specs.Decode.{decoded, decoded_text, decode, text}
-use Rattle.enc_model.specs.Transcode.{fed_end, phase_of, Transcoder, IsAt, stepped, added, added_end, so_far}
+use Rattle.enc_model.specs.Transcode.{fed_end, phase_of, Transcoder, IsAt, added, added_end, so_far}
 use Rattle.enc_model.proofs.Steady.{encoder_steady}
 use Rattle.enc_model.proofs.Transcoding.{coded_both, text_added, fault_added, at_next}
 use Rattle.enc_stream.specs.Standing.{Standing, stepped_on, finished, Answers}
@@ -54,24 +54,19 @@ pub reads : (x : IndexSet) (u : Upload) (bytes : List ℕ) (t : Standing) → (t
 reads x u bytes t ok is =
     let s = transcoder_with x u bytes false in
     let e = so_far_open (tables x) s (u.accepted ++ bytes) in
-    subst (IsReading x u bytes) (sym is)
-    (record {
+    rw is (record {
       unspent = refl;
       from = refl;
       to = refl;
       mode = refl;
-      at =
-          record { phase = refl; fault = ap (λ r. r.fault) e ∙ ok; shift = sym (ap (λ r. r.state) e) };
+      at = record { phase = refl; fault = ap (λ r. r.fault) e ∙ ok; shift = sym (ap (λ r. r.state) e) };
     })
 
 module _ (x : IndexSet) (u : Upload) (bytes : List ℕ) (t : Standing) (here : IsReading x u bytes t) where
   -- the encodings are the upload's
   same_text : (b : List ℕ) (done : Bool) → text (tables x) t.transcoder.from t.transcoder.to t.transcoder.mode b
       done ≡ text (tables x) u.from u.to u.mode b done
-  same_text b done =
-      ap (λ e. text (tables x) e t.transcoder.to t.transcoder.mode b done) here.from
-      ∙ ap (λ e. text (tables x) u.from e t.transcoder.mode b done) here.to
-      ∙ ap (λ m. text (tables x) u.from u.to m b done) here.mode
+  same_text b done = rw (here.from, here.to, here.mode) refl
 
   stands_at : so_far (tables x) t.transcoder (u.accepted ++ bytes) ≡ text_with x u bytes false
   stands_at = so_far_open (tables x) t.transcoder (u.accepted ++ bytes) ∙ same_text (u.accepted ++ bytes) false
@@ -109,9 +104,7 @@ module _ (x : IndexSet) (u : Upload) (bytes : List ℕ) (t : Standing) (here : I
       from = ap (λ s. s.transcoder.from) is ∙ here.from;
       to = ap (λ s. s.transcoder.to) is ∙ here.to;
       mode = ap (λ s. s.transcoder.mode) is ∙ here.mode;
-      at = subst (λ s. IsAt (tables x) s (u.accepted ++ (bytes ++ piece))) (sym (ap (λ s. s.transcoder) is))
-          (subst (IsAt (tables x) (stepped (tables x) t.transcoder piece)) (append_assoc u.accepted bytes piece)
-          (at_next (tables x) t.transcoder (u.accepted ++ bytes) piece here.at ok));
+      at = rw is (rw append_assoc at (at_next (tables x) t.transcoder (u.accepted ++ bytes) piece here.at ok));
     },
     let start = (text_with x u [] false).bytes in
         let more = (added (tables x) t.transcoder piece).bytes in
@@ -138,7 +131,7 @@ module _ (x : IndexSet) (u : Upload) (bytes : List ℕ) (t : Standing) (here : I
   unfolding state_with
   whole_open state old is valid rest = record {
     state_is = is ∙ ap state_bytes still_open;
-    valid = subst IsValid still_open valid;
+    valid = rw still_open at valid;
     rest = rest;
     encodable = without_fault;
   }
@@ -155,7 +148,7 @@ module _ (x : IndexSet) (u : Upload) (bytes : List ℕ) (t : Standing) (here : I
   unfolding state_with
   whole_ended next state old new is packed valid rest ok grown = record {
     state_is = packed ∙ ap state_bytes (at_end next is);
-    valid = subst IsValid (at_end next is) valid;
+    valid = rw (at_end next is) at valid;
     rest = (
         let start = (text_with x u [] false).bytes in
         let more = (added_end (tables x) t.transcoder).bytes in
@@ -186,4 +179,4 @@ unencodable_ended x u bytes done h =
 -- why a transcoder stopped
 pub code_fault : (e : TranscodeError) (c : ℕ) (r : Coded) (old new : Vec ℕ Global) (before after : Standing)
     → e ≡ errors.Unencodable c → Answers e r old new before after → r.fault ≡ Some c
-code_fault e c r old new before after is why = (subst (λ x. Answers x r old new before after) is why).0.reason
+code_fault e c r old new before after is why = (rw is at why).0.reason

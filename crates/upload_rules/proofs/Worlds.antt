@@ -1,16 +1,17 @@
 -- What each call makes of a table and of the world that it stands for.
-use Rattle.std.proofs.Common.{◌≡◌, ℕ, zero, suc, ◌+◌, ◌<◌, true, false, List, [], ◌∷◌, ◌++◌, length, set, slice_index}
-use Rattle.std.proofs.Common.{Option, Some, None, refl, sym, ◌∙◌, ap, subst, arith, inl, inr, Vec, Global}
+use Rattle.std.proofs.Common.{◌≡◌, ℕ, ◌+◌, ◌<◌, true, false, List, [], ◌∷◌, ◌++◌, length, set}
+use Rattle.std.proofs.Common.{Option, Some, None, refl, sym, ◌∙◌, ap, arith, Vec, Global}
 use Rattle.std.proofs.lemmas.Bool.{cases_lt}
-use Rattle.std.proofs.lemmas.List.{map-append, length-append, get_or_append_left}
+use Rattle.std.proofs.lemmas.Grind.{common_steps}
+use Rattle.std.proofs.lemmas.List.{map-append}
 use Rattle.std.proofs.Math.Seq.{map-set_same}
 use Rattle.upload_rules.specs.declared.appends.OpenAppend.{OpenAppend}
 use Rattle.upload_rules.specs.declared.slot.Slot.{Slot}
 use Rattle.upload_rules.specs.declared.table.Table.{Table}
 use Rattle.upload_rules.specs.Store.{New, Upload, find, upload_of, replaced, patched, new_upload}
 use Rattle.upload_rules.specs.World.{Patch, World, is_there, free_number}
-use Rattle.upload_rules.specs.Calls.{created, begun, begun_at, first_patch, dropped}
-use Rattle.upload_rules.specs.Slots.{number_of, numbers, IsRising, IsBelow, IsFirstAt, SlotStands, AllStand}
+use Rattle.upload_rules.specs.Calls.{created, begun, first_patch, dropped}
+use Rattle.upload_rules.specs.Slots.{number_of, numbers, IsRising, IsBelow, IsFirstAt, SlotStands}
 use Rattle.upload_rules.specs.Drafts.{DraftOf, draft_at, IsPlaced}
 use Rattle.upload_rules.specs.Appends.{AppendStands}
 use Rattle.enc_model.specs.Indexes.{IndexSet}
@@ -44,29 +45,10 @@ weaker x next p o h = record {
 
 rising_push : (ns : List ℕ) (n : ℕ) → IsRising ns → IsBelow ns n → IsRising (ns ++ n ∷ [])
 rising_push ns n rising below i j lt inside =
-    let long : length (ns ++ n ∷ []) ≡ length ns + 1 = length-append ns (n ∷ []) in
-    let first : slice_index (ns ++ n ∷ []) i ≡ slice_index ns i = get_or_append_left ns (n ∷ []) 0 i (omega arith) in
-    elim (cases_lt j (length ns)) [
-      | inl l ↦ (let second : slice_index (ns ++ n ∷ []) j ≡ slice_index ns j = get_or_append_left ns (n ∷ []) 0 j
-          l in let r = rising i j lt l in omega (arith, first, second, r))
-      | inr ge ↦
-          (let last : j ≡ length ns = omega arith in
-          let second : slice_index (ns ++ n ∷ []) j ≡ n = ap (slice_index (ns ++ n ∷ [])) last ∙ last_of ns n in
-          let b = below i (omega arith) in omega (arith, first, second, b))
-    ]
-  where
-    last_of : (ns : List ℕ) (n : ℕ) → slice_index (ns ++ n ∷ []) (length ns) ≡ n
-    last_of [] n = refl
-    last_of (m ∷ ns) n = last_of ns n
+    grind (arith, common_steps, cases_lt j (length ns), rising i j, below i)
 
 below_push : (ns : List ℕ) (n : ℕ) → IsBelow ns n → IsBelow (ns ++ n ∷ []) (n + 1)
-below_push [] n below zero inside = omega arith
-below_push [] n below (suc k) inside = absurd (omega arith)
-below_push (m ∷ ns) n below zero inside = let b = below 0 (omega arith) in omega (arith, b)
-below_push (m ∷ ns) n below (suc k) inside = below_push ns n (λ i l. below (suc i) (omega arith)) k (omega arith)
-
-none_at : (ns : List ℕ) (n : ℕ) → IsBelow ns n → (k : ℕ) → k < length ns → slice_index ns k ≡ n → ⊥
-none_at ns n below k lt e = let b = below k lt in omega (arith, b, e)
+below_push ns n below k inside = grind (arith, common_steps, cases_lt k (length ns), below k)
 
 -- THE CALLS
 
@@ -119,26 +101,22 @@ module _ (t : Table) (w : World) (stands : TableStands t w) where
       (draft_at t.appends.items k) (stands.appends k)).1 (placed.least k lt) in
       let free = sym (is_free w d full none) in (
         free,
-        subst (λ o. TableStands (record t { appends = v }) (begun_at w n count declare o)) (sym there)
-            (subst (λ k. TableStands (record t { appends = v })
-            (record w { patches = (k, first_patch n count declare u) ∷ w.patches })) free
-            (record {
-              indexes = stands.indexes;
-              next = stands.next;
-              slots = stands.slots;
-              rising = stands.rising;
-              below = stands.below;
-              appends = begun_stand (AppendStands w.store.indexes w.store.next) w.patches t.appends.items v.items
-                  stands.appends d (first_patch n count declare u) o placed held;
-              apart = (none_there (find d w.patches) none, stands.apart);
-              grown = grown_begun w stands.grown n count declare u d there;
-              unlimited = stands.unlimited;
-            })),
+        rw (there, sym free) (record {
+          indexes = stands.indexes;
+          next = stands.next;
+          slots = stands.slots;
+          rising = stands.rising;
+          below = stands.below;
+          appends = begun_stand (AppendStands w.store.indexes w.store.next) w.patches t.appends.items v.items
+              stands.appends d (first_patch n count declare u) o placed held;
+          apart = (none_there (find d w.patches) none, stands.apart);
+          grown = grown_begun w stands.grown n count declare u d there;
+          unlimited = stands.unlimited;
+        }),
       )
     where
       none_there : (q : Option Patch) → is_there q ≡ false → q ≡ None
-      none_there None e = refl
-      none_there (Some p) e = absurd cc
+      none_there q e = grind arith
 
       not_there : (q : Option Patch) (o : Option OpenAppend) → DraftOf (AppendStands w.store.indexes w.store.next) q o
           → o ≡ None → is_there q ≡ false
@@ -158,12 +136,10 @@ module _ (t : Table) (w : World) (stands : TableStands t w) where
       record {
         indexes = stands.indexes;
         next = one ∙ ap (λ n. n + 1) stands.next;
-        slots = subst (AllStand w.store.indexes (w.store.uploads ++ (w.store.next, new_upload new) ∷ [])) (sym is)
-            (push w.store.indexes w.store.next (new_upload new) s w.store.uploads t.slots.items stands.slots
-            (subst (λ n. SlotStands w.store.indexes n (new_upload new) s) stands.next held));
-        rising = subst IsRising (sym all) (rising_push (numbers t.slots.items) w.store.next stands.rising stands.below);
-        below = subst (λ ns. IsBelow ns (w.store.next + 1)) (sym all)
-            (below_push (numbers t.slots.items) w.store.next stands.below);
+        slots = rw is (push w.store.indexes w.store.next (new_upload new) s w.store.uploads t.slots.items stands.slots
+            (rw stands.next at held));
+        rising = rw all (rising_push (numbers t.slots.items) w.store.next stands.rising stands.below);
+        below = rw all (below_push (numbers t.slots.items) w.store.next stands.below);
         appends = λ d. held_on (AppendStands w.store.indexes w.store.next)
             (AppendStands w.store.indexes (w.store.next + 1)) (find d w.patches) (draft_at t.appends.items d)
             (λ p o is. weaker w.store.indexes w.store.next p o) (stands.appends d);
@@ -189,11 +165,10 @@ module _ (t : Table) (w : World) (stands : TableStands t w) where
       record {
         indexes = stands.indexes;
         next = stands.next;
-        slots = subst (AllStand w.store.indexes (replaced n (patched u declare body) w.store.uploads)) (sym is)
-            (put w.store.indexes n w.store.uploads t.slots.items place (patched u declare body) s stands.slots lt
+        slots = rw is (put w.store.indexes n w.store.uploads t.slots.items place (patched u declare body) s stands.slots lt
             first.here first.before held);
-        rising = subst IsRising (sym same) stands.rising;
-        below = subst (λ ns. IsBelow ns w.store.next) (sym same) stands.below;
+        rising = rw same stands.rising;
+        below = rw same stands.below;
         appends = stands.appends;
         apart = stands.apart;
         grown = grown_put w stands.grown n u declare body there;

@@ -1,7 +1,5 @@
-use Rattle.std.proofs.Common.{◌++◌, Result, OnErr, OnOk, sym, subst, arith}
-use Rattle.std.specs.declared.alloc.AllocError.{AllocError}
+use Rattle.std.proofs.Common.{sym, arith}
 use Rattle.upload_rules.specs.declared.new_text.NewText.{NewText}
-use Rattle.upload_rules.specs.Texts.{HoldsText}
 use Rattle.upload_rules.proofs.Commits.{with_text, with_piece, in_any_case}
 use Rattle.upload_rules.proofs.appends.OpenAppend.feed.Goals as goal
 
@@ -9,18 +7,15 @@ pub returns-in_err-outcome-clause-err : goal.returns-in_err-outcome-clause-err
 returns-in_err-outcome-clause-err c = λ next p stands.
     let x = c.args.indexes.now in
     let text : NewText = c.with-text.result.0 in
-    let before = subst (HoldsText x p.began p.body) (sym c.replace-text.ensures.value) stands.text in
-    let after = subst (λ (r : Result (Unit {0}) AllocError). OnErr r (HoldsText x p.began p.body text))
-    c.in_err-outcome.was (c.with-text.ensures.err p.began p.body before) in
+    let before = rw (sym c.replace-text.ensures.value) at stands.text in
+    let after = rw c.in_err-outcome.was at (c.with-text.ensures.err p.began p.body before) in
     in_any_case c.from_residual.result (with_text x next p c.args.self.now stands text after)
 
 pub returns-clause-ok : goal.returns-clause-ok
 returns-clause-ok c = λ next p stands held.
     let x = c.args.indexes.now in
     let text : NewText = c.with-text.result.0 in
-    let before = subst (HoldsText x p.began p.body) (sym c.replace-text.ensures.value) stands.text in
-    let after = subst (λ (r : Result (Unit {0}) AllocError). OnOk r
-    (HoldsText x p.began (p.body ++ c.args.piece.now) text)) c.in_ok-outcome.was (c.with-text.ensures.ok p.began
-    p.body before) in
+    let before = rw (sym c.replace-text.ensures.value) at stands.text in
+    let after = rw c.in_ok-outcome.was at (c.with-text.ensures.ok p.began p.body before) in
     with_piece x next p c.args.self.now stands c.args.piece.now c.saturating_add-self.result text held
     (omega (arith, c.saturating_add-self.ensures, stands.came, held, stands.within, stands.fits)) after

@@ -1,4 +1,4 @@
-use Rattle.std.proofs.Common.{◌≡◌, ℕ, Bool, true, false, List, refl, sym, subst, ap, ◌∙◌, Vec, Global}
+use Rattle.std.proofs.Common.{◌≡◌, ℕ, Bool, true, false, List, refl, ap, ◌∙◌, Vec, Global}
 use Rattle.enc_model.specs.Indexes.{IndexSet, tables}
 use Rattle.enc_model.specs.Transcode.{Transcoder, added_end}
 use Rattle.enc_stream.specs.Standing.{Standing}
@@ -8,7 +8,7 @@ use Rattle.upload_rules.specs.declared.new_text.NewText.TheVariants.{Growing, Un
 use Rattle.upload_rules.specs.Store.{Upload, text_with, is_complete}
 use Rattle.upload_rules.specs.World.{is_there}
 use Rattle.upload_rules.specs.States.{IsState, SameEncodings}
-use Rattle.upload_rules.specs.Texts.{GoesOn, HoldsText, IsWhole}
+use Rattle.upload_rules.specs.Texts.{GoesOn, HoldsText}
 use Rattle.upload_rules.proofs.Transcoders.{whole_ended, whole_open, end_fault, unencodable_ended, code_fault}
 use Rattle.upload_rules.proofs.new_text.NewText.ended.Goals as goal
 use Rattle.upload_rules.proofs.new_text.NewText.ended.Goals.{then-completes+in-Ok, else-completes}
@@ -28,7 +28,7 @@ returns-in_default-clause-ended c = λ u bytes holds still.
 pub returns-in-Err-Unencodable-clause-ended : goal.returns-in-Err-Unencodable-clause-ended
 returns-in-Err-Unencodable-clause-ended c = λ u bytes holds still.
     let x = c.args.indexes.now in
-    let held = subst (HoldsText x u bytes) c.in-Growing.is holds in
+    let held = rw c.in-Growing.is at holds in
     ap (λ b. is_there (text_with x u bytes b).fault) c.if-completes.true
     ∙ end_fault x u bytes c.in-Growing.transcoder held.0 c.in-Err-Unencodable.field-0-0
     (code_fault c.in-Err-Unencodable.field-0 c.in-Err-Unencodable.field-0-0
@@ -38,25 +38,17 @@ returns-in-Err-Unencodable-clause-ended c = λ u bytes holds still.
 pub returns-clause-ended : goal.returns-clause-ended
 returns-clause-ended c = λ u bytes holds still.
     let x = c.args.indexes.now in
-    let held = subst (HoldsText x u bytes) c.in-Growing.is holds in
+    let held = rw c.in-Growing.is at holds in
     elim c.if-completes.branch [
       | then-completes+in-Ok w ↦
-          let packed : c.pack.result ≡ state_bytes w.finish.new.self.transcoder =
-          c.pack.ensures.bytes ∙ ap (λ t. state_bytes t.transcoder) w.transcoder-is in
-          let valid = subst (λ t. IsValid t.transcoder) w.transcoder-is c.pack.ensures.valid in
-          let whole = whole_ended x u bytes c.in-Growing.transcoder held.0 w.finish.new.self c.pack.result
-          c.in-Growing.text.items w.finish.new.out.items
-          w.in-Ok.ensures.over packed valid held.1 w.in-Ok.ensures.no_fault w.in-Ok.ensures.added in
-          subst (λ b. IsWhole x u bytes b c.pack.result c.if-completes.text.items) (sym w.if-completes.true)
-          (subst (λ (t : Vec ℕ Global). IsWhole x u bytes true c.pack.result t.items) (sym w.text-is) whole)
+          let pack = rw w.transcoder-is at c.pack.ensures in
+          rw (w.if-completes.true, w.text-is) (whole_ended x u bytes c.in-Growing.transcoder held.0 w.finish.new.self
+          c.pack.result c.in-Growing.text.items w.finish.new.out.items w.in-Ok.ensures.over pack.bytes pack.valid held.1
+          w.in-Ok.ensures.no_fault w.in-Ok.ensures.added)
       | else-completes w ↦
-          let packed : c.pack.result ≡ state_bytes c.in-Growing.transcoder.transcoder =
-          c.pack.ensures.bytes ∙ ap (λ t. state_bytes t.transcoder) w.transcoder-is in
-          let valid = subst (λ t. IsValid t.transcoder) w.transcoder-is c.pack.ensures.valid in
-          subst (λ b. IsWhole x u bytes b c.pack.result c.if-completes.text.items) (sym w.if-completes.false)
-          (subst (λ (t : Vec ℕ Global). IsWhole x u bytes false c.pack.result t.items) (sym w.text-is)
-          (whole_open x u bytes c.in-Growing.transcoder held.0 c.pack.result c.in-Growing.text.items packed valid
-          held.1))
+          let pack = rw w.transcoder-is at c.pack.ensures in
+          rw (w.if-completes.false, w.text-is) (whole_open x u bytes c.in-Growing.transcoder held.0 c.pack.result
+          c.in-Growing.text.items pack.bytes pack.valid held.1)
     ]
 
 -- WHATEVER THE UPLOAD
@@ -79,7 +71,7 @@ same_encodings state packed t text next old goes from to mode is valid = record 
 
 pub returns-clause-same : goal.returns-clause-same
 returns-clause-same c state old goes =
-    let held = subst (GoesOn state) c.in-Growing.is goes in
+    let held = rw c.in-Growing.is at goes in
     let same = same_encodings state c.pack.result c.in-Growing.transcoder c.in-Growing.text
     c.if-completes.transcoder.transcoder old held in
     elim c.if-completes.branch [

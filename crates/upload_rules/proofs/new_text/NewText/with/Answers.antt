@@ -1,20 +1,19 @@
-use Rattle.std.proofs.Common.{false, sym, subst}
+use Rattle.std.proofs.Common.{false, sym}
 use Rattle.enc_model.specs.Indexes.{tables}
 use Rattle.enc_model.specs.Transcode.{added}
-use Rattle.upload_rules.specs.Texts.{HoldsText, IsReading}
 use Rattle.upload_rules.proofs.Transcoders.{further, piece_fault, stays_unencodable, code_fault}
 use Rattle.upload_rules.proofs.new_text.NewText.with.Goals as goal
 
 pub returns-in-Unencodable-clause-ok : goal.returns-in-Unencodable-clause-ok
 returns-in-Unencodable-clause-ok c = λ u bytes holds.
     stays_unencodable c.args.indexes.now u bytes c.args.piece.now false
-    (subst (HoldsText c.args.indexes.now u bytes) c.in-Unencodable.is holds)
+    (rw c.in-Unencodable.is at holds)
 
 pub returns-in-Ok-clause-ok : goal.returns-in-Ok-clause-ok
 returns-in-Ok-clause-ok c = λ u bytes holds.
     let x = c.args.indexes.now in
-    let held = subst (HoldsText x u bytes) c.in-Growing.is holds in
-    let reading = subst (IsReading x u bytes) (sym c.copy-next.ensures) held.0 in
+    let held = rw c.in-Growing.is at holds in
+    let reading = rw (sym c.copy-next.ensures) at held.0 in
     further x u bytes c.copy-next.result reading c.args.piece.now c.in-Growing.text.items c.feed.new.out.items
     c.feed.new.self held.1
     c.in-Ok.ensures.no_fault c.in-Ok.ensures.next c.in-Ok.ensures.added
@@ -22,8 +21,8 @@ returns-in-Ok-clause-ok c = λ u bytes holds.
 pub returns-in-Err-Unencodable-clause-ok : goal.returns-in-Err-Unencodable-clause-ok
 returns-in-Err-Unencodable-clause-ok c = λ u bytes holds.
     let x = c.args.indexes.now in
-    let held = subst (HoldsText x u bytes) c.in-Growing.is holds in
-    let reading = subst (IsReading x u bytes) (sym c.copy-next.ensures) held.0 in
+    let held = rw c.in-Growing.is at holds in
+    let reading = rw (sym c.copy-next.ensures) at held.0 in
     piece_fault x u bytes c.copy-next.result reading c.args.piece.now c.in-Err-Unencodable.field-0-0
     (code_fault c.in-Err-Unencodable.field-0 c.in-Err-Unencodable.field-0-0
     (added (tables x) c.copy-next.result.transcoder c.args.piece.now) _ _ _ _ c.in-Err-Unencodable.field-0-is
