@@ -27,11 +27,7 @@ pub patch_passes : (x : Asking) (n offset : ℕ) (declare : Option ℕ)
     → number_in (x.given (codes "upload-offset")) ≡ Some offset
     → optional_number_in (x.given (codes "upload-length")) ≡ Some declare
     → passed_patch x n offset declare ≡ patch_checked x n
-patch_passes x n offset declare media at length =
-    sym (
-    ap (λ b. if b then at_offset x n (number_in (x.given (codes "upload-offset"))) else refused x MediaType) media
-    ∙ ap (at_offset x n) at ∙ ap (declaring x n offset) length
-    )
+patch_passes x n offset declare media at length = rw (media, at, length)
 
 plain_is_ascii : (bytes : List ℕ) → list_all is_plain bytes ≡ true → (i : ℕ) → get_or bytes i 0 < 128
 plain_is_ascii [] e i = omega arith

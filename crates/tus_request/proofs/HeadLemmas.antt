@@ -16,35 +16,34 @@ use Rattle.httparse.proofs.GrammarLemmas.{print_request-append, cons-append}
 use Rattle.tus_request.specs.Lines.{lines, is_empty_line, Extent, head_extent}
 use Rattle.tus_request.proofs.LineLemmas.{further, extent_after, after_text, after_empty, at_end, further_zero}
 
--- no byte is a LF
-abbrev pub HasNoFeed : List ℕ → Type 0
-HasNoFeed [] = Unit {0}
-HasNoFeed (b ∷ text) = ((b == 10) ≡ false) × HasNoFeed text
+-- no byte is the mark
+abbrev pub Lacks : ℕ → List ℕ → Type 0
+Lacks mark [] = Unit {0}
+Lacks mark (b ∷ text) = ((b == mark) ≡ false) × Lacks mark text
 
-line_at : (text rest : List ℕ) → HasNoFeed text → lines (text ++ 10 ∷ rest) ≡ (text ++ 10 ∷ []) ∷ lines rest
+line_at : (text rest : List ℕ) → Lacks 10 text → lines (text ++ 10 ∷ rest) ≡ (text ++ 10 ∷ []) ∷ lines rest
 line_at [] rest none = refl
 line_at (b ∷ text) rest none = rw (none.0, line_at text rest none.1)
 
-no_feed_append : (a b : List ℕ) → HasNoFeed a → HasNoFeed b → HasNoFeed (a ++ b)
-no_feed_append [] b x y = y
-no_feed_append (c ∷ a) b x y = (x.0, no_feed_append a b x.1 y)
+pub lacks_append : (mark : ℕ) (a b : List ℕ) → Lacks mark a → Lacks mark b → Lacks mark (a ++ b)
+lacks_append mark [] b x y = y
+lacks_append mark (c ∷ a) b x y = (x.0, lacks_append mark a b x.1 y)
 
 -- a text and the end of its line are the first line
-pub ended_line : (text rest : List ℕ) (end : LineEnd) → HasNoFeed text
+pub ended_line : (text rest : List ℕ) (end : LineEnd) → Lacks 10 text
     → lines (text ++ (print_end end ++ rest)) ≡ (text ++ print_end end) ∷ lines rest
 ended_line text rest crlf none =
     let e : text ++ (13 ∷ 10 ∷ rest) ≡ (text ++ 13 ∷ []) ++ 10 ∷ rest = sym (append_assoc text (13 ∷ []) (10 ∷ rest)) in
     let d : text ++ (13 ∷ 10 ∷ []) ≡ (text ++ 13 ∷ []) ++ 10 ∷ [] = sym (append_assoc text (13 ∷ []) (10 ∷ [])) in
-    rw (e, d) (line_at (text ++ 13 ∷ []) rest (no_feed_append text (13 ∷ []) none (refl, tt)))
+    rw (e, d) (line_at (text ++ 13 ∷ []) rest (lacks_append 10 text (13 ∷ []) none (refl, tt)))
 ended_line text rest lf none = line_at text rest none
 
-no_feed_from : (test : ℕ → Bool) → ((b : ℕ) → IsTrue (test b) → (b == 10) ≡ false) → (text : List ℕ) → AllPass test text
-    → HasNoFeed text
-no_feed_from test none [] all = tt
-no_feed_from test none (b ∷ text) all = (
+pub lacks_from : (mark : ℕ) (test : ℕ → Bool) → ((b : ℕ) → IsTrue (test b) → (b == mark) ≡ false) → (text : List ℕ)
+    → AllPass test text → Lacks mark text
+lacks_from mark test none [] all = tt
+lacks_from mark test none (b ∷ text) all = (
   none b (All-head (λ b. IsTrue (test b)) b text all),
-  no_feed_from test none text
-      (All-tail (λ b. IsTrue (test b)) b text all),
+  lacks_from mark test none text (All-tail (λ b. IsTrue (test b)) b text all),
 )
 
 pub same_token : (b : ℕ) → is_token_byte b ≡ token.is_token_byte b
@@ -101,9 +100,9 @@ blanks (end ∷ ends) len rest =
 -- a field line is one line
 pub field_line : (f : Field) (rest : List ℕ) → IsField f → lines (print_field f ++ rest) ≡ print_field f ∷ lines rest
 field_line f rest is =
-    let none : HasNoFeed (f.name ++ (58 ∷ f.raw)) =
-    no_feed_append f.name (58 ∷ f.raw) (no_feed_from is_token_byte token_no_feed f.name is.name.1)
-    (refl, no_feed_from is_value_byte value_no_feed f.raw is.raw) in
+    let none : Lacks 10 (f.name ++ (58 ∷ f.raw)) =
+    lacks_append 10 f.name (58 ∷ f.raw) (lacks_from 10 is_token_byte token_no_feed f.name is.name.1)
+    (refl, lacks_from 10 is_value_byte value_no_feed f.raw is.raw) in
     let a : print_field f ++ rest ≡ (f.name ++ (58 ∷ f.raw)) ++ (print_end f.end ++ rest) =
     append_assoc (f.name ++ (58 ∷ f.raw)) (print_end f.end) rest in
     rw a (ended_line (f.name ++ (58 ∷ f.raw)) rest f.end none)
@@ -141,17 +140,22 @@ field_lines (f ∷ fields) len texts rest all =
 abbrev pub request_line : RequestHead → List ℕ
 request_line h = h.method ++ 32 ∷ (h.target ++ 32 ∷ print_version h.minor)
 
-minor_no_feed : (minor : ℕ) → minor ≤ 1 → HasNoFeed (print_version minor)
-minor_no_feed minor low = let k : (48 + minor == 10) ≡ false = grind (arith, nat_tests) in
-    (refl, (refl, (refl, (refl, (refl, (refl, (refl, (k, tt))))))))
-
-pub request_line_no_feed : (h : RequestHead) → IsRequestHead h → HasNoFeed (request_line h)
-request_line_no_feed h is =
-    no_feed_append h.method _ (no_feed_from is_token_byte token_no_feed h.method is.method.1) (
-      refl,
-      no_feed_append h.target _ (no_feed_from is_uri_byte uri_no_feed h.target is.target.1)
-          (refl, minor_no_feed h.minor is.minor),
+-- a request line lacks the marks that its bytes lack
+pub request_line_lacks : (mark : ℕ) (h : RequestHead) → IsRequestHead h → (32 == mark) ≡ false
+    → ((b : ℕ) → IsTrue (is_token_byte b) → (b == mark) ≡ false)
+    → ((b : ℕ) → IsTrue (is_uri_byte b) → (b == mark) ≡ false) → Lacks mark (print_version h.minor)
+    → Lacks mark (request_line h)
+request_line_lacks mark h is space token uri version =
+    lacks_append mark h.method _ (lacks_from mark is_token_byte token h.method is.method.1) (
+      space,
+      lacks_append mark h.target _ (lacks_from mark is_uri_byte uri h.target is.target.1) (space, version),
     )
+
+pub request_line_no_feed : (h : RequestHead) → IsRequestHead h → Lacks 10 (request_line h)
+request_line_no_feed h is =
+    let k : (48 + h.minor == 10) ≡ false = let low = is.minor in grind (arith, nat_tests) in
+    request_line_lacks 10 h is refl token_no_feed uri_no_feed
+    (refl, (refl, (refl, (refl, (refl, (refl, (refl, (k, tt))))))))
 
 regroup : (m t v e f l r : List ℕ)
     → m ++ 32 ∷ (t ++ 32 ∷ (v ++ (e ++ ((f ++ l) ++ r)))) ≡ (m ++ 32 ∷ (t ++ 32 ∷ v)) ++ (e ++ (f ++ (l ++ r)))

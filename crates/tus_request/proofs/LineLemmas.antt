@@ -4,7 +4,7 @@ use Rattle.std.specs.Prelude.{◌==◌, nat_lt, if◌then◌else◌, Option, Som
 use Rattle.std.proofs.Common.{arith, ◌∙◌, refl, zero, suc, get_or, add_assoc, inl, inr, add-one}
 use Rattle.std.specs.List.{position}
 use Rattle.std.proofs.lemmas.List.Quantifiers.{position-Some}
-use Rattle.std.proofs.lemmas.List.{length-take-le, length-drop}
+use Rattle.std.proofs.lemmas.List.{length-take, length-drop}
 use Rattle.tus_request.proofs.Positions.{none_passes}
 use Rattle.tus_request.specs.Lines.{lines, is_empty_line, up_to_empty, head_lines, Extent, extent_of, head_extent}
 
@@ -92,15 +92,11 @@ pub text_more : (bytes rest : List ℕ) (len texts last : ℕ) (line more : List
     → is_empty_line line ≡ false → IsSoFar bytes more (len + length line) (texts + 1)
 text_more bytes rest len texts last line more was feed prefix back text =
     let s = lines_some rest last feed in
-    let n : length (take (last + 1) rest) ≡ last + 1 = length-take-le (last + 1) rest (omega (arith, s.0)) in
-    let m : length line ≡ last + 1 = rw prefix n in
-    let d : length more ≡ length rest - (last + 1) = rw back (length-drop (last + 1) rest) in
     let ls : lines rest ≡ line ∷ lines more = rw (prefix, back) s.1 in
-    let e : head_extent bytes ≡ further len texts (extent_after texts (line ∷ lines more)) = rw ls at was.extent in
     record {
-      extent = rw add-one (e ∙ after_text len texts line (lines more) text);
-      all = omega (arith, was.all, s.0);
-      few = omega (arith, was.few);
+      extent = rw add-one ((rw ls at was.extent) ∙ after_text len texts line (lines more) text);
+      all = rw (prefix, back) (omega (arith, was.all, s.0, length-take (last + 1) rest, length-drop (last + 1) rest));
+      few = rw prefix (omega (arith, was.few, s.0, length-take (last + 1) rest));
     }
 
 -- an empty line at the start
@@ -109,15 +105,11 @@ pub empty_more : (bytes rest : List ℕ) (len texts last : ℕ) (line more : Lis
     → is_empty_line line ≡ true → texts ≡ 0 → IsSoFar bytes more (len + length line) texts
 empty_more bytes rest len texts last line more was feed prefix back text none =
     let s = lines_some rest last feed in
-    let n : length (take (last + 1) rest) ≡ last + 1 = length-take-le (last + 1) rest (omega (arith, s.0)) in
-    let m : length line ≡ last + 1 = rw prefix n in
-    let d : length more ≡ length rest - (last + 1) = rw back (length-drop (last + 1) rest) in
     let ls : lines rest ≡ line ∷ lines more = rw (prefix, back) s.1 in
-    let e : head_extent bytes ≡ further len 0 (extent_after 0 (line ∷ lines more)) = rw none at (rw ls at was.extent) in
     record {
-      extent = rw none (e ∙ after_empty len line (lines more) text);
-      all = omega (arith, was.all, s.0);
-      few = omega (arith, was.few);
+      extent = rw none ((rw (ls, none) at was.extent) ∙ after_empty len line (lines more) text);
+      all = rw (prefix, back) (omega (arith, was.all, s.0, length-take (last + 1) rest, length-drop (last + 1) rest));
+      few = rw prefix (omega (arith, was.few, s.0, length-take (last + 1) rest));
     }
 
 -- the empty line that ends the head

@@ -17,42 +17,16 @@ use Rattle.tus_request.proofs.RouteLemmas.{found, both, first_both, plain_word}
 -- a text with a slash writes no number
 slash_no_digits : (text : List ℕ) → has_slash text ≡ true → list_all is_ascii_digit text ≡ false
 slash_no_digits [] h = absurd (cc)
-slash_no_digits (b ∷ text) h =
-    elim (cases_Bool (b == 47)) [
-      | inl e ↦ let d : is_ascii_digit b ≡ false = grind (arith, nat_tests) in rw d
-      | inr e ↦ let k : has_slash text ≡ true = rw e at h in
-          elim (cases_Bool (is_ascii_digit b)) [
-            | inl d ↦ rw (d, slash_no_digits text k)
-            | inr d ↦ rw d
-          ]
-    ]
+slash_no_digits (b ∷ text) h = let ih = slash_no_digits text in grind (arith, nat_tests, ih)
 
 slash_no_number : (text : List ℕ) → has_slash text ≡ true → upload_number text ≡ None
 slash_no_number [] h = refl
-slash_no_number (b ∷ text) h =
-    let n : is_number (b ∷ text) ≡ false = and_right _ _ (slash_no_digits (b ∷ text) h) in
-    elim (cases_Bool (b == 48)) [ inl e ↦ rw e | inr e ↦ rw (e, n) ]
+slash_no_number (b ∷ text) h = let n = slash_no_digits (b ∷ text) h in grind (arith, nat_tests)
 
 module _ {K : Type 0} where
   pub none_names_nothing : (word path : List ℕ) (f u : K) → found word path f u ≡ None → place_at word path ≡ None
-  none_names_nothing [] [] f u h = absurd (cc)
-  none_names_nothing [] (b ∷ []) f u h = elim (cases_Bool (47 == b)) [ inl e ↦ rw e | inr e ↦ rw e ]
-  none_names_nothing [] (b ∷ c ∷ rest) f u h =
-      elim (cases_Bool (47 == b)) [
-        | inl e ↦ elim (cases_Bool (has_slash (c ∷ rest))) [
-          | inl s ↦ rw (e, slash_no_number (c ∷ rest) s)
-          | inr s ↦ let k = rw (e, s) at h in absurd (cc)
-        ]
-        | inr e ↦ rw e
-      ]
-  none_names_nothing (x ∷ word) [] f u h = refl
-  none_names_nothing (x ∷ word) (b ∷ path) f u h =
-      elim (cases_Bool (x == b)) [
-        | inl e ↦ let k : found word path f u ≡ None = rw e at h in
-            let s : nat_eq b x ≡ true = grind (arith, nat_tests) in
-            rw (e, s, none_names_nothing word path f u k)
-        | inr e ↦ let s : nat_eq b x ≡ false = grind (arith, nat_tests) in rw (e, s)
-      ]
+  none_names_nothing [] path f u h = grind (arith, nat_tests, slash_no_number)
+  none_names_nothing (x ∷ word) path f u h = let ih = none_names_nothing word in grind (arith, nat_tests, ih)
 
   -- a path that has a route is the word, or begins with it and a slash
   found_parts : (word path : List ℕ) (f u r : K) → found word path f u ≡ Some r

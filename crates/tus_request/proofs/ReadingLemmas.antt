@@ -21,21 +21,8 @@ use Rattle.tus_request.specs.Lines.{lines, is_empty_line}
 use Rattle.tus_request.specs.Reading.{before, after, text_of, end_of, field_of, fields_of, last_of, blank_of, filled}
 use Rattle.tus_request.specs.Reading.{head_with, guess, is_field, is_request_head, request_of}
 use Rattle.tus_request.proofs.HeadLemmas.{ended_line, field_line, field_text, end_is_empty, whole, request_line}
-use Rattle.tus_request.proofs.HeadLemmas.{request_line_no_feed, request_line_text, token_is_high}
-
--- no byte is the mark
-abbrev pub Lacks : ℕ → List ℕ → Type 0
-Lacks mark [] = Unit {0}
-Lacks mark (b ∷ text) = ((b == mark) ≡ false) × Lacks mark text
-
-lacks_from : (mark : ℕ) (test : ℕ → Bool) → ((b : ℕ) → IsTrue (test b) → (b == mark) ≡ false) → (text : List ℕ)
-    → AllPass test text → Lacks mark text
-lacks_from mark test none [] all = tt
-lacks_from mark test none (b ∷ text) all = (
-  none b (All-head (λ b. IsTrue (test b)) b text all),
-  lacks_from mark test none text
-      (All-tail (λ b. IsTrue (test b)) b text all),
-)
+use Rattle.tus_request.proofs.HeadLemmas.{request_line_no_feed, request_line_text, token_is_high, Lacks}
+use Rattle.tus_request.proofs.HeadLemmas.{lacks_append, lacks_from, request_line_lacks}
 
 before_mark : (mark : ℕ) (text rest : List ℕ) → Lacks mark text → (mark == mark) ≡ true
     → before mark (text ++ mark ∷ rest) ≡ text
@@ -49,44 +36,34 @@ after_mark mark (b ∷ text) rest none same = rw (none.0, after_mark mark text r
 
 -- no byte is a CR or a LF
 abbrev pub IsInline : List ℕ → Type 0
-IsInline [] = Unit {0}
-IsInline (b ∷ text) = ((b == 10) ≡ false) × ((b == 13) ≡ false) × IsInline text
+IsInline text = Lacks 10 text × Lacks 13 text
 
 inline_from : (test : ℕ → Bool) → ((b : ℕ) → IsTrue (test b) → ((b == 10) ≡ false) × ((b == 13) ≡ false))
     → (text : List ℕ) → AllPass test text → IsInline text
-inline_from test none [] all = tt
-inline_from test none (b ∷ text) all =
-    let n = none b (All-head (λ b. IsTrue (test b)) b text all) in
-    (n.0, n.1, inline_from test none text (All-tail (λ b. IsTrue (test b)) b text all))
-
-inline_append : (a b : List ℕ) → IsInline a → IsInline b → IsInline (a ++ b)
-inline_append [] b x y = y
-inline_append (c ∷ a) b x y = (x.0, x.1, inline_append a b x.2 y)
+inline_from test none text all =
+    (lacks_from 10 test (λ b t. (none b t).0) text all, lacks_from 13 test (λ b t. (none b t).1) text all)
 
 not_end : (b : ℕ) (line : List ℕ) → (b == 10) ≡ false → (b == 13) ≡ false → is_empty_line (b ∷ line) ≡ false
-not_end b line x y =
-    let p : nat_eq b 10 ≡ false = grind (arith, nat_tests) in
-    let q : nat_eq b 13 ≡ false = grind (arith, nat_tests) in
-    rw (p, q)
+not_end b line x y = grind (arith, nat_tests)
 
 text_ended : (text : List ℕ) (end : LineEnd) → IsInline text → text_of (text ++ print_end end) ≡ text
 text_ended [] crlf is = refl
 text_ended [] lf is = refl
-text_ended (b ∷ text) end is = rw (not_end b (text ++ print_end end) is.0 is.1, text_ended text end is.2)
+text_ended (b ∷ text) end is = rw (not_end b _ is.0.0 is.1.0, text_ended text end (is.0.1, is.1.1))
 
 end_ended : (text : List ℕ) (end : LineEnd) → IsInline text → end_of (text ++ print_end end) ≡ end
 end_ended [] crlf is = refl
 end_ended [] lf is = refl
-end_ended (b ∷ text) end is = rw (not_end b (text ++ print_end end) is.0 is.1, end_ended text end is.2)
+end_ended (b ∷ text) end is = rw (not_end b _ is.0.0 is.1.0, end_ended text end (is.0.1, is.1.1))
 
 token_inline : (b : ℕ) → IsTrue (is_token_byte b) → ((b == 10) ≡ false) × ((b == 13) ≡ false)
-token_inline b t = let h = token_is_high b t in (grind (arith, nat_tests), grind (arith, nat_tests))
+token_inline b t = let h = token_is_high b t in grind (arith, nat_tests)
 
 uri_inline : (b : ℕ) → IsTrue (is_uri_byte b) → ((b == 10) ≡ false) × ((b == 13) ≡ false)
-uri_inline b t = (grind (arith, nat_tests), grind (arith, nat_tests))
+uri_inline b t = grind (arith, nat_tests)
 
 value_inline : (b : ℕ) → IsTrue (is_value_byte b) → ((b == 10) ≡ false) × ((b == 13) ≡ false)
-value_inline b t = (grind (arith, nat_tests), grind (arith, nat_tests))
+value_inline b t = grind (arith, nat_tests)
 
 uri_no_space : (b : ℕ) → IsTrue (is_uri_byte b) → (b == 32) ≡ false
 uri_no_space b t = grind (arith, nat_tests)
@@ -112,8 +89,9 @@ field_back f is =
     let v = after_mark 58 f.name (f.raw ++ print_end f.end)
     (lacks_from 58 is_token_byte token_no_colon f.name is.name.1) refl in
     let i = inline_from is_value_byte value_inline f.raw is.raw in
+    let t = inline_from is_token_byte token_inline f.name is.name.1 in
     let e : end_of (print_field f) ≡ f.end = end_ended (f.name ++ 58 ∷ f.raw) f.end
-    (inline_append f.name (58 ∷ f.raw) (inline_from is_token_byte token_inline f.name is.name.1) (refl, refl, i)) in
+    (lacks_append 10 f.name _ t.0 (refl, i.0), lacks_append 13 f.name _ t.1 (refl, i.1)) in
     rw (e, a, n, v, text_ended f.raw f.end i)
 
 -- the lines of a head, as lists
@@ -143,7 +121,7 @@ fields_as_lines (f ∷ fields) rest all =
 blank_back : (ends : List LineEnd) (line : List ℕ) (rest : List (List ℕ)) → is_empty_line line ≡ false
     → blank_of (map print_end ends ++ line ∷ rest) ≡ ends
 blank_back [] line rest text = rw text
-blank_back (end ∷ ends) line rest text = rw (end_is_empty end, blank_back ends line rest text, end_ended [] end tt)
+blank_back (end ∷ ends) line rest text = rw (end_is_empty end, blank_back ends line rest text, end_ended [] end (tt, tt))
 
 filled_back : (ends : List LineEnd) (line : List ℕ) (rest : List (List ℕ)) → is_empty_line line ≡ false
     → filled (map print_end ends ++ line ∷ rest) ≡ line ∷ rest
@@ -159,7 +137,7 @@ fields_back (f ∷ fields) last all =
 
 last_back : (fields : List Field) (last : LineEnd) → All IsField fields
     → last_of (map print_field fields ++ print_end last ∷ []) ≡ last
-last_back [] last all = rw (end_is_empty last) (end_ended [] last tt)
+last_back [] last all = rw (end_is_empty last) (end_ended [] last (tt, tt))
 last_back (f ∷ fields) last all =
     rw (field_text f (All-head IsField f fields all), last_back fields last (All-tail IsField f fields all))
 
@@ -190,27 +168,11 @@ line_parts m t v e = simp (append_assoc, cons-append)
 
 request_line_inline : (h : RequestHead) → IsRequestHead h → IsInline (request_line h)
 request_line_inline h is =
-    let x : (48 + h.minor == 10) ≡ false = let k = is.minor in grind (arith, nat_tests) in
-    let y : (48 + h.minor == 13) ≡ false = let k = is.minor in grind (arith, nat_tests) in
-    let v : IsInline (print_version h.minor) =
-    (refl, refl, (refl, refl, (refl, refl, (refl, refl, (refl, refl, (refl, refl, (refl, refl, (x, y, tt)))))))) in
-    inline_append h.method _ (inline_from is_token_byte token_inline h.method is.method.1)
-    (refl, refl, inline_append h.target _ (inline_from is_uri_byte uri_inline h.target is.target.1) (refl, refl, v))
-
-same_head : (h : RequestHead) (method target : List ℕ) (minor : ℕ) (line_end : LineEnd) (fields : List Field)
-    (last : LineEnd)
-    → method ≡ h.method → target ≡ h.target → minor ≡ h.minor → line_end ≡ h.line_end → fields ≡ h.fields
-    → last ≡ h.last
-    → ◌≡◌ {A = RequestHead} (record {
-      blank = h.blank;
-      method = method;
-      target = target;
-      minor = minor;
-      line_end = line_end;
-      fields = fields;
-      last = last;
-    }) h
-same_head h method target minor line_end fields last a b c d e f = rw (a, b, c, d, e, f)
+    let k : (48 + h.minor == 13) ≡ false = let low = is.minor in grind (arith, nat_tests) in (
+      request_line_no_feed h is,
+      request_line_lacks 13 h is refl (λ b t. (token_inline b t).1) (λ b t. (uri_inline b t).1)
+          (refl, (refl, (refl, (refl, (refl, (refl, (refl, (k, tt)))))))),
+    )
 
 -- the guess of a head's bytes is the head
 pub guess_back : (h : RequestHead) → IsRequestHead h → guess (print_request h) ≡ h
@@ -234,16 +196,19 @@ guess_back h is =
     end_ended (request_line h) h.line_end (request_line_inline h is) in
     let fs = fields_back h.fields h.last is.fields in
     let la = last_back h.fields h.last is.fields in
-    let w : head_with h.blank
-    ((request_line h ++ print_end h.line_end) ∷ (map print_field h.fields ++ print_end h.last ∷ [])) ≡ h =
-    same_head h _ _ _ _ _ _ bm (rw hm bt) (rw (hm, ht) digit) en fs la in
     rw (
       head_as_lines h is,
-      blank_back h.blank (request_line h ++ print_end h.line_end) (map print_field h.fields ++ print_end h.last ∷ [])
-          text,
-      filled_back h.blank (request_line h ++ print_end h.line_end) (map print_field h.fields ++ print_end h.last ∷ [])
-          text,
-    ) w
+      blank_back h.blank q rest text,
+      filled_back h.blank q rest text,
+      bm,
+      hm,
+      bt,
+      ht,
+      digit,
+      en,
+      fs,
+      la,
+    )
 
 nonempty : (text : List ℕ) → 0 < length text → nat_lt 0 (length text) ≡ true
 nonempty text some = grind (arith, nat_tests)

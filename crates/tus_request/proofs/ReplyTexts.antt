@@ -70,26 +70,17 @@ told r old new text said ok same = subst (λ t. OnOk r (new ≡ old ++ t)) same 
 -- the line of the body's length may be told apart from a reply's own lines
 pub with_length : (status own size : List ℕ) (n : Option ℕ) (closes : Bool) → size ≡ length_line n
     → reply status (own ++ (size ++ [])) None closes ≡ reply status own n closes
-with_length status own size n closes is =
-    let e : size ++ [] ≡ length_line n = append-nil size ∙ is in
-    rw e (ap (λ t. codes "HTTP/1.1 " ++ (status ++ (crlf ++ (header (codes "Tus-Resumable") (codes "1.0.0")
-    ++ (header (codes "Cache-Control") (codes "no-store") ++ t))))) (append_assoc own (length_line n)
-    (close_line closes ++ crlf)))
+with_length status own size n closes is = rw is (simp (append_assoc, append-nil))
 
 pub one_line : (status own line size : List ℕ) (n : Option ℕ) (closes : Bool) → own ≡ line → size ≡ length_line n
     → reply status (own ++ (size ++ [])) None closes ≡ reply status line n closes
-one_line status own line size n closes same is =
-    ap (λ t. reply status (t ++ (size ++ [])) None closes) same ∙ with_length status line size n closes is
+one_line status own line size n closes same is = rw same (with_length status line size n closes is)
 
 -- the same for two and for three lines of its own
 pub two_lines : (status a b size : List ℕ) (n : Option ℕ) (closes : Bool) → size ≡ length_line n
     → reply status (a ++ (b ++ (size ++ []))) None closes ≡ reply status (a ++ b) n closes
-two_lines status a b size n closes is =
-    ap (λ t. reply status t None closes) (sym (append_assoc a b (size ++ [])))
-    ∙ with_length status (a ++ b) size n closes is
+two_lines status a b size n closes is = rw is (simp (append_assoc, append-nil))
 
 pub three_lines : (status a b c size : List ℕ) (n : Option ℕ) (closes : Bool) → size ≡ length_line n
     → reply status (a ++ (b ++ (c ++ (size ++ [])))) None closes ≡ reply status (a ++ (b ++ c)) n closes
-three_lines status a b c size n closes is =
-    ap (λ t. reply status (a ++ t) None closes) (sym (append_assoc b c (size ++ [])))
-    ∙ two_lines status a (b ++ c) size n closes is
+three_lines status a b c size n closes is = rw is (simp (append_assoc, append-nil))

@@ -19,8 +19,7 @@ module _ {K : Type 0} where
   no_param v n = cond {A = ℕ × RowsOf K} v (0, []) (n, [])
 
   or_none : (o : Option K) → or_else o None ≡ o
-  or_none None = refl
-  or_none (Some k) = refl
+  or_none o = grind arith
 
   arm : (v : Bool) (n : ℕ) (path : List ℕ) → ((skip : ℕ) → seek {K = K} skip [] path ≡ None)
       → or_else (seek ((no_param v n).0 - 1) (no_param v n).1 path) None ≡ None

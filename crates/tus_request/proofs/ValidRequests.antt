@@ -54,18 +54,13 @@ small_text text p =
     omega arith
 
 number_small : (text : List ℕ) (n : ℕ) → number_of text ≡ Some n → n < 10 ^ 18
-number_small text n q = elim (cases_Bool (is_number text)) [
-  | inl t ↦ rw (← (same_Some _ n (rw t at q))) (small_text text t)
-  | inr f ↦ absurd (cc (rw f at q))
-]
+number_small text n q = let small = small_text text in grind arith
 
 when_small : (o : Option (List ℕ)) (n : ℕ) → checks.number_when o ≡ Some n → n < 10 ^ 18
-when_small None n q = absurd (cc)
-when_small (Some text) n q = number_small text n q
+when_small o n q = grind (arith, number_small)
 
 length_small : (values : List (List ℕ)) (n : ℕ) → checks.length_in values ≡ Some n → n < 10 ^ 18
-length_small [] n q = rw (← (same_Some _ n q)) (omega arith)
-length_small (value ∷ values) n q = when_small (checks.only (value ∷ values)) n q
+length_small values n q = grind (arith, when_small)
 
 -- METADATA
 all_plain : (bytes : List ℕ) → list_all is_plain bytes ≡ true → All (λ b. (0x20 ≤ b) × (b ≤ 0x7E)) bytes
@@ -89,14 +84,8 @@ metadata_plain (b ∷ bytes) pairs q = elim (cases_Bool (is_metadata (b ∷ byte
 abbrev NoUtf16 : Encoding → Type 0
 NoUtf16 c = (c ≡ e.Utf16Be → ⊥) × (c ≡ e.Utf16Le → ⊥)
 
-plain_output : (c : Encoding) → NoUtf16 (output_of c)
-plain_output c = ((λ q. grind arith), (λ q. grind arith))
-
 choice_output : (a b : Option Encoding) (m : Option Mode) (c : Choice) → choice_with a b m ≡ Some c → NoUtf16 c.to
-choice_output None b m c q = absurd (cc)
-choice_output (Some from) None m c q = absurd (cc)
-choice_output (Some from) (Some to) None c q = absurd (cc)
-choice_output (Some from) (Some to) (Some mode) c q = rw (← (same_Some _ c q)) (plain_output to)
+choice_output a b m c q = ((λ e. grind arith), (λ e. grind arith))
 
 -- THE CHECKS
 module _ (offers : Encoding → Bool) where

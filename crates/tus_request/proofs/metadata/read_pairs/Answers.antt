@@ -13,9 +13,7 @@ use Rattle.tus_request.proofs.metadata.read_pairs.Goals as goal
 pub returns-in_default : goal.returns-in_default
 returns-in_default c =
     let t = YieldsList-turn (YieldsList-from_slice_split _ (λ b. b == 44) c.args.text.now
-    (ap (λ s. split_rest s) c.into_iter-part-iterator.ensures.into_iter_gives ∙ c.split-part-items.ensures.rest)
-    (ap (λ s. split_done s) c.into_iter-part-iterator.ensures.into_iter_gives ∙ c.split-part-items.ensures.done)
-    (ap (λ s. split_callee s) c.into_iter-part-iterator.ensures.into_iter_gives ∙ c.split-part-items.ensures.closure)
+    (cc) (cc) (cc)
     (λ x r q k. search (rules, tests)))
     c.loop-part.yielded _ c.loop-part.yielded_by _ _ c.in-Some.part c.in-Some.is c.next.ensures.steps in
     let e = rw c.in_default.is at c.in_ok-pair.ensures in
@@ -26,9 +24,7 @@ returns-in_default c =
 pub returns-then-has_key : goal.returns-then-has_key
 returns-then-has_key c =
     let t = YieldsList-turn (YieldsList-from_slice_split _ (λ b. b == 44) c.args.text.now
-    (ap (λ s. split_rest s) c.into_iter-part-iterator.ensures.into_iter_gives ∙ c.split-part-items.ensures.rest)
-    (ap (λ s. split_done s) c.into_iter-part-iterator.ensures.into_iter_gives ∙ c.split-part-items.ensures.done)
-    (ap (λ s. split_callee s) c.into_iter-part-iterator.ensures.into_iter_gives ∙ c.split-part-items.ensures.closure)
+    (cc) (cc) (cc)
     (λ x r q k. search (rules, tests)))
     c.loop-part.yielded _ c.loop-part.yielded_by _ _ c.in-Some.part c.in-Some.is c.next.ensures.steps in
     let e = rw c.in-Some-2.is at c.in_ok-pair.ensures in
@@ -43,9 +39,7 @@ returns-then-has_key c =
 pub loop-part-preserved : goal.loop-part-preserved
 loop-part-preserved c =
     let t = YieldsList-turn (YieldsList-from_slice_split _ (λ b. b == 44) c.args.text.now
-    (ap (λ s. split_rest s) c.into_iter-part-iterator.ensures.into_iter_gives ∙ c.split-part-items.ensures.rest)
-    (ap (λ s. split_done s) c.into_iter-part-iterator.ensures.into_iter_gives ∙ c.split-part-items.ensures.done)
-    (ap (λ s. split_callee s) c.into_iter-part-iterator.ensures.into_iter_gives ∙ c.split-part-items.ensures.closure)
+    (cc) (cc) (cc)
     (λ x r q k. search (rules, tests)))
     c.loop-part.yielded _ c.loop-part.yielded_by _ _ c.in-Some.part c.in-Some.is c.next.ensures.steps in
     let e = rw c.in-Some-2.is at c.in_ok-pair.ensures in
@@ -67,9 +61,7 @@ loop-part-preserved c =
 pub returns : goal.returns
 returns c =
     let t = YieldsList-end (YieldsList-from_slice_split _ (λ b. b == 44) c.args.text.now
-    (ap (λ s. split_rest s) c.into_iter-part-iterator.ensures.into_iter_gives ∙ c.split-part-items.ensures.rest)
-    (ap (λ s. split_done s) c.into_iter-part-iterator.ensures.into_iter_gives ∙ c.split-part-items.ensures.done)
-    (ap (λ s. split_callee s) c.into_iter-part-iterator.ensures.into_iter_gives ∙ c.split-part-items.ensures.closure)
+    (cc) (cc) (cc)
     (λ x r q k. search (rules, tests)))
     c.loop-part.yielded _ c.loop-part.yielded_by _ _ c.in-None.is c.next.ensures.steps in
     sym (sym c.loop-part.invariant ∙ pairs_end (map pair_shown c.loop-part.pairs.items) (parts c.args.text.now)
