@@ -1,6 +1,6 @@
 -- Single digits and pairs by the definitions of hex.
 use Rattle.std.proofs.Common.{◌≡◌, ℕ, ◌+◌, ◌*◌, ◌<◌, List, [], ◌∷◌, Option, Some, None, Result, Ok, Err, slice_index}
-use Rattle.std.proofs.Common.{length, drop, take, slice_set, unwrap_or, refl, ap, sym, ◌∙◌, arith}
+use Rattle.std.proofs.Common.{length, drop, take, slice_set, ◌∙◌, arith}
 use Rattle.std.proofs.Common.{inl, inr}
 use Rattle.std.proofs.lemmas.Bool.{cases_lt}
 use Rattle.std.proofs.lemmas.List.{get_or-set_other, get_or-set_same}
@@ -17,8 +17,7 @@ first_of (Err e) = None
 
 after_zero : (digit : ℕ) (value : Option ℕ)
     → first_of ((digit_or_error digit 1 value >>= (λ l. Ok (0 * 16 + l))) >>= (λ byte. Ok (byte ∷ []))) ≡ value
-after_zero digit (Some v) = ap Some (omega arith)
-after_zero digit None = refl
+after_zero digit value = grind arith
 
 -- a digit after a zero is read as itself
 pub digit_alone : (digit : ℕ) → first_of (decode_sized (48 ∷ digit ∷ []) 1) ≡ hex_digit_value digit
@@ -27,16 +26,14 @@ digit_alone digit = after_zero digit (hex_digit_value digit)
 
 -- what is answered is what was read
 pub read_is : (r : Result ℕ FromHexError) (v : ℕ) → Some v ≡ answered r → r ≡ Ok v
-read_is (Ok w) v h = ap (λ (o : Option ℕ). Ok (unwrap_or o 0)) (sym h)
-read_is (Err e) v h = cc h
+read_is r v h = grind arith
 
 -- a pair that isn't of digits ends the reading
 pub read_ends : (text out : List ℕ) (i : ℕ) (r : Result ℕ FromHexError) → 2 * i + 1 < length text
     → pair_value (slice_index text (2 * i)) (slice_index text (2 * i + 1)) (2 * i) ≡ r → None ≡ answered r
     → decode_pairs 0 text ≡ prepend (take i out) (decode_pairs (2 * i) (drop (2 * i) text))
     → answered (decode_pairs 0 text) ≡ None
-read_ends text out i (Ok v) fits e none read = cc none
-read_ends text out i (Err fault) fits e none read = ap answered (decode_err text out i fault fits e read)
+read_ends text out i r fits e none read = grind (arith, decode_err)
 
 -- one value more
 pub values_more : (values : List (Option ℕ)) (at : ℕ) (value : Option ℕ) → at < length values → HaveValues values at

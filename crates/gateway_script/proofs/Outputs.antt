@@ -2,28 +2,7 @@
 use Rattle.std.specs.Io.KnownBytes.{Appends}
 use Rattle.std.proofs.lemmas.List.{take-append-drop}
 use Rattle.std.proofs.Common.{◌≡◌, ◌==◌, Bool, true, false, ℕ, List, [], ◌∷◌, ◌++◌, length, take, drop, Option, Some}
-use Rattle.std.proofs.Common.{None, refl, sym, ap, ◌∙◌, append_assoc, append-nil, codes, arith}
-use Rattle.std.specs.Fmt.{decimal}
-use Rattle.gateway_script.specs.Script.{written_bytes}
-use Rattle.gateway_script.specs.Outputs.{count_line}
-
-line_then : (n count : ℕ) (more : List ℕ) → count_line n count ++ more
-    ≡ codes "< " ++ (decimal n ++ (32 ∷ (decimal count ++ (10 ∷ more))))
-line_then n count more =
-    append_assoc (codes "< ") (decimal n ++ (32 ∷ (decimal count ++ (10 ∷ [])))) more
-    ∙ ap (λ x. codes "< " ++ x) (append_assoc (decimal n) (32 ∷ (decimal count ++ (10 ∷ []))) more
-    ∙ ap (λ x. decimal n ++ (32 ∷ x)) (append_assoc (decimal count) (10 ∷ []) more))
-
--- the line, the bytes and a LF
-pub framed : (n : ℕ) (bytes old mid new : List ℕ) (b : Bool) → b ≡ (length bytes == 0) → b ≡ false
-    → mid ≡ (old ++ count_line n (length bytes)) ++ bytes → new ≡ mid ++ (10 ∷ []) → new ≡ old ++ written_bytes n bytes
-framed n [] old mid new b is some first last = let e : false ≡ true = sym some ∙ is in absurd (cc)
-framed n (c ∷ bytes) old mid new b is some first last =
-    let line = count_line n (length (c ∷ bytes)) in
-    last ∙ (ap (λ x. x ++ (10 ∷ [])) first
-    ∙ (append_assoc (old ++ line) (c ∷ bytes) (10 ∷ [])
-    ∙ (append_assoc old line ((c ∷ bytes) ++ (10 ∷ [])) ∙ ap (λ x. old ++ x)
-    (line_then n (length (c ∷ bytes)) ((c ∷ bytes) ++ (10 ∷ []))))))
+use Rattle.std.proofs.Common.{None, refl, sym, ap, ◌∙◌, append_assoc, append-nil, arith}
 
 pub appends_nothing : (known : Option (List ℕ)) → Appends known known []
 appends_nothing None = tt {0}
@@ -46,15 +25,10 @@ wrote_more a b c bytes prefix rest next n parts before now is = (
   appends_both a b c prefix (take n rest) before now,
 )
 
--- the list isn't empty
+-- whether the list is empty
 pub some_list : (b : Bool) (list : List ℕ) → b ≡ (length list == 0) → b ≡ false → list ≡ [] → ⊥
-some_list b list is not_empty none = let e : true ≡ false =
-    ap (λ l. length l == 0) (sym none) ∙ (sym is ∙ not_empty) in absurd (cc)
+some_list b list is not_empty none = grind arith
 
 pub no_list : (b : Bool) (list : List ℕ) → b ≡ (length list == 0) → b ≡ true → list ≡ []
 no_list b [] is empty = refl
-no_list b (x ∷ list) is empty =
-    let e : (length (x ∷ list) == 0) ≡ true = sym is ∙ empty in
-    let f : (length (x ∷ list) == 0) ≡ false = grind (arith) in
-    let g : true ≡ false = sym e ∙ f in
-    absurd (cc)
+no_list b (x ∷ list) is empty = absurd (grind arith)

@@ -1,8 +1,7 @@
 -- What is read of a script.
 use Rattle.std.proofs.Common.{◌≡◌, ◌≤◌, ◌<◌, ◌+◌, ℕ, List, [], ◌++◌, length, length-append, min, take, Option, Some}
-use Rattle.std.proofs.Common.{None, inl, inr, sym, ap, ◌∙◌, append-nil, arith}
+use Rattle.std.proofs.Common.{None, append-nil, arith}
 use Rattle.std.proofs.lemmas.List.{take_all, length-take}
-use Rattle.std.proofs.lemmas.Bool.{cases_lt}
 use Rattle.std.proofs.Math.Seq.{take-append_seam}
 use Rattle.std.proofs.KnownBytes.{Consumes-trans}
 use Rattle.std.specs.Io.KnownBytes.{Consumes, IsAtEnd}
@@ -26,14 +25,8 @@ takes_more a b c read part most count first next few room = (
 whole_case : (most : ℕ) (bytes rest script : List ℕ) → bytes ≡ script ++ rest → length script ≤ most
     → (length script < most → rest ≡ [])
     → script ≡ take most bytes
-whole_case most bytes rest script is few end = elim (cases_lt (length script) most) [
-  | inl less ↦
-      let all : bytes ≡ script = is ∙ (ap (λ l. script ++ l) (end less) ∙ append-nil script) in
-      sym (ap (take most) all ∙ take_all most script few)
-  | inr full ↦
-      let n : most ≡ length script = omega arith in
-      sym (ap (λ k. take k bytes) n ∙ (ap (take (length script)) is ∙ take-append_seam script rest))
-]
+whole_case most bytes rest script is few end =
+    grind (arith, take_all {A = ℕ}, take-append_seam {A = ℕ}, append-nil {A = ℕ})
 
 -- so many bytes, or all to the end, are the prefix of what there was
 pub script_read : (old new : Option (List ℕ)) (script : List ℕ) → Consumes old new script → length script ≤ 1073741825

@@ -4,7 +4,7 @@ use Rattle.std.specs.Prelude.{IsErr, IsErrOf}
 use Rattle.common.specs.declared.stop.DiskFault.{DiskFault}
 use Rattle.upload_rules.specs.Answers.{Among, Limits}
 use Rattle.upload_rules.specs.Store.{Store}
-use Rattle.tus_session.specs.History.{State, Event, Marked, Served, OutOfMemory, Failed, step, history}
+use Rattle.tus_session.specs.History.{State, Event, Marked, Failed, step, history}
 use Rattle.tus_session.specs.declared.errors.SessionError.{SessionError}
 use Rattle.tus_session.specs.declared.errors.SessionError.TheVariants as errors
 use Rattle.tus_session.specs.Connections.{Falls, mark_of, UnlessFailed}
@@ -42,67 +42,45 @@ module _ {C : Type 0} (c : Ghosts C) (sure : Bool) (before old now : C) (st : St
   abbrev pub Keeps : {T : Type 0} → Result T SessionError → Type 0
   Keeps answer = UnlessFailed answer (c.stands now sure (step (history st past) e (mark_of answer)).state)
 
+  stands_still : {T : Type 0} (answer : Result T SessionError) → (Faults answer → ⊥) → Keeps answer
+      → c.stands now sure (step (history st past) e (mark_of answer)).state
+  stands_still (Ok x) ok keeps = keeps
+  stands_still (Err errors.NoMemory) ok keeps = keeps
+  stands_still (Err errors.TooMany) ok keeps = keeps
+  stands_still (Err errors.Closed) ok keeps = keeps
+  stands_still (Err errors.Down) ok keeps = keeps
+  stands_still (Err errors.DiskFault) ok keeps = absurd (ok refl)
+
   module _ (On Down : List Marked → Type 0) where
     pub served : {T U : Type 0} (answer : Result T SessionError) (told : Result U DiskFault) → GoesOn answer told
         → Keeps answer → Leaves answer
         → Falls (c.down old) (c.down now) answer → ((Faults answer → ⊥) → On ((e, mark_of answer) ∷ past))
         → (Faults answer → Down ((e, mark_of answer) ∷ past)) → Serves c sure before now st told On Down
-    served (Ok x) (Ok y) same keeps leaves falls on down = (
-      (e, Served) ∷ past,
-      record { stands = keeps; images = λ known. limits_step st past e Served (w.images known) (leaves known) },
-      on
-          (λ f. absurd (cc)),
-    )
-    served (Ok x) (Err y) same keeps leaves falls on down = let f : Ok x ≡ Err errors.DiskFault = same.0 refl in
-        absurd (cc)
-    served (Err errors.NoMemory) (Ok y) same keeps leaves falls on down = (
-      (e, OutOfMemory) ∷ past,
-      record { stands = keeps; images = λ known. limits_step st past e OutOfMemory (w.images known) (leaves known) },
-      on (λ f. absurd (cc)),
-    )
-    served (Err errors.NoMemory) (Err y) same keeps leaves falls on down =
-        let f : Err errors.NoMemory ≡ Err errors.DiskFault = same.0 refl in absurd (cc)
-    served (Err errors.TooMany) (Ok y) same keeps leaves falls on down = (
-      (e, Served) ∷ past,
-      record { stands = keeps; images = λ known. limits_step st past e Served (w.images known) (leaves known) },
-      on
-          (λ f. absurd (cc)),
-    )
-    served (Err errors.TooMany) (Err y) same keeps leaves falls on down =
-        let f : Err errors.TooMany ≡ Err errors.DiskFault = same.0 refl in absurd (cc)
-    served (Err errors.Closed) (Ok y) same keeps leaves falls on down = (
-      (e, Served) ∷ past,
-      record { stands = keeps; images = λ known. limits_step st past e Served (w.images known) (leaves known) },
-      on
-          (λ f. absurd (cc)),
-    )
-    served (Err errors.Closed) (Err y) same keeps leaves falls on down =
-        let f : Err errors.Closed ≡ Err errors.DiskFault = same.0 refl in absurd (cc)
-    served (Err errors.Down) (Ok y) same keeps leaves falls on down = (
-      (e, Served) ∷ past,
-      record { stands = keeps; images = λ known. limits_step st past e Served (w.images known) (leaves known) },
-      on
-          (λ f. absurd (cc)),
-    )
-    served (Err errors.Down) (Err y) same keeps leaves falls on down = let f : Err errors.Down ≡ Err errors.DiskFault =
-        same.0 refl in absurd (cc)
-    served (Err errors.DiskFault) (Ok y) same keeps leaves falls on down = let f : false ≡ true = same.1 refl in
-        absurd (cc)
-    served (Err errors.DiskFault) (Err y) same keeps leaves falls on down = (
-      past,
-      e,
-      record {
-        images = λ known. limits_step st past e Failed (w.images known) (leaves known);
-        last = λ known. last_step st past e Failed (durable known) (leaves known);
-        down = falls.falls.1 (inr refl);
-      },
-      down refl,
-    )
+    served answer (Ok y) same keeps leaves falls on down =
+        let ok : Faults answer → ⊥ = λ f. let x : false ≡ true = same.1 f in absurd (cc) in (
+          (e, mark_of answer) ∷ past,
+          record {
+            stands = stands_still answer ok keeps;
+            images = λ known. limits_step st past e (mark_of answer) (w.images known) (leaves known);
+          },
+          on ok,
+        )
+    served answer (Err y) same keeps leaves falls on down =
+        let f : answer ≡ Err errors.DiskFault = same.0 refl in
+        let left = rw f at leaves in (
+          past,
+          e,
+          record {
+            images = λ known. limits_step st past e Failed (w.images known) (left known);
+            last = λ known. last_step st past e Failed (durable known) (left known);
+            down = falls.falls.1 (inr f);
+          },
+          rw f at (down f),
+        )
 
 -- what holds of the events after a part of serving, from what it says of them
 pub followed : {C T : Type 0} (c : Ghosts C) (sure : Bool) (before now : C) (st : State)
-    (On Down On' Down' : List Marked
-    → Type 0) (told : Result T DiskFault) → Serves c sure before now st told On Down
+    (On Down On' Down' : List Marked → Type 0) (told : Result T DiskFault) → Serves c sure before now st told On Down
     → ((past : List Marked) → On past → On' past) → ((past : List Marked) → Down past → Down' past)
     → Serves c sure before now st told On' Down'
 followed c sure before now st On Down On' Down' (Ok x) s on down = (s.0, s.1, on s.0 s.2)
@@ -116,6 +94,5 @@ pub alone_after : {C T : Type 0} (c : Ghosts C) (sure : Bool) (before now : C) (
     → Serves c sure before now st told (λ p. Alone sure st n past p × On p) (λ p. Alone sure st n past p × Down p)
 alone_after c sure before now st n past mid On Down told first s =
     followed c sure before now st (λ p. Alone sure st n mid p × On p) (λ p. Alone sure st n mid p × Down p)
-    (λ p. Alone sure st n past p
-    × On p) (λ p. Alone sure st n past p × Down p) told s (λ p x. (alone_then first x.0, x.1))
-    (λ p x. (alone_then first x.0, x.1))
+    (λ p. Alone sure st n past p × On p) (λ p. Alone sure st n past p × Down p) told s
+    (λ p x. (alone_then first x.0, x.1)) (λ p x. (alone_then first x.0, x.1))

@@ -1,7 +1,7 @@
 -- All places, after events of one connection.
 use Rattle.std.proofs.Common.{◌≡◌, ◌<◌, ◌≤◌, inl, inr, ℕ, ◌+◌, Bool, List, [], ◌∷◌, length, set, get_or, Result, Ok}
 use Rattle.std.proofs.Common.{Err}
-use Rattle.std.proofs.Common.{refl, sym, ◌∙◌, ap, subst, arith, get_or-set_same, get_or-set_other}
+use Rattle.std.proofs.Common.{refl, sym, ◌∙◌, ap, arith, get_or-set_same, get_or-set_other}
 use Rattle.std.proofs.lemmas.Bool.{cases_eq, cases_lt}
 use Rattle.std.proofs.lemmas.List.{get_or_default, get_or_past}
 use Rattle.common.specs.declared.stop.DiskFault.{DiskFault}
@@ -13,15 +13,16 @@ use Rattle.gateway_serve.specs.Conversations.{Conversation, AreTalks, begun}
 use Rattle.gateway_serve.specs.Sockets as sockets
 use Rattle.gateway_serve.specs.Sockets.{Pairs, current_of}
 use Rattle.gateway_serve.specs.declared.sockets.Seen.{Seen}
-use Rattle.gateway_serve.specs.Served.{WentOn, Serves, AllServed, AllLeft}
-use Rattle.gateway_serve.specs.Joined.{Joins, Alone, PlaceJoins, PlaceFell, GoesAt, OthersStay, AllJoin, AllFell}
-use Rattle.gateway_serve.specs.Joined.{PlaceWaits, SamePlaces, IsNew, joint_of, nothing_yet, with_place}
+use Rattle.gateway_serve.specs.Served.{AllServed, AllLeft}
+use Rattle.gateway_serve.specs.Joined.{Joins, Alone, PlaceJoins, PlaceFell, GoesAt, GoesOn, OthersStay, AllJoin}
+use Rattle.gateway_serve.specs.Joined.{AllFell, PlaceWaits, SamePlaces, IsNew, joint_of, nothing_yet, with_place}
 use Rattle.gateway_serve.specs.declared.places.Place.{Place}
 use Rattle.gateway_serve.specs.declared.places.Place.TheVariants.{Free, Open}
 use Rattle.gateway_serve.specs.declared.links.Link.{Link}
 use Rattle.gateway_serve.specs.declared.reasons.Reason.TheVariants.{Over}
 use Rattle.gateway_serve.proofs.After.{followed}
 use Rattle.gateway_serve.proofs.Steps.{opens_closed, unopened}
+use Rattle.gateway_serve.proofs.Joints.{moved}
 use Rattle.gateway_serve.proofs.Talks.{talks_here, alone_step, gave_done, gave_refused}
 use Rattle.gateway_serve.proofs.Freed.{loosely, others_stay, untold_place}
 
@@ -31,18 +32,18 @@ module _ {S : Type 0} (sure : Bool) (st : State) (past now : List Marked) (k : �
     (conns : (history st now).conns k ≡ (history st past).conns k) where
   place_kept : (p : Place S) (ended : List Seen) → PlaceJoins sure p ended st past k → PlaceJoins sure p ended st now k
   place_kept Free ended is = (is.0, talks is.0 is.1, is.2, conns ∙ is.3)
-  place_kept (Open l) ended is = record {
-    latest = is.latest;
-    others = is.others;
-    talks = talks (is.latest ∷ is.others) is.talks;
-    told = is.told;
-    taken = is.taken;
-    few = is.few;
-    given = is.given;
-    pairs = is.pairs;
-    shut = λ e. conns ∙ is.shut e;
-    apart = is.apart;
-  }
+  place_kept (Open l) ended is =
+      moved sure ended st past k (joint_of l) (joint_of l) now is.latest is (talks (is.latest ∷ is.others) is.talks)
+      is.told is.taken is.few is.given (λ e. conns ∙ is.shut e)
+
+-- of one place that is set, and of the others
+pub set_all : {S : Type 0} (P : Place S → ℕ → Type 0) (places : List (Place S)) (n : ℕ) (p' : Place S)
+    → n < length places → P p' n → ((k : ℕ) → (k ≡ n → ⊥) → P (get_or places k Free) k)
+    → (k : ℕ) → P (get_or (set places n p') k Free) k
+set_all P places n p' inside here others k = elim (cases_eq k n) [
+  | inl e ↦ rw (e, get_or-set_same places n p' Free inside) here
+  | inr ne ↦ rw (get_or-set_other places n k p' Free ne) (others k ne)
+]
 
 pub falls : {S : Type 0} (sure : Bool) (p : Place S) (ended : List Seen) (st : State) (past : List Marked) (n : ℕ)
     → PlaceJoins sure p ended st past n → PlaceFell sure p ended st past n
@@ -54,50 +55,34 @@ module _ {S : Type 0} (sure : Bool) (places : List (Place S)) (n : ℕ) (p' : Pl
     (past now : List Marked) (inside : n < length places)
     (alone : Alone sure st n past now) (others : OthersStay n ended ended')
     (all : AllJoin sure places ended st past) where
-  other_place : (k : ℕ) → (k ≡ n → ⊥) → PlaceJoins sure (get_or (set places n p') k Free) (current_of k ended') st now k
-  other_place k ne =
-      subst (λ (x : Place S). PlaceJoins sure x (current_of k ended') st now k) (sym
-      (get_or-set_other places n k p' Free ne))
-      (subst (λ x. PlaceJoins sure (get_or places k Free) x st now k) (sym (others k ne))
-      (place_kept sure st past now k (alone.talks k ne) (alone.conns k ne) (get_or places k Free) (current_of k ended)
-      (all k)))
+  other_place : (k : ℕ) → (k ≡ n → ⊥) → PlaceJoins sure (get_or places k Free) (current_of k ended') st now k
+  other_place k ne = rw (others k ne) (place_kept sure st past now k (alone.talks k ne) (alone.conns k ne)
+      (get_or places k Free) (current_of k ended) (all k))
 
   pub all_joined : PlaceJoins sure p' (current_of n ended') st now n → AllJoin sure (set places n p') ended' st now
-  all_joined here = λ k. elim (cases_eq k n) [
-    | inl e ↦
-        let P : ℕ → Type 0 = λ i. PlaceJoins sure (get_or (set places n p') i Free) (current_of i ended') st now i in
-        subst P (sym e) (subst (λ (x : Place S). PlaceJoins sure x (current_of n ended') st now n)
-        (sym (get_or-set_same places n p' Free inside)) here)
-    | inr ne ↦ other_place k ne
-  ]
+  all_joined here =
+      set_all (λ p k. PlaceJoins sure p (current_of k ended') st now k) places n p' inside here other_place
 
   pub all_fallen : PlaceFell sure p' (current_of n ended') st now n → AllFell sure (set places n p') ended' st now
-  all_fallen here = λ k. elim (cases_eq k n) [
-    | inl e ↦
-        let P : ℕ → Type 0 = λ i. PlaceFell sure (get_or (set places n p') i Free) (current_of i ended') st now i in
-        subst P (sym e) (subst (λ (x : Place S). PlaceFell sure x (current_of n ended') st now n)
-        (sym (get_or-set_same places n p' Free inside)) here)
-    | inr ne ↦ falls sure (get_or (set places n p') k Free) (current_of k ended') st now k (other_place k ne)
-  ]
+  all_fallen here =
+      set_all (λ p k. PlaceFell sure p (current_of k ended') st now k) places n p' inside here
+      (λ k ne. falls sure (get_or places k Free) (current_of k ended') st now k (other_place k ne))
 
 -- what was done at one place, among all
-pub among_all : {C S T : Type 0} (c : Ghosts C) (mid new : C) (told : Result T DiskFault) (places : List (Place S))
-    (n : ℕ) (d p' : Place S) (ended ended' : List Seen)
+pub among_all : {C S T : Type 0} (c : Ghosts C) (old mid new : C) (told : Result T DiskFault)
+    (first places : List (Place S)) (n : ℕ) (d p' : Place S) (was ended ended' : List Seen)
+    → GoesOn c old mid (Ok (tt {0})) first places was ended
     → GoesAt c mid new told (get_or places n d) p' ended ended' n → OthersStay n ended ended' → n < length places
-    → (sure : Bool) (before : C) (st : State) (past : List Marked) → WentOn c sure before mid st past
-    → AllJoin sure places ended st past
-    → Serves c sure before new st told (AllJoin sure (set places n p') ended' st) (AllFell sure
-    (set places n p') ended' st)
-among_all {S = S} c mid new told places n d p' ended ended' goes others inside sure before st past went all =
-    let here : PlaceJoins sure (get_or places n d) (current_of n ended) st past n =
-    subst (λ (x : Place S). PlaceJoins sure x (current_of n ended) st past n) (get_or_default places n Free d inside)
-    (all n) in
-    followed c sure before new st (λ now. Alone sure st n past now × PlaceJoins sure p' (current_of n ended') st now n)
-    (λ now. Alone sure st n past now × PlaceFell sure p' (current_of n ended') st now n)
+    → GoesOn c old new told first (set places n p') was ended'
+among_all c old mid new told first places n d p' was ended ended' on goes others inside =
+    λ sure before st past went joins.
+    let s = on sure before st past went joins in
+    followed c sure before new st (λ now. Alone sure st n s.0 now × PlaceJoins sure p' (current_of n ended') st now n)
+    (λ now. Alone sure st n s.0 now × PlaceFell sure p' (current_of n ended') st now n)
     (AllJoin sure (set places n p') ended' st) (AllFell sure (set places n p') ended' st) told
-    (goes sure before st past went here)
-    (λ now x. all_joined sure places n p' ended ended' st past now inside x.0 others all x.1)
-    (λ now x. all_fallen sure places n p' ended ended' st past now inside x.0 others all x.1)
+    (goes sure before st s.0 s.1 (rw (get_or_default places n Free d inside) at (s.2 n)))
+    (λ now x. all_joined sure places n p' ended ended' st s.0 now inside x.0 others s.2 x.1)
+    (λ now x. all_fallen sure places n p' ended ended' st s.0 now inside x.0 others s.2 x.1)
 
 -- ALL ARE ENDED
 pub all_served : {S : Type 0} (sure : Bool) (places : List (Place S)) (ended : List Seen) (st : State)
@@ -107,7 +92,7 @@ pub all_served : {S : Type 0} (sure : Bool) (places : List (Place S)) (ended : L
 all_served {S} sure places ended st past free all = λ k.
     let is_free : get_or places k Free ≡ Free =
     elim (cases_lt k (length places)) [ inl lt ↦ free k lt | inr le ↦ get_or_past places k Free le ] in
-    subst (λ (x : Place S). PlaceJoins sure x (current_of k ended) st past k) is_free (all k)
+    rw is_free at (all k)
 
 -- ALL ARE LET GO
 abbrev pub LeftAt : Bool → List Seen → State → List Marked → ℕ → Type 0
@@ -128,8 +113,7 @@ pub all_left : {S : Type 0} (sure : Bool) (i : ℕ) (places : List (Place S)) (e
 all_left {S} sure i places ended st past most all = λ k. elim (cases_lt k i) [
   | inl lt ↦ (all k).0 lt
   | inr le ↦
-      let is = subst (λ (x : Place S). PlaceFell sure x (current_of k ended) st past k)
-      (get_or_past places k Free (omega (arith, most, le))) ((all k).1 le) in
+      let is = rw (get_or_past places k Free (omega (arith, most, le))) at ((all k).1 le) in
       (is.0, is.1, loosely _ _ is.2)
 ]
 
@@ -137,40 +121,26 @@ pub one_more_left : {S : Type 0} (sure : Bool) (i : ℕ) (places : List (Place S
     (ended ended' : List Seen) (st : State) (past : List Marked) → i < length places
     → ended' ≡ with_place i Over (get_or places i d) ended → PlaceWaits (get_or places i d)
     → HalfLeft sure i places ended st past → HalfLeft sure (i + 1) (set places i p') ended' st past
-one_more_left {S} sure i places d p' ended ended' st past inside with few all = λ k. let p =
-    get_or places i d in elim (cases_eq k i) [
-      | inl e ↦
-          let here : PlaceFell sure p (current_of i ended) st past i =
-          subst (λ (x : Place S). PlaceFell sure x (current_of i ended) st past i)
-          (get_or_default places i Free d inside) ((all i).1 (omega arith)) in
-          let left : LeftAt sure ended' st past i =
-          subst (λ x. LeftAt sure x st past i) (sym with) (untold_place sure ended st past i p few here) in (
-            λ lt. subst (LeftAt sure ended' st past) (sym e) left,
-            λ le. absurd
-                (omega (arith, le, e)),
-          )
-      | inr ne ↦
-          let others : current_of k ended' ≡ current_of k ended = ap (current_of k) with
-          ∙ others_stay i Over p ended k ne in (
-            λ lt.
-                let is = (all k).0 (omega (arith, lt, ne)) in
-                (is.0, is.1, subst (λ x. Pairs sockets.Fits x is.0) (sym others) is.2),
-            λ le.
-                subst (λ (x : Place S). PlaceFell sure x (current_of k ended') st past k)
-                (sym (get_or-set_other places i k p' Free ne))
-                (subst (λ x. PlaceFell sure (get_or places k Free) x st past k) (sym others)
-                ((all k).1 (omega (arith, le)))),
-          )
-    ]
+one_more_left {S} sure i places d p' ended ended' st past inside with few all = λ k. elim (cases_eq k i) [
+  | inl e ↦ (
+    λ lt. rw (e, with) (untold_place sure ended st past i (get_or places i d) few
+        (rw (get_or_default places i Free d inside) at ((all i).1 (omega arith)))),
+    λ le. absurd (omega (arith, le, e)),
+  )
+  | inr ne ↦
+      let others : current_of k ended' ≡ current_of k ended =
+      rw with (others_stay i Over (get_or places i d) ended k ne) in (
+        λ lt. rw others ((all k).0 (omega (arith, lt, ne))),
+        λ le. rw (get_or-set_other places i k p' Free ne, others) ((all k).1 (omega (arith, le))),
+      )
+]
 
 -- those before the next place are free
 pub free_before : {S : Type 0} (i : ℕ) (places : List (Place S)) (p' : Place S) → i < length places → p' ≡ Free
     → ((k : ℕ) → k < i → get_or places k Free ≡ Free)
     → (k : ℕ) → k < i + 1 → get_or (set places i p') k Free ≡ Free
-free_before i places p' inside free before = λ k lt. elim (cases_eq k i) [
-  | inl e ↦ ap (λ x. get_or (set places i p') x Free) e ∙ (get_or-set_same places i p' Free inside ∙ free)
-  | inr ne ↦ get_or-set_other places i k p' Free ne ∙ before k (omega (arith, lt, ne))
-]
+free_before i places p' inside free before =
+    set_all (λ p k. k < i + 1 → p ≡ Free) places i p' inside (λ lt. free) (λ k ne lt. before k (omega (arith, lt, ne)))
 
 -- THE BEGINNING: no place, and no socket
 none_join : (S : Type 0) (sure : Bool) (st : State) (n : ℕ) → PlaceJoins {S = S} sure (get_or [] n Free) [] st [] n
@@ -178,22 +148,13 @@ none_join S sure st n = ([], refl, tt {0}, refl)
 
 pub new_joins : {S : Type 0} (sure : Bool) (places : List (Place S)) (ended : List Seen) (st : State) → places ≡ []
     → ended ≡ [] → AllJoin sure places ended st []
-new_joins {S} sure places ended st free none = λ n.
-    subst (λ (x : List (Place S)). PlaceJoins sure (get_or x n Free) (current_of n ended) st [] n) (sym free)
-    (subst (λ x. PlaceJoins {S = S} sure (get_or [] n Free) (current_of n x) st [] n) (sym none)
-    (none_join S sure st n))
-
-pub none_served : (sure : Bool) (ended : List Seen) (st : State) → ended ≡ [] → AllServed sure ended st []
-none_served sure ended st none =
-    all_served {S = ℕ} sure [] ended st [] (λ k lt. refl) (new_joins {S = ℕ} sure [] ended st refl none)
+new_joins {S} sure places ended st free none = λ n. rw (free, none) (none_join S sure st n)
 
 -- places that differ only by free ones
 pub same_join : {S : Type 0} (sure : Bool) (old new : List (Place S)) (ended ended' : List Seen) (st : State)
     (past : List Marked)
     → SamePlaces old new → ended' ≡ ended → AllJoin sure old ended st past → AllJoin sure new ended' st past
-same_join {S} sure old new ended ended' st past same is all = λ n.
-    subst (λ x. PlaceJoins sure (get_or new n Free) (current_of n x) st past n) (sym is)
-    (subst (λ (x : Place S). PlaceJoins sure x (current_of n ended) st past n) (sym (same n)) (all n))
+same_join {S} sure old new ended ended' st past same is all = λ n. rw (is, same n) (all n)
 
 -- A CONNECTION IS OPENED, in a place that is free
 module _ {S : Type 0} (sure : Bool) (places : List (Place S)) (n : ℕ) (ended : List Seen) (st : State)
@@ -201,12 +162,12 @@ module _ {S : Type 0} (sure : Bool) (places : List (Place S)) (n : ℕ) (ended :
     (outcome : (step (history st past) (Opened n) (mark_of answer)).outcome ≡ told_done answer)
     (all : AllJoin sure places ended st past) (free : get_or places n Free ≡ Free) where
   at_free : PlaceJoins {S = S} sure Free (current_of n ended) st past n
-  at_free = subst (λ (x : Place S). PlaceJoins sure x (current_of n ended) st past n) free (all n)
+  at_free = rw free at (all n)
 
   begins : (l : Link S) → joint_of l ≡ nothing_yet → (step (history st past) (Opened n) (mark_of answer)).outcome ≡ Done
       → Joins sure (joint_of l) (current_of n ended) st ((Opened n, mark_of answer) ∷ past) n
   begins l new done =
-      subst (λ j. Joins sure j (current_of n ended) st ((Opened n, mark_of answer) ∷ past) n) (sym new) (record {
+      rw new (record {
         latest = begun;
         others = at_free.0;
         talks = talks_here sure st past (Opened n) (mark_of answer) at_free.0 Done at_free.1
@@ -223,13 +184,9 @@ module _ {S : Type 0} (sure : Bool) (places : List (Place S)) (n : ℕ) (ended :
   pub all_opened : (p' : Place S) → n < length places → IsNew p' → (x : Unit {0}) → answer ≡ Ok x
       → AllJoin sure (set places n p') ended st ((Opened n, mark_of answer) ∷ past)
   all_opened p' inside new x ok =
-      let done : (step (history st past) (Opened n) (mark_of answer)).outcome ≡ Done = outcome ∙ ap told_done ok in
-      let here : PlaceJoins sure p' (current_of n ended) st ((Opened n, mark_of answer) ∷ past) n =
-      subst (λ (y : Place S). PlaceJoins sure y (current_of n ended) st ((Opened n, mark_of answer) ∷ past) n)
-      (sym new.1)
-      (begins new.0 new.2 done) in
       all_joined sure places n p' ended ended st past ((Opened n, mark_of answer) ∷ past) inside
-      (alone_step sure st past (Opened n) (mark_of answer)) (λ k ne. refl) all here
+      (alone_step sure st past (Opened n) (mark_of answer)) (λ k ne. refl) all
+      (rw new.1 (begins new.0 new.2 (outcome ∙ ap told_done ok)))
 
   -- or it is refused
   pub all_unopened : (f : SessionError) → answer ≡ Err f
@@ -238,21 +195,17 @@ module _ {S : Type 0} (sure : Bool) (places : List (Place S)) (n : ℕ) (ended :
       let now : List Marked = (Opened n, mark_of answer) ∷ past in
       let told : (step (history st past) (Opened n) (mark_of answer)).outcome ≡ Refused f =
       outcome ∙ ap told_done refused in
-      let undone : (step (history st past) (Opened n) (mark_of answer)).outcome ≡ Done → ⊥ =
-      λ done. let x : Refused f ≡ Done = sym told ∙ done in absurd (cc) in
       let here : PlaceJoins {S = S} sure Free (current_of n ended) st now n = (
         at_free.0,
         talks_here sure st past (Opened n) (mark_of answer) at_free.0 (Refused f) at_free.1
             (gave_refused sure _ _ f told),
         at_free.2,
-        unopened (history st past) n
-            (mark_of answer) undone ∙ at_free.3,
+        unopened (history st past) n (mark_of answer)
+            (λ done. let x : Refused f ≡ Done = sym told ∙ done in absurd (cc)) ∙ at_free.3,
       ) in
       let alone = alone_step sure st past (Opened n) (mark_of answer) in
       λ k. elim (cases_eq k n) [
-        | inl e ↦
-            let P : ℕ → Type 0 = λ i. PlaceJoins sure (get_or places i Free) (current_of i ended) st now i in
-            subst P (sym e) (subst (λ (x : Place S). PlaceJoins sure x (current_of n ended) st now n) (sym free) here)
+        | inl e ↦ rw (e, free) here
         | inr ne ↦ place_kept sure st past now k (alone.talks k ne) (alone.conns k ne) (get_or places k Free)
             (current_of k ended) (all k)
       ]

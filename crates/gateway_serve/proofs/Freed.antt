@@ -1,17 +1,18 @@
 -- Places that are freed, and sockets that are let go.
-use Rattle.std.proofs.Common.{◌≡◌, ℕ, ◌==◌, Bool, true, false, List, [], ◌∷◌, ◌++◌, None, Result, Ok, Err, refl, sym}
-use Rattle.std.proofs.Common.{◌∙◌, ap, subst}
+use Rattle.std.proofs.Common.{arith}
+use Rattle.std.proofs.Common.{◌≡◌, ℕ, Bool, false, List, [], ◌∷◌, ◌++◌, None, Result, Err, refl, sym}
+use Rattle.std.proofs.Common.{◌∙◌, ap}
 use Rattle.std.proofs.Common.{append-nil}
 use Rattle.tus_session.specs.History.{State, Ended, Mark, Marked, history, step}
 use Rattle.tus_session.specs.declared.errors.SessionError.{SessionError}
-use Rattle.tus_session.specs.declared.errors.SessionError.TheVariants.{NoMemory, DiskFault, TooMany, Closed, Down}
+use Rattle.tus_session.specs.declared.errors.SessionError.TheVariants.{DiskFault}
 use Rattle.tus_session.specs.Connections.{mark_of}
 use Rattle.gateway_serve.specs.Conversations.{Conversation, AreTalks, hung_up}
 use Rattle.gateway_serve.specs.Sockets as sockets
 use Rattle.gateway_serve.specs.Sockets.{IsQuietly, IsWhole, Pairs, current_of}
 use Rattle.common.specs.Histories.{history_of}
 use Rattle.gateway_serve.specs.declared.sockets.Seen.{Seen}
-use Rattle.gateway_serve.specs.Joined.{Joint, Joins, IsOver, PlaceJoins, PlaceFell, OthersStay, MayEnd, joint_of}
+use Rattle.gateway_serve.specs.Joined.{Joint, Joins, PlaceJoins, PlaceFell, OthersStay, MayEnd, joint_of}
 use Rattle.gateway_serve.specs.Joined.{PlaceWaits, with_place}
 use Rattle.gateway_serve.specs.Waiting.{FewWait}
 use Rattle.gateway_serve.specs.Bytes.{current}
@@ -21,7 +22,7 @@ use Rattle.gateway_serve.specs.declared.sockets.Latest.{Latest}
 use Rattle.gateway_serve.specs.declared.links.Link.{Link}
 use Rattle.gateway_serve.specs.declared.places.Place.{Place}
 use Rattle.gateway_serve.specs.declared.places.Place.TheVariants.{Free, Open}
-use Rattle.gateway_serve.proofs.Steps.{by_true, by_false, same_number, other_number, ended_shuts, ended_lost}
+use Rattle.gateway_serve.proofs.Steps.{same_number, other_number, ended_shuts, ended_lost}
 use Rattle.gateway_serve.proofs.Talks.{talks_here, gave_ended}
 
 -- its socket is the first of those of the connection
@@ -29,11 +30,10 @@ abbrev current_at : ℕ → Joint → Latest → Reason → Seen
 current_at n j latest reason = record { conn = n; came = history_of j.came; went = history_of j.went; latest = latest; reason = reason }
 
 first_current : (n : ℕ) (s : Seen) (ended : List Seen) → s.conn ≡ n → current_of n (s ∷ ended) ≡ s ∷ current_of n ended
-first_current n s ended e = by_true (n == s.conn) _ _ (subst (λ k. (n == k) ≡ true) (sym e) (same_number n))
+first_current n s ended e = rw (e, same_number n) refl
 
 others_current : (n : ℕ) (s : Seen) (ended : List Seen) → s.conn ≡ n → OthersStay n ended (s ∷ ended)
-others_current n s ended e = λ k ne. by_false (k == s.conn) _ _
-    (subst (λ i. (k == i) ≡ false) (sym e) (other_number k n ne))
+others_current n s ended e = λ k ne. rw (e, other_number k n ne) refl
 
 pub others_stay : {S : Type 0} (n : ℕ) (reason : Reason) (p : Place S) (ended : List Seen)
     → OthersStay n ended (with_place n reason p ended)
@@ -50,9 +50,7 @@ if_whole (Why.Lost gone) l may = may
 if_whole Why.Over l may = λ whole. absurd whole
 
 not_closed : {S : Type 0} (reason : Reason) (p : Place S) → MayEnd reason p → reason ≡ Why.Closed → ⊥
-not_closed Why.Closed p may e = may
-not_closed (Why.Lost gone) p may e = absurd (cc)
-not_closed Why.Over p may e = absurd (cc)
+not_closed reason p may e = grind arith
 
 pub loosely : (current : List Seen) (cs : List Conversation) → Pairs sockets.Served current cs
     → Pairs sockets.Fits current cs
@@ -66,35 +64,15 @@ module _ (sure : Bool) (ended : List Seen) (st : State) (past : List Marked) (n 
   all_went j is none = sym (append-nil j.went) ∙ (ap (λ l. j.went ++ l) (sym none) ∙ is.given)
 
   fits : (latest : Latest) (reason : Reason) (j : Joint) (is : Joins sure j (current_of n ended) st past n)
-      → IfWhole reason j
-      → FewWait j.output → sockets.Fits (current_at n j latest reason) is.latest
-  fits latest reason j is whole few = record {
-    taken = (j.input, is.taken, is.few);
-    written = (j.output, sym is.given, few);
-    emptied = λ w. all_went j is (whole w);
-    untold = λ e. is.told;
+      (c : Conversation) → c.took ≡ is.latest.took → c.gave ≡ is.latest.gave
+      → (reason ≡ Why.Closed → c.told ≡ false) → IfWhole reason j → FewWait j.output
+      → sockets.Fits (current_at n j latest reason) c
+  fits latest reason j is c took gave untold whole few = record {
+    taken = (j.input, rw took is.taken, is.few);
+    written = (j.output, rw gave (sym is.given), few);
+    emptied = λ w. rw gave (all_went j is (whole w));
+    untold = untold;
   }
-
-  -- the session closed the connection, and all is written
-  over_pairs : (latest : Latest) (j : Joint) → IsOver j → FewWait j.output → Joins sure j (current_of n ended) st past n
-      → (cs : List Conversation) × AreTalks sure st past n cs
-      × Pairs sockets.Served (current_of n (current_at n j latest Why.Closed ∷ ended)) cs
-  over_pairs latest j over few is =
-      let s = current_at n j latest Why.Closed in
-      let served : sockets.Served s is.latest =
-      record { fits = fits latest Why.Closed j is (λ w. over.1) few; whole = λ e. all_went j is over.1 } in (
-        is.latest ∷ is.others,
-        is.talks,
-        subst (λ current. Pairs sockets.Served current (is.latest ∷ is.others)) (sym (first_current n s ended refl))
-            (served, is.pairs),
-      )
-
-  pub over_freed : {S : Type 0} (l : Link S) → IsOver (joint_of l) → FewWait l.output
-      → Joins sure (joint_of l) (current_of n ended) st past n
-      → PlaceJoins {S = S} sure Free (current_of n (with_place n Why.Closed (Open l) ended)) st past n
-  over_freed l over few is =
-      let all = over_pairs l.socket.latest (joint_of l) over few is in
-      (all.0, all.1, all.2, is.shut over.0 ∙ sym is.apart)
 
   -- the session was told that its client is gone
   told_pairs : (latest : Latest) (reason : Reason) (m : Mark) (j : Joint) → IfWhole reason j
@@ -105,49 +83,18 @@ module _ (sure : Bool) (ended : List Seen) (st : State) (past : List Marked) (n 
       let s = current_at n j latest reason in
       let served : sockets.Served s (hung_up is.latest) =
       record {
-        fits = record {
-          taken = (j.input, is.taken, is.few);
-          written = (j.output, sym is.given, few);
-          emptied = λ w. all_went j is (whole w);
-          untold = λ e. absurd (unclosed e);
-        };
+        fits = fits latest reason j is (hung_up is.latest) refl refl (λ e. absurd (unclosed e)) whole few;
         whole = λ e. absurd (cc);
       } in (
         hung_up is.latest ∷ is.others,
         talks_here sure st past (Ended n) m (is.latest ∷ is.others) (step (history st past) (Ended n) m).outcome
             is.talks (gave_ended sure (history st past) n m),
-        subst (λ current. Pairs sockets.Served current (hung_up is.latest ∷ is.others))
-            (sym (first_current n s ended refl)) (served, is.pairs),
+        rw (first_current n s ended refl) (served, is.pairs),
       )
 
   told_none : (answer : Result (Unit {0}) SessionError) → (answer ≡ Err DiskFault → ⊥)
       → (history st ((Ended n, mark_of answer) ∷ past)).conns n ≡ None
-  told_none (Ok x) ok = ended_shuts (history st past) n
-  told_none (Err NoMemory) ok = ended_lost (history st past) n
-  told_none (Err TooMany) ok = ended_shuts (history st past) n
-  told_none (Err Closed) ok = ended_shuts (history st past) n
-  told_none (Err Down) ok = ended_shuts (history st past) n
-  told_none (Err DiskFault) ok = absurd (ok refl)
-
-  pub told_freed : {S : Type 0} (reason : Reason) (p : Place S) (answer : Result (Unit {0}) SessionError)
-      → MayEnd reason p → PlaceWaits p → (p ≡ Free → ⊥)
-      → (answer ≡ Err DiskFault → ⊥) → PlaceJoins sure p (current_of n ended) st past n
-      → PlaceJoins {S = S} sure Free (current_of n (with_place n reason p ended)) st
-      ((Ended n, mark_of answer) ∷ past) n
-  told_freed reason Free answer may few used ok is = absurd (used refl)
-  told_freed reason (Open l) answer may few used ok is =
-      let all = told_pairs l.socket.latest reason (mark_of answer) (joint_of l) (if_whole reason l may)
-      (not_closed reason (Open l) may) few is in
-      (all.0, all.1, all.2, told_none answer ok ∙ sym is.apart)
-
-  pub told_fell : {S : Type 0} (reason : Reason) (p : Place S) (m : Mark) → MayEnd reason p → PlaceWaits p
-      → (p ≡ Free → ⊥)
-      → PlaceJoins sure p (current_of n ended) st past n
-      → PlaceFell {S = S} sure Free (current_of n (with_place n reason p ended)) st ((Ended n, m) ∷ past) n
-  told_fell reason Free m may few used is = absurd (used refl)
-  told_fell reason (Open l) m may few used is =
-      told_pairs l.socket.latest reason m (joint_of l) (if_whole reason l may) (not_closed reason (Open l) may)
-      few is
+  told_none answer ok = grind (arith, ended_shuts, ended_lost)
 
   -- THE PLACE AFTER, as it is then
   pub told_place : {S : Type 0} (reason : Reason) (p p' : Place S) (ended' : List Seen)
@@ -155,28 +102,20 @@ module _ (sure : Bool) (ended : List Seen) (st : State) (past : List Marked) (n 
       → p' ≡ Free → ended' ≡ with_place n reason p ended → MayEnd reason p → PlaceWaits p → (p ≡ Free → ⊥)
       → (answer ≡ Err DiskFault → ⊥) → PlaceJoins sure p (current_of n ended) st past n
       → PlaceJoins sure p' (current_of n ended') st ((Ended n, mark_of answer) ∷ past) n
-  told_place {S} reason p p' ended' answer free with may few used ok is =
-      subst (λ (x : Place S). PlaceJoins sure x (current_of n ended') st ((Ended n, mark_of answer) ∷ past) n)
-      (sym free)
-      (subst (λ x. PlaceJoins {S = S} sure Free (current_of n x) st ((Ended n, mark_of answer) ∷ past) n) (sym with)
-      (told_freed reason p answer may few used ok is))
+  told_place reason Free p' ended' answer free with may few used ok is = absurd (used refl)
+  told_place reason (Open l) p' ended' answer free with may few used ok is =
+      let all = told_pairs l.socket.latest reason (mark_of answer) (joint_of l) (if_whole reason l may)
+      (not_closed reason (Open l) may) few is in
+      rw (free, with) (all.0, all.1, all.2, told_none answer ok ∙ sym is.apart)
 
   pub fallen_place : {S : Type 0} (reason : Reason) (p p' : Place S) (ended' : List Seen) (m : Mark) → p' ≡ Free
       → ended' ≡ with_place n reason p ended → MayEnd reason p → PlaceWaits p → (p ≡ Free → ⊥)
       → PlaceJoins sure p (current_of n ended) st past n
       → PlaceFell sure p' (current_of n ended') st ((Ended n, m) ∷ past) n
-  fallen_place {S} reason p p' ended' m free with may few used is =
-      subst (λ (x : Place S). PlaceFell sure x (current_of n ended') st ((Ended n, m) ∷ past) n) (sym free)
-      (subst (λ x. PlaceFell {S = S} sure Free (current_of n x) st ((Ended n, m) ∷ past) n) (sym with)
-      (told_fell reason p m may few used is))
-
-  pub over_place : {S : Type 0} (l : Link S) (p' : Place S) (ended' : List Seen) → p' ≡ Free
-      → ended' ≡ with_place n Why.Closed (Open l) ended → IsOver (joint_of l)
-      → FewWait l.output → Joins sure (joint_of l) (current_of n ended) st past n
-      → PlaceJoins sure p' (current_of n ended') st past n
-  over_place {S} l p' ended' free with over few is =
-      subst (λ (x : Place S). PlaceJoins sure x (current_of n ended') st past n) (sym free)
-      (subst (λ x. PlaceJoins {S = S} sure Free (current_of n x) st past n) (sym with) (over_freed l over few is))
+  fallen_place reason Free p' ended' m free with may few used is = absurd (used refl)
+  fallen_place reason (Open l) p' ended' m free with may few used is =
+      rw (free, with) (told_pairs l.socket.latest reason m (joint_of l) (if_whole reason l may)
+      (not_closed reason (Open l) may) few is)
 
   -- WITHOUT A WORD to the session
   pub untold_place : {S : Type 0} (p : Place S) → PlaceWaits p → PlaceFell sure p (current_of n ended) st past n
@@ -186,9 +125,8 @@ module _ (sure : Bool) (ended : List Seen) (st : State) (past : List Marked) (n 
   untold_place (Open l) few is = (
     is.latest ∷ is.others,
     is.talks,
-    subst (λ current. Pairs sockets.Fits current (is.latest ∷ is.others))
-        (sym (first_current n (current n l.socket Why.Over) ended refl)) (
-          fits l.socket.latest Why.Over (joint_of l) is (λ w. absurd w) few,
-          loosely (current_of n ended) is.others is.pairs,
-        ),
+    rw (first_current n (current n l.socket Why.Over) ended refl) (
+      fits l.socket.latest Why.Over (joint_of l) is is.latest refl refl (λ e. is.told) (λ w. absurd w) few,
+      loosely (current_of n ended) is.others is.pairs,
+    ),
   )

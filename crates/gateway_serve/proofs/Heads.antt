@@ -1,4 +1,5 @@
 -- The search for the end of a head finds its first empty line, and nothing else.
+use Rattle.std.proofs.Common.{arith}
 use Rattle.std.proofs.Common.{◌≡◌, ◌⊎◌, ◌↔◌, ◌==◌, inl, inr, refl, sym, subst, ap, ℕ, zero, suc, Bool, true, false}
 use Rattle.std.proofs.Common.{List, [], ◌∷◌, ◌++◌, ◌<◌, ◌+◌, ◌∙◌, length, take, drop, get_or, replicate, if◌then◌else◌}
 use Rattle.std.proofs.lemmas.List.{take_more, take-append-drop}
@@ -97,9 +98,7 @@ found_by head bytes n is =
     ∙ ap (λ h. head_by h (drop n bytes)) is ∙ stays_found (drop n bytes)
 
 pub come_found : (head : HeadEnd) → has_come head ≡ true → head ≡ Found
-come_found InLine is = absurd (cc)
-come_found LineStart is = absurd (cc)
-come_found Found is = refl
+come_found head is = grind arith
 
 not_yet : (come found : Bool) (r with : Request) (now : Duration) → come ≡ false → found ≡ true
     → (if come then r else measured_from with found now) ≡ measured_from with true now

@@ -1,28 +1,19 @@
 -- Why connections ended.
-use Rattle.std.proofs.Common.{◌≡◌, ◌≢◌, ◌⊎◌, ◌<◌, ◌≤◌, inl, inr, refl, sym, subst, ℕ, ◌+◌, List, [], ◌∷◌}
-use Rattle.std.proofs.Common.{length, Option, arith}
+use Rattle.std.proofs.Common.{◌≡◌, ◌≢◌, ◌⊎◌, ◌<◌, ◌≤◌, inl, inr, refl, ℕ, ◌+◌, List}
+use Rattle.std.proofs.Common.{length, arith}
 use Rattle.std.specs.declared.io.ErrorKind.{ErrorKind}
-use Rattle.gateway_serve.specs.Sockets.{IsQuiet, IsQuietly}
 use Rattle.gateway_serve.specs.declared.sockets.Seen.{Seen}
 use Rattle.gateway_serve.specs.Bytes.{latest_of, current}
-use Rattle.gateway_serve.specs.Gone.{EndsBy, EndsInTime, IsGoneSo, IfLost, IsFailure}
-use Rattle.gateway_serve.specs.Joined.{joint_of, at_by, with_place}
-use Rattle.gateway_serve.specs.Reasons.{IsLostBy, EndedOnce, none, free, one_more, AtMostOnce}
-use Rattle.gateway_serve.specs.Reasons.{IsLeftReasoned}
-use Rattle.gateway_serve.specs.Streams.{socket_of}
+use Rattle.gateway_serve.specs.Gone.{EndsBy, IfLost, IsFailure}
+use Rattle.gateway_serve.specs.Joined.{with_place}
+use Rattle.gateway_serve.specs.Reasons.{EndedOnce, none, free, one_more, AtMostOnce}
 use Rattle.gateway_serve.specs.declared.sockets.Latest.{Latest}
 use Rattle.gateway_serve.specs.declared.sockets.Latest.TheVariants as Was
 use Rattle.gateway_serve.specs.declared.sockets.Socket.{Socket}
-use Rattle.gateway_serve.specs.declared.idle.Tick.{Tick}
-use Rattle.gateway_serve.specs.declared.links.Link.{Link}
-use Rattle.gateway_serve.specs.declared.requests.Request.{Request}
 use Rattle.gateway_serve.specs.declared.reasons.Gone.{Gone}
-use Rattle.gateway_serve.specs.declared.reasons.Gone.TheVariants as Why
 use Rattle.gateway_serve.specs.declared.reasons.Gone.TheVariants.{Failed}
 use Rattle.gateway_serve.specs.declared.reasons.Reason.{Reason}
 use Rattle.gateway_serve.specs.declared.reasons.Reason.TheVariants.{Over}
-use Rattle.gateway_serve.specs.declared.links.Stage.{Stage}
-use Rattle.gateway_serve.specs.declared.links.Stage.TheVariants as Stages
 use Rattle.gateway_serve.specs.declared.links.Left.{Left}
 use Rattle.gateway_serve.specs.declared.links.Left.TheVariants as Is
 use Rattle.gateway_serve.specs.declared.places.Place.{Place}
@@ -36,7 +27,7 @@ pub failed_lost : (left : Left) (latest : Latest) (kind : ErrorKind) → latest 
 failed_lost Is.Open latest kind was is = tt
 failed_lost Is.Idle latest kind was is = tt
 failed_lost Is.Closed latest kind was is = tt
-failed_lost (Is.Lost gone) latest kind was is = subst (λ x. EndsBy x latest) (sym is.0) (was, is.1)
+failed_lost (Is.Lost gone) latest kind was is = rw is.0 (was, is.1)
 
 -- a turn lost it, or else the time
 pub still_lost : (left : Left) (I : Gone → Type 0) → IfLost left (λ gone. (left ≡ Is.Lost gone) ⊎ I gone)
@@ -52,38 +43,8 @@ lost_by mid new left Is.Open I same ends is = tt
 lost_by mid new left Is.Idle I same ends is = tt
 lost_by mid new left Is.Closed I same ends is = tt
 lost_by {S} mid new left (Is.Lost gone) I same ends is = elim is [
-  | inl e ↦ inl (subst (λ (s : Socket S). EndsBy gone (latest_of s)) (sym same)
-      (subst (λ x. IfLost x (λ y. EndsBy y (latest_of mid))) e ends))
+  | inl e ↦ inl (rw same (rw e at ends))
   | inr late ↦ inr late
-]
-
--- one that is lost has its reason
-pub gone_so : {S : Type 0} (l : Link S) (tick : Tick) (gone : Gone) → IsLostBy l tick gone
-    → IsGoneSo gone (latest_of (socket_of l))
-gone_so l tick gone is = elim is [
-  | inl ends ↦ inl ends
-  | inr late ↦ inr (subst EndsInTime (sym late.0) late.1)
-]
-
--- and one that is quietly lost has written all
-quiet_at : (stage : Stage) (output : List ℕ) (request : Option Request) → IsQuiet (at_by stage output request)
-    → output ≡ []
-quiet_at Stages.Taking [] request is = refl
-quiet_at Stages.Taking (b ∷ output) request is = absurd is
-quiet_at Stages.Giving output request is = absurd is
-quiet_at Stages.Closed output request is = absurd is
-
-answered_loud : (gone : Gone) (latest : Latest) → EndsBy gone latest → IsQuietly gone → ⊥
-answered_loud Why.Ended latest is quiet = quiet
-answered_loud (Failed kind) latest is quiet = quiet
-answered_loud Why.Stuck latest is quiet = quiet
-answered_loud (Why.Late late) latest is quiet = is
-
-pub quietly_gone : {S : Type 0} (l : Link S) (tick : Tick) (gone : Gone) → IsLostBy l tick gone → IsQuietly gone
-    → (joint_of l).output ≡ []
-quietly_gone l tick gone is quiet = elim is [
-  | inl ends ↦ absurd (answered_loud gone (latest_of (socket_of l)) ends quiet)
-  | inr late ↦ quiet_at l.stage l.output l.request (subst IsQuietly late.0 quiet)
 ]
 
 -- WHEN SERVING IS OVER
@@ -95,31 +56,22 @@ one_ended before n (Open l) ended is = one_more (current n l.socket Over) ended 
 pub ended_once : {S : Type 0} (before : List Seen) (n : ℕ) (p : Place S) (ended ended' : List Seen)
     → ended' ≡ with_place n Over p ended → EndedOnce before n ended → EndedOnce before (n + 1) ended'
 ended_once before n p ended ended' with is =
-    subst (EndedOnce before (n + 1)) (sym with) (one_ended before n p ended is)
+    rw with (one_ended before n p ended is)
 
 pub none_more : (ended : List Seen) → AtMostOnce ended ended
 none_more ended = (0, none)
 
-pub none_left_reasoned : (ended : List Seen) → ended ≡ [] → IsLeftReasoned ended
-none_left_reasoned ended e = subst IsLeftReasoned (sym e) ([], ([], tt {0}, none_more []), none_more [])
-
 -- HOW MANY ENDED: a place adds one or none
 more_there : {S : Type 0} (n : ℕ) (reason : Reason) (p : Place S) (ended : List Seen)
     → length ended ≤ length (with_place n reason p ended)
-more_there n reason Free ended = omega arith
-more_there n reason (Open l) ended = omega arith
+more_there n reason p ended = grind arith
 
 pub more_ended : {S : Type 0} (n : ℕ) (reason : Reason) (p : Place S) (ended ended' : List Seen)
     → ended' ≡ with_place n reason p ended → length ended ≤ length ended'
-more_ended n reason p ended ended' with = subst (λ e. length ended ≤ length e) (sym with) (more_there n reason p ended)
+more_ended n reason p ended ended' with = rw with (more_there n reason p ended)
 
 -- so no more connections are closed than ended
 pub closed_ended : (turned : Turned) (closed closed' : ℕ) (ended ended' : List Seen) → length ended ≤ length ended'
     → (turned ≡ Came.Closed → length ended < length ended') → (turned ≡ Came.Closed → closed' ≤ closed + 1)
     → (turned ≢ Came.Closed → closed' ≡ closed) → closed ≤ length ended → closed' ≤ length ended'
-closed_ended Came.Idle closed closed' ended ended' more one adds same few =
-    omega (arith, more, few, same (λ e. absurd (cc)))
-closed_ended Came.Moved closed closed' ended ended' more one adds same few =
-    omega (arith, more, few, same (λ e. absurd (cc)))
-closed_ended Came.Closed closed closed' ended ended' more one adds same few =
-    omega (arith, few, one refl, adds refl)
+closed_ended turned closed closed' ended ended' more one adds same few = grind arith

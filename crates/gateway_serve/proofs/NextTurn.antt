@@ -1,6 +1,6 @@
 -- What becomes of clients, turn by turn.
 use Rattle.std.proofs.Common.{◌≡◌, ◌<◌, ◌≤◌, ℕ, ◌+◌, ◌-◌, ◌^◌, List, [], ◌∷◌, length, Bool, true, false}
-use Rattle.std.proofs.Common.{refl, ap, sym, subst, ◌∙◌, arith}
+use Rattle.std.proofs.Common.{refl, ap, ◌∙◌, arith}
 use Rattle.gateway_serve.specs.Acceptors.{LetsIn, LetsInBy, given, one_if}
 use Rattle.gateway_serve.specs.declared.doors.Clients.{Clients}
 use Rattle.gateway_serve.specs.declared.doors.Door.{Door}
@@ -21,14 +21,12 @@ none_asked before passes none = record {
 -- the listener was asked, and none waited
 given_one : (gave : Bool) (since : List Bool) (n : ℕ) → given since ≡ n → given (gave ∷ since) ≡ n + one_if gave
 unfolding given
-given_one true since n e = omega (arith, e)
-given_one false since n e = omega (arith, e)
+given_one gave since n e = grind arith
 
 none_given : (gave : Bool) (since : List Bool) (waits : ℕ) → (given since ≡ 0 → waits ≡ 0)
     → given (gave ∷ since) ≡ 0 → waits ≡ 0
 unfolding given
-none_given true since waits none e = absurd (omega (arith, e))
-none_given false since waits none e = none (omega (arith, e))
+none_given gave since waits none e = grind arith
 
 pub asked_one : (before answers answers' : List Bool) (turns : ℕ) (clients : Clients) (waits waits' gave : Bool)
     (passes passes' : ℕ) → answers' ≡ gave ∷ answers → waits ≡ false → waits' ≡ gave → passes' ≤ 31
@@ -39,8 +37,7 @@ asked_one before answers answers' turns clients waits waits' gave passes passes'
     record {
       since = gave ∷ l.since;
       asked = e ∙ ap (λ xs. gave ∷ xs) l.asked;
-      each = subst (λ b. given (gave ∷ l.since) ≡ clients.opened + clients.refused + one_if b) (sym is)
-          (given_one gave l.since (clients.opened + clients.refused) (omega (arith, all)));
+      each = rw is (given_one gave l.since (clients.opened + clients.refused) (omega (arith, all)));
       most = omega (arith, l.most);
       often = omega (arith, l.often, few);
       none = none_given gave l.since clients.waits l.none;
@@ -66,8 +63,7 @@ counts_on before answers turns left clients waits passes l some few fits = (
 pub next_turn : {S : Type 0} (left turns : ℕ) (before answers : List Bool) (d : Door S) → 0 < left → left ≤ turns
     → LetsInBy before answers (turns - left + 1) d → LetsInBy before answers (turns - (left - 1)) d
 next_turn left turns before answers d some few lets =
-    let e : turns - left + 1 ≡ turns - (left - 1) = omega (arith, some, few) in
-    subst (λ taken. LetsInBy before answers taken d) e lets
+    let e : turns - (left - 1) ≡ turns - left + 1 = omega (arith, some, few) in rw e lets
 
 -- and however many it may pass over
 pub taken_so : (before answers : List Bool) (turns : ℕ) (clients : Clients) (waits : Bool) (passes : ℕ)

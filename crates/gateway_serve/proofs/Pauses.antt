@@ -1,5 +1,5 @@
 -- The longest pause.
-use Rattle.std.proofs.Common.{◌≡◌, ◌⊎◌, inl, inr, ℕ, ◌+◌, List, Option, Some, None, get_or, sym, subst, arith}
+use Rattle.std.proofs.Common.{◌≡◌, ◌⊎◌, inl, inr, ℕ, ◌+◌, List, Option, Some, None, get_or, sym, arith}
 use Rattle.std.proofs.lemmas.Bool.{cases_eq}
 use Rattle.std.specs.Prelude.{IfSome}
 use Rattle.std.specs.declared.time.Duration.{Duration}
@@ -33,15 +33,11 @@ module _ {S : Type 0} (places : List (Place S)) (n : ℕ) where
       → IsLongest places n known → IsLongest places (n + 1) result
   longest_on known result since e one before other is = (
     elim one [
-      | inl same ↦ subst (λ x. IfSome x (IsOf places (n + 1))) (sym same) (still_of known is.0)
-      | inr here ↦ subst (λ x. IfSome x (IsOf places (n + 1))) (sym here) (here_of since (sym e))
+      | inl same ↦ rw same (still_of known is.0)
+      | inr here ↦ rw here (here_of since (sym e))
     ],
     λ k below. elim (cases_eq k n) [
-      | inl at ↦ subst (λ i. BeganBy result (between_since (get_or places i Free))) (sym at)
-          (subst (BeganBy result) e other)
+      | inl same ↦ rw (same, ← e) other
       | inr ne ↦ began_by result known (between_since (get_or places k Free)) before (is.1 k (omega (arith, below, ne)))
     ],
   )
-
-pub none_longest : {S : Type 0} (places : List (Place S)) → IsLongest places 0 None
-none_longest places = (tt, λ k below. absurd (omega (arith, below)))

@@ -1,10 +1,7 @@
-use Rattle.gateway_script.specs.Runs.{view}
 use Rattle.gateway_script.proofs.Reaching.{flow_open}
 use Rattle.gateway_script.proofs.lines.go_on.Goals as goal
 
 pub returns-in-None-clause-does : goal.returns-in-None-clause-does
 returns-in-None-clause-does g c = λ sure before st r prefix given at.
-    flow_open (view g.C.Connections sure before c.give_text.new.core st
-    (g.W.CountedWrite.contents c.give_text.new.writer)
-    prefix) r c.args.answer given c.args.conn c.give_text.result c.in-None.ensures
+    flow_open _ r c.args.answer given c.args.conn c.give_text.result c.in-None.ensures
     (c.give_text.ensures.does sure before st r prefix at)

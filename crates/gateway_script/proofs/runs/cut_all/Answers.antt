@@ -1,8 +1,8 @@
-use Rattle.std.proofs.Common.{◌≡◌, ◌+◌, ◌-◌, suc, ℕ, arith, Ok, Err, subst, ◌∙◌}
+use Rattle.std.proofs.Common.{◌≡◌, ◌+◌, ◌-◌, ℕ, suc, arith, Err, subst, ◌∙◌}
 use Rattle.std.proofs.lemmas.Result.{err_from_is_err_and}
 use Rattle.tus_session.proofs.Counting.{uncounted}
 use Rattle.gateway_script.specs.Script.{cut_from}
-use Rattle.gateway_script.specs.Runs.{view, Reaches, CutOne}
+use Rattle.gateway_script.specs.Runs.{Reaches}
 use Rattle.gateway_script.proofs.Reaching.{reach_both, went_after}
 use Rattle.gateway_script.proofs.Ending.{cut_none, cut_fails}
 use Rattle.gateway_script.proofs.runs.cut_all.Goals as goal
@@ -14,13 +14,10 @@ returns-in_err-cut_open-clause-does g c = λ sure before st r prefix at.
     let k : ℕ = c.loop-left.left - 1 in
     let n : ℕ = most_open - c.loop-left.left in
     let step : c.loop-left.left ≡ suc k = omega (arith, c.loop-left-test.true) in
-    let v = view g.C.Connections sure before c.cut_open.new.core st
-    (g.W.CountedWrite.contents c.cut_open.new.writer) prefix in
     let p = err_from_is_err_and c.from_residual.result c.from_residual.ensures.1 in
-    let fault = c.in_err-cut_open.field-0.0 in
-    rw (p.1, p.2) (went_after v (Err fault) (cut_from most_open 0) (cut_from (suc k) n) r i.0
+    rw (p.1, p.2) (went_after _ (Err _) (cut_from most_open 0) (cut_from (suc k) n) r i.0
     (subst (λ k. Reaches (cut_from most_open 0) r (cut_from k n) i.0) step i.1)
-    (cut_fails v fault k n i.0 (c.in_err-cut_open.ensures.does sure before st i.0 prefix k i.2)))
+    (cut_fails _ _ k n i.0 (c.in_err-cut_open.ensures.does sure before st i.0 prefix k i.2)))
 
 pub loop-left-preserved : goal.loop-left-preserved
 loop-left-preserved g c = (
@@ -32,14 +29,11 @@ loop-left-preserved g c = (
       let k : ℕ = c.loop-left.left - 1 in
       let n : ℕ = most_open - c.loop-left.left in
       let step : c.loop-left.left ≡ suc k = omega (arith, c.loop-left-test.true) in
-      let next : n + 1 ≡ most_open - k = omega (arith, c.loop-left-test.true, c.loop-left.invariant.0) in
-      let v = view g.C.Connections sure before c.cut_open.new.core st
-      (g.W.CountedWrite.contents c.cut_open.new.writer) prefix in
-      let p : CutOne v (Ok (tt {0})) k n i.0 = c.in_ok-cut_open.ensures.does sure before st i.0 prefix k i.2 in (
+      let next : most_open - k ≡ n + 1 = omega (arith, c.loop-left-test.true, c.loop-left.invariant.0) in
+      let p = c.in_ok-cut_open.ensures.does sure before st i.0 prefix k i.2 in (
         p.0,
         reach_both (cut_from most_open 0) (cut_from (suc k) n) (cut_from k (most_open - k)) r i.0 p.0
-            (subst (λ k. Reaches (cut_from most_open 0) r (cut_from k n) i.0) step i.1)
-            (subst (λ m. Reaches (cut_from (suc k) n) i.0 (cut_from k m) p.0) next p.1),
+            (subst (λ k. Reaches (cut_from most_open 0) r (cut_from k n) i.0) step i.1) (rw next p.1),
         p.2,
       ),
 )
@@ -49,8 +43,7 @@ returns-clause-does g c = λ sure before st r prefix at.
     let i = c.loop-left.invariant.3 sure before st r prefix at in
     let none : c.loop-left.left ≡ 0 = omega (arith, c.loop-left-test.false) in (
       i.0,
-      reach_both (cut_from most_open 0) (cut_from 0 most_open) (λ x. x) r i.0 i.0
-          (subst (λ k. Reaches (cut_from most_open 0) r (cut_from k (most_open - k)) i.0) none i.1)
+      reach_both (cut_from most_open 0) (cut_from 0 most_open) (λ x. x) r i.0 i.0 (rw none at i.1)
           (cut_none most_open i.0),
       i.2,
     )

@@ -1,58 +1,45 @@
-use Rattle.std.proofs.Common.{◌≡◌, ℕ, List, sym, ◌∙◌, ap}
+use Rattle.std.proofs.Common.{◌≡◌, ◌||◌, ℕ, Bool, false, List, ap, sym, ◌∙◌, Ok, Err}
 use Rattle.tus_request.specs.Reading.{before}
+use Rattle.std.proofs.lemmas.Bool.{or_left, or_right}
 use Rattle.std.proofs.lemmas.Result.{err_from_is_err_and}
 use Rattle.gateway_script.specs.Script.{Order, is_long, is_bad, order_of, bared, order_in}
-use Rattle.gateway_script.specs.Shown.{order_shown}
-use Rattle.gateway_script.specs.Runs.{view}
-use Rattle.gateway_script.proofs.Ending.{line_bad, line_wants, line_ran, line_stops, or_first, or_second, or_neither}
+use Rattle.gateway_script.proofs.Ending.{line_bad, line_wants, line_ran}
 use Rattle.gateway_script.proofs.runs.run_line.Goals as goal
-
--- what a line's text asks for
-wanted : (line text : List ℕ) (o : Order) → text ≡ before 10 line → o ≡ order_of (bared text) → o ≡ order_in line
-wanted line text o is asks = asks ∙ ap (λ t. order_of (bared t)) is
 
 pub returns-then-too_long-clause-does : goal.returns-then-too_long-clause-does
 returns-then-too_long-clause-does g c = λ sure before st r prefix lines at.
-    line_bad (view g.C.Connections sure before c.args.core.now st (g.W.CountedWrite.contents c.args.writer.now) prefix)
-    c.args.number c.args.start c.args.line.now lines r at
-    (or_first _ (is_bad (order_in c.args.line.now)) (sym c.too_long.ensures ∙ c.if-too_long.true))
+    line_bad _ c.args.number c.args.start c.args.line.now lines r at
+    (or_left _ (is_bad (order_in c.args.line.now)) (sym c.too_long.ensures ∙ c.if-too_long.true))
 
 pub returns-then-is_no_order-clause-does : goal.returns-then-is_no_order-clause-does
 returns-then-is_no_order-clause-does g c = λ sure before st r prefix lines at.
-    let line = c.args.line.now in
-    line_bad (view g.C.Connections sure before c.args.core.now st (g.W.CountedWrite.contents c.args.writer.now) prefix)
-    c.args.number c.args.start line lines r at
-    (or_second (is_long c.args.start line) _
-    (ap is_bad (sym (wanted c.args.line.now c.text_of.result.now _ c.text_of.ensures c.in_ok-order.ensures))
-    ∙ (sym c.is_no_order.ensures ∙ c.if-is_no_order.true)))
+    line_bad _ c.args.number c.args.start c.args.line.now lines r at
+    (or_right (is_long c.args.start c.args.line.now) _
+    (rw (← c.text_of.ensures, ← c.in_ok-order.ensures) (sym c.is_no_order.ensures ∙ c.if-is_no_order.true)))
+
+-- what a line's text asks for is an order, and the line isn't too long
+good : (line text : List ℕ) (start : ℕ) (o : Order) (long bad : Bool) → text ≡ before 10 line
+    → o ≡ order_of (bared text) → long ≡ is_long start line → long ≡ false → bad ≡ is_bad o → bad ≡ false
+    → (is_long start line || is_bad (order_in line)) ≡ false
+good line text start o long bad is asks l fits b well =
+    ap (λ x. x || is_bad (order_in line)) (sym l ∙ fits) ∙ (ap is_bad (rw (← is) (sym asks)) ∙ (sym b ∙ well))
 
 pub returns-clause-does : goal.returns-clause-does
 returns-clause-does g c = λ sure before st r prefix lines at.
-    let line = c.args.line.now in
-    line_ran (view g.C.Connections sure before c.obey.new.core st (g.W.CountedWrite.contents c.obey.new.writer) prefix)
-    c.args.number c.args.start line lines r (order_shown c.in_ok-order.order)
-    (wanted c.args.line.now c.text_of.result.now _ c.text_of.ensures c.in_ok-order.ensures) at.up
-    (or_neither (is_long c.args.start line) (is_bad (order_in line)) (sym c.too_long.ensures ∙ c.if-too_long.false)
-    (ap is_bad (sym (wanted c.args.line.now c.text_of.result.now _ c.text_of.ensures c.in_ok-order.ensures))
-    ∙ (sym c.is_no_order.ensures ∙ c.if-is_no_order.false)))
-    (c.in_ok-obey.ensures.does sure before st r prefix at)
+    line_ran _ c.args.number c.args.start c.args.line.now lines r at.up
+    (good c.args.line.now c.text_of.result.now c.args.start _ _ _ c.text_of.ensures c.in_ok-order.ensures
+    c.too_long.ensures c.if-too_long.false c.is_no_order.ensures c.if-is_no_order.false) (Ok (tt {0}))
+    (rw (c.in_ok-order.ensures, c.text_of.ensures) at (c.in_ok-obey.ensures.does sure before st r prefix at))
 
 pub returns-in_err-obey-clause-does : goal.returns-in_err-obey-clause-does
 returns-in_err-obey-clause-does g c = λ sure before st r prefix lines at.
-    let line = c.args.line.now in
-    let v = view g.C.Connections sure before c.obey.new.core st (g.W.CountedWrite.contents c.obey.new.writer) prefix in
     let p = err_from_is_err_and c.from_residual-in_err-obey.result c.from_residual-in_err-obey.ensures.1 in
-    rw (p.1, p.2) (line_stops v c.in_err-obey.field-0.0 c.args.number c.args.start line lines r
-    (order_shown c.in_ok-order.order)
-    (wanted c.args.line.now c.text_of.result.now _ c.text_of.ensures c.in_ok-order.ensures) at.up
-    (or_neither (is_long c.args.start line) (is_bad (order_in line)) (sym c.too_long.ensures ∙ c.if-too_long.false)
-    (ap is_bad (sym (wanted c.args.line.now c.text_of.result.now _ c.text_of.ensures c.in_ok-order.ensures))
-    ∙ (sym c.is_no_order.ensures ∙ c.if-is_no_order.false)))
-    (c.in_err-obey.ensures.does sure before st r prefix at))
+    rw (p.1, p.2) (line_ran _ c.args.number c.args.start c.args.line.now lines r at.up
+    (good c.args.line.now c.text_of.result.now c.args.start _ _ _ c.text_of.ensures c.in_ok-order.ensures
+    c.too_long.ensures c.if-too_long.false c.is_no_order.ensures c.if-is_no_order.false) (Err _)
+    (rw (c.in_ok-order.ensures, c.text_of.ensures) at (c.in_err-obey.ensures.does sure before st r prefix at)))
 
 pub returns-in_err-order-clause-does : goal.returns-in_err-order-clause-does
 returns-in_err-order-clause-does g c = λ sure before st r prefix lines at.
     let p = err_from_is_err_and c.from_residual.result c.from_residual.ensures.1 in
-    rw (p.1, p.2) (line_wants
-    (view g.C.Connections sure before c.args.core.now st (g.W.CountedWrite.contents c.args.writer.now) prefix)
-    c.args.number c.args.start c.args.line.now lines r at)
+    rw (p.1, p.2) (line_wants _ c.args.number c.args.start c.args.line.now lines r at)

@@ -1,5 +1,4 @@
-use Rattle.std.proofs.Common.{◌+◌, ◌<◌, ◌≤◌, get_or, length, Result, Ok, Err, ◌∙◌, refl, arith}
-use Rattle.common.specs.declared.stop.DiskFault.{DiskFault}
+use Rattle.std.proofs.Common.{◌+◌, ◌<◌, ◌≤◌, get_or, length, Ok, Err, ◌∙◌, refl, arith}
 use Rattle.tus_session.proofs.Counting.{uncounted}
 use Rattle.gateway_serve.specs.Reasons.{none}
 use Rattle.gateway_serve.proofs.All.{among_all, all_served, free_before}
@@ -9,22 +8,17 @@ use Rattle.gateway_serve.specs.declared.reasons.Reason.TheVariants.{Over}
 use Rattle.gateway_serve.proofs.rounds.end_each.Goals as goal
 
 pub returns-in-Err-clause-serves : goal.returns-in-Err-clause-serves
-returns-in-Err-clause-serves g c = λ sure before st past went joins.
-    let s = c.loop-conn.invariant.1 sure before st past went joins in
-    let told : Result (Unit {0}) DiskFault = Err c.in-Err.fault in
-    let inside : c.loop-conn.conn < length c.loop-conn.places =
-    omega (arith, c.loop-conn-test.true, c.loop-conn.auto.places) in
-    among_all g.C.Connections c.loop-conn.gateway c.end.new.gateway told c.loop-conn.places c.loop-conn.conn
-    c.index-places-conn.result c.end.new.self c.loop-conn.ended.items c.end.new.ended.items
-    c.in-Err.ensures.serves c.end.ensures.others inside sure before st s.0 s.1 s.2
+returns-in-Err-clause-serves g c =
+    among_all {T = Unit {0}} g.C.Connections _ c.loop-conn.gateway c.end.new.gateway (Err c.in-Err.fault) _
+    c.loop-conn.places c.loop-conn.conn c.index-places-conn.result c.end.new.self _ c.loop-conn.ended.items
+    c.end.new.ended.items c.loop-conn.invariant.1 c.in-Err.ensures.serves c.end.ensures.others
+    (omega (arith, c.loop-conn-test.true, c.loop-conn.auto.places))
 
 pub returns-in-Err-clause-streams : goal.returns-in-Err-clause-streams
-returns-in-Err-clause-streams g c = λ have had.
-    let s = c.loop-conn.invariant.2 have had in
-    let inside : c.loop-conn.conn < length c.loop-conn.places =
-    omega (arith, c.loop-conn-test.true, c.loop-conn.auto.places) in
-    among_keep g.S.Read.remaining g.S.Write.contents c.loop-conn.places c.loop-conn.conn c.index-places-conn.result
-    c.end.new.self c.loop-conn.ended.items c.end.new.ended.items inside c.end.ensures.streams s.0 s.1
+returns-in-Err-clause-streams g c =
+    among_keep g.S.Read.remaining g.S.Write.contents _ c.loop-conn.places c.loop-conn.conn
+    c.index-places-conn.result c.end.new.self _ c.loop-conn.ended.items c.end.new.ended.items
+    c.loop-conn.invariant.2 (omega (arith, c.loop-conn-test.true, c.loop-conn.auto.places)) c.end.ensures.streams
 
 pub loop-conn-init : goal.loop-conn-init
 loop-conn-init g c = (
@@ -41,17 +35,13 @@ loop-conn-preserved g c =
     let inside : c.loop-conn.conn < length c.loop-conn.places =
     omega (arith, c.loop-conn-test.true, c.loop-conn.auto.places) in (
       uncounted (λ fails. absurd (cc)) c.in-Ok.ensures.counts ∙ c.loop-conn.invariant.0,
-      λ sure before st past went joins.
-          let s = c.loop-conn.invariant.1 sure before st past went joins in
-          let told : Result (Unit {0}) DiskFault = Ok tt in
-          among_all g.C.Connections c.loop-conn.gateway c.end.new.gateway told c.loop-conn.places c.loop-conn.conn
-          c.index-places-conn.result c.end.new.self c.loop-conn.ended.items c.end.new.ended.items
-          c.in-Ok.ensures.serves c.end.ensures.others inside sure before st s.0 s.1 s.2,
-      λ have had.
-          let s = c.loop-conn.invariant.2 have had in
-          among_keep g.S.Read.remaining g.S.Write.contents c.loop-conn.places c.loop-conn.conn
-          c.index-places-conn.result c.end.new.self c.loop-conn.ended.items c.end.new.ended.items inside
-          c.end.ensures.streams s.0 s.1,
+      among_all {T = Unit {0}} g.C.Connections _ c.loop-conn.gateway c.end.new.gateway (Ok tt) _ c.loop-conn.places
+          c.loop-conn.conn c.index-places-conn.result c.end.new.self _ c.loop-conn.ended.items
+          c.end.new.ended.items c.loop-conn.invariant.1 c.in-Ok.ensures.serves c.end.ensures.others
+          inside,
+      among_keep g.S.Read.remaining g.S.Write.contents _ c.loop-conn.places c.loop-conn.conn
+          c.index-places-conn.result c.end.new.self _ c.loop-conn.ended.items c.end.new.ended.items
+          c.loop-conn.invariant.2 inside c.end.ensures.streams,
       free_before c.loop-conn.conn c.loop-conn.places c.end.new.self inside c.end.ensures.free c.loop-conn.invariant.3,
       ended_once c.args.ended.now.items c.loop-conn.conn
           (get_or c.loop-conn.places c.loop-conn.conn c.index-places-conn.result) c.loop-conn.ended.items

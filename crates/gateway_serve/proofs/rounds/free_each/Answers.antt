@@ -20,11 +20,9 @@ loop-conn-preserved g c =
           c.free.new.self
           c.loop-conn.ended.items c.free.new.ended.items st past inside
           c.free.ensures.ended c.free.ensures.waiting (c.loop-conn.invariant.0 sure st past all),
-      λ have had.
-          let s = c.loop-conn.invariant.1 have had in
-          among_keep g.S.Read.remaining g.S.Write.contents c.loop-conn.places c.loop-conn.conn
-          c.index-places-conn.result c.free.new.self c.loop-conn.ended.items c.free.new.ended.items inside
-          c.free.ensures.streams s.0 s.1,
+      among_keep g.S.Read.remaining g.S.Write.contents _ c.loop-conn.places c.loop-conn.conn
+          c.index-places-conn.result c.free.new.self _ c.loop-conn.ended.items c.free.new.ended.items
+          c.loop-conn.invariant.1 inside c.free.ensures.streams,
       ended_once c.args.ended.now.items c.loop-conn.conn
           (get_or c.loop-conn.places c.loop-conn.conn c.index-places-conn.result) c.loop-conn.ended.items
           c.free.new.ended.items c.free.ensures.ended c.loop-conn.invariant.2,

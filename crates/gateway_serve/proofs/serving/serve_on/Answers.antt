@@ -1,5 +1,4 @@
-use Rattle.std.proofs.Common.{[], subst, sym, arith}
-use Rattle.gateway_serve.specs.Reasons.{AllReasoned}
+use Rattle.std.proofs.Common.{[], arith}
 use Rattle.gateway_serve.specs.Joined.{places_of, ended_of}
 use Rattle.gateway_serve.proofs.All.{new_joins}
 use Rattle.gateway_serve.proofs.serving.serve_on.Goals as goal
@@ -17,4 +16,4 @@ returns-clause-serves g c = λ sure st stands.
 
 pub returns-clause-reasons : goal.returns-clause-reasons
 returns-clause-reasons g c =
-    c.serve-served.ensures.reasons (subst AllReasoned (sym c.new-server.ensures.ended) tt)
+    c.serve-served.ensures.reasons (rw c.new-server.ensures.ended tt)

@@ -1,4 +1,4 @@
-use Rattle.std.proofs.Common.{Result, Ok, Err, subst}
+use Rattle.std.proofs.Common.{Result, Ok, Err}
 use Rattle.common.specs.declared.stop.DiskFault.{DiskFault}
 use Rattle.gateway_serve.specs.Joined.{PlaceJoins, PlaceFell}
 use Rattle.gateway_serve.specs.Sockets.{current_of}
@@ -11,8 +11,7 @@ returns-in-Ok-clause-serves g c = λ sure before st past went joins.
     let ended = current_of n c.args.ended.now.items in
     let ended' = current_of n c.end.new.ended.items in
     let told : Result (Unit {0}) DiskFault = Ok tt in
-    let s = c.in-Ok-Lost.ensures.serves sure before st past ended went
-    (subst (λ p. PlaceJoins sure p ended st past n) c.in-Open.is joins) in
+    let s = c.in-Ok-Lost.ensures.serves sure before st past ended went (rw c.in-Open.is at joins) in
     alone_after g.C.Connections sure before c.end.new.gateway st n past s.0
     (λ p. PlaceJoins sure c.end.new.self ended' st p n) (λ p. PlaceFell sure c.end.new.self ended' st p n) told s.2.0
     (c.in-Ok.ensures.serves sure before st s.0 s.1 s.2.1)
@@ -23,8 +22,7 @@ returns-in-Err-end-clause-serves g c = λ sure before st past went joins.
     let ended = current_of n c.args.ended.now.items in
     let ended' = current_of n c.end.new.ended.items in
     let told : Result (Unit {0}) DiskFault = Err c.in-Err-end.fault in
-    let s = c.in-Ok-Lost.ensures.serves sure before st past ended went
-    (subst (λ p. PlaceJoins sure p ended st past n) c.in-Open.is joins) in
+    let s = c.in-Ok-Lost.ensures.serves sure before st past ended went (rw c.in-Open.is at joins) in
     alone_after g.C.Connections sure before c.end.new.gateway st n past s.0
     (λ p. PlaceJoins sure c.end.new.self ended' st p n) (λ p. PlaceFell sure c.end.new.self ended' st p n) told s.2.0
     (c.in-Err-end.ensures.serves sure before st s.0 s.1 s.2.1)

@@ -1,7 +1,6 @@
-use Rattle.std.proofs.Common.{List, ◌∷◌, sym, subst}
+use Rattle.std.proofs.Common.{List, ◌∷◌}
 use Rattle.tus_session.specs.History.{Marked, Failed}
-use Rattle.gateway_serve.specs.Joined.{AllFell, ended_of}
-use Rattle.gateway_serve.specs.Streams.{AllHave}
+use Rattle.gateway_serve.specs.Joined.{ended_of}
 use Rattle.gateway_serve.proofs.Lost.{none_more}
 use Rattle.gateway_serve.proofs.server.Server.serve.Goals as goal
 
@@ -22,8 +21,7 @@ returns-in-Err-clause-reasons g c = λ all. (
 pub returns-in-Err-clause-streams : goal.returns-in-Err-clause-streams
 returns-in-Err-clause-streams g c = λ have had.
     let a = c.take_turns.ensures.streams have had in
-    (c.free_each.ensures.streams
-    (subst (AllHave g.S.Read.remaining g.S.Write.contents) (sym c.deref_mut.ensures.value) a.0) a.1).1
+    (c.free_each.ensures.streams (rw c.deref_mut.ensures.value a.0) a.1).1
 
 pub returns-in-Err-clause-serves : goal.returns-in-Err-clause-serves
 returns-in-Err-clause-serves g c = λ sure before st past went joins.
@@ -32,7 +30,5 @@ returns-in-Err-clause-serves g c = λ sure before st past went joins.
       s.0,
       s.1,
       s.2,
-      c.free_each.ensures.left sure st now
-          (subst (λ places. AllFell sure places (ended_of c.take_turns.new.self) st now) (sym c.deref_mut.ensures.value)
-          s.3),
+      c.free_each.ensures.left sure st now (rw c.deref_mut.ensures.value s.3),
     )
