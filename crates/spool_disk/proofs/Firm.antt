@@ -1,6 +1,6 @@
 -- What stays known over the calls of a disk.
 use Rattle.std.proofs.Common.{◌≡◌, ℕ, List, length, inl, inr, refl, ◌∙◌, arith, ⊎_elim, Result, Ok, Err, IsOk, IsErr}
-use Rattle.std.proofs.Common.{OnOk, subst, sym}
+use Rattle.std.proofs.Common.{OnOk, subst, sym, ◌↔◌}
 use Rattle.std.proofs.lemmas.Bool.{cases_lt}
 use Rattle.spool_disk.specs.Disk.{span, In, IsImage, Elapses, Writes, Syncs, Keeps, Firm, Apart, Reads, Counts}
 use Rattle.spool_disk.specs.Views.{Lasts}
@@ -50,6 +50,26 @@ module _ {D : Type 0} {disk : Ghosts D} where
     nothing_else = λ t image le left. ⊎_elim inl (λ now. inr (more image now)) (a.nothing_else t image le left);
   }
 
+-- none of the calls between the two failed
+pub record NoneFailed {D : Type 0} (disk : Ghosts D) (old new : D) : Type 0 where
+  pub size : disk.size new ≡ disk.size old
+  pub honest : disk.honest old → disk.honest new
+  pub back : disk.honest new → disk.honest old
+  pub failures : disk.failures new ≡ disk.failures old
+
+pub no_calls : {D : Type 0} {disk : Ghosts D} {d : D} → NoneFailed disk d d
+no_calls = record { size = refl; honest = λ h. h; back = λ h. h; failures = refl }
+
+pub one_call : {D : Type 0} {disk : Ghosts D} {old mid new : D} → NoneFailed disk old mid
+    → disk.size new ≡ disk.size mid → (disk.honest mid ↔ disk.honest new)
+    → disk.failures new ≡ disk.failures mid → NoneFailed disk old new
+one_call calls size honest failures = record {
+  size = size ∙ calls.size;
+  honest = λ h. honest.0 (calls.honest h);
+  back = λ h. calls.back (honest.1 h);
+  failures = failures ∙ calls.failures;
+}
+
 pub on_ok : {T E X : Type 0} (r : Result T E) → (IsOk r → X) → OnOk r X
 on_ok (Ok t) h = h refl
 on_ok (Err e) h = tt
@@ -70,11 +90,7 @@ not_err {T = T} {E = E} t r e h = let f : IsErr {T = T} {E = E} (Ok t) = subst (
 
 -- the failure count of one failure is that of another
 pub counts_as : {F G : Type 0} {a b : ℕ} → Counts F a b → F → G → Counts G a b
-counts_as counts f g = record {
-  later = counts.later;
-  counted = λ _. counts.counted f;
-  nothing_else = λ _. g;
-}
+counts_as counts f g = record { later = counts.later; counted = λ _. counts.counted f; nothing_else = λ _. g }
 
 pub reads_writes : {current current' : ℕ → ℕ} {unsynced unsynced' : ℕ
     → Type 0} {at at' : ℕ} {bytes xs : List ℕ} {done : Type 0}

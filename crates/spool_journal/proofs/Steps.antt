@@ -163,12 +163,7 @@ ready {current = current} {j = j} pages head some few fits inside ascends a copi
         contents = λ k x lt below. kept _ (omega arith) ∙ copied k x lt below;
       };
       form = form_same j (length pages) (count current) (page_number pages) (number current) (sym size)
-          (λ k lt. sym (numbers k lt)) record {
-            some = some;
-            few = fits;
-            inside = inside;
-            ascends = ascends;
-          };
+          (λ k lt. sym (numbers k lt)) record { some = some; few = fits; inside = inside; ascends = ascends };
     }
   where
     size : count current ≡ length pages

@@ -130,8 +130,4 @@ done_calm v u d p (Asks r) store unlimited patches roomy = record {
   draft = refl;
   bytes = let same = commit_calm v u d p store unlimited (roomy r refl) in grind arith;
 }
-done_calm v u d p (Refuses x) store unlimited patches roomy = record {
-  world = grind arith;
-  draft = refl;
-  bytes = refl;
-}
+done_calm v u d p (Refuses x) store unlimited patches roomy = record { world = grind arith; draft = refl; bytes = refl }

@@ -39,13 +39,7 @@ record Keeps (m m' : Store) : Type 0 where
   uploads : (n : ℕ) (v : Upload) → n < m.next → upload_of m' n ≡ Some v → WasThere m n v
 
 same_there : (m : Store) (n : ℕ) (v : Upload) → upload_of m n ≡ Some v → WasThere m n v
-same_there m n v there = record {
-  upload = v;
-  there = there;
-  declare = None;
-  more = [];
-  is = patched_nothing v;
-}
+same_there m n v there = record { upload = v; there = there; declare = None; more = []; is = patched_nothing v }
 
 itself_keeps : (m : Store) → Keeps m m
 itself_keeps m = record { next = omega arith; above = λ h. h; uploads = λ n v lt there. same_there m n v there }

@@ -61,12 +61,7 @@ short_head start e short some within few =
     let n : length (take e.len start) ≡ e.len = length-take-le e.len start within in (
       drop e.len start,
       e,
-      record {
-        short = omega arith;
-        extent = rw (take-append-drop e.len start) some;
-        all = sym n;
-        few = few;
-      },
+      record { short = omega arith; extent = rw (take-append-drop e.len start) some; all = sym n; few = few },
     )
 
 pub start_is : (bytes : List ℕ) (m : ℕ) → m ≡ min (length bytes) 8192 → take m bytes ≡ take 8192 bytes

@@ -64,13 +64,7 @@ state_patched x u declare bytes = ap state_bytes (transcoder_patched x u declare
 pub holds_with_length : (x : IndexSet) (u : Upload) (declare : Option ℕ) (bytes : List ℕ) (t : NewText)
     → HoldsText x u bytes t → HoldsText x (with_length u declare) bytes t
 holds_with_length x u declare bytes (Growing t text) holds = (
-  record {
-    unspent = holds.0.unspent;
-    from = holds.0.from;
-    to = holds.0.to;
-    mode = holds.0.mode;
-    at = holds.0.at;
-  },
+  record { unspent = holds.0.unspent; from = holds.0.from; to = holds.0.to; mode = holds.0.mode; at = holds.0.at },
   holds.1,
 )
 holds_with_length x u declare bytes Unencodable holds = holds

@@ -27,10 +27,7 @@ module _ (h : Holding) (v : View) (fits : FitsTogether h) (count : length v.slot
     slots = slots;
     rows = rows;
     ordered = subst (λ (xs : List (Option SlotRecord)). Orders xs h.order 512) slots fits.ordered;
-    listed = λ s r e. record {
-      owned = λ i lt. rw rows at ((has s r e).owned i lt);
-      once = (lists s r e).once;
-    };
+    listed = λ s r e. record { owned = λ i lt. rw rows at ((has s r e).owned i lt); once = (lists s r e).once };
     sizes = λ s r e. (has s r e).size;
   }
 

@@ -33,7 +33,4 @@ taken_fits h slot r fits room number no_text order is =
       ];
     } h.blocks refl (same_others slot h.blocks.rows h.blocks.rows refl) fits.rows_fit h.lists fits.list_count
     (λ s other. refl)
-    record {
-      size = omega (arith, ap length none, no_text);
-      owned = λ i lt. absurd (omega (arith, lt, ap length none));
-    }
+    record { size = omega (arith, ap length none, no_text); owned = λ i lt. absurd (omega (arith, lt, ap length none)) }

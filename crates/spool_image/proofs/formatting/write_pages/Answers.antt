@@ -1,5 +1,5 @@
 use Rattle.std.proofs.Common.{refl, rules, ◌∙◌, ◌*◌, inl, inr, arith}
-use Rattle.spool_disk.proofs.Firm.{lasts_call, lasts_on, not_err}
+use Rattle.spool_disk.proofs.Firm.{lasts_call, lasts_on, not_err, no_calls, one_call}
 use Rattle.spool_journal.proofs.Steps.{no_failure}
 use Rattle.std.proofs.lemmas.Bool.{cases_lt}
 use Rattle.spool_pages.specs.View.{state_place}
@@ -13,10 +13,7 @@ pub loop-page-init : goal.loop-page-init
 loop-page-init g c =
     let disk = c.args.disk.now in
     record {
-      size = refl;
-      honest = λ honest. honest;
-      back = λ honest. honest;
-      counts = refl;
+      calls = no_calls;
       fresh = λ honest. record { each = λ p from below. omega (arith, from, below) };
       prefix = λ honest. prefix_kept (g.D.Disk.current disk) (g.D.Disk.unsynced disk);
       crash = λ honest. lasts_none g.D.Disk disk (PrefixStays (g.D.Disk.current disk) (g.D.Disk.unsynced disk));
@@ -27,18 +24,16 @@ pub loop-page-preserved : goal.loop-page-preserved
 loop-page-preserved g c =
     let inv = c.loop-page.invariant in
     record {
-      size = c.write_at.ensures.size ∙ inv.size;
-      honest = λ honest. c.write_at.ensures.honest.0 (inv.honest honest);
-      back = λ honest. inv.back (c.write_at.ensures.honest.1 honest);
-      counts = no_failure c.write_at.ensures.counts (not_err _ _ c.in_ok-write_at.was) ∙ inv.counts;
-      fresh = λ honest. fresh_more _ _ _ _ (inv.fresh honest) (c.in_ok-write_at.ensures.writes (inv.honest honest))
+      calls = one_call inv.calls c.write_at.ensures.size c.write_at.ensures.honest
+          (no_failure c.write_at.ensures.counts (not_err _ _ c.in_ok-write_at.was));
+      fresh = λ honest. fresh_more _ _ _ _ (inv.fresh honest) (c.in_ok-write_at.ensures.writes (inv.calls.honest honest))
           (search rules) (search rules) c.fresh_page.ensures.bytes;
       prefix = λ honest.
-          prefix_on (inv.prefix honest) (prefix_written (omega arith) (c.write_at.ensures.writes (inv.honest honest)));
+          prefix_on (inv.prefix honest) (prefix_written (omega arith) (c.write_at.ensures.writes (inv.calls.honest honest)));
       crash = λ honest.
-          let writes = c.write_at.ensures.writes (inv.honest honest) in
+          let writes = c.write_at.ensures.writes (inv.calls.honest honest) in
           let keeps = prefix_on (inv.prefix honest) (prefix_written (omega arith) writes) in
-          lasts_on (inv.crash honest) (lasts_call (c.write_at.ensures.time (inv.honest honest)) (prefix_image keeps));
+          lasts_on (inv.crash honest) (lasts_call (c.write_at.ensures.time (inv.calls.honest honest)) (prefix_image keeps));
       valid = λ past. elim (cases_lt (4096 * c.loop-page.page) (state_place c.args.layout.now)) [
         | inl before ↦ c.fresh_page.ensures.valid (omega (arith, past)) before
         | inr after ↦ inv.valid after

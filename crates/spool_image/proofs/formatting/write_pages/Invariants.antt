@@ -1,6 +1,7 @@
 use Rattle.std.proofs.Common.{◌≡◌, ◌≤◌, ◌*◌}
 use Rattle.enc_index.specs.Sets.{IsIndexSet}
 use Rattle.spool_pages.specs.View.{state_place}
+use Rattle.spool_disk.proofs.Firm.{NoneFailed}
 use Rattle.spool_disk.specs.Views.{Lasts}
 use Rattle.spool_image.specs.Format.{PrefixStays}
 use Rattle.spool_image.specs.Fresh.{IsFreshTo, KeepsPrefix}
@@ -8,10 +9,7 @@ use Rattle.spool_image.proofs.formatting.write_pages.Given as goal
 
 abbrev pub invariant-loop-page : goal.invariant-loop-page
 invariant-loop-page g l = record {
-  size : g.D.Disk.size l.disk ≡ g.D.Disk.size l.fn.disk;
-  honest : g.D.Disk.honest l.fn.disk → g.D.Disk.honest l.disk;
-  back : g.D.Disk.honest l.disk → g.D.Disk.honest l.fn.disk;
-  counts : g.D.Disk.failures l.disk ≡ g.D.Disk.failures l.fn.disk;
+  calls : NoneFailed g.D.Disk l.fn.disk l.disk;
   fresh : g.D.Disk.honest l.fn.disk → IsFreshTo l.layout l.indexes (4096 * l.page) (g.D.Disk.current l.disk);
   prefix : g.D.Disk.honest l.fn.disk → KeepsPrefix (g.D.Disk.current l.fn.disk) (g.D.Disk.current l.disk)
       (g.D.Disk.unsynced l.fn.disk) (g.D.Disk.unsynced l.disk);

@@ -1,5 +1,5 @@
 use Rattle.std.proofs.Common.{◌<◌, length, ◌∙◌, arith}
-use Rattle.spool_disk.proofs.Firm.{lasts_on, not_err}
+use Rattle.spool_disk.proofs.Firm.{lasts_on, not_err, one_call}
 use Rattle.spool_journal.proofs.Steps.{no_failure}
 use Rattle.spool_journal.proofs.Gate.{opened}
 use Rattle.spool_journal.proofs.places.place_pages.Goals as goal
@@ -8,7 +8,7 @@ pub returns-in_err-place-clause-placing : goal.returns-in_err-place-clause-placi
 returns-in_err-place-clause-placing g c honest j opened matches placing =
     let inv = c.loop-i.invariant in
     let lt : c.loop-i.i < length c.args.items.now = omega arith in
-    c.place.ensures.placing (inv.honest honest) j c.loop-i.i opened (inv.placing honest j opened matches placing)
+    c.place.ensures.placing (inv.calls.honest honest) j c.loop-i.i opened (inv.placing honest j opened matches placing)
     (omega (arith, lt, matches.size)) (matches.numbers c.loop-i.i lt)
 
 pub returns-in_err-place-clause-lasts : goal.returns-in_err-place-clause-lasts
@@ -16,7 +16,7 @@ returns-in_err-place-clause-lasts g c honest j few opened matches placing =
     let inv = c.loop-i.invariant in
     let lt : c.loop-i.i < length c.args.items.now = omega arith in
     lasts_on (inv.lasts honest j few opened matches placing)
-    (c.place.ensures.lasts (inv.honest honest) j c.loop-i.i few opened (inv.placing honest j opened matches placing)
+    (c.place.ensures.lasts (inv.calls.honest honest) j c.loop-i.i few opened (inv.placing honest j opened matches placing)
     (omega (arith, lt, matches.size)) (matches.numbers c.loop-i.i lt))
 
 pub loop-i-preserved : goal.loop-i-preserved
@@ -24,18 +24,16 @@ loop-i-preserved g c =
     let inv = c.loop-i.invariant in
     let lt : c.loop-i.i < length c.args.items.now = omega arith in
     record {
-      size = c.place.ensures.size ∙ inv.size;
-      honest = λ honest. c.place.ensures.honest.0 (inv.honest honest);
-      back = λ honest. inv.back (c.place.ensures.honest.1 honest);
-      counts = no_failure c.place.ensures.counts (not_err _ _ c.in_ok-place.was) ∙ inv.counts;
-      placing = λ honest j opened matches placing. c.place.ensures.placing (inv.honest honest) j c.loop-i.i opened
+      calls = one_call inv.calls c.place.ensures.size c.place.ensures.honest
+          (no_failure c.place.ensures.counts (not_err _ _ c.in_ok-place.was));
+      placing = λ honest j opened matches placing. c.place.ensures.placing (inv.calls.honest honest) j c.loop-i.i opened
           (inv.placing honest j opened matches placing) (omega (arith, lt, matches.size))
           (matches.numbers c.loop-i.i lt);
-      upto = λ honest opened matches upto. c.in_ok-place.ensures.upto (inv.honest honest) c.loop-i.i opened
+      upto = λ honest opened matches upto. c.in_ok-place.ensures.upto (inv.calls.honest honest) c.loop-i.i opened
           (inv.upto honest opened matches upto) (matches.numbers c.loop-i.i lt)
           (λ x below. matches.contents c.loop-i.i x lt below);
       lasts = λ honest j few opened matches placing. lasts_on (inv.lasts honest j few opened matches placing)
-          (c.place.ensures.lasts (inv.honest honest) j c.loop-i.i few opened
+          (c.place.ensures.lasts (inv.calls.honest honest) j c.loop-i.i few opened
           (inv.placing honest j opened matches placing) (omega (arith, lt, matches.size))
           (matches.numbers c.loop-i.i lt));
     }

@@ -1,4 +1,5 @@
 use Rattle.std.proofs.Common.{◌≡◌, ◌≤◌, ℕ}
+use Rattle.spool_disk.proofs.Firm.{NoneFailed}
 use Rattle.spool_disk.specs.Views.{Lasts}
 use Rattle.spool_journal.specs.Image.{replayed}
 use Rattle.spool_journal.specs.Phases.{Matches, Placing, Upto, ReadsAs}
@@ -6,10 +7,7 @@ use Rattle.spool_journal.proofs.places.place_pages.Given as goal
 
 abbrev pub invariant-loop-i : goal.invariant-loop-i
 invariant-loop-i g l = record {
-  size : g.D.Disk.size l.disk ≡ g.D.Disk.size l.fn.disk;
-  honest : g.D.Disk.honest l.fn.disk → g.D.Disk.honest l.disk;
-  back : g.D.Disk.honest l.disk → g.D.Disk.honest l.fn.disk;
-  counts : g.D.Disk.failures l.disk ≡ g.D.Disk.failures l.fn.disk;
+  calls : NoneFailed g.D.Disk l.fn.disk l.disk;
   placing : g.D.Disk.honest l.fn.disk → (j : ℕ) (opened : ℕ → ℕ) → Matches l.items opened
       → Placing j opened (g.D.Disk.current l.fn.disk) (g.D.Disk.unsynced l.fn.disk)
       → Placing j opened (g.D.Disk.current l.disk) (g.D.Disk.unsynced l.disk);

@@ -1,5 +1,5 @@
 use Rattle.std.proofs.Common.{◌≡◌, ◌<◌, ℕ, refl, sym, ◌∙◌, arith, subst}
-use Rattle.spool_disk.proofs.Firm.{lasts_on, not_err}
+use Rattle.spool_disk.proofs.Firm.{lasts_on, not_err, one_call}
 use Rattle.spool_journal.proofs.Steps.{no_failure}
 use Rattle.spool_journal.proofs.Recovers.{head_count, head_number}
 use Rattle.spool_journal.specs.Image.{count}
@@ -10,7 +10,7 @@ pub returns-in_err-copy_page-clause-placing : goal.returns-in_err-copy_page-clau
 returns-in_err-copy_page-clause-placing g c honest opened here placing =
     let inv = c.loop-k.invariant in
     let lt : c.loop-k.k < count opened = omega (arith, head_count opened c.args.head.now here) in
-    c.copy_page.ensures.placing (inv.honest honest) _ c.loop-k.k opened (inv.placing honest opened here placing) lt
+    c.copy_page.ensures.placing (inv.calls.honest honest) _ c.loop-k.k opened (inv.placing honest opened here placing) lt
     (sym (head_number opened c.args.head.now here c.loop-k.k (omega (arith, lt, placing.form.few, c.requires.few)))
     ∙ sym c.get_word-number.ensures)
 
@@ -19,7 +19,7 @@ returns-in_err-copy_page-clause-lasts g c honest opened here placing =
     let inv = c.loop-k.invariant in
     let lt : c.loop-k.k < count opened = omega (arith, head_count opened c.args.head.now here) in
     lasts_on (inv.lasts honest opened here placing)
-    (c.copy_page.ensures.lasts (inv.honest honest) _ c.loop-k.k c.requires.few opened
+    (c.copy_page.ensures.lasts (inv.calls.honest honest) _ c.loop-k.k c.requires.few opened
     (inv.placing honest opened here placing) lt
     (sym (head_number opened c.args.head.now here c.loop-k.k (omega (arith, lt, placing.form.few, c.requires.few)))
     ∙ sym c.get_word-number.ensures))
@@ -30,20 +30,18 @@ loop-k-preserved g c =
     let below : (opened : ℕ → ℕ) → HeadOf opened c.args.head.now → c.loop-k.k < count opened =
     λ opened here. omega (arith, head_count opened c.args.head.now here) in
     record {
-      size = c.copy_page.ensures.size ∙ inv.size;
-      honest = λ honest. c.copy_page.ensures.honest.0 (inv.honest honest);
-      back = λ honest. inv.back (c.copy_page.ensures.honest.1 honest);
-      counts = no_failure c.copy_page.ensures.counts (not_err _ _ c.in_ok-copy_page.was) ∙ inv.counts;
-      placing = λ honest opened here placing. c.copy_page.ensures.placing (inv.honest honest) _ c.loop-k.k opened
+      calls = one_call inv.calls c.copy_page.ensures.size c.copy_page.ensures.honest
+          (no_failure c.copy_page.ensures.counts (not_err _ _ c.in_ok-copy_page.was));
+      placing = λ honest opened here placing. c.copy_page.ensures.placing (inv.calls.honest honest) _ c.loop-k.k opened
           (inv.placing honest opened here placing) (below opened here)
           (sym (head_number opened c.args.head.now here c.loop-k.k
           (omega (arith, below opened here, placing.form.few, c.requires.few))) ∙ sym c.get_word-number.ensures);
-      upto = λ honest opened here placing upto. c.in_ok-copy_page.ensures.upto (inv.honest honest) _ c.loop-k.k opened
+      upto = λ honest opened here placing upto. c.in_ok-copy_page.ensures.upto (inv.calls.honest honest) _ c.loop-k.k opened
           (inv.placing honest opened here placing) (inv.upto honest opened here placing upto) (below opened here)
           (sym (head_number opened c.args.head.now here c.loop-k.k
           (omega (arith, below opened here, placing.form.few, c.requires.few))) ∙ sym c.get_word-number.ensures) refl;
       lasts = λ honest opened here placing. lasts_on (inv.lasts honest opened here placing)
-          (c.copy_page.ensures.lasts (inv.honest honest) _ c.loop-k.k c.requires.few opened
+          (c.copy_page.ensures.lasts (inv.calls.honest honest) _ c.loop-k.k c.requires.few opened
           (inv.placing honest opened here placing) (below opened here)
           (sym (head_number opened c.args.head.now here c.loop-k.k
           (omega (arith, below opened here, placing.form.few, c.requires.few))) ∙ sym c.get_word-number.ensures));

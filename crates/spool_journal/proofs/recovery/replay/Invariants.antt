@@ -1,4 +1,5 @@
 use Rattle.std.proofs.Common.{◌≡◌, ℕ}
+use Rattle.spool_disk.proofs.Firm.{NoneFailed}
 use Rattle.spool_disk.specs.Views.{Lasts}
 use Rattle.spool_journal.specs.Image.{replayed}
 use Rattle.spool_journal.specs.Phases.{Placing, Upto, ReadsAs, HeadOf}
@@ -6,10 +7,7 @@ use Rattle.spool_journal.proofs.recovery.replay.Given as goal
 
 abbrev pub invariant-loop-k : goal.invariant-loop-k
 invariant-loop-k g l = record {
-  size : g.D.Disk.size l.disk ≡ g.D.Disk.size l.fn.disk;
-  honest : g.D.Disk.honest l.fn.disk → g.D.Disk.honest l.disk;
-  back : g.D.Disk.honest l.disk → g.D.Disk.honest l.fn.disk;
-  counts : g.D.Disk.failures l.disk ≡ g.D.Disk.failures l.fn.disk;
+  calls : NoneFailed g.D.Disk l.fn.disk l.disk;
   placing : g.D.Disk.honest l.fn.disk → (opened : ℕ → ℕ) → HeadOf opened l.head
       → Placing l.journal opened (g.D.Disk.current l.fn.disk) (g.D.Disk.unsynced l.fn.disk)
       → Placing l.journal opened (g.D.Disk.current l.disk) (g.D.Disk.unsynced l.disk);

@@ -1,14 +1,12 @@
 use Rattle.std.proofs.Common.{◌≡◌, ◌≤◌, ℕ, length}
+use Rattle.spool_disk.proofs.Firm.{NoneFailed}
 use Rattle.spool_disk.specs.Views.{Lasts}
 use Rattle.spool_journal.specs.Phases.{Idle, IsBefore, Staging, Copied}
 use Rattle.spool_journal.proofs.staging.stage_pages.Given as goal
 
 abbrev pub invariant-loop-i : goal.invariant-loop-i
 invariant-loop-i g l = record {
-  size : g.D.Disk.size l.disk ≡ g.D.Disk.size l.fn.disk;
-  honest : g.D.Disk.honest l.fn.disk → g.D.Disk.honest l.disk;
-  back : g.D.Disk.honest l.disk → g.D.Disk.honest l.fn.disk;
-  counts : g.D.Disk.failures l.disk ≡ g.D.Disk.failures l.fn.disk;
+  calls : NoneFailed g.D.Disk l.fn.disk l.disk;
   staging : g.D.Disk.honest l.fn.disk → (j : ℕ) → length l.items ≤ j → Staging j (g.D.Disk.current l.fn.disk)
       (g.D.Disk.unsynced l.fn.disk) (g.D.Disk.current l.disk) (g.D.Disk.unsynced l.disk);
   copied : g.D.Disk.honest l.fn.disk → Copied l.items (g.D.Disk.current l.disk) l.i;

@@ -1,4 +1,5 @@
 use Rattle.std.proofs.Common.{◌≡◌, ◌*◌, ◌+◌, ◌-◌, ◌++◌, length, take, min}
+use Rattle.spool_disk.proofs.Firm.{NoneFailed}
 use Rattle.spool_disk.specs.Views.{Lasts}
 use Rattle.spool_journal.specs.Image.{text_page}
 use Rattle.spool_texts.specs.TextOn.{text_on, blocks_on}
@@ -7,10 +8,7 @@ use Rattle.spool_texts.proofs.draft_text.write_last.Given as goal
 
 abbrev pub invariant-loop-at : goal.invariant-loop-at
 invariant-loop-at g l = record {
-  size : g.D.Disk.size l.disk ≡ g.D.Disk.size l.fn.disk;
-  honest : g.D.Disk.honest l.fn.disk → g.D.Disk.honest l.disk;
-  back : g.D.Disk.honest l.disk → g.D.Disk.honest l.fn.disk;
-  counts : g.D.Disk.failures l.disk ≡ g.D.Disk.failures l.fn.disk;
+  calls : NoneFailed g.D.Disk l.fn.disk l.disk;
   text : g.D.Disk.honest l.fn.disk → text_on (g.D.Disk.current l.disk) (text_page l.layout) l.list
       (4096 * l.full + min (length l.last) (4096 * (l.at - l.full)))
       ≡ blocks_on (g.D.Disk.current l.fn.disk) (text_page l.layout) (take l.full l.list) ++ take

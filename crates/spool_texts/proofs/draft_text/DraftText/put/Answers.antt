@@ -1,6 +1,6 @@
 use Rattle.std.proofs.Common.{inl, arith, ◌-◌, length, drop, refl, sym, subst, ◌∙◌, length-take}
 use Rattle.std.proofs.lemmas.List.{append-nil}
-use Rattle.spool_disk.proofs.Firm.{lasts_on, lasts_more}
+use Rattle.spool_disk.proofs.Firm.{lasts_on, lasts_more, no_calls, one_call}
 use Rattle.spool_journal.proofs.Steps.{no_failure}
 use Rattle.spool_texts.specs.Drafts.{IsReserved}
 use Rattle.spool_texts.proofs.Asides.{image_aside}
@@ -23,10 +23,7 @@ loop-done-init g c =
     let blocks = c.make_room.ensures.blocks in
     let unfinished = c.make_room.ensures.unfinished in
     record {
-      size = refl;
-      honest = λ honest. honest;
-      back = λ honest. honest;
-      counts = refl;
+      calls = no_calls;
       within = omega arith;
       space = c.in_ok-make_room.ensures.room;
       few = λ lt. absurd (omega (arith, lt));
@@ -46,7 +43,7 @@ pub returns-in_err-done-clause-writes : goal.returns-in_err-done-clause-writes
 returns-in_err-done-clause-writes g c honest =
     let inv = c.loop-done.invariant in
     let takes = c.put_some.ensures.takes in
-    writes_on takes.more takes.grown (inv.writes honest) (c.put_some.ensures.writes (inv.honest honest))
+    writes_on takes.more takes.grown (inv.writes honest) (c.put_some.ensures.writes (inv.calls.honest honest))
 
 pub returns-in_err-done-clause-image : goal.returns-in_err-done-clause-image
 returns-in_err-done-clause-image g c honest image is =
@@ -59,7 +56,7 @@ returns-in_err-done-clause-lasts g c honest =
     lasts_more
     (lasts_on
     (lasts_more (inv.lasts honest) (λ image is. but_more takes.more takes.grown is))
-    (lasts_more (c.put_some.ensures.lasts (inv.honest honest))
+    (lasts_more (c.put_some.ensures.lasts (inv.calls.honest honest))
     (λ image is. but_on takes.more takes.grown (inv.writes honest) is)))
     (λ image is. image_aside _ _ is)
 
@@ -70,10 +67,8 @@ loop-done-preserved g c =
     let some = c.in_ok-done.ensures.some in
     let within = c.in_ok-done.ensures.within in
     record {
-      size = c.put_some.ensures.size ∙ inv.size;
-      honest = λ honest. c.put_some.ensures.honest.0 (inv.honest honest);
-      back = λ honest. inv.back (c.put_some.ensures.honest.1 honest);
-      counts = no_failure c.put_some.ensures.counts (λ e. let wrong = sym c.in_ok-done.was ∙ e in cc) ∙ inv.counts;
+      calls = one_call inv.calls c.put_some.ensures.size c.put_some.ensures.honest
+          (no_failure c.put_some.ensures.counts (λ e. let wrong = sym c.in_ok-done.was ∙ e in cc));
       within = omega (
         arith,
         within,
@@ -94,14 +89,14 @@ loop-done-preserved g c =
             length-take (length c.args.bytes.now - c.loop-done.done)
                 (drop c.loop-done.done c.args.bytes.now),
           ))
-          (c.in_ok-done.ensures.content (inv.honest honest)) (inv.content honest);
+          (c.in_ok-done.ensures.content (inv.calls.honest honest)) (inv.content honest);
       takes = takes_on inv.takes takes;
       reserved = c.put_some.ensures.reserved;
       writes = λ honest. writes_on takes.more takes.grown (inv.writes honest)
-          (c.put_some.ensures.writes (inv.honest honest));
+          (c.put_some.ensures.writes (inv.calls.honest honest));
       lasts = λ honest. lasts_on
           (lasts_more (inv.lasts honest) (λ image is. but_more takes.more takes.grown is))
-          (lasts_more (c.put_some.ensures.lasts (inv.honest honest))
+          (lasts_more (c.put_some.ensures.lasts (inv.calls.honest honest))
           (λ image is. but_on takes.more takes.grown (inv.writes honest) is));
     }
 

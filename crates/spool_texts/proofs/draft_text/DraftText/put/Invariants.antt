@@ -1,4 +1,5 @@
 use Rattle.std.proofs.Common.{length, ◌-◌, ◌≡◌, ◌≤◌, ◌<◌, ◌*◌, ◌+◌, ◌++◌, take}
+use Rattle.spool_disk.proofs.Firm.{NoneFailed}
 use Rattle.spool_disk.specs.Views.{Lasts}
 use Rattle.spool_journal.specs.Image.{text_page}
 use Rattle.spool_texts.specs.Drafts.{held_count, content_on, IsReserved, Takes}
@@ -7,10 +8,7 @@ use Rattle.spool_texts.proofs.draft_text.DraftText.put.Given as goal
 
 abbrev pub invariant-loop-done : goal.invariant-loop-done
 invariant-loop-done g l = record {
-  size : g.D.Disk.size l.disk ≡ g.D.Disk.size l.fn.disk;
-  honest : g.D.Disk.honest l.fn.disk → g.D.Disk.honest l.disk;
-  back : g.D.Disk.honest l.disk → g.D.Disk.honest l.fn.disk;
-  counts : g.D.Disk.failures l.disk ≡ g.D.Disk.failures l.fn.disk;
+  calls : NoneFailed g.D.Disk l.fn.disk l.disk;
   within : l.done ≤ length l.bytes;
   space : held_count l.fn.self + length l.bytes ≤ 4096 * l.self.room;
   few : 1 ≤ l.done → length l.self.unfinished < 4096;
