@@ -249,8 +249,11 @@ fn set_length<D: Disk>(
         text_len: used.text_len,
         state: used.state,
     };
-    extend(alloc, disk, kept, &longer, &[], &[])?;
-    Ok(longer.accepted)
+    match extend(alloc, disk, kept, &longer, &[], &[]) {
+        Ok(()) => Ok(longer.accepted),
+        Err(Stop::NoMemory) => Err(UploadError::NoMemory),
+        Err(Stop::DiskFault) => Err(UploadError::DiskFault),
+    }
 }
 
 /// Puts the text of the draft of a number after its upload's, gives that the length that the draft declares where it

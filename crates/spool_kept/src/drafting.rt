@@ -5,6 +5,7 @@ ghost use Rattle.spool_disk.specs.Disk.{Counts};
 ghost use Rattle.spool_disk.specs.Views.{Lasts};
 ghost use Rattle.spool_journal.specs.Image.{all_pages, text_page};
 ghost use Rattle.upload_rules.specs.Answers.{Answers};
+ghost use Rattle.upload_rules.specs.Errors.{unrefused};
 ghost use Rattle.upload_rules.specs.Calls.{appended, begin_refusal, begun, dropped};
 ghost use Rattle.upload_rules.specs.Store.{Store, find};
 ghost use Rattle.upload_rules.specs.World.{Patch, World, free_number};
@@ -16,6 +17,7 @@ ghost use Rattle.spool_kept.specs.Drafting.{StandsFor};
 ghost use Rattle.spool_kept.specs.Shows.{ImageShows, Shows};
 
 use crate::kept::Kept;
+use common::Stop;
 use spool_disk::Disk;
 use spool_drafts::SpoolDraft;
 use std::alloc::Global;
@@ -117,6 +119,13 @@ pub fn append<D: Disk>(
         piece,
     );
     put_back(drafts, number, draft);
+    answer_of(answer)
+}
+
+// The same answer, of a call that the rules can't refuse.
+fn answer_of(answer: Result<(), Stop>) -> Result<(), UploadError>
+    ensures { result ≡ unrefused answer }
+{
     Ok(answer?)
 }
 

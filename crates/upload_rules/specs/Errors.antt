@@ -1,4 +1,5 @@
 -- Why a call on uploads stops.
+use Rattle.std.specs.Prelude.{Result, Ok, Err}
 use Rattle.common.specs.declared.stop.Stop.{Stop}
 use Rattle.common.specs.declared.stop.Stop.TheVariants.{NoMemory, DiskFault}
 use Rattle.upload_rules.specs.declared.errors.UploadError.{UploadError}
@@ -14,3 +15,8 @@ stop_of (errors.Refused f) = NoMemory
 abbrev pub stopped : Stop → UploadError
 stopped NoMemory = errors.NoMemory
 stopped DiskFault = errors.DiskFault
+
+-- What a call answers that the rules can't refuse.
+abbrev pub unrefused : {T : Type 0} → Result T Stop → Result T UploadError
+unrefused (Ok t) = Ok t
+unrefused (Err stop) = Err (stopped stop)

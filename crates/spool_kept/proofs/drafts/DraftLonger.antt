@@ -29,9 +29,10 @@ use Rattle.upload_rules.proofs.Finds.{find_replaced_same, find_replaced_other}
 use Rattle.upload_rules.proofs.Patches.{apart_replaced}
 use Rattle.spool_pages.proofs.Resting.{rests_writes}
 use Rattle.upload_rules.specs.Answers.{Answers}
-use Rattle.upload_rules.specs.declared.errors.UploadError.{UploadError}
-use Rattle.upload_rules.specs.declared.errors.UploadError.TheVariants.{NoMemory, DiskFault, Refused}
-use Rattle.upload_rules.specs.declared.errors.UploadRefusal.{UploadRefusal}
+use Rattle.common.specs.declared.stop.Stop.{Stop}
+use Rattle.common.specs.declared.stop.Stop.TheVariants as Stops
+use Rattle.upload_rules.specs.Errors.{unrefused}
+use Rattle.upload_rules.specs.declared.errors.UploadError.TheVariants.{DiskFault}
 use Rattle.spool_kept.specs.Holding.{Holding}
 use Rattle.spool_kept.specs.Stored.{Stored}
 use Rattle.spool_kept.specs.Changed.{slot_of}
@@ -296,12 +297,22 @@ pub ok_more : {T E P X Y Z : Type 0} (r : Result T E) → OnOk r X → (P → On
 ok_more (Ok t) x y on = on x y
 ok_more (Err e) x y on = tt
 
-pub answered : {T : Type 0} (X Y : Type 0) (r : Result T UploadError) → OnOk r X → (IsErrOf r NoMemory → Y)
-    → ((e : UploadRefusal) → IsErrOf r (Refused e) → ⊥) → Answers None r (λ t. X) Y
-answered X Y (Ok t) done same refused = (refl, done)
-answered X Y (Err NoMemory) done same refused = (tt, same refl)
-answered X Y (Err DiskFault) done same refused = tt
-answered X Y (Err (Refused e)) done same refused = absurd (refused e refl)
+pub answered : {T : Type 0} (X Y : Type 0) (r : Result T Stop) → OnOk r X → (IsErrOf r Stops.NoMemory → Y)
+    → Answers None (unrefused r) (λ t. X) Y
+answered X Y (Ok t) done same = (refl, done)
+answered X Y (Err Stops.NoMemory) done same = (tt, same refl)
+answered X Y (Err Stops.DiskFault) done same = tt
+
+-- a disk fault is told as itself
+pub is_told : {T : Type 0} (r : Result T Stop) → IsErrOf r Stops.DiskFault → IsErrOf (unrefused r) DiskFault
+is_told (Ok t) is = absurd (cc)
+is_told (Err Stops.NoMemory) is = absurd (cc)
+is_told (Err Stops.DiskFault) is = refl
+
+pub was_told : {T : Type 0} (r : Result T Stop) → IsErrOf (unrefused r) DiskFault → IsErrOf r Stops.DiskFault
+was_told (Ok t) is = absurd (cc)
+was_told (Err Stops.NoMemory) is = absurd (cc)
+was_told (Err Stops.DiskFault) is = refl
 
 pub longer_world : {D : Type 0} {sure : Bool} {disk : Ghosts D} {d : D} {h : Holding} {drafts : List
     (Option SpoolDraft)}
