@@ -27,7 +27,8 @@ use Rattle.gateway_serve.proofs.Talks.{talks_here, gave_ended}
 
 -- its socket is the first of those of the connection
 abbrev current_at : ℕ → Joint → Latest → Reason → Seen
-current_at n j latest reason = record { conn = n; came = history_of j.came; went = history_of j.went; latest = latest; reason = reason }
+current_at n j latest reason =
+    record { conn = n; came = history_of j.came; went = history_of j.went; latest = latest; reason = reason }
 
 first_current : (n : ℕ) (s : Seen) (ended : List Seen) → s.conn ≡ n → current_of n (s ∷ ended) ≡ s ∷ current_of n ended
 first_current n s ended e = rw (e, same_number n) refl

@@ -25,7 +25,7 @@ Adds x u bytes piece (Growing t) text =
     (text_with x u bytes false).bytes ++ text ≡ (text_with x u (bytes ++ piece) false).bytes
 Adds x u bytes piece _ text = Unit {0}
 
--- The state after a piece behind these bytes, and what the piece adds.
+-- The state after a piece that follows these bytes, and what the piece adds.
 pub record Reads (x : IndexSet) (u : Upload) (bytes piece : List ℕ) (next : Fresh) (text : List ℕ) : Type 0 where
   pub stands : StandsAt x u (bytes ++ piece) next
   pub adds : Adds x u bytes piece next text

@@ -121,7 +121,8 @@ fields_as_lines (f ∷ fields) rest all =
 blank_back : (ends : List LineEnd) (line : List ℕ) (rest : List (List ℕ)) → is_empty_line line ≡ false
     → blank_of (map print_end ends ++ line ∷ rest) ≡ ends
 blank_back [] line rest text = rw text
-blank_back (end ∷ ends) line rest text = rw (end_is_empty end, blank_back ends line rest text, end_ended [] end (tt, tt))
+blank_back (end ∷ ends) line rest text =
+    rw (end_is_empty end, blank_back ends line rest text, end_ended [] end (tt, tt))
 
 filled_back : (ends : List LineEnd) (line : List ℕ) (rest : List (List ℕ)) → is_empty_line line ≡ false
     → filled (map print_end ends ++ line ∷ rest) ≡ line ∷ rest
@@ -242,7 +243,8 @@ fields_are (f ∷ fields) e =
 head_test : (h : RequestHead) → IsRequestHead h → is_request_head h ≡ true
 head_test h is =
     let m : nat_le h.minor 1 ≡ true = let k = is.minor in grind (arith, nat_tests) in
-    and_from _ _ (and_from _ _ (and_from _ _ (and_from _ _ (and_from _ _ (token_test h.method is.method) (nonempty h.target is.target.0))
+    and_from _ _ (and_from _ _ (and_from _ _
+    (and_from _ _ (and_from _ _ (token_test h.method is.method) (nonempty h.target is.target.0))
     (list_all-from_AllPass is_uri_byte h.target is.target.1)) (is_utf8-from_IsUtf8 h.target
     is.target_text)) m) (fields_test h.fields is.fields)
 

@@ -113,7 +113,8 @@ module _ (t : Table) (w : World) (stands : TableStands t w) (n : ℕ) where
       record {
         indexes = stands.indexes;
         next = stands.next;
-        slots = rw is (removed w.store.indexes n w.store.uploads t.slots.items place stands.slots lt first.here stands.rising);
+        slots = rw is (removed w.store.indexes n w.store.uploads t.slots.items place stands.slots lt first.here
+            stands.rising);
         rising = rw same (rising_removed (numbers t.slots.items) place first.within stands.rising);
         below = rw same (below_removed (numbers t.slots.items) place first.within w.store.next stands.below);
         appends = stands.appends;

@@ -347,7 +347,8 @@ module _ (t : Table) (w : World) (stands : TableStands t w) (d : ℕ) (p : Patch
                     stands.unlimited,
                 (
                   put.0,
-                  rw (store_longer w.store p u there_is brings_is) (puts (record t { appends = v }) (dropped w d) (drops t w stands d v gone) p.number u p.declare
+                  rw (store_longer w.store p u there_is brings_is)
+                      (puts (record t { appends = v }) (dropped w d) (drops t w stands d v gone) p.number u p.declare
                       p.body place new slots there_is first_of_patch inside after_put put.2),
                 ),
               )

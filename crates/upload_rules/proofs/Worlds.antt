@@ -165,7 +165,8 @@ module _ (t : Table) (w : World) (stands : TableStands t w) where
       record {
         indexes = stands.indexes;
         next = stands.next;
-        slots = rw is (put w.store.indexes n w.store.uploads t.slots.items place (patched u declare body) s stands.slots lt
+        slots = rw is (put w.store.indexes n w.store.uploads t.slots.items place (patched u declare body) s
+            stands.slots lt
             first.here first.before held);
         rising = rw same stands.rising;
         below = rw same stands.below;

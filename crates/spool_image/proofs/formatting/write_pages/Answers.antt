@@ -26,14 +26,17 @@ loop-page-preserved g c =
     record {
       calls = one_call inv.calls c.write_at.ensures.size c.write_at.ensures.honest
           (no_failure c.write_at.ensures.counts (not_err _ _ c.in_ok-write_at.was));
-      fresh = λ honest. fresh_more _ _ _ _ (inv.fresh honest) (c.in_ok-write_at.ensures.writes (inv.calls.honest honest))
+      fresh = λ honest. fresh_more _ _ _ _ (inv.fresh honest)
+          (c.in_ok-write_at.ensures.writes (inv.calls.honest honest))
           (search rules) (search rules) c.fresh_page.ensures.bytes;
       prefix = λ honest.
-          prefix_on (inv.prefix honest) (prefix_written (omega arith) (c.write_at.ensures.writes (inv.calls.honest honest)));
+          prefix_on (inv.prefix honest) (prefix_written (omega arith)
+          (c.write_at.ensures.writes (inv.calls.honest honest)));
       crash = λ honest.
           let writes = c.write_at.ensures.writes (inv.calls.honest honest) in
           let keeps = prefix_on (inv.prefix honest) (prefix_written (omega arith) writes) in
-          lasts_on (inv.crash honest) (lasts_call (c.write_at.ensures.time (inv.calls.honest honest)) (prefix_image keeps));
+          lasts_on (inv.crash honest) (lasts_call (c.write_at.ensures.time (inv.calls.honest honest))
+          (prefix_image keeps));
       valid = λ past. elim (cases_lt (4096 * c.loop-page.page) (state_place c.args.layout.now)) [
         | inl before ↦ c.fresh_page.ensures.valid (omega (arith, past)) before
         | inr after ↦ inv.valid after

@@ -16,7 +16,8 @@ returns-in_err-place-clause-lasts g c honest j few opened matches placing =
     let inv = c.loop-i.invariant in
     let lt : c.loop-i.i < length c.args.items.now = omega arith in
     lasts_on (inv.lasts honest j few opened matches placing)
-    (c.place.ensures.lasts (inv.calls.honest honest) j c.loop-i.i few opened (inv.placing honest j opened matches placing)
+    (c.place.ensures.lasts (inv.calls.honest honest) j c.loop-i.i few opened
+    (inv.placing honest j opened matches placing)
     (omega (arith, lt, matches.size)) (matches.numbers c.loop-i.i lt))
 
 pub loop-i-preserved : goal.loop-i-preserved

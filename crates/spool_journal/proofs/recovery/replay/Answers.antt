@@ -10,7 +10,8 @@ pub returns-in_err-copy_page-clause-placing : goal.returns-in_err-copy_page-clau
 returns-in_err-copy_page-clause-placing g c honest opened here placing =
     let inv = c.loop-k.invariant in
     let lt : c.loop-k.k < count opened = omega (arith, head_count opened c.args.head.now here) in
-    c.copy_page.ensures.placing (inv.calls.honest honest) _ c.loop-k.k opened (inv.placing honest opened here placing) lt
+    c.copy_page.ensures.placing (inv.calls.honest honest) _ c.loop-k.k opened
+    (inv.placing honest opened here placing) lt
     (sym (head_number opened c.args.head.now here c.loop-k.k (omega (arith, lt, placing.form.few, c.requires.few)))
     ∙ sym c.get_word-number.ensures)
 
@@ -36,7 +37,8 @@ loop-k-preserved g c =
           (inv.placing honest opened here placing) (below opened here)
           (sym (head_number opened c.args.head.now here c.loop-k.k
           (omega (arith, below opened here, placing.form.few, c.requires.few))) ∙ sym c.get_word-number.ensures);
-      upto = λ honest opened here placing upto. c.in_ok-copy_page.ensures.upto (inv.calls.honest honest) _ c.loop-k.k opened
+      upto = λ honest opened here placing upto. c.in_ok-copy_page.ensures.upto (inv.calls.honest honest) _ c.loop-k.k
+          opened
           (inv.placing honest opened here placing) (inv.upto honest opened here placing upto) (below opened here)
           (sym (head_number opened c.args.head.now here c.loop-k.k
           (omega (arith, below opened here, placing.form.few, c.requires.few))) ∙ sym c.get_word-number.ensures) refl;

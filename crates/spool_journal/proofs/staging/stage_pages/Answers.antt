@@ -22,7 +22,8 @@ loop-i-preserved g c =
           (no_failure c.write_at.ensures.counts (not_err _ _ c.in_ok-write_at.was));
       staging = λ honest j few. staging_writes (inv.staging honest j few)
           (c.write_at.ensures.writes (inv.calls.honest honest)) (omega arith) (search rules);
-      copied = λ honest. copied_more _ _ _ (inv.copied honest) (c.in_ok-write_at.ensures.writes (inv.calls.honest honest))
+      copied = λ honest. copied_more _ _ _ (inv.copied honest)
+          (c.in_ok-write_at.ensures.writes (inv.calls.honest honest))
           refl (search rules) (λ x. refl);
       lasts = λ honest j few idle. lasts_on (inv.lasts honest j few idle)
           (lasts_call (c.write_at.ensures.time (inv.calls.honest honest))

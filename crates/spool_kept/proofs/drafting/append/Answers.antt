@@ -11,7 +11,8 @@ use Rattle.spool_kept.specs.Drafting.{DraftsFit, IsOfUpload, DraftsStand, IsOwne
 use Rattle.spool_kept.proofs.drafts.Drafted.{reserves_only}
 use Rattle.spool_kept.proofs.SameView.{shows_still}
 use Rattle.spool_kept.specs.Holding.{Holding}
-use Rattle.spool_kept.proofs.drafts.DraftLonger.{answered, fit_longer, is_told, was_told, longer_carries, longer_holds, longer_world}
+use Rattle.spool_kept.proofs.drafts.DraftLonger.{answered, fit_longer, is_told, was_told, longer_carries}
+use Rattle.spool_kept.proofs.drafts.DraftLonger.{longer_holds, longer_world}
 use Rattle.spool_kept.proofs.drafts.DraftLonger.{moved, ok_more, stand_longer, went_back}
 use Rattle.spool_kept.proofs.drafts.OfUploads.{each_changed, of_longer}
 use Rattle.spool_kept.proofs.drafting.append.Goals as goal
@@ -100,7 +101,8 @@ returns-clause-answer g c sure w p s there fits =
     let tail : IsStillOpen w.store p → IsOwnedBy records h'.rows p.number (tail_of new) =
     λ still. rw (← c.append-answer.ensures.same.4) at (rw (← rows) at (is.tail still)) in
     let same_patches = replaced_same number p w.patches there in
-    rw c.answer_of.ensures (answered _ _ c.append-answer.result (ok_more c.append-answer.result (c.append-answer.ensures.answer p held fits)
+    rw c.answer_of.ensures (answered _ _ c.append-answer.result
+    (ok_more c.append-answer.result (c.append-answer.ensures.answer p held fits)
     (λ (known : (sure ≡ true) × IsStillOpen w.store p). c.append-answer.ensures.content p (honest known.0) held fits
     (subst (λ (x : IndexSet). Carries x current first p o) (sym ix) (is.carries known.0 known.1))) (λ l carries.
     let q = longer w number p piece in

@@ -24,7 +24,8 @@ pub returns-in_err-write_prefix-clause-lasts : goal.returns-in_err-write_prefix-
 returns-in_err-write_prefix-clause-lasts g c honest =
     let inv = c.loop-at.invariant in
     lasts_on (inv.lasts honest)
-    (lasts_more (c.write_prefix.ensures.lasts (inv.calls.honest honest)) (λ image is. but_prefix _ (inv.writes honest) is))
+    (lasts_more (c.write_prefix.ensures.lasts (inv.calls.honest honest))
+    (λ image is. but_prefix _ (inv.writes honest) is))
 
 pub loop-at-preserved : goal.loop-at-preserved
 loop-at-preserved g c =

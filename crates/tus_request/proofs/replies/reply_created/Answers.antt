@@ -7,7 +7,8 @@ append-requires c = (created c.args.number c.args.bare c.args.closes _ _ _ c.ran
 
 pub returns : goal.returns
 returns c =
-    let a = appended c.append.result c.args.out.now.items c.append.new.out.items (created c.args.number c.args.bare c.args.closes _ _ _ c.ranges.number.fits
+    let a = appended c.append.result c.args.out.now.items c.append.new.out.items
+    (created c.args.number c.args.bare c.args.closes _ _ _ c.ranges.number.fits
     c.location_line-location.ensures c.length_line-length.ensures c.unless_bare.ensures)
     c.append.ensures.ok c.append.ensures.err in
     record { ok = a.0; err = c.append.ensures.err; short = a.1 }

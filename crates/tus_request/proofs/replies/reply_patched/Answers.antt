@@ -6,6 +6,7 @@ append-requires c = (patched c.args.offset c.args.closes _ c.ranges.offset.fits 
 
 pub returns : goal.returns
 returns c =
-    let a = appended c.append.result c.args.out.now.items c.append.new.out.items (patched c.args.offset c.args.closes _ c.ranges.offset.fits c.offset_line-offset.ensures)
+    let a = appended c.append.result c.args.out.now.items c.append.new.out.items
+    (patched c.args.offset c.args.closes _ c.ranges.offset.fits c.offset_line-offset.ensures)
     c.append.ensures.ok c.append.ensures.err in
     record { ok = a.0; err = c.append.ensures.err; short = a.1 }

@@ -8,7 +8,8 @@ use Rattle.spool_texts.proofs.draft_text.DraftText.begin.Goals as goal
 pub read_tail-requires-clause-zeros : goal.read_tail-requires-clause-zeros
 read_tail-requires-clause-zeros g c =
     let zeros : c.deref_mut.result.now ≡ replicate 4096 0 = search rules in
-    ap (λ (page : List ℕ). take c.args.len page) zeros ∙ take-replicate c.args.len 4096 0 (omega (arith, c.requires.few))
+    ap (λ (page : List ℕ). take c.args.len page) zeros
+    ∙ take-replicate c.args.len 4096 0 (omega (arith, c.requires.few))
 
 pub returns-in_err-read_tail-clause-counts : goal.returns-in_err-read_tail-clause-counts
 returns-in_err-read_tail-clause-counts g c =
