@@ -31,18 +31,7 @@ module _ {K : Type 0} where
   -- a path that has a route is the word, or begins with it and a slash
   found_parts : (word path : List ℕ) (f u r : K) → found word path f u ≡ Some r
       → ((path ≡ word) × (r ≡ f)) ⊎ ((part : List ℕ) × (path ≡ word ++ 47 ∷ part) × (r ≡ u))
-  found_parts [] [] f u r h = inl (refl, cc)
-  found_parts [] (b ∷ []) f u r h =
-      elim (cases_Bool (47 == b)) [ inl e ↦ absurd (cc (rw e at h)) | inr e ↦ absurd (cc (rw e at h)) ]
-  found_parts [] (b ∷ c ∷ rest) f u r h =
-      elim (cases_Bool (47 == b)) [
-        | inl e ↦ let n : b ≡ 47 = grind (arith, nat_tests) in
-            elim (cases_Bool (has_slash (c ∷ rest))) [
-              | inl s ↦ let k = rw (e, s) at h in absurd (cc)
-              | inr s ↦ let k = rw (e, s) at h in inr (c ∷ rest, rw n refl, cc)
-            ]
-        | inr e ↦ let k = rw e at h in absurd (cc)
-      ]
+  found_parts [] path f u r h = grind (arith, nat_tests)
   found_parts (x ∷ word) [] f u r h = absurd (cc)
   found_parts (x ∷ word) (b ∷ path) f u r h =
       elim (cases_Bool (x == b)) [
