@@ -31,10 +31,9 @@ patch_passes x n offset declare media at length = rw (media, at, length)
 
 plain_is_ascii : (bytes : List ℕ) → list_all is_plain bytes ≡ true → (i : ℕ) → get_or bytes i 0 < 128
 plain_is_ascii [] e i = omega arith
-plain_is_ascii (b ∷ bytes) e zero =
-    let p : is_plain b ≡ true = (and_parts (is_plain b) (list_all is_plain bytes) e).0 in grind (arith, nat_tests)
-plain_is_ascii (b ∷ bytes) e (suc i) =
-    plain_is_ascii bytes (and_parts (is_plain b) (list_all is_plain bytes) e).1 i
+plain_is_ascii (b ∷ bytes) e i =
+    let p = and_parts (is_plain b) (list_all is_plain bytes) e in
+    let ih = plain_is_ascii bytes p.1 in grind (arith, nat_tests, ih)
 
 -- bytes that are no text are no metadata
 pub no_metadata : (bytes : List ℕ) → ¬ (IsUtf8 bytes) → metadata_of bytes ≡ None

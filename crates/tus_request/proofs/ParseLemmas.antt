@@ -156,10 +156,7 @@ module _ (offers : Encoding → Bool) where
 
   answer_with_is : (bytes : List ℕ) (a : Answer) (o : Option Extent) → IsPrefixAnswer offers (prefix_with bytes o) a
       → a ≡ answer_with offers bytes o
-  answer_with_is bytes a None is = elim (cases_Bool (nat_lt (length bytes) 8192)) [
-    | inl t ↦ rw t (rw t at is)
-    | inr f ↦ rw f (rw f at is)
-  ]
+  answer_with_is bytes a None is = grind arith
   answer_with_is bytes a (Some e) is = elim (cases_Bool (nat_lt 65 e.texts)) [
     | inl t ↦ rw t (rw t at is)
     | inr f ↦ rw f (head_answer_is (take e.len bytes) a (rw f at is))

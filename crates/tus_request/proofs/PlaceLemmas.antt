@@ -32,17 +32,7 @@ module _ {K : Type 0} where
   found_parts : (word path : List ℕ) (f u r : K) → found word path f u ≡ Some r
       → ((path ≡ word) × (r ≡ f)) ⊎ ((part : List ℕ) × (path ≡ word ++ 47 ∷ part) × (r ≡ u))
   found_parts [] path f u r h = grind (arith, nat_tests)
-  found_parts (x ∷ word) [] f u r h = absurd (cc)
-  found_parts (x ∷ word) (b ∷ path) f u r h =
-      elim (cases_Bool (x == b)) [
-        | inl e ↦ let n : b ≡ x = grind (arith, nat_tests) in
-            let k : found word path f u ≡ Some r = rw e at h in
-            elim (found_parts word path f u r k) [
-              | inl w ↦ inl (cc, w.1)
-              | inr w ↦ inr (w.0, cc, w.2)
-            ]
-        | inr e ↦ let k = rw e at h in absurd (cc)
-      ]
+  found_parts (x ∷ word) path f u r h = let ih = found_parts word in grind (arith, nat_tests, ih)
 
 pub route_parts : (path : List ℕ) (r : RouteOf Kind) → get_or path 7 0 < 256
     → first (both (codes "/files") files_route upload_route) path ≡ Some r

@@ -23,12 +23,7 @@ digits n small = length-decimal-le 20 n (omega arith) (omega (arith, small)) sma
 -- a header's length
 header_length : (name value : List ℕ) → length (header name value) ≡ length name + 4 + length value
 header_length name value =
-    omega (
-      arith,
-      length-append name (codes ": " ++ (value ++ crlf)),
-      length-append (codes ": ") (value ++ crlf),
-      length-append value crlf,
-    )
+    omega (arith, length-append {A = ℕ})
 
 length_short : (n : Option ℕ) → IfSome n (λ k. k < 2 ^ 64) → length (length_line n) ≤ 38
 length_short None small = omega arith
@@ -74,7 +69,7 @@ created number bare closes location size n small place is none =
       around (codes "201 Created") (header (codes "Location") (codes "/files/" ++ decimal number))
           (unless_bare bare 0) closes (omega arith) (unless_small bare 0 (omega arith)),
       header_length (codes "Location") (codes "/files/" ++ decimal number),
-      length-append (codes "/files/") (decimal number),
+      length-append {A = ℕ},
       digits number small,
     ))
 
@@ -132,7 +127,7 @@ text to count bare closes kind size n small names is none =
       around (codes "200 OK") (header (codes "Content-Type") (codes "text/plain; charset=" ++ name_of to))
           (unless_bare bare count) closes (omega arith) (unless_small bare count small),
       header_length (codes "Content-Type") (codes "text/plain; charset=" ++ name_of to),
-      length-append (codes "text/plain; charset=") (name_of to),
+      length-append {A = ℕ},
       name_short to,
     ))
 

@@ -47,11 +47,7 @@ begun status shown =
 
 begun_more : (old status shown more new : List ℕ) → new ≡ (old ++ begun status shown) ++ more
     → new ≡ old ++ begun status (shown ++ more)
-begun_more old status shown more new is =
-    let common = crlf ++ (header (codes "Tus-Resumable") (codes "1.0.0")
-    ++ (header (codes "Cache-Control") (codes "no-store") ++ shown)) in
-    is ∙ append_assoc old (begun status shown) more
-    ∙ ap (λ t. old ++ (codes "HTTP/1.1 " ++ t)) (append_assoc status common more)
+begun_more old status shown more new is = is ∙ simp append_assoc
 
 -- one more line of a reply
 pub print_more : (old status : List ℕ) (lines : List Line) (i : ℕ) (d : Line) (mid new : List ℕ) → i < length lines

@@ -39,18 +39,15 @@ all_digits [] p = tt {0}
 all_digits (c ∷ text) p =
     let q = and_parts (is_ascii_digit c) (list_all is_ascii_digit text) p in
     let r = and_parts (nat_le 48 c) (nat_le c 57) q.0 in
-    let low : 48 ≤ c = leb-true 48 c r.0 in
-    let high : c ≤ 57 = leb-true c 57 r.1 in
-    let d : digit_value c + 48 ≡ c = digit_value_digit c (low, high) in
-    (omega arith, all_digits text q.1)
+    let high = leb-true c 57 r.1 in
+    let d = digit_value_digit c (leb-true 48 c r.0, high) in (omega arith, all_digits text q.1)
 
 small_text : (text : List ℕ) → is_number text ≡ true → digits_value 10 text < 10 ^ 18
 small_text text p =
     let q = and_parts (nat_le 1 (length text) && nat_le (length text) 18) (list_all is_ascii_digit text) p in
-    let r = and_parts (nat_le 1 (length text)) (nat_le (length text) 18) q.0 in
-    let short : length text ≤ 18 = leb-true (length text) 18 r.1 in
-    let b : digits_value 10 text < 10 ^ length text = digits_value-lt 10 text (all_digits text q.1) in
-    let p : 10 ^ length text ≤ 10 ^ 18 = pow-le-pow_right {n = 10} (omega arith) {i = length text} {j = 18} short in
+    let short = leb-true (length text) 18 (and_parts (nat_le 1 (length text)) (nat_le (length text) 18) q.0).1 in
+    let b = digits_value-lt 10 text (all_digits text q.1) in
+    let p = pow-le-pow_right {n = 10} (omega arith) {i = length text} {j = 18} short in
     omega arith
 
 number_small : (text : List ℕ) (n : ℕ) → number_of text ≡ Some n → n < 10 ^ 18
@@ -143,11 +140,7 @@ module _ (offers : Encoding → Bool) where
     | inl t ↦ rw t (tt {0})
     | inr f ↦ rw f (declared_valid x _ small)
   ]
-  all_valid x verb.Head small = tt {0}
-  all_valid x verb.Patch small = tt {0}
-  all_valid x verb.Get small = tt {0}
-  all_valid x verb.Delete small = tt {0}
-  all_valid x verb.Other small = tt {0}
+  all_valid x _ small = tt {0}
 
   upload_valid : (x : checks.Asking) (n : ℕ) (v : Verb) → x.length < 10 ^ 18 → IsValid offers (checks.on_upload x n v)
   upload_valid x n verb.Options small = passed_valid x Options small (tt {0})

@@ -16,10 +16,9 @@ returns-in_default c =
     (cc) (cc) (cc)
     (λ x r q k. search (rules, tests)))
     c.loop-part.yielded _ c.loop-part.yielded_by _ _ c.in-Some.part c.in-Some.is c.next.ensures.steps in
-    let e = rw c.in_default.is at c.in_ok-pair.ensures in
-    let p : pair_of (trimmed (32 ∷ []) c.in-Some.part.now) ≡ None = ap pair_of (sym c.trimmed.ensures) ∙ sym e in
     sym (sym c.loop-part.invariant ∙ pairs_bad (map pair_shown c.loop-part.pairs.items) (parts c.args.text.now)
-    (length c.loop-part.yielded) c.in-Some.part.now t p)
+    (length c.loop-part.yielded) c.in-Some.part.now t
+    (ap pair_of (sym c.trimmed.ensures) ∙ sym (rw c.in_default.is at c.in_ok-pair.ensures)))
 
 pub returns-then-has_key : goal.returns-then-has_key
 returns-then-has_key c =
@@ -27,12 +26,8 @@ returns-then-has_key c =
     (cc) (cc) (cc)
     (λ x r q k. search (rules, tests)))
     c.loop-part.yielded _ c.loop-part.yielded_by _ _ c.in-Some.part c.in-Some.is c.next.ensures.steps in
-    let e = rw c.in-Some-2.is at c.in_ok-pair.ensures in
-    let p : pair_of (trimmed (32 ∷ []) c.in-Some.part.now) ≡ Some (pair_shown c.in-Some-2.pair) =
-    ap pair_of (sym c.trimmed.ensures) ∙ sym e in
-    let k : has_key c.in-Some-2.pair.key.now (map pair_shown c.loop-part.pairs.items) ≡ true =
-    ap (λ t. has_key c.in-Some-2.pair.key.now (map pair_shown t)) (sym c.deref.ensures.value) ∙ sym c.has_key.ensures
-    ∙ c.if-has_key.true in
+    let p = ap pair_of (sym c.trimmed.ensures) ∙ sym (rw c.in-Some-2.is at c.in_ok-pair.ensures) in
+    let k = rw c.deref.ensures.value at (sym c.has_key.ensures ∙ c.if-has_key.true) in
     sym (sym c.loop-part.invariant ∙ pairs_twice (map pair_shown c.loop-part.pairs.items) (parts c.args.text.now)
     (length c.loop-part.yielded) c.in-Some.part.now (pair_shown c.in-Some-2.pair) t p k)
 
@@ -42,12 +37,8 @@ loop-part-preserved c =
     (cc) (cc) (cc)
     (λ x r q k. search (rules, tests)))
     c.loop-part.yielded _ c.loop-part.yielded_by _ _ c.in-Some.part c.in-Some.is c.next.ensures.steps in
-    let e = rw c.in-Some-2.is at c.in_ok-pair.ensures in
-    let p : pair_of (trimmed (32 ∷ []) c.in-Some.part.now) ≡ Some (pair_shown c.in-Some-2.pair) =
-    ap pair_of (sym c.trimmed.ensures) ∙ sym e in
-    let k : has_key c.in-Some-2.pair.key.now (map pair_shown c.loop-part.pairs.items) ≡ false =
-    ap (λ t. has_key c.in-Some-2.pair.key.now (map pair_shown t)) (sym c.deref.ensures.value) ∙ sym c.has_key.ensures
-    ∙ c.if-has_key.false in
+    let p = ap pair_of (sym c.trimmed.ensures) ∙ sym (rw c.in-Some-2.is at c.in_ok-pair.ensures) in
+    let k = rw c.deref.ensures.value at (sym c.has_key.ensures ∙ c.if-has_key.false) in
     let m = pairs_more (map pair_shown c.loop-part.pairs.items) (parts c.args.text.now) (length c.loop-part.yielded)
     c.in-Some.part.now (pair_shown c.in-Some-2.pair) t p k in
     rw (
