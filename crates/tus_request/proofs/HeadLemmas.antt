@@ -1,6 +1,6 @@
 -- A request head of the grammar is a head by its lines.
-use Rattle.std.specs.Prelude.{◌≡◌, ℕ, ◌+◌, ◌<◌, ◌≤◌, Bool, true, false, List, [], ◌∷◌, ◌++◌, length, ◌==◌, nat_eq}
-use Rattle.std.specs.Prelude.{Option, Some, All, IsTrue, map}
+use Rattle.std.specs.Prelude.{◌≡◌, ℕ, ◌+◌, ◌<◌, Bool, true, false, List, [], ◌∷◌, ◌++◌, length, ◌==◌, nat_eq}
+use Rattle.std.specs.Prelude.{Some, All, IsTrue, map}
 use Rattle.std.proofs.Common.{arith, ap, sym, ◌∙◌, refl, suc, append_assoc}
 use Rattle.std.specs.List.{flat_map}
 use Rattle.std.proofs.lemmas.List.{length-append, append-nil}

@@ -1,12 +1,11 @@
 -- From the route that a path has to what it names.
-use Rattle.std.specs.Prelude.{◌≡◌, ℕ, ◌⊎◌, Bool, true, false, ◌==◌, ◌&&◌, nat_eq, List, [], ◌∷◌, ◌++◌, Some, None}
-use Rattle.std.proofs.Common.{arith, refl, inl, inr, get_or, sym, ◌∙◌, ◌<◌, codes}
+use Rattle.std.specs.Prelude.{◌≡◌, ℕ, ◌⊎◌, true, false, List, [], ◌∷◌, ◌++◌, Some, None}
+use Rattle.std.proofs.Common.{arith, refl, get_or, sym, ◌∙◌, ◌<◌, codes}
 use Rattle.std.specs.List.{list_all}
 use Rattle.std.specs.Char.{is_ascii_digit}
-use Rattle.std.proofs.lemmas.Bool.{cases_Bool, and_right}
 use Rattle.std.proofs.lemmas.Bool.Decides.{nat_tests}
 use Rattle.matchit.specs.Seek.{has_slash}
-use Rattle.tus_request.specs.Number.{upload_number, is_number}
+use Rattle.tus_request.specs.Number.{upload_number}
 use Rattle.tus_request.specs.Places.{place_at}
 use Rattle.matchit.specs.Seek.{first}
 use Rattle.matchit.specs.Router.{RouteOf}

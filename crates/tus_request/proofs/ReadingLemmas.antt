@@ -1,9 +1,7 @@
 -- The guess is the head, where there is one.
 use Rattle.std.specs.Prelude.{◌≡◌, ℕ, ◌+◌, ◌-◌, ◌<◌, Bool, true, false, List, [], ◌∷◌, ◌++◌, length, map, ◌==◌, ◌&&◌}
-use Rattle.std.specs.Prelude.{nat_eq, nat_lt, nat_le, All, IsTrue, bytes_eq, Some}
-use Rattle.std.proofs.Common.{arith, ap, sym, ◌∙◌, refl, append_assoc}
-use Rattle.std.specs.List.{flat_map}
-use Rattle.std.proofs.lemmas.List.Concat.{flat_map-cons}
+use Rattle.std.specs.Prelude.{nat_lt, nat_le, All, IsTrue, bytes_eq, Some}
+use Rattle.std.proofs.Common.{arith, sym, ◌∙◌, refl, append_assoc}
 use Rattle.std.proofs.lemmas.List.Elements.{All-head, All-tail, All-cons}
 use Rattle.std.specs.List.{list_all}
 use Rattle.std.proofs.lemmas.List.Sums.{AllPass-from_list_all, list_all-from_AllPass}
@@ -15,11 +13,11 @@ use Rattle.std.proofs.lemmas.Bool.Decides.{nat_tests}
 use Rattle.std.proofs.lemmas.List.{append-nil}
 use Rattle.httparse.proofs.GrammarLemmas.{cons-append}
 use Rattle.httparse.specs.Grammar.{is_token_byte, is_uri_byte, is_value_byte, AllPass, LineEnd, crlf, lf, print_end}
-use Rattle.httparse.specs.Grammar.{print_blank, print_version, Field, IsField, print_field, RequestHead, IsRequestHead}
+use Rattle.httparse.specs.Grammar.{print_version, Field, IsField, print_field, RequestHead, IsRequestHead}
 use Rattle.httparse.specs.Grammar.{print_request, is_token, IsToken, ReadsRequest}
-use Rattle.tus_request.specs.Lines.{lines, is_empty_line}
+use Rattle.tus_request.specs.Lines.{is_empty_line}
 use Rattle.tus_request.specs.Reading.{before, after, text_of, end_of, field_of, fields_of, last_of, blank_of, filled}
-use Rattle.tus_request.specs.Reading.{head_with, guess, is_field, is_request_head, request_of}
+use Rattle.tus_request.specs.Reading.{guess, is_field, is_request_head, request_of}
 use Rattle.tus_request.proofs.HeadLemmas.{field_text, end_is_empty, request_line, head_as_lines}
 use Rattle.tus_request.proofs.HeadLemmas.{request_line_no_feed, request_line_text, token_is_high, Lacks}
 use Rattle.tus_request.proofs.HeadLemmas.{lacks_append, lacks_from, request_line_lacks}
@@ -132,8 +130,19 @@ guess_back h is =
     (line_back (request_line h) h.line_end (request_line_inline h is)).1 in
     let fs = fields_back h.fields h.last is.fields in
     let blank = blank_back h.blank q rest text in
-    rw (rw (append-nil (print_request h)) at (head_as_lines h [] is), blank.0, blank.1, bm, hm, t.0, t.1, digit, en, fs.0,
-    fs.1)
+    rw (
+      rw (append-nil (print_request h)) at (head_as_lines h [] is),
+      blank.0,
+      blank.1,
+      bm,
+      hm,
+      t.0,
+      t.1,
+      digit,
+      en,
+      fs.0,
+      fs.1,
+    )
 
 nonempty : (text : List ℕ) → 0 < length text → nat_lt 0 (length text) ≡ true
 nonempty text some = grind (arith, nat_tests)

@@ -1,16 +1,14 @@
 -- No reply is longer than 2,048 bytes without its body.
 use Rattle.std.proofs.Common.{ℕ, ◌≤◌, ◌<◌, ◌+◌, ◌^◌, Bool, true, false, List, [], ◌∷◌, ◌++◌, length, Option, Some, None}
-use Rattle.std.proofs.Common.{IfSome, OnErr, OnOk, Result, Ok, Err, arith, codes, subst, sym, ◌≡◌, ap, ◌∙◌}
+use Rattle.std.proofs.Common.{IfSome, OnErr, OnOk, Result, Ok, Err, arith, codes, ◌≡◌, ap, ◌∙◌}
 use Rattle.std.proofs.lemmas.List.{length-append, append-nil}
 use Rattle.std.proofs.lemmas.Fmt.{length-decimal-le}
 use Rattle.std.specs.Fmt.{decimal}
 use Rattle.enc_model.specs.declared.Encoding.{Encoding}
-use Rattle.enc_model.specs.declared.Encoding.TheVariants as e
 use Rattle.enc_labels.specs.Labels.{name_of}
 use Rattle.tus_request.specs.Faults.{fault_number}
 use Rattle.tus_request.specs.declared.faults.Fault.{Fault}
-use Rattle.tus_request.specs.declared.faults.Fault.TheVariants as f
-use Rattle.tus_request.specs.Replies.{close_line, crlf, declared_line, header, length_line, metadata_line, refusal_lead}
+use Rattle.tus_request.specs.Replies.{close_line, declared_line, header, length_line, metadata_line, refusal_lead}
 use Rattle.tus_request.specs.Replies.{refusal_line, refusal_lines, reply, reply_created, reply_deleted, reply_head}
 use Rattle.tus_request.specs.Replies.{longest_reply, GrowsBy, options_lines}
 use Rattle.tus_request.proofs.ReplyTexts.{one_line, two_lines, three_lines}

@@ -1,5 +1,5 @@
 -- What `first` answers on two rows: a word with a slash and a parameter after it, and the word.
-use Rattle.std.specs.Prelude.{◌≡◌, ℕ, ◌-◌, ◌<◌, ◌⊎◌, Bool, true, false, cond, ◌==◌, List, [], ◌∷◌, ◌++◌, length, Option}
+use Rattle.std.specs.Prelude.{◌≡◌, ℕ, ◌-◌, ◌<◌, Bool, true, false, cond, ◌==◌, List, [], ◌∷◌, ◌++◌, length, Option}
 use Rattle.std.specs.Prelude.{Some, None, codes}
 use Rattle.std.proofs.Common.{arith, ap, ◌∙◌, refl, zero, suc, get_or, inl, inr}
 use Rattle.matchit.specs.Rows.{RowsOf, param_token, catch_all_token}

@@ -1,12 +1,11 @@
 -- Every request that passed its checks is valid.
 use Rattle.std.specs.Prelude.{All, take, map, codes}
 use Rattle.std.specs.List.{list_all}
-use Rattle.std.specs.Char.{is_ascii_digit, digit_value}
+use Rattle.std.specs.Char.{is_ascii_digit}
 use Rattle.std.specs.Str.Parse.{digits_value, AllDigits}
-use Rattle.std.proofs.Common.{◌≡◌, ◌<◌, ◌≤◌, ◌+◌, ◌^◌, ℕ, Bool, true, false, ◌&&◌, nat_le, nat_lt, if◌then◌else◌}
-use Rattle.std.proofs.Common.{List, [], ◌∷◌, length, Option, Some, None, refl, sym, subst, ap, ◌∙◌, arith, inl, inr}
+use Rattle.std.proofs.Common.{◌≡◌, ◌<◌, ◌≤◌, ◌^◌, ℕ, Bool, true, ◌&&◌, nat_le, nat_lt}
+use Rattle.std.proofs.Common.{List, [], ◌∷◌, length, Option, Some, None, refl, subst, arith, inl, inr}
 use Rattle.std.proofs.lemmas.Bool.{leb-true, cases_Bool, and_parts}
-use Rattle.std.proofs.lemmas.Option.{same_Some}
 use Rattle.std.proofs.lemmas.List.Elements.{All-cons}
 use Rattle.std.proofs.lemmas.Str.{digit_value_digit}
 use Rattle.std.proofs.lemmas.Int.Digits.{digits_value-lt}
@@ -17,7 +16,6 @@ use Rattle.tus_request.specs.Fields.{values_in}
 use Rattle.enc_model.specs.declared.Encoding.{Encoding}
 use Rattle.enc_model.specs.declared.Encoding.TheVariants as e
 use Rattle.enc_model.specs.declared.Mode.{Mode}
-use Rattle.enc_labels.specs.Labels.{output_of}
 use Rattle.tus_request.specs.Number.{is_number, number_of}
 use Rattle.tus_request.specs.Metadata.{KeyValue, is_plain, is_metadata, metadata_of, Choice, choice_with, choice_of}
 use Rattle.tus_request.specs.Checks as checks
@@ -25,12 +23,10 @@ use Rattle.tus_request.specs.declared.methods.Verb.{Verb}
 use Rattle.tus_request.specs.declared.methods.Verb.TheVariants as verb
 use Rattle.tus_request.specs.declared.places.Place.{Place}
 use Rattle.tus_request.specs.declared.places.Place.TheVariants as place
-use Rattle.tus_request.specs.declared.faults.Fault.TheVariants.{HeadTooLong, Coding, TusVersion}
-use Rattle.tus_request.specs.declared.faults.Fault.TheVariants.{MediaType, BadHeader, BadLabel}
 use Rattle.tus_request.specs.Lines.{Extent, head_extent}
 use Rattle.tus_request.specs.Reading.{request_of}
-use Rattle.tus_request.specs.Requests.{Action, Options, Create, Head, Get, Delete, Request, Asks}
-use Rattle.tus_request.specs.Answers.{More, Judged, answer_with, answer_of}
+use Rattle.tus_request.specs.Requests.{Action, Options, Head, Get, Delete, Request, Asks}
+use Rattle.tus_request.specs.Answers.{Judged, answer_with, answer_of}
 use Rattle.tus_request.specs.Valid.{IsValidAction, IsValidRequest, IsValid, IsValidAnswer}
 
 -- NUMBERS

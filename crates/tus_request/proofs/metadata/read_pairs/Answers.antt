@@ -1,11 +1,10 @@
-use Rattle.std.proofs.Common.{rules, tests, ◌≡◌, ◌∷◌, [], length, map, sym, ◌∙◌, ap, Some, None, true, false}
+use Rattle.std.proofs.Common.{rules, tests, length, map, sym, ◌∙◌, ap}
 use Rattle.std.specs.Prelude.{◌==◌}
 use Rattle.std.proofs.lemmas.List.{map_push, length_push}
 use Rattle.std.proofs.lemmas.Iterator.Consumers.{YieldsList-turn, YieldsList-end}
 use Rattle.std.proofs.lemmas.Iterator.Splits.{YieldsList-from_slice_split}
-use Rattle.tus_request.specs.Texts.{parts, trimmed}
-use Rattle.std.specs.Slice.Iter.{split_rest, split_done, split_callee}
-use Rattle.tus_request.specs.Metadata.{pair_of, has_key}
+use Rattle.tus_request.specs.Texts.{parts}
+use Rattle.tus_request.specs.Metadata.{pair_of}
 use Rattle.tus_request.specs.Pairs.{pair_shown}
 use Rattle.tus_request.proofs.PairLemmas.{pairs_bad, pairs_twice, pairs_more, pairs_end}
 use Rattle.tus_request.proofs.metadata.read_pairs.Goals as goal
