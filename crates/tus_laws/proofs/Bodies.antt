@@ -163,8 +163,14 @@ module _ (w : World) (k : Conn) (holds : DraftHolds w k) where
         → CallBrings w k piece
     by_head n m e f brings =
         let l : left (reader w) k.stream ≡ h = head_left (reader w) is_steady k.stream h inside in
-        rw (taken_alone (reader w) is_steady k.stream piece, l, e, moments_alone (reader w) is_steady k.stream (take n piece),
-        l, f) brings
+        rw (
+          taken_alone (reader w) is_steady k.stream piece,
+          l,
+          e,
+          moments_alone (reader w) is_steady k.stream (take n piece),
+          l,
+          f,
+        ) brings
 
     more_brings : reader w (h ++ piece) ≡ More
         → CallBrings w k piece
