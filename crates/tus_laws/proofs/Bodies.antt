@@ -150,7 +150,8 @@ module _ (w : World) (k : Conn) (holds : DraftHolds w k) where
   module _ (h : List ℕ) (inside : (cut (reader w) k.stream).rest ≡ InHead h) (idle : k.pending ≡ None)
       (piece : List ℕ) where
     no_draft : k.draft ≡ None
-    no_draft = none_if k.draft (λ d e. let x : InHead h ≡ InBody (holds d e).asked = sym inside ∙ (holds d e).rest in cc)
+    no_draft =
+        none_if k.draft (λ d e. let x : InHead h ≡ InBody (holds d e).asked = sym inside ∙ (holds d e).rest in cc)
 
     is_inside : InsideHead w k h
     is_inside = record { rest = inside; draft = no_draft; pending = idle }

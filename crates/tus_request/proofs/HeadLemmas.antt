@@ -185,7 +185,8 @@ head_as_lines h rest is =
 
 -- of these lines those up to the end are the head
 up_fields : (fields : List Field) (last : LineEnd) (more : List (List ℕ)) → All IsField fields
-    → up_to_empty (map print_field fields ++ print_end last ∷ more) ≡ Some (map print_field fields ++ print_end last ∷ [])
+    → up_to_empty (map print_field fields ++ print_end last ∷ more)
+    ≡ Some (map print_field fields ++ print_end last ∷ [])
 up_fields [] last more all = rw (end_is_empty last)
 up_fields (f ∷ fields) last more all =
     rw (field_text f (All-head IsField f fields all), up_fields fields last more (All-tail IsField f fields all))

@@ -176,9 +176,10 @@ fields_are (f ∷ fields) e =
 head_test : (h : RequestHead) → IsRequestHead h → is_request_head h ≡ true
 head_test h is =
     let m : nat_le h.minor 1 ≡ true = let k = is.minor in grind (arith, nat_tests) in
-    and_from _ _ (and_from _ _ (and_from _ _ (and_from _ _ (and_from _ _ (token_test h.method is.method) (nonempty h.target is.target.0))
-    (list_all-from_AllPass is_uri_byte h.target is.target.1)) (is_utf8-from_IsUtf8 h.target
-    is.target_text)) m) (fields_test h.fields is.fields)
+    let a = and_from _ _ (token_test h.method is.method) (nonempty h.target is.target.0) in
+    let b = and_from _ _ a (list_all-from_AllPass is_uri_byte h.target is.target.1) in
+    and_from _ _ (and_from _ _ (and_from _ _ b (is_utf8-from_IsUtf8 h.target is.target_text)) m)
+    (fields_test h.fields is.fields)
 
 head_is : (h : RequestHead) → is_request_head h ≡ true → IsRequestHead h
 head_is h e =

@@ -61,8 +61,8 @@ pub created : (number : ℕ) (bare closes : Bool) (location size : List ℕ) (n 
     → n ≡ unless_bare bare 0
     → IsReply (reply (codes "201 Created") (location ++ (size ++ [])) None closes) (reply_created number bare closes)
 created number bare closes location size n small place is none =
-    is_reply _ _ (one_line (codes "201 Created") location (header (codes "Location") (codes "/files/" ++ decimal number))
-    size (unless_bare bare 0) closes place (is ∙ ap length_line none)) (omega (
+    is_reply _ _ (one_line (codes "201 Created") location _ size (unless_bare bare 0) closes place
+    (is ∙ ap length_line none)) (omega (
       arith,
       around (codes "201 Created") (header (codes "Location") (codes "/files/" ++ decimal number))
           (unless_bare bare 0) closes (omega arith) (unless_small bare 0 (omega arith)),
@@ -119,8 +119,8 @@ pub text : (to : Encoding) (count : ℕ) (bare closes : Bool) (kind size : List 
     → n ≡ unless_bare bare count
     → IsReply (reply (codes "200 OK") (kind ++ (size ++ [])) None closes) (reply_text to count bare closes)
 text to count bare closes kind size n small names is none =
-    is_reply _ _ (one_line (codes "200 OK") kind (header (codes "Content-Type") (codes "text/plain; charset=" ++ name_of to))
-    size (unless_bare bare count) closes names (is ∙ ap length_line none)) (omega (
+    is_reply _ _ (one_line (codes "200 OK") kind _ size (unless_bare bare count) closes names
+    (is ∙ ap length_line none)) (omega (
       arith,
       around (codes "200 OK") (header (codes "Content-Type") (codes "text/plain; charset=" ++ name_of to))
           (unless_bare bare count) closes (omega arith) (unless_small bare count small),

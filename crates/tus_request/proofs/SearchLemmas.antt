@@ -6,7 +6,8 @@ use Rattle.std.specs.List.{position}
 use Rattle.std.proofs.lemmas.List.Quantifiers.{position-Some}
 use Rattle.tus_request.proofs.Positions.{none_passes}
 use Rattle.std.proofs.lemmas.List.{take_all}
-use Rattle.std.proofs.lemmas.Bool.{eqb-true, ltb-true, lt-ltb, leb-false, lt-leb, cases_Bool, both_ways, or_parts, or_from}
+use Rattle.std.proofs.lemmas.Bool.{eqb-true, ltb-true, lt-ltb, leb-false, lt-leb, cases_Bool}
+use Rattle.std.proofs.lemmas.Bool.{both_ways, or_parts, or_from}
 use Rattle.enc_model.specs.declared.Encoding.{Encoding}
 use Rattle.tus_request.specs.Lines.{lines, onto_first, up_to_empty, head_lines, Extent}
 use Rattle.tus_request.specs.Lines.{head_extent}

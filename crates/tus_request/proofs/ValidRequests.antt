@@ -176,7 +176,10 @@ module _ (offers : Encoding → Bool) where
       ]
 
   extent_valid : (bytes : List ℕ) (o : Option Extent) → IsValidAnswer offers (answer_with offers bytes o)
-  extent_valid bytes None = elim (cases_Bool (nat_lt (length bytes) 8192)) [ inl t ↦ rw t (tt {0}) | inr f ↦ rw f (tt {0}) ]
+  extent_valid bytes None = elim (cases_Bool (nat_lt (length bytes) 8192)) [
+    | inl t ↦ rw t (tt {0})
+    | inr f ↦ rw f (tt {0})
+  ]
   extent_valid bytes (Some x) = elim (cases_Bool (nat_lt 65 x.texts)) [
     | inl t ↦ rw t (tt {0})
     | inr f ↦ rw f (judged_valid (request_of (take x.len bytes)))
