@@ -47,10 +47,7 @@ leaves_first : (w : World) (r : Request) (a : Acted) (d : ℕ) → Leaves w r a 
 leaves_first w r a d (Nothing moves none idle) e = absurd (none-some d (sym none ∙ e))
 leaves_first w r a d (Text h same none some stays) e = absurd (none-some d (sym none ∙ e))
 leaves_first w r a d (Patching y) e =
-    let p = first_patch y.number r.length y.declare y.up in
-    let same : y.d ≡ d = same_Some y.d d (sym y.draft_is ∙ e) in
-    let first : find y.d ((y.d, p) ∷ w.patches) ≡ Some p = grind (arith, nat_tests) in
-    (p, ap (λ v. find d v.patches) y.world_is ∙ (ap (λ n. find n ((y.d, p) ∷ w.patches)) (sym same) ∙ first), refl)
+    (first_patch y.number r.length y.declare y.up, grind (arith, nat_tests), refl)
 
 opened_first : (w : World) (v : Verdict) (d : ℕ) → (acted w v).draft ≡ Some d
     → (p : Patch) × (find d (acted w v).world.patches ≡ Some p) × (p.body ≡ [])
@@ -79,13 +76,6 @@ module _ (w : World) (k : Conn) (holds : DraftHolds w k) where
   is_steady : IsSteady (reader w)
   is_steady = steady (offers w.store.indexes)
 
-  along : (piece : List ℕ) (n : ℕ) (m : Moments) → taken (reader w) k.stream piece ≡ n
-      → moments (reader w) k.stream (take n piece) ≡ m → BringsAll w k piece n m
-      → CallBrings w k piece
-  along piece n m e f brings =
-      subst (λ x. BringsAll w k piece x (moments (reader w) k.stream (take x piece))) (sym e)
-      (subst (BringsAll w k piece n) (sym f) brings)
-
   -- a body is under way
   module _ (asked : Asked) (rest : (cut (reader w) k.stream).rest ≡ InBody asked) (piece : List ℕ) where
     abbrev u : List ℕ
@@ -106,13 +96,11 @@ module _ (w : World) (k : Conn) (holds : DraftHolds w k) where
         taken_alone (reader w) is_steady k.stream piece
         ∙ part_taken (reader w) is_steady u piece b.0 asked b.1 only few in
         let m : moments (reader w) k.stream (take (length piece) piece) ≡ bytes_came piece =
-        ap (moments (reader w) k.stream) t
-        ∙ (moments_alone (reader w) is_steady k.stream piece
+        rw t (moments_alone (reader w) is_steady k.stream piece
         ∙ part_came (reader w) is_steady u piece b.0 asked b.1 only few) in
         let r : (cut (reader w) (k.stream ++ take (length piece) piece)).rest ≡ InBody (longer asked piece) =
-        ap (λ q. (cut (reader w) (k.stream ++ q)).rest) t
-        ∙ body_part_rest (reader w) is_steady k.stream piece asked rest few in
-        along piece (length piece) (bytes_came piece) n m (record {
+        rw t (body_part_rest (reader w) is_steady k.stream piece asked rest few) in
+        rw (n, m) (record {
           each = λ d e.
               let h = holds d e in
               record {
@@ -138,7 +126,7 @@ module _ (w : World) (k : Conn) (holds : DraftHolds w k) where
         let all : length asked.body + length q ≡ body_length asked.verdict = omega arith in
         let m : moments (reader w) k.stream q ≡ body_ended asked q =
         moments_alone (reader w) is_steady k.stream q ∙ rest_came (reader w) is_steady u q b.0 asked b.1 only all in
-        along piece c (body_ended asked q) n m (record {
+        rw (n, m) (record {
           each = λ d e.
               let h = holds d e in
               record {
@@ -162,8 +150,8 @@ module _ (w : World) (k : Conn) (holds : DraftHolds w k) where
   module _ (h : List ℕ) (inside : (cut (reader w) k.stream).rest ≡ InHead h) (idle : k.pending ≡ None)
       (piece : List ℕ) where
     no_draft : k.draft ≡ None
-    no_draft = none_if k.draft (λ d e. let x : InHead h ≡ InBody (holds d e).asked = sym inside
-        ∙ (holds d e).rest in cc)
+    no_draft =
+        none_if k.draft (λ d e. let x : InHead h ≡ InBody (holds d e).asked = sym inside ∙ (holds d e).rest in cc)
 
     is_inside : InsideHead w k h
     is_inside = record { rest = inside; draft = no_draft; pending = idle }
@@ -176,9 +164,14 @@ module _ (w : World) (k : Conn) (holds : DraftHolds w k) where
         → CallBrings w k piece
     by_head n m e f brings =
         let l : left (reader w) k.stream ≡ h = head_left (reader w) is_steady k.stream h inside in
-        along piece n m (taken_alone (reader w) is_steady k.stream piece ∙ (ap (λ u. taken (reader w) u piece) l ∙ e))
-        (moments_alone (reader w) is_steady k.stream (take n piece)
-        ∙ (ap (λ u. moments (reader w) u (take n piece)) l ∙ f)) brings
+        rw (
+          taken_alone (reader w) is_steady k.stream piece,
+          l,
+          e,
+          moments_alone (reader w) is_steady k.stream (take n piece),
+          l,
+          f,
+        ) brings
 
     more_brings : reader w (h ++ piece) ≡ More
         → CallBrings w k piece
@@ -195,8 +188,7 @@ module _ (w : World) (k : Conn) (holds : DraftHolds w k) where
           let p = head_whole (reader w) is_steady h piece n v only_h judged few in
           let t : take (length piece) piece ≡ piece = take_all (length piece) piece (omega arith) in
           let r : (cut (reader w) (k.stream ++ take (length piece) piece)).rest ≡ InBody (judged_as (h ++ piece) n v) =
-          ap (λ q. (cut (reader w) (k.stream ++ q)).rest) t
-          ∙ head_part_rest (reader w) is_steady k.stream h inside piece n v judged few in
+          rw t (head_part_rest (reader w) is_steady k.stream h inside piece n v judged few) in
           by_head (length piece)
           (record { head = Some (judged_as (h ++ piece) n v); body = None; came = drop n (h ++ piece) }) p.1
           (ap (moments (reader w) h) t ∙ p.0)

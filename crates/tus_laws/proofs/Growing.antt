@@ -72,10 +72,8 @@ found_made n m u new (x ∷ xs) found = let ih = found_made n m u new xs in grin
 made_keeps : (m : Store) (new : New) → Keeps m (created_store m new)
 made_keeps m new = record {
   next = omega arith;
-  above = λ above n u found. elim (found_made n m.next u (new_upload new) m.uploads found) [
-    | inl old ↦ let lt = above n u old in let more : n < m.next + 1 = omega (arith, lt) in more
-    | inr is ↦ let more : n < m.next + 1 = omega (arith, is) in more
-  ];
+  above = λ above n u found.
+      let made = found_made n m.next u (new_upload new) m.uploads found in grind (arith, above);
   uploads = λ n v lt found. elim (found_made n m.next v (new_upload new) m.uploads found) [
     | inl old ↦ same_there m n v old
     | inr is ↦ absurd (omega (arith, lt, is))
@@ -95,10 +93,7 @@ put_keeps_at : (m : Store) (number : ℕ) (declare : Option ℕ) (body : List �
 put_keeps_at m number declare body None none = itself_keeps m
 put_keeps_at m number declare body (Some u) there = record {
   next = omega arith;
-  above = λ above n v found. elim (cases_eq number n) [
-    | inl is ↦ above n u (ap (upload_of m) (sym is) ∙ there)
-    | inr ne ↦ above n v (sym (find_replaced_other number n (patched u declare body) m.uploads ne) ∙ found)
-  ];
+  above = λ above n v found. grind (arith, above, find_replaced_other);
   uploads = λ n v lt found. elim (cases_eq number n) [
     | inl is ↦
         let put = find_replaced_same number u (patched u declare body) m.uploads there in

@@ -175,11 +175,10 @@ module _ (st : State) (valid : Valid st) (g : ℕ → List ℕ) (r : Rep) (sim :
       cut_world : bared (ended_with (fed r.world d body) d (find d (fed r.world d body).patches)) ≡ bared w'
       cut_world =
           let u = fed (bared st.world) d body in
-          ap (λ v. bared (ended_with (fed v d body) d (find d (fed v d body).patches))) sim.world
-          ∙ (ap (λ o. bared (ended_with u d o)) (found_u st.world d h.patch [] body h.found whole)
-          ∙ ended_calm st.world u d h.patch (store_u st.world d h.patch [] body h.found whole)
-          (blocks_u st.world d h.patch [] body h.found whole)
-          (patches_u st.world d h.patch [] body h.found whole) not_full)
+          rw (sim.world, found_u st.world d h.patch [] body h.found whole)
+          (ended_calm st.world u d h.patch (store_u st.world d h.patch [] body h.found whole)
+          (blocks_u st.world d h.patch [] body h.found whole) (patches_u st.world d h.patch [] body h.found whole)
+          not_full)
 
       cut_replays : Replays st g r (act_cut r c body (Some d)) w' c None []
       cut_replays = record {
@@ -317,9 +316,7 @@ module _ (st : State) (valid : Valid st) (g : ℕ → List ℕ) (r : Rep) (sim :
 
       by_draft : a.pending ≡ None → (o : Option ℕ) → a.draft ≡ o → Goal
       by_draft no_text None none =
-          conclude n a None m.body
-          (turn_body no_text ∙ ap (λ o. turn_of k piece n (body_step a m.came m.body o)) none)
-          none refl first_opens first_did
+          conclude n a None m.body (rw none at (turn_body no_text)) none refl first_opens first_did
           (λ d is. absurd (none-some d (sym none ∙ is)))
       by_draft no_text (Some d) is = by_moment no_text d is m.body refl
 

@@ -65,6 +65,7 @@ pub fn same_offset()
 {}
 
 /// A number is never used again: the next number is above those of all uploads and never decreases.
+#[tactic(auto, using(crate::proofs::Growing::always_above, crate::proofs::Growing::next_grows))]
 pub fn new_numbers()
     ensures above { (start : State) (past : List Marked) → IsAbove start.world.store
         → IsAbove (history start past).world.store }
@@ -88,6 +89,7 @@ pub fn moments_of_streams()
 /// each connection the same bytes, its pending text included, and leave the same uploads. This requires that every
 /// event is served, no PATCH is refused for room, no connection is closed because the upload of its text was deleted,
 /// and none ends before its text is taken.
+#[tactic(auto, using(crate::proofs::Histories::same_bytes, crate::proofs::Histories::same_uploads))]
 pub fn any_cut()
     ensures bytes { (m : Store) (blocks : Option ℕ) (past other : List Marked) (c : ℕ)
         → AllSmooth (beginning m blocks) past → AllSmooth (beginning m blocks) other

@@ -1,7 +1,7 @@
 -- The checks, one after another.
-use Rattle.std.specs.Prelude.{◌≡◌, ℕ, ◌<◌, Bool, true, false, ◌&&◌, List, [], ◌∷◌, length, nat_le, if◌then◌else◌}
+use Rattle.std.specs.Prelude.{◌≡◌, ℕ, ◌<◌, Bool, true, false, List, [], ◌∷◌, length, if◌then◌else◌}
 use Rattle.std.specs.Prelude.{Option, Some, None, codes}
-use Rattle.std.proofs.Common.{arith, ap, sym, ◌∙◌, refl, zero, suc, get_or, inl, inr}
+use Rattle.std.proofs.Common.{arith, ap, get_or, inl, inr}
 use Rattle.std.specs.List.{list_all}
 use Rattle.std.proofs.lemmas.Bool.{and_parts, cases_Bool}
 use Rattle.std.proofs.lemmas.Bool.Decides.{nat_tests}
@@ -10,9 +10,9 @@ use Rattle.std.specs.Str.{IsUtf8}
 use Rattle.enc_model.specs.declared.Encoding.{Encoding}
 use Rattle.tus_request.specs.Metadata.{is_plain, is_metadata, metadata_of}
 use Rattle.tus_request.specs.Checks.{Line, Asking, asking, is_given, length_in, cut_off, decided, measured, only}
-use Rattle.tus_request.specs.Checks.{number_in, optional_number_in, is_patch_media, refused, passed_patch, declaring}
-use Rattle.tus_request.specs.Checks.{at_offset, patch_checked}
-use Rattle.tus_request.specs.declared.faults.Fault.TheVariants.{Coding, MediaType}
+use Rattle.tus_request.specs.Checks.{number_in, optional_number_in, is_patch_media, passed_patch}
+use Rattle.tus_request.specs.Checks.{patch_checked}
+use Rattle.tus_request.specs.declared.faults.Fault.TheVariants.{Coding}
 
 pub checked_is : (offers : Encoding → Bool) (line : Line) (given : List ℕ → List (List ℕ))
     (codings lengths : List (List ℕ)) (a : Asking) (len : ℕ)
@@ -31,10 +31,9 @@ patch_passes x n offset declare media at length = rw (media, at, length)
 
 plain_is_ascii : (bytes : List ℕ) → list_all is_plain bytes ≡ true → (i : ℕ) → get_or bytes i 0 < 128
 plain_is_ascii [] e i = omega arith
-plain_is_ascii (b ∷ bytes) e zero =
-    let p : is_plain b ≡ true = (and_parts (is_plain b) (list_all is_plain bytes) e).0 in grind (arith, nat_tests)
-plain_is_ascii (b ∷ bytes) e (suc i) =
-    plain_is_ascii bytes (and_parts (is_plain b) (list_all is_plain bytes) e).1 i
+plain_is_ascii (b ∷ bytes) e i =
+    let p = and_parts (is_plain b) (list_all is_plain bytes) e in
+    let ih = plain_is_ascii bytes p.1 in grind (arith, nat_tests, ih)
 
 -- bytes that are no text are no metadata
 pub no_metadata : (bytes : List ℕ) → ¬ (IsUtf8 bytes) → metadata_of bytes ≡ None

@@ -1,6 +1,6 @@
 -- A request head of the grammar is a head by its lines.
-use Rattle.std.specs.Prelude.{◌≡◌, ℕ, ◌+◌, ◌<◌, ◌≤◌, Bool, true, false, List, [], ◌∷◌, ◌++◌, length, ◌==◌, nat_eq}
-use Rattle.std.specs.Prelude.{Option, Some, All, IsTrue}
+use Rattle.std.specs.Prelude.{◌≡◌, ℕ, ◌+◌, ◌<◌, Bool, true, false, List, [], ◌∷◌, ◌++◌, length, ◌==◌, nat_eq}
+use Rattle.std.specs.Prelude.{Some, All, IsTrue, map}
 use Rattle.std.proofs.Common.{arith, ap, sym, ◌∙◌, refl, suc, append_assoc}
 use Rattle.std.specs.List.{flat_map}
 use Rattle.std.proofs.lemmas.List.{length-append, append-nil}
@@ -13,8 +13,7 @@ use Rattle.httparse.specs.Grammar.{is_token_byte, is_uri_byte, is_value_byte, Al
 use Rattle.httparse.specs.Grammar.{print_blank, print_version, Field, IsField, print_field, RequestHead, IsRequestHead}
 use Rattle.httparse.specs.Grammar.{print_request}
 use Rattle.httparse.proofs.GrammarLemmas.{print_request-append, cons-append}
-use Rattle.tus_request.specs.Lines.{lines, is_empty_line, Extent, head_extent}
-use Rattle.tus_request.proofs.LineLemmas.{further, extent_after, after_text, after_empty, at_end, further_zero}
+use Rattle.tus_request.specs.Lines.{lines, is_empty_line, up_to_empty, head_lines, bytes_in, texts_in, head_extent}
 
 -- no byte is the mark
 abbrev pub Lacks : ℕ → List ℕ → Type 0
@@ -78,25 +77,6 @@ pub end_is_empty : (end : LineEnd) → is_empty_line (print_end end) ≡ true
 end_is_empty crlf = refl
 end_is_empty lf = refl
 
--- the empty lines before a request line
-blanks : (ends : List LineEnd) (len : ℕ) (rest : List ℕ)
-    → further len 0 (extent_after 0 (lines (print_blank ends ++ rest)))
-    ≡ further (len + length (print_blank ends)) 0 (extent_after 0 (lines rest))
-blanks [] len rest = let z : len + 0 ≡ len = omega arith in rw z
-blanks (end ∷ ends) len rest =
-    let p : print_blank (end ∷ ends) ≡ print_end end ++ print_blank ends = flat_map-cons print_end end ends in
-    let a : (print_end end ++ print_blank ends) ++ rest ≡ print_end end ++ (print_blank ends ++ rest) =
-    append_assoc (print_end end) (print_blank ends) rest in
-    let l : lines (print_end end ++ (print_blank ends ++ rest)) ≡ print_end end ∷ lines (print_blank ends ++ rest) =
-    ended_line [] (print_blank ends ++ rest) end tt in
-    let s : len + length (print_end end) + length (print_blank ends) ≡ len + length
-    (print_end end ++ print_blank ends) =
-    omega (arith, length-append (print_end end) (print_blank ends)) in
-    rw (p, a, l) (
-    after_empty len (print_end end) (lines (print_blank ends ++ rest)) (end_is_empty end)
-    ∙ rw s at (blanks ends (len + length (print_end end)) rest)
-    )
-
 -- a field line is one line
 pub field_line : (f : Field) (rest : List ℕ) → IsField f → lines (print_field f ++ rest) ≡ print_field f ∷ lines rest
 field_line f rest is =
@@ -112,30 +92,6 @@ field_text f is =
     let a : print_field f ≡ f.name ++ ((58 ∷ f.raw) ++ print_end f.end) =
     append_assoc f.name (58 ∷ f.raw) (print_end f.end) in
     rw a (token_line f.name ((58 ∷ f.raw) ++ print_end f.end) is.name.0 is.name.1)
-
--- the field lines after a line that isn't empty
-field_lines : (fields : List Field) (len texts : ℕ) (rest : List ℕ) → All IsField fields
-    → further len (suc texts) (extent_after (suc texts) (lines (flat_map print_field fields ++ rest)))
-    ≡ further (len + length (flat_map print_field fields)) (suc (texts + length fields))
-    (extent_after (suc (texts + length fields)) (lines rest))
-field_lines [] len texts rest all = let z : len + 0 ≡ len = omega arith in let t : texts + 0 ≡ texts =
-    omega arith in rw (z, t)
-field_lines (f ∷ fields) len texts rest all =
-    let is = All-head IsField f fields all in
-    let p : flat_map print_field (f ∷ fields) ≡ print_field f ++ flat_map print_field fields =
-    flat_map-cons print_field f fields in
-    let a : (print_field f ++ flat_map print_field fields) ++ rest ≡ print_field
-    f ++ (flat_map print_field fields ++ rest) =
-    append_assoc (print_field f) (flat_map print_field fields) rest in
-    let l = field_line f (flat_map print_field fields ++ rest) is in
-    let s : len + length (print_field f) + length (flat_map print_field fields) ≡ len + length
-    (print_field f ++ flat_map print_field fields) =
-    omega (arith, length-append (print_field f) (flat_map print_field fields)) in
-    let t : suc texts + length fields ≡ texts + length (f ∷ fields) = omega arith in
-    rw (p, a, l) (
-    after_text len (suc texts) (print_field f) (lines (flat_map print_field fields ++ rest)) (field_text f is)
-    ∙ rw (s, t) at (field_lines fields (len + length (print_field f)) (suc texts) rest (All-tail IsField f fields all))
-    )
 
 abbrev pub request_line : RequestHead → List ℕ
 request_line h = h.method ++ 32 ∷ (h.target ++ 32 ∷ print_version h.minor)
@@ -190,6 +146,77 @@ request_line_text h more is =
     append_assoc h.method (32 ∷ (h.target ++ 32 ∷ print_version h.minor)) more in
     rw a (token_line h.method _ is.method.0 is.method.1)
 
+-- the lines of a head, as lists
+blank_lines : (ends : List LineEnd) (rest : List ℕ) → lines (print_blank ends ++ rest) ≡ map print_end ends ++ lines
+    rest
+blank_lines [] rest = refl
+blank_lines (end ∷ ends) rest =
+    let p : print_blank (end ∷ ends) ≡ print_end end ++ print_blank ends = flat_map-cons print_end end ends in
+    let a : (print_end end ++ print_blank ends) ++ rest ≡ print_end end ++ (print_blank ends ++ rest) =
+    append_assoc (print_end end) (print_blank ends) rest in
+    rw (p, a) (ended_line [] (print_blank ends ++ rest) end tt ∙ ap (λ t. print_end end ∷ t) (blank_lines ends rest))
+
+fields_as_lines : (fields : List Field) (rest : List ℕ) → All IsField fields
+    → lines (flat_map print_field fields ++ rest) ≡ map print_field fields ++ lines rest
+fields_as_lines [] rest all = refl
+fields_as_lines (f ∷ fields) rest all =
+    let p : flat_map print_field (f ∷ fields) ≡ print_field f ++ flat_map print_field fields =
+    flat_map-cons print_field f fields in
+    let a : (print_field f ++ flat_map print_field fields) ++ rest ≡ print_field
+    f ++ (flat_map print_field fields ++ rest) =
+    append_assoc (print_field f) (flat_map print_field fields) rest in
+    rw (p, a) (
+    field_line f (flat_map print_field fields ++ rest) (All-head IsField f fields all)
+    ∙ ap (λ t. print_field f ∷ t) (fields_as_lines fields rest (All-tail IsField f fields all))
+    )
+
+-- the lines of a head and of what follows it
+pub head_as_lines : (h : RequestHead) (rest : List ℕ) → IsRequestHead h
+    → lines (print_request h ++ rest) ≡ map print_end h.blank ++ (request_line h ++ print_end h.line_end)
+    ∷ (map print_field h.fields ++ print_end h.last ∷ lines rest)
+head_as_lines h rest is =
+    rw (
+      whole h rest,
+      blank_lines h.blank _,
+      ended_line (request_line h) _ h.line_end (request_line_no_feed h is),
+      fields_as_lines h.fields _ is.fields,
+      ended_line [] rest h.last tt,
+    )
+
+-- of these lines those up to the end are the head
+up_fields : (fields : List Field) (last : LineEnd) (more : List (List ℕ)) → All IsField fields
+    → up_to_empty (map print_field fields ++ print_end last ∷ more)
+    ≡ Some (map print_field fields ++ print_end last ∷ [])
+up_fields [] last more all = rw (end_is_empty last)
+up_fields (f ∷ fields) last more all =
+    rw (field_text f (All-head IsField f fields all), up_fields fields last more (All-tail IsField f fields all))
+
+after_blank : (ends : List LineEnd) (line : List ℕ) (ls hs : List (List ℕ)) → is_empty_line line ≡ false
+    → up_to_empty ls ≡ Some hs → head_lines (map print_end ends ++ line ∷ ls) ≡ Some (map print_end ends ++ line ∷ hs)
+after_blank [] line ls hs text up = rw (text, up)
+after_blank (end ∷ ends) line ls hs text up = rw (end_is_empty end, after_blank ends line ls hs text up)
+
+-- their bytes, and those that aren't empty
+bytes_append : (a b : List (List ℕ)) → bytes_in (a ++ b) ≡ bytes_in a + bytes_in b
+bytes_append [] b = omega arith
+bytes_append (l ∷ a) b = omega (arith, bytes_append a b)
+
+bytes_map : {A : Type 0} (f : A → List ℕ) (xs : List A) → bytes_in (map f xs) ≡ length (flat_map f xs)
+bytes_map f [] = refl
+bytes_map f (x ∷ xs) =
+    rw (flat_map-cons f x xs) (omega (arith, bytes_map f xs, length-append (f x) (flat_map f xs)))
+
+texts_blank : (ends : List LineEnd) (ls : List (List ℕ)) → texts_in (map print_end ends ++ ls) ≡ texts_in ls
+texts_blank [] ls = refl
+texts_blank (end ∷ ends) ls = rw (end_is_empty end) (omega (arith, texts_blank ends ls))
+
+texts_fields : (fields : List Field) (last : LineEnd) → All IsField fields
+    → texts_in (map print_field fields ++ print_end last ∷ []) ≡ length fields
+texts_fields [] last all = rw (end_is_empty last)
+texts_fields (f ∷ fields) last all =
+    rw (field_text f (All-head IsField f fields all))
+    (omega (arith, texts_fields fields last (All-tail IsField f fields all)))
+
 -- a request head is the head at the start of what it begins, and its lines that aren't empty are the
 -- request line and the fields
 pub request_extent : (h : RequestHead) (rest : List ℕ) → IsRequestHead h
@@ -198,41 +225,20 @@ pub request_extent : (h : RequestHead) (rest : List ℕ) → IsRequestHead h
       texts = suc (length h.fields);
     })
 request_extent h rest is =
-    let line : lines (request_line
-    h ++ (print_end h.line_end ++ (flat_map print_field h.fields ++ (print_end h.last ++ rest))))
-    ≡ (request_line h ++ print_end h.line_end) ∷ lines (flat_map print_field h.fields ++ (print_end h.last ++ rest)) =
-    ended_line (request_line h) (flat_map print_field h.fields ++ (print_end h.last ++ rest)) h.line_end
-    (request_line_no_feed h is) in
-    let end : lines (print_end h.last ++ rest) ≡ print_end h.last ∷ lines rest = ended_line [] rest h.last tt in
-    let n = length (print_blank h.blank) in
-    let m = length (request_line h ++ print_end h.line_end) in
-    let len : 0 + length (print_blank h.blank) + length (request_line h ++ print_end h.line_end) + length
-    (flat_map print_field h.fields) + length (print_end h.last)
-    ≡ length (print_request h) = omega (arith, whole_length h) in
-    let count : suc (0 + length h.fields) ≡ suc (length h.fields) = omega arith in
-    let step : further (0 + n) 0
-    (extent_after 0 (lines (request_line
-    h ++ (print_end h.line_end ++ (flat_map print_field h.fields ++ (print_end h.last ++ rest))))))
-    ≡ further (0 + n + m) 1 (extent_after 1 (lines (flat_map print_field h.fields ++ (print_end h.last ++ rest)))) =
-    rw line (after_text (0 + n) 0 (request_line h ++ print_end h.line_end)
-    (lines (flat_map print_field h.fields ++ (print_end h.last ++ rest)))
-    (request_line_text h (print_end h.line_end) is)) in
-    let k = 0 + n + m + length (flat_map print_field h.fields) in
-    let stop : further k (suc (0 + length h.fields))
-    (extent_after (suc (0 + length h.fields)) (lines (print_end h.last ++ rest)))
-    ≡ Some (record { len = k + length (print_end h.last); texts = suc (0 + length h.fields) }) =
-    rw end (at_end k (suc (0 + length h.fields)) (print_end h.last) (lines rest) (omega arith) (end_is_empty h.last)) in
-    let sizes : ◌≡◌ {A = Option Extent}
-    (Some (record { len = k + length (print_end h.last); texts = suc (0 + length h.fields) }))
-    (Some (record { len = length (print_request h); texts = suc (length h.fields) })) = rw (len, count) in
-    rw (whole h rest) (
-    further_zero (head_extent
-    (print_blank h.blank ++ (request_line
-    h ++ (print_end h.line_end ++ (flat_map print_field h.fields ++ (print_end h.last ++ rest))))))
-    ∙ blanks h.blank 0 (request_line
-    h ++ (print_end h.line_end ++ (flat_map print_field h.fields ++ (print_end h.last ++ rest))))
-    ∙ step
-    ∙ field_lines h.fields (0 + n + m) 0 (print_end h.last ++ rest) is.fields
-    ∙ stop
-    ∙ sizes
-    )
+    let line = request_line h ++ print_end h.line_end in
+    let fields = map print_field h.fields ++ print_end h.last ∷ [] in
+    let text : is_empty_line (request_line h ++ print_end h.line_end) ≡ false =
+    request_line_text h (print_end h.line_end) is in
+    let len : bytes_in (map print_end h.blank ++ line ∷ fields) ≡ length (print_request h) =
+    omega (
+      arith,
+      bytes_append (map print_end h.blank) (line ∷ fields),
+      bytes_append (map print_field h.fields) (print_end h.last ∷ []),
+      bytes_map print_end h.blank,
+      bytes_map print_field h.fields,
+      whole_length h,
+    ) in
+    let texts : texts_in (map print_end h.blank ++ line ∷ fields) ≡ suc (length h.fields) =
+    rw (texts_blank h.blank (line ∷ fields), text) (omega (arith, texts_fields h.fields h.last is.fields)) in
+    rw (head_as_lines h rest is, after_blank h.blank line _ fields text (up_fields h.fields h.last _ is.fields))
+    (rw (len, texts))

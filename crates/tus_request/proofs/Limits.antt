@@ -1,6 +1,6 @@
 -- What a stream comes to, by the first 8,192 bytes of it alone.
-use Rattle.std.proofs.Common.{◌≡◌, ◌-◌, ◌≤◌, ◌<◌, ◌+◌, min, ℕ, Bool, true, false, List, [], ◌++◌, length, take, refl}
-use Rattle.std.proofs.Common.{sym, ◌∙◌, ap, arith, Option, Some, None, nat_lt, if◌then◌else◌, inl, inr}
+use Rattle.std.proofs.Common.{◌≡◌, ◌-◌, ◌≤◌, min, ℕ, Bool, List, [], ◌++◌, length, take, refl}
+use Rattle.std.proofs.Common.{sym, ◌∙◌, ap, arith, Option, Some, None, nat_lt, if◌then◌else◌}
 use Rattle.std.proofs.lemmas.List.{take_all, take-take, length-take, take_min}
 use Rattle.std.proofs.lemmas.Bool.Decides.{nat_tests}
 use Rattle.std.proofs.Math.Nat.{min_comm}
@@ -19,8 +19,7 @@ use Rattle.tus_request.proofs.SearchLemmas.{open_head}
 pub filled : (n : ℕ) (a b : List ℕ) (m : ℕ) → length a ≤ n → m ≡ min (length b) (n - length a)
     → a ++ take m b ≡ take n (a ++ b)
 filled n a b m within e =
-    ap (λ k. a ++ take k b) e ∙ (ap (λ ys. a ++ ys) (rw min_comm (take_min (n - length a) b))
-    ∙ sym (take_onto n a b within))
+    rw (e, min_comm, take_min (n - length a) b, take_onto n a b within)
 
 is_short : (s : List ℕ) → nat_lt (length (take 8192 s)) 8192 ≡ nat_lt (length s) 8192
 is_short s = rw length-take (grind (arith, nat_tests))

@@ -1,7 +1,7 @@
 -- What the parameter of `/files/{number}` takes of a path.
 use Rattle.std.specs.Prelude.{◌≡◌, ℕ, ◌+◌, ◌-◌, ◌<◌, ◌≤◌, true, ltb, leb, List, [], ◌∷◌, ◌++◌, length, drop, codes}
-use Rattle.std.specs.Prelude.{IsUtf8, slice_index}
-use Rattle.std.proofs.Common.{arith, ap, ◌∙◌, refl, get_or, zero, suc}
+use Rattle.std.specs.Prelude.{IsUtf8}
+use Rattle.std.proofs.Common.{arith, ap, ◌∙◌, refl, get_or}
 use Rattle.std.proofs.lemmas.Bool.Decides.{nat_tests}
 use Rattle.std.proofs.lemmas.Str.{IsUtf8-drop, IsCharBoundary-after_ascii, IsUtf8-from_is_utf8}
 use Rattle.std.proofs.Math.Seq.{take-length}

@@ -1,7 +1,7 @@
 -- From the parser's result for a finished head to the answer.
-use Rattle.std.specs.Prelude.{◌≡◌, ℕ, ◌+◌, ◌<◌, ◌≤◌, Bool, true, false, List, [], ◌∷◌, ◌++◌, length, map, take, drop}
-use Rattle.std.specs.Prelude.{min, nat_le, nat_lt, if◌then◌else◌, Option, Some, None, Result, Ok, Err, IfOk, OnErr}
-use Rattle.std.proofs.Common.{arith, ap, sym, ◌∙◌, refl, inl, inr, suc, subst, Bor, option_copied}
+use Rattle.std.specs.Prelude.{◌≡◌, ℕ, ◌+◌, ◌<◌, ◌≤◌, Bool, true, false, List, [], ◌++◌, length, map, take, drop}
+use Rattle.std.specs.Prelude.{min, nat_lt, if◌then◌else◌, Option, Some, None, Result, Ok, Err, IfOk, OnErr}
+use Rattle.std.proofs.Common.{arith, ap, sym, ◌∙◌, refl, inl, inr, suc, Bor, option_copied}
 use Rattle.std.proofs.lemmas.List.{length-append, append_assoc, append-nil, length-take-le, length-take, take_min}
 use Rattle.std.proofs.lemmas.List.{take-append-drop, take-take, nil_from_length}
 use Rattle.std.proofs.lemmas.Bool.Decides.{nat_tests}
@@ -14,7 +14,7 @@ use Rattle.httparse.proofs.GrammarLemmas.{request_unique}
 use Rattle.tus_request.specs.Lines.{Extent, head_extent}
 use Rattle.std.proofs.Math.Nat.{min_comm}
 use Rattle.enc_model.specs.declared.Encoding.{Encoding}
-use Rattle.tus_request.specs.Answers.{Answer, More, Judged, answer_with, whole_answer as answer_whole, answer_of}
+use Rattle.tus_request.specs.Answers.{Answer, More, Judged, answer_with, answer_of}
 use Rattle.tus_request.specs.Grammar.{HeadPrefix, unfinished, too_long, whole, prefix_with, prefix, IsWhole}
 use Rattle.tus_request.specs.Grammar.{IsPrefixAnswer}
 use Rattle.tus_request.specs.Grammar.{IsAnswer, IsShortHead, IsShortHeadOf, IsHeadAnswer}
@@ -151,10 +151,7 @@ module _ (offers : Encoding → Bool) where
 
   answer_with_is : (bytes : List ℕ) (a : Answer) (o : Option Extent) → IsPrefixAnswer offers (prefix_with bytes o) a
       → a ≡ answer_with offers bytes o
-  answer_with_is bytes a None is = elim (cases_Bool (nat_lt (length bytes) 8192)) [
-    | inl t ↦ rw t (rw t at is)
-    | inr f ↦ rw f (rw f at is)
-  ]
+  answer_with_is bytes a None is = grind arith
   answer_with_is bytes a (Some e) is = elim (cases_Bool (nat_lt 65 e.texts)) [
     | inl t ↦ rw t (rw t at is)
     | inr f ↦ rw f (head_answer_is (take e.len bytes) a (rw f at is))

@@ -1,12 +1,11 @@
 -- From the route that a path has to what it names.
-use Rattle.std.specs.Prelude.{◌≡◌, ℕ, ◌⊎◌, Bool, true, false, ◌==◌, ◌&&◌, nat_eq, List, [], ◌∷◌, ◌++◌, Some, None}
-use Rattle.std.proofs.Common.{arith, refl, inl, inr, get_or, sym, ◌∙◌, ◌<◌, codes}
+use Rattle.std.specs.Prelude.{◌≡◌, ℕ, ◌⊎◌, true, false, List, [], ◌∷◌, ◌++◌, Some, None}
+use Rattle.std.proofs.Common.{arith, refl, get_or, sym, ◌∙◌, ◌<◌, codes}
 use Rattle.std.specs.List.{list_all}
 use Rattle.std.specs.Char.{is_ascii_digit}
-use Rattle.std.proofs.lemmas.Bool.{cases_Bool, and_right}
 use Rattle.std.proofs.lemmas.Bool.Decides.{nat_tests}
 use Rattle.matchit.specs.Seek.{has_slash}
-use Rattle.tus_request.specs.Number.{upload_number, is_number}
+use Rattle.tus_request.specs.Number.{upload_number}
 use Rattle.tus_request.specs.Places.{place_at}
 use Rattle.matchit.specs.Seek.{first}
 use Rattle.matchit.specs.Router.{RouteOf}
@@ -31,29 +30,8 @@ module _ {K : Type 0} where
   -- a path that has a route is the word, or begins with it and a slash
   found_parts : (word path : List ℕ) (f u r : K) → found word path f u ≡ Some r
       → ((path ≡ word) × (r ≡ f)) ⊎ ((part : List ℕ) × (path ≡ word ++ 47 ∷ part) × (r ≡ u))
-  found_parts [] [] f u r h = inl (refl, cc)
-  found_parts [] (b ∷ []) f u r h =
-      elim (cases_Bool (47 == b)) [ inl e ↦ absurd (cc (rw e at h)) | inr e ↦ absurd (cc (rw e at h)) ]
-  found_parts [] (b ∷ c ∷ rest) f u r h =
-      elim (cases_Bool (47 == b)) [
-        | inl e ↦ let n : b ≡ 47 = grind (arith, nat_tests) in
-            elim (cases_Bool (has_slash (c ∷ rest))) [
-              | inl s ↦ let k = rw (e, s) at h in absurd (cc)
-              | inr s ↦ let k = rw (e, s) at h in inr (c ∷ rest, rw n refl, cc)
-            ]
-        | inr e ↦ let k = rw e at h in absurd (cc)
-      ]
-  found_parts (x ∷ word) [] f u r h = absurd (cc)
-  found_parts (x ∷ word) (b ∷ path) f u r h =
-      elim (cases_Bool (x == b)) [
-        | inl e ↦ let n : b ≡ x = grind (arith, nat_tests) in
-            let k : found word path f u ≡ Some r = rw e at h in
-            elim (found_parts word path f u r k) [
-              | inl w ↦ inl (cc, w.1)
-              | inr w ↦ inr (w.0, cc, w.2)
-            ]
-        | inr e ↦ let k = rw e at h in absurd (cc)
-      ]
+  found_parts [] path f u r h = grind (arith, nat_tests)
+  found_parts (x ∷ word) path f u r h = let ih = found_parts word in grind (arith, nat_tests, ih)
 
 pub route_parts : (path : List ℕ) (r : RouteOf Kind) → get_or path 7 0 < 256
     → first (both (codes "/files") files_route upload_route) path ≡ Some r

@@ -1,33 +1,23 @@
 -- The first place of a byte, as a search tells it.
-use Rattle.std.specs.Prelude.{◌≡◌, ℕ, ◌<◌, ◌≤◌, Bool, true, false, List, length, Option, Some, None, nat_lt}
-use Rattle.std.proofs.Common.{arith, ap, refl, get_or, inl, inr}
+use Rattle.std.specs.Prelude.{◌≡◌, ℕ, ◌<◌, ◌≤◌, Bool, true, false, List, length, Option, Some, None}
+use Rattle.std.proofs.Common.{arith, ap, refl, get_or}
 use Rattle.std.specs.List.{position, position_or_len}
 use Rattle.std.proofs.lemmas.List.Quantifiers.{position-Some}
 use Rattle.std.proofs.lemmas.List.Sums.{fails_before_first}
 use Rattle.std.proofs.lemmas.Bool.Decides.{nat_tests}
 use Rattle.memchr.specs.Find.{IsFirstByte}
-use Rattle.std.proofs.lemmas.Bool.{cases_Bool, both_ways}
+use Rattle.std.proofs.lemmas.Bool.{both_ways}
 
 pub none_passes : (p : ℕ → Bool) (xs : List ℕ) → position p xs ≡ None → (k : ℕ) → k < length xs
     → p (get_or xs k 0) ≡ false
 none_passes p xs e k inside =
-    let past : length xs ≤ position_or_len p xs =
-    elim (cases_Bool (nat_lt (position_or_len p xs) (length xs))) [
-      | inl t ↦ let k = rw t at e in absurd (cc)
-      | inr f ↦ grind (arith, nat_tests)
-    ] in
+    let past : length xs ≤ position_or_len p xs = grind (arith, nat_tests) in
     fails_before_first p xs k 0 (omega arith)
 
 same_place : (p : ℕ → Bool) (xs : List ℕ) (i k : ℕ) → p (get_or xs i 0) ≡ true
     → ((j : ℕ) → j < i → p (get_or xs j 0) ≡ false) → p (get_or xs k 0) ≡ true
     → ((j : ℕ) → j < k → ¬ (p (get_or xs j 0) ≡ true)) → k ≡ i
-same_place p xs i k at_i before_i at_k before_k = elim (cases_Bool (nat_lt k i)) [
-  | inl t ↦ let l : k < i = grind (arith, nat_tests) in absurd (both_ways (p (get_or xs k 0)) (before_i k l) at_k)
-  | inr f ↦ elim (cases_Bool (nat_lt i k)) [
-    | inl t ↦ let l : i < k = grind (arith, nat_tests) in absurd (before_k i l at_i)
-    | inr g ↦ grind (arith, nat_tests)
-  ]
-]
+same_place p xs i k at_i before_i at_k before_k = grind (arith, before_i, before_k)
 
 first_is : (p : ℕ → Bool) (xs : List ℕ) (r o : Option ℕ) → position p xs ≡ o → IsFirstByte p xs r → r ≡ o
 first_is p xs None None e is = refl

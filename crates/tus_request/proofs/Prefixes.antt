@@ -1,18 +1,16 @@
 -- The answer for a stream's start doesn't depend on what follows.
 use Rattle.std.proofs.Common.{◌≡◌, ℕ, ◌+◌, ◌-◌, ◌<◌, ◌≤◌, Bool, true, false, List, [], ◌∷◌, ◌++◌, length, take, drop}
-use Rattle.std.proofs.Common.{refl, ◌∙◌, ap, arith, Option, Some, None, option_map, nat_lt, if◌then◌else◌}
+use Rattle.std.proofs.Common.{refl, ◌∙◌, ap, arith, Option, Some, None, option_map, nat_lt}
 use Rattle.std.proofs.Common.{◌==◌, suc, inl, inr, append_assoc}
 use Rattle.std.proofs.lemmas.List.{length-append, length-take, length-take-le, take-append-drop, take-take, append-nil}
 use Rattle.std.proofs.Math.Seq.{take-append-add, take-append_seam}
 use Rattle.std.proofs.lemmas.Bool.{ltb-false, le-ltb}
 use Rattle.std.proofs.lemmas.Option.{same_Some}
 use Rattle.enc_model.specs.declared.Encoding.{Encoding}
-use Rattle.tus_request.specs.Lines.{lines, onto_first, is_empty_line, up_to_empty, head_lines, bytes_in, Extent}
+use Rattle.tus_request.specs.Lines.{lines, is_empty_line, up_to_empty, head_lines, bytes_in, Extent}
 use Rattle.tus_request.specs.Lines.{extent_of, head_extent}
-use Rattle.tus_request.specs.declared.faults.Fault.TheVariants.{HeadTooLong}
 use Rattle.tus_request.specs.Requests.{Verdict}
-use Rattle.tus_request.specs.Checks.{no_head}
-use Rattle.tus_request.specs.Answers.{More, Judged, answer_with, answer_of}
+use Rattle.tus_request.specs.Answers.{Judged, answer_with, answer_of}
 use Rattle.tus_request.specs.Steady.{IsSteady}
 use Rattle.tus_request.proofs.LineLemmas.{true_or_false}
 

@@ -1,9 +1,7 @@
 -- The guess is the head, where there is one.
 use Rattle.std.specs.Prelude.{◌≡◌, ℕ, ◌+◌, ◌-◌, ◌<◌, Bool, true, false, List, [], ◌∷◌, ◌++◌, length, map, ◌==◌, ◌&&◌}
-use Rattle.std.specs.Prelude.{nat_eq, nat_lt, nat_le, All, IsTrue, bytes_eq, Some}
-use Rattle.std.proofs.Common.{arith, ap, sym, ◌∙◌, refl, append_assoc}
-use Rattle.std.specs.List.{flat_map}
-use Rattle.std.proofs.lemmas.List.Concat.{flat_map-cons}
+use Rattle.std.specs.Prelude.{nat_lt, nat_le, All, IsTrue, bytes_eq, Some}
+use Rattle.std.proofs.Common.{arith, sym, ◌∙◌, refl, append_assoc}
 use Rattle.std.proofs.lemmas.List.Elements.{All-head, All-tail, All-cons}
 use Rattle.std.specs.List.{list_all}
 use Rattle.std.proofs.lemmas.List.Sums.{AllPass-from_list_all, list_all-from_AllPass}
@@ -15,24 +13,20 @@ use Rattle.std.proofs.lemmas.Bool.Decides.{nat_tests}
 use Rattle.std.proofs.lemmas.List.{append-nil}
 use Rattle.httparse.proofs.GrammarLemmas.{cons-append}
 use Rattle.httparse.specs.Grammar.{is_token_byte, is_uri_byte, is_value_byte, AllPass, LineEnd, crlf, lf, print_end}
-use Rattle.httparse.specs.Grammar.{print_blank, print_version, Field, IsField, print_field, RequestHead, IsRequestHead}
+use Rattle.httparse.specs.Grammar.{print_version, Field, IsField, print_field, RequestHead, IsRequestHead}
 use Rattle.httparse.specs.Grammar.{print_request, is_token, IsToken, ReadsRequest}
-use Rattle.tus_request.specs.Lines.{lines, is_empty_line}
+use Rattle.tus_request.specs.Lines.{is_empty_line}
 use Rattle.tus_request.specs.Reading.{before, after, text_of, end_of, field_of, fields_of, last_of, blank_of, filled}
-use Rattle.tus_request.specs.Reading.{head_with, guess, is_field, is_request_head, request_of}
-use Rattle.tus_request.proofs.HeadLemmas.{ended_line, field_line, field_text, end_is_empty, whole, request_line}
+use Rattle.tus_request.specs.Reading.{guess, is_field, is_request_head, request_of}
+use Rattle.tus_request.proofs.HeadLemmas.{field_text, end_is_empty, request_line, head_as_lines}
 use Rattle.tus_request.proofs.HeadLemmas.{request_line_no_feed, request_line_text, token_is_high, Lacks}
 use Rattle.tus_request.proofs.HeadLemmas.{lacks_append, lacks_from, request_line_lacks}
 
-before_mark : (mark : ℕ) (text rest : List ℕ) → Lacks mark text → (mark == mark) ≡ true
-    → before mark (text ++ mark ∷ rest) ≡ text
-before_mark mark [] rest none same = rw same
-before_mark mark (b ∷ text) rest none same = rw (none.0, before_mark mark text rest none.1 same)
-
-after_mark : (mark : ℕ) (text rest : List ℕ) → Lacks mark text → (mark == mark) ≡ true
-    → after mark (text ++ mark ∷ rest) ≡ rest
-after_mark mark [] rest none same = rw same
-after_mark mark (b ∷ text) rest none same = rw (none.0, after_mark mark text rest none.1 same)
+cut_mark : (mark : ℕ) (text rest : List ℕ) → Lacks mark text → (mark == mark) ≡ true
+    → (before mark (text ++ mark ∷ rest) ≡ text) × (after mark (text ++ mark ∷ rest) ≡ rest)
+cut_mark mark [] rest none same = (rw same, rw same)
+cut_mark mark (b ∷ text) rest none same =
+    let more = cut_mark mark text rest none.1 same in (rw (none.0, more.0), rw (none.0, more.1))
 
 -- no byte is a CR or a LF
 abbrev pub IsInline : List ℕ → Type 0
@@ -43,18 +37,15 @@ inline_from : (test : ℕ → Bool) → ((b : ℕ) → IsTrue (test b) → ((b =
 inline_from test none text all =
     (lacks_from 10 test (λ b t. (none b t).0) text all, lacks_from 13 test (λ b t. (none b t).1) text all)
 
-not_end : (b : ℕ) (line : List ℕ) → (b == 10) ≡ false → (b == 13) ≡ false → is_empty_line (b ∷ line) ≡ false
-not_end b line x y = grind (arith, nat_tests)
-
-text_ended : (text : List ℕ) (end : LineEnd) → IsInline text → text_of (text ++ print_end end) ≡ text
-text_ended [] crlf is = refl
-text_ended [] lf is = refl
-text_ended (b ∷ text) end is = rw (not_end b _ is.0.0 is.1.0, text_ended text end (is.0.1, is.1.1))
-
-end_ended : (text : List ℕ) (end : LineEnd) → IsInline text → end_of (text ++ print_end end) ≡ end
-end_ended [] crlf is = refl
-end_ended [] lf is = refl
-end_ended (b ∷ text) end is = rw (not_end b _ is.0.0 is.1.0, end_ended text end (is.0.1, is.1.1))
+line_back : (text : List ℕ) (end : LineEnd) → IsInline text
+    → (text_of (text ++ print_end end) ≡ text) × (end_of (text ++ print_end end) ≡ end)
+line_back [] crlf is = (refl, refl)
+line_back [] lf is = (refl, refl)
+line_back (b ∷ text) end is =
+    let more = line_back text end (is.0.1, is.1.1) in
+    let not_end : is_empty_line (b ∷ (text ++ print_end end)) ≡ false =
+    let x = is.0.0 in let y = is.1.0 in grind (arith, nat_tests) in
+    (rw (not_end, more.0), rw (not_end, more.1))
 
 token_inline : (b : ℕ) → IsTrue (is_token_byte b) → ((b == 10) ≡ false) × ((b == 13) ≡ false)
 token_inline b t = let h = token_is_high b t in grind (arith, nat_tests)
@@ -84,85 +75,29 @@ pub field_back : (f : Field) → IsField f → field_of (print_field f) ≡ f
 field_back f is =
     let a : print_field f ≡ f.name ++ 58 ∷ (f.raw ++ print_end f.end) =
     append_assoc f.name (58 ∷ f.raw) (print_end f.end) in
-    let n = before_mark 58 f.name (f.raw ++ print_end f.end)
-    (lacks_from 58 is_token_byte token_no_colon f.name is.name.1) refl in
-    let v = after_mark 58 f.name (f.raw ++ print_end f.end)
+    let m = cut_mark 58 f.name (f.raw ++ print_end f.end)
     (lacks_from 58 is_token_byte token_no_colon f.name is.name.1) refl in
     let i = inline_from is_value_byte value_inline f.raw is.raw in
     let t = inline_from is_token_byte token_inline f.name is.name.1 in
-    let e : end_of (print_field f) ≡ f.end = end_ended (f.name ++ 58 ∷ f.raw) f.end
-    (lacks_append 10 f.name _ t.0 (refl, i.0), lacks_append 13 f.name _ t.1 (refl, i.1)) in
-    rw (e, a, n, v, text_ended f.raw f.end i)
-
--- the lines of a head, as lists
-blank_lines : (ends : List LineEnd) (rest : List ℕ) → lines (print_blank ends ++ rest) ≡ map print_end ends ++ lines
-    rest
-blank_lines [] rest = refl
-blank_lines (end ∷ ends) rest =
-    let p : print_blank (end ∷ ends) ≡ print_end end ++ print_blank ends = flat_map-cons print_end end ends in
-    let a : (print_end end ++ print_blank ends) ++ rest ≡ print_end end ++ (print_blank ends ++ rest) =
-    append_assoc (print_end end) (print_blank ends) rest in
-    rw (p, a) (ended_line [] (print_blank ends ++ rest) end tt ∙ ap (λ t. print_end end ∷ t) (blank_lines ends rest))
-
-fields_as_lines : (fields : List Field) (rest : List ℕ) → All IsField fields
-    → lines (flat_map print_field fields ++ rest) ≡ map print_field fields ++ lines rest
-fields_as_lines [] rest all = refl
-fields_as_lines (f ∷ fields) rest all =
-    let p : flat_map print_field (f ∷ fields) ≡ print_field f ++ flat_map print_field fields =
-    flat_map-cons print_field f fields in
-    let a : (print_field f ++ flat_map print_field fields) ++ rest ≡ print_field
-    f ++ (flat_map print_field fields ++ rest) =
-    append_assoc (print_field f) (flat_map print_field fields) rest in
-    rw (p, a) (
-    field_line f (flat_map print_field fields ++ rest) (All-head IsField f fields all)
-    ∙ ap (λ t. print_field f ∷ t) (fields_as_lines fields rest (All-tail IsField f fields all))
-    )
+    let e : end_of (print_field f) ≡ f.end = (line_back (f.name ++ 58 ∷ f.raw) f.end
+    (lacks_append 10 f.name _ t.0 (refl, i.0), lacks_append 13 f.name _ t.1 (refl, i.1))).1 in
+    rw (e, a, m.0, m.1, (line_back f.raw f.end i).0)
 
 blank_back : (ends : List LineEnd) (line : List ℕ) (rest : List (List ℕ)) → is_empty_line line ≡ false
-    → blank_of (map print_end ends ++ line ∷ rest) ≡ ends
-blank_back [] line rest text = rw text
+    → (blank_of (map print_end ends ++ line ∷ rest) ≡ ends) × (filled (map print_end ends ++ line ∷ rest) ≡ line ∷ rest)
+blank_back [] line rest text = (rw text, rw text)
 blank_back (end ∷ ends) line rest text =
-    rw (end_is_empty end, blank_back ends line rest text, end_ended [] end (tt, tt))
-
-filled_back : (ends : List LineEnd) (line : List ℕ) (rest : List (List ℕ)) → is_empty_line line ≡ false
-    → filled (map print_end ends ++ line ∷ rest) ≡ line ∷ rest
-filled_back [] line rest text = rw text
-filled_back (end ∷ ends) line rest text = rw (end_is_empty end, filled_back ends line rest text)
+    let more = blank_back ends line rest text in
+    (rw (end_is_empty end, more.0, (line_back [] end (tt, tt)).1), rw (end_is_empty end, more.1))
 
 fields_back : (fields : List Field) (last : LineEnd) → All IsField fields
-    → fields_of (map print_field fields ++ print_end last ∷ []) ≡ fields
-fields_back [] last all = rw (end_is_empty last)
+    → (fields_of (map print_field fields ++ print_end last ∷ []) ≡ fields)
+    × (last_of (map print_field fields ++ print_end last ∷ []) ≡ last)
+fields_back [] last all = (rw (end_is_empty last), rw (end_is_empty last) (line_back [] last (tt, tt)).1)
 fields_back (f ∷ fields) last all =
     let is = All-head IsField f fields all in
-    rw (field_text f is, field_back f is, fields_back fields last (All-tail IsField f fields all))
-
-last_back : (fields : List Field) (last : LineEnd) → All IsField fields
-    → last_of (map print_field fields ++ print_end last ∷ []) ≡ last
-last_back [] last all = rw (end_is_empty last) (end_ended [] last (tt, tt))
-last_back (f ∷ fields) last all =
-    rw (field_text f (All-head IsField f fields all), last_back fields last (All-tail IsField f fields all))
-
-last_line : (end : LineEnd) → lines (print_end end ++ []) ≡ print_end end ∷ []
-last_line end = ended_line [] [] end tt
-
--- the lines of a head
-pub head_as_lines : (h : RequestHead) → IsRequestHead h
-    → lines (print_request h) ≡ map print_end
-    h.blank ++ (request_line h ++ print_end h.line_end) ∷ (map print_field h.fields ++ print_end h.last ∷ [])
-head_as_lines h is =
-    let w = sym (append-nil (print_request h)) ∙ whole h [] in
-    rw w (
-    blank_lines h.blank (request_line
-    h ++ (print_end h.line_end ++ (flat_map print_field h.fields ++ (print_end h.last ++ []))))
-    ∙ ap (λ t. map print_end h.blank ++ t) (
-    ended_line (request_line h) (flat_map print_field h.fields ++ (print_end h.last ++ [])) h.line_end
-    (request_line_no_feed h is)
-    ∙ ap (λ t. (request_line h ++ print_end h.line_end) ∷ t) (
-    fields_as_lines h.fields (print_end h.last ++ []) is.fields
-    ∙ ap (λ t. map print_field h.fields ++ t) (last_line h.last)
-    )
-    )
-    )
+    let more = fields_back fields last (All-tail IsField f fields all) in
+    (rw (field_text f is, field_back f is, more.0), rw (field_text f is, more.1))
 
 line_parts : (m t v e : List ℕ) → (m ++ 32 ∷ (t ++ 32 ∷ v)) ++ e ≡ m ++ 32 ∷ (t ++ 32 ∷ (v ++ e))
 line_parts m t v e = simp (append_assoc, cons-append)
@@ -185,30 +120,28 @@ guess_back h is =
     let parts = line_parts h.method h.target (print_version h.minor) (print_end h.line_end) in
     let lm = lacks_from 32 is_token_byte token_no_space h.method is.method.1 in
     let lt = lacks_from 32 is_uri_byte uri_no_space h.target is.target.1 in
-    let bm : before 32 (request_line h ++ print_end h.line_end) ≡ h.method =
-    rw parts (before_mark 32 h.method (h.target ++ 32 ∷ (print_version h.minor ++ print_end h.line_end)) lm refl) in
+    let m = cut_mark 32 h.method (h.target ++ 32 ∷ (print_version h.minor ++ print_end h.line_end)) lm refl in
+    let bm : before 32 (request_line h ++ print_end h.line_end) ≡ h.method = rw parts m.0 in
     let hm : after 32 (request_line h ++ print_end h.line_end) ≡ h.target ++ 32 ∷ (print_version h.minor ++ print_end
-    h.line_end) =
-    rw parts (after_mark 32 h.method (h.target ++ 32 ∷ (print_version h.minor ++ print_end h.line_end)) lm refl) in
-    let bt = before_mark 32 h.target (print_version h.minor ++ print_end h.line_end) lt refl in
-    let ht = after_mark 32 h.target (print_version h.minor ++ print_end h.line_end) lt refl in
+    h.line_end) = rw parts m.1 in
+    let t = cut_mark 32 h.target (print_version h.minor ++ print_end h.line_end) lt refl in
     let digit : 48 + h.minor - 48 ≡ h.minor = omega arith in
     let en : end_of (request_line h ++ print_end h.line_end) ≡ h.line_end =
-    end_ended (request_line h) h.line_end (request_line_inline h is) in
+    (line_back (request_line h) h.line_end (request_line_inline h is)).1 in
     let fs = fields_back h.fields h.last is.fields in
-    let la = last_back h.fields h.last is.fields in
+    let blank = blank_back h.blank q rest text in
     rw (
-      head_as_lines h is,
-      blank_back h.blank q rest text,
-      filled_back h.blank q rest text,
+      rw (append-nil (print_request h)) at (head_as_lines h [] is),
+      blank.0,
+      blank.1,
       bm,
       hm,
-      bt,
-      ht,
+      t.0,
+      t.1,
       digit,
       en,
-      fs,
-      la,
+      fs.0,
+      fs.1,
     )
 
 nonempty : (text : List ℕ) → 0 < length text → nat_lt 0 (length text) ≡ true
@@ -243,10 +176,10 @@ fields_are (f ∷ fields) e =
 head_test : (h : RequestHead) → IsRequestHead h → is_request_head h ≡ true
 head_test h is =
     let m : nat_le h.minor 1 ≡ true = let k = is.minor in grind (arith, nat_tests) in
-    and_from _ _ (and_from _ _ (and_from _ _
-    (and_from _ _ (and_from _ _ (token_test h.method is.method) (nonempty h.target is.target.0))
-    (list_all-from_AllPass is_uri_byte h.target is.target.1)) (is_utf8-from_IsUtf8 h.target
-    is.target_text)) m) (fields_test h.fields is.fields)
+    let a = and_from _ _ (token_test h.method is.method) (nonempty h.target is.target.0) in
+    let b = and_from _ _ a (list_all-from_AllPass is_uri_byte h.target is.target.1) in
+    and_from _ _ (and_from _ _ (and_from _ _ b (is_utf8-from_IsUtf8 h.target is.target_text)) m)
+    (fields_test h.fields is.fields)
 
 head_is : (h : RequestHead) → is_request_head h ≡ true → IsRequestHead h
 head_is h e =

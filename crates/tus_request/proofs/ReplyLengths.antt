@@ -1,16 +1,14 @@
 -- No reply is longer than 2,048 bytes without its body.
 use Rattle.std.proofs.Common.{ℕ, ◌≤◌, ◌<◌, ◌+◌, ◌^◌, Bool, true, false, List, [], ◌∷◌, ◌++◌, length, Option, Some, None}
-use Rattle.std.proofs.Common.{IfSome, OnErr, OnOk, Result, Ok, Err, arith, codes, subst, sym, ◌≡◌, ap, ◌∙◌}
+use Rattle.std.proofs.Common.{IfSome, OnErr, OnOk, Result, Ok, Err, arith, codes, ◌≡◌, ap, ◌∙◌}
 use Rattle.std.proofs.lemmas.List.{length-append, append-nil}
 use Rattle.std.proofs.lemmas.Fmt.{length-decimal-le}
 use Rattle.std.specs.Fmt.{decimal}
 use Rattle.enc_model.specs.declared.Encoding.{Encoding}
-use Rattle.enc_model.specs.declared.Encoding.TheVariants as e
 use Rattle.enc_labels.specs.Labels.{name_of}
 use Rattle.tus_request.specs.Faults.{fault_number}
 use Rattle.tus_request.specs.declared.faults.Fault.{Fault}
-use Rattle.tus_request.specs.declared.faults.Fault.TheVariants as f
-use Rattle.tus_request.specs.Replies.{close_line, crlf, declared_line, header, length_line, metadata_line, refusal_lead}
+use Rattle.tus_request.specs.Replies.{close_line, declared_line, header, length_line, metadata_line, refusal_lead}
 use Rattle.tus_request.specs.Replies.{refusal_line, refusal_lines, reply, reply_created, reply_deleted, reply_head}
 use Rattle.tus_request.specs.Replies.{longest_reply, GrowsBy, options_lines}
 use Rattle.tus_request.proofs.ReplyTexts.{one_line, two_lines, three_lines}
@@ -23,12 +21,7 @@ digits n small = length-decimal-le 20 n (omega arith) (omega (arith, small)) sma
 -- a header's length
 header_length : (name value : List ℕ) → length (header name value) ≡ length name + 4 + length value
 header_length name value =
-    omega (
-      arith,
-      length-append name (codes ": " ++ (value ++ crlf)),
-      length-append (codes ": ") (value ++ crlf),
-      length-append value crlf,
-    )
+    omega (arith, length-append {A = ℕ})
 
 length_short : (n : Option ℕ) → IfSome n (λ k. k < 2 ^ 64) → length (length_line n) ≤ 38
 length_short None small = omega arith
@@ -68,14 +61,13 @@ pub created : (number : ℕ) (bare closes : Bool) (location size : List ℕ) (n 
     → n ≡ unless_bare bare 0
     → IsReply (reply (codes "201 Created") (location ++ (size ++ [])) None closes) (reply_created number bare closes)
 created number bare closes location size n small place is none =
-    is_reply _ _ (one_line (codes "201 Created") location
-    (header (codes "Location") (codes "/files/" ++ decimal number))
-    size (unless_bare bare 0) closes place (is ∙ ap length_line none)) (omega (
+    is_reply _ _ (one_line (codes "201 Created") location _ size (unless_bare bare 0) closes place
+    (is ∙ ap length_line none)) (omega (
       arith,
       around (codes "201 Created") (header (codes "Location") (codes "/files/" ++ decimal number))
           (unless_bare bare 0) closes (omega arith) (unless_small bare 0 (omega arith)),
       header_length (codes "Location") (codes "/files/" ++ decimal number),
-      length-append (codes "/files/") (decimal number),
+      length-append {A = ℕ},
       digits number small,
     ))
 
@@ -127,14 +119,13 @@ pub text : (to : Encoding) (count : ℕ) (bare closes : Bool) (kind size : List 
     → n ≡ unless_bare bare count
     → IsReply (reply (codes "200 OK") (kind ++ (size ++ [])) None closes) (reply_text to count bare closes)
 text to count bare closes kind size n small names is none =
-    is_reply _ _ (one_line (codes "200 OK") kind
-    (header (codes "Content-Type") (codes "text/plain; charset=" ++ name_of to))
-    size (unless_bare bare count) closes names (is ∙ ap length_line none)) (omega (
+    is_reply _ _ (one_line (codes "200 OK") kind _ size (unless_bare bare count) closes names
+    (is ∙ ap length_line none)) (omega (
       arith,
       around (codes "200 OK") (header (codes "Content-Type") (codes "text/plain; charset=" ++ name_of to))
           (unless_bare bare count) closes (omega arith) (unless_small bare count small),
       header_length (codes "Content-Type") (codes "text/plain; charset=" ++ name_of to),
-      length-append (codes "text/plain; charset=") (name_of to),
+      length-append {A = ℕ},
       name_short to,
     ))
 

@@ -3,10 +3,8 @@ use Rattle.std.specs.Prelude.{◌≡◌, ℕ, ◌+◌, ◌≤◌, ◌<◌, Bool,
 use Rattle.std.specs.Prelude.{codes, OnOk, Result}
 use Rattle.std.proofs.Common.{append_assoc, ap, sym, ◌∙◌, subst, get_or, arith}
 use Rattle.std.proofs.lemmas.List.{append-nil, length-append, take_more, at_drop_more}
-use Rattle.std.specs.Fmt.{decimal}
-use Rattle.tus_request.specs.declared.faults.Fault.{Fault}
-use Rattle.tus_request.specs.Replies.{crlf, header, close_line, length_line, declared_line, metadata_line, refusal_lead}
-use Rattle.tus_request.specs.Replies.{refusal_line, status_of, unless_bare, reply, reply_refused, reply_head}
+use Rattle.tus_request.specs.Replies.{crlf, header, length_line}
+use Rattle.tus_request.specs.Replies.{reply}
 use Rattle.tus_request.specs.ReplyParts.{line_shown, lines_shown}
 use Rattle.tus_request.specs.declared.replies.parts.Line.{Line}
 
@@ -47,11 +45,7 @@ begun status shown =
 
 begun_more : (old status shown more new : List ℕ) → new ≡ (old ++ begun status shown) ++ more
     → new ≡ old ++ begun status (shown ++ more)
-begun_more old status shown more new is =
-    let common = crlf ++ (header (codes "Tus-Resumable") (codes "1.0.0")
-    ++ (header (codes "Cache-Control") (codes "no-store") ++ shown)) in
-    is ∙ append_assoc old (begun status shown) more
-    ∙ ap (λ t. old ++ (codes "HTTP/1.1 " ++ t)) (append_assoc status common more)
+begun_more old status shown more new is = is ∙ simp append_assoc
 
 -- one more line of a reply
 pub print_more : (old status : List ℕ) (lines : List Line) (i : ℕ) (d : Line) (mid new : List ℕ) → i < length lines

@@ -1,5 +1,5 @@
 -- What `first` answers on two rows: a word with a slash and a parameter after it, and the word.
-use Rattle.std.specs.Prelude.{◌≡◌, ℕ, ◌-◌, ◌<◌, ◌⊎◌, Bool, true, false, cond, ◌==◌, List, [], ◌∷◌, ◌++◌, length, Option}
+use Rattle.std.specs.Prelude.{◌≡◌, ℕ, ◌-◌, ◌<◌, Bool, true, false, cond, ◌==◌, List, [], ◌∷◌, ◌++◌, length, Option}
 use Rattle.std.specs.Prelude.{Some, None, codes}
 use Rattle.std.proofs.Common.{arith, ap, ◌∙◌, refl, zero, suc, get_or, inl, inr}
 use Rattle.matchit.specs.Rows.{RowsOf, param_token, catch_all_token}
@@ -99,13 +99,10 @@ module _ {K : Type 0} where
   first_both [] path f u plain low = first_after path f u low
   first_both (x ∷ word) [] f u plain low = refl
   first_both (x ∷ word) (b ∷ path) f u plain low =
-      elim (cases_Bool (x == b)) [
-        | inl e ↦ rw (e, plain.0, plain.1, first_both word path f u plain.2 low) (
-            ap (λ o. or_else (found word path f u) o) (no_arm (has_slash (b ∷ path)) (length (b ∷ path)) path)
-            ∙ or_none (found word path f u)
-            )
-        | inr e ↦ rw (e, plain.0, plain.1, seek_nothing 0 path) (no_arm (has_slash (b ∷ path)) (length (b ∷ path)) path)
-      ]
+      let ih = first_both word path f u plain.2 low in
+      let none = seek_nothing 0 path in
+      let past = no_arm (has_slash (b ∷ path)) (length (b ∷ path)) path in
+      grind (arith, nat_tests)
 
 pub plain_word : IsPlain (codes "/files")
 plain_word = (refl, refl, (refl, refl, (refl, refl, (refl, refl, (refl, refl, (refl, refl, tt))))))

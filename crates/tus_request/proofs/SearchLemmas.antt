@@ -1,21 +1,19 @@
 -- The search for a head's end finds it where it is.
-use Rattle.std.proofs.Common.{◌≡◌, ◌<◌, ◌⊎◌, inl, inr, ℕ, Bool, true, false, List, [], ◌∷◌, ◌++◌, length, take, refl}
-use Rattle.std.proofs.Common.{sym, ◌∙◌, ap, subst, arith, Option, Some, None, option_map, nat_lt, nat_le, ◌||◌}
-use Rattle.std.proofs.Common.{if◌then◌else◌, ◌==◌, ◌+◌, drop, get_or, zero, suc, add-one}
+use Rattle.std.proofs.Common.{◌≡◌, ◌<◌, inl, inr, ℕ, Bool, true, false, List, [], ◌∷◌, ◌++◌, length, take, refl}
+use Rattle.std.proofs.Common.{sym, ◌∙◌, ap, arith, Option, Some, None, nat_lt}
+use Rattle.std.proofs.Common.{◌==◌, ◌+◌, drop, get_or, zero, suc, add-one}
 use Rattle.std.specs.List.{position}
 use Rattle.std.proofs.lemmas.List.Quantifiers.{position-Some}
 use Rattle.tus_request.proofs.Positions.{none_passes}
 use Rattle.std.proofs.lemmas.List.{take_all}
-use Rattle.std.proofs.lemmas.Bool.{eqb-true, ltb-true, lt-ltb, leb-false, lt-leb, cases_Bool, both_ways, or_parts}
-use Rattle.std.proofs.lemmas.Bool.{or_from}
+use Rattle.std.proofs.lemmas.Bool.{eqb-true, ltb-true, lt-ltb, leb-false, lt-leb, cases_Bool}
+use Rattle.std.proofs.lemmas.Bool.{both_ways, or_parts, or_from}
 use Rattle.enc_model.specs.declared.Encoding.{Encoding}
-use Rattle.tus_request.specs.Lines.{lines, onto_first, is_empty_line, up_to_empty, head_lines, Extent, extent_of}
+use Rattle.tus_request.specs.Lines.{lines, onto_first, up_to_empty, head_lines, Extent}
 use Rattle.tus_request.specs.Lines.{head_extent}
-use Rattle.tus_request.specs.Searches.{after_text_byte, after_byte, after_bytes, is_over}
+use Rattle.tus_request.specs.Searches.{after_byte, after_bytes, is_over}
 use Rattle.tus_request.specs.Buffers.{is_judged}
-use Rattle.tus_request.specs.declared.faults.Fault.TheVariants.{HeadTooLong}
-use Rattle.tus_request.specs.Checks.{no_head}
-use Rattle.tus_request.specs.Answers.{More, Judged, answer_with, whole_answer, answer_of}
+use Rattle.tus_request.specs.Answers.{More, answer_with, answer_of}
 use Rattle.tus_request.specs.declared.search.Search.{Search}
 use Rattle.tus_request.specs.declared.search.Search.TheVariants.{Front, FrontCr, Text, Start, StartCr, Over}
 

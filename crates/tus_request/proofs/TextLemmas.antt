@@ -1,5 +1,5 @@
 -- Parts of texts.
-use Rattle.std.specs.Prelude.{◌≡◌, ℕ, ◌+◌, ◌<◌, ◌≤◌, true, false, List, [], ◌∷◌, length, take, drop, ◌==◌, nat_lt, Some}
+use Rattle.std.specs.Prelude.{◌≡◌, ℕ, ◌+◌, ◌<◌, true, false, List, [], ◌∷◌, length, take, drop, ◌==◌, Some}
 use Rattle.std.specs.Prelude.{None}
 use Rattle.std.proofs.Common.{arith, ap, refl, zero, suc, get_or, inl, inr, add-one}
 use Rattle.std.specs.List.{position, position_or_len, before_first}

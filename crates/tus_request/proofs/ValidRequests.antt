@@ -1,12 +1,11 @@
 -- Every request that passed its checks is valid.
 use Rattle.std.specs.Prelude.{All, take, map, codes}
 use Rattle.std.specs.List.{list_all}
-use Rattle.std.specs.Char.{is_ascii_digit, digit_value}
+use Rattle.std.specs.Char.{is_ascii_digit}
 use Rattle.std.specs.Str.Parse.{digits_value, AllDigits}
-use Rattle.std.proofs.Common.{◌≡◌, ◌<◌, ◌≤◌, ◌+◌, ◌^◌, ℕ, Bool, true, false, ◌&&◌, nat_le, nat_lt, if◌then◌else◌}
-use Rattle.std.proofs.Common.{List, [], ◌∷◌, length, Option, Some, None, refl, sym, subst, ap, ◌∙◌, arith, inl, inr}
+use Rattle.std.proofs.Common.{◌≡◌, ◌<◌, ◌≤◌, ◌^◌, ℕ, Bool, true, ◌&&◌, nat_le, nat_lt}
+use Rattle.std.proofs.Common.{List, [], ◌∷◌, length, Option, Some, None, refl, subst, arith, inl, inr}
 use Rattle.std.proofs.lemmas.Bool.{leb-true, cases_Bool, and_parts}
-use Rattle.std.proofs.lemmas.Option.{same_Some}
 use Rattle.std.proofs.lemmas.List.Elements.{All-cons}
 use Rattle.std.proofs.lemmas.Str.{digit_value_digit}
 use Rattle.std.proofs.lemmas.Int.Digits.{digits_value-lt}
@@ -17,7 +16,6 @@ use Rattle.tus_request.specs.Fields.{values_in}
 use Rattle.enc_model.specs.declared.Encoding.{Encoding}
 use Rattle.enc_model.specs.declared.Encoding.TheVariants as e
 use Rattle.enc_model.specs.declared.Mode.{Mode}
-use Rattle.enc_labels.specs.Labels.{output_of}
 use Rattle.tus_request.specs.Number.{is_number, number_of}
 use Rattle.tus_request.specs.Metadata.{KeyValue, is_plain, is_metadata, metadata_of, Choice, choice_with, choice_of}
 use Rattle.tus_request.specs.Checks as checks
@@ -25,12 +23,10 @@ use Rattle.tus_request.specs.declared.methods.Verb.{Verb}
 use Rattle.tus_request.specs.declared.methods.Verb.TheVariants as verb
 use Rattle.tus_request.specs.declared.places.Place.{Place}
 use Rattle.tus_request.specs.declared.places.Place.TheVariants as place
-use Rattle.tus_request.specs.declared.faults.Fault.TheVariants.{HeadTooLong, Coding, TusVersion}
-use Rattle.tus_request.specs.declared.faults.Fault.TheVariants.{MediaType, BadHeader, BadLabel}
 use Rattle.tus_request.specs.Lines.{Extent, head_extent}
 use Rattle.tus_request.specs.Reading.{request_of}
-use Rattle.tus_request.specs.Requests.{Action, Options, Create, Head, Get, Delete, Request, Asks}
-use Rattle.tus_request.specs.Answers.{More, Judged, answer_with, answer_of}
+use Rattle.tus_request.specs.Requests.{Action, Options, Head, Get, Delete, Request, Asks}
+use Rattle.tus_request.specs.Answers.{Judged, answer_with, answer_of}
 use Rattle.tus_request.specs.Valid.{IsValidAction, IsValidRequest, IsValid, IsValidAnswer}
 
 -- NUMBERS
@@ -39,18 +35,15 @@ all_digits [] p = tt {0}
 all_digits (c ∷ text) p =
     let q = and_parts (is_ascii_digit c) (list_all is_ascii_digit text) p in
     let r = and_parts (nat_le 48 c) (nat_le c 57) q.0 in
-    let low : 48 ≤ c = leb-true 48 c r.0 in
-    let high : c ≤ 57 = leb-true c 57 r.1 in
-    let d : digit_value c + 48 ≡ c = digit_value_digit c (low, high) in
-    (omega arith, all_digits text q.1)
+    let high = leb-true c 57 r.1 in
+    let d = digit_value_digit c (leb-true 48 c r.0, high) in (omega arith, all_digits text q.1)
 
 small_text : (text : List ℕ) → is_number text ≡ true → digits_value 10 text < 10 ^ 18
 small_text text p =
     let q = and_parts (nat_le 1 (length text) && nat_le (length text) 18) (list_all is_ascii_digit text) p in
-    let r = and_parts (nat_le 1 (length text)) (nat_le (length text) 18) q.0 in
-    let short : length text ≤ 18 = leb-true (length text) 18 r.1 in
-    let b : digits_value 10 text < 10 ^ length text = digits_value-lt 10 text (all_digits text q.1) in
-    let p : 10 ^ length text ≤ 10 ^ 18 = pow-le-pow_right {n = 10} (omega arith) {i = length text} {j = 18} short in
+    let short = leb-true (length text) 18 (and_parts (nat_le 1 (length text)) (nat_le (length text) 18) q.0).1 in
+    let b = digits_value-lt 10 text (all_digits text q.1) in
+    let p = pow-le-pow_right {n = 10} (omega arith) {i = length text} {j = 18} short in
     omega arith
 
 number_small : (text : List ℕ) (n : ℕ) → number_of text ≡ Some n → n < 10 ^ 18
@@ -143,11 +136,7 @@ module _ (offers : Encoding → Bool) where
     | inl t ↦ rw t (tt {0})
     | inr f ↦ rw f (declared_valid x _ small)
   ]
-  all_valid x verb.Head small = tt {0}
-  all_valid x verb.Patch small = tt {0}
-  all_valid x verb.Get small = tt {0}
-  all_valid x verb.Delete small = tt {0}
-  all_valid x verb.Other small = tt {0}
+  all_valid x _ small = tt {0}
 
   upload_valid : (x : checks.Asking) (n : ℕ) (v : Verb) → x.length < 10 ^ 18 → IsValid offers (checks.on_upload x n v)
   upload_valid x n verb.Options small = passed_valid x Options small (tt {0})
@@ -187,8 +176,10 @@ module _ (offers : Encoding → Bool) where
       ]
 
   extent_valid : (bytes : List ℕ) (o : Option Extent) → IsValidAnswer offers (answer_with offers bytes o)
-  extent_valid bytes None = elim (cases_Bool (nat_lt (length bytes) 8192))
-      [ inl t ↦ rw t (tt {0}) | inr f ↦ rw f (tt {0}) ]
+  extent_valid bytes None = elim (cases_Bool (nat_lt (length bytes) 8192)) [
+    | inl t ↦ rw t (tt {0})
+    | inr f ↦ rw f (tt {0})
+  ]
   extent_valid bytes (Some x) = elim (cases_Bool (nat_lt 65 x.texts)) [
     | inl t ↦ rw t (tt {0})
     | inr f ↦ rw f (judged_valid (request_of (take x.len bytes)))

@@ -16,6 +16,7 @@ pub(crate) struct Found<'f, 'b> {
 
 /// Whether this is the field's name. Names are compared without case (RFC 9110, 5.1).
 #[inline(always)]
+#[tactic(auto, using(crate::proofs::FieldLemmas::same_name))]
 pub(crate) fn is_named(field: &Header<'_>, name: &HeaderName) -> bool
     ensures { result ≡ bytes_eq (lowercase field.now.name.now) name.now }
 {

@@ -18,11 +18,13 @@ pub fn one_answer(bytes: &[u8], set: &IndexSet)
 {}
 
 /// The answer to the start of a stream doesn't depend on what follows.
+#[tactic(auto, using(crate::proofs::Prefixes::steady))]
 pub fn steady_answers(set: &IndexSet)
     ensures { IsSteady (answer_of (offers set.now)) }
 {}
 
 /// Bytes are parsed as a request head exactly if they are its print by the grammar.
+#[tactic(auto, using(crate::proofs::ReadingLemmas::finds, crate::proofs::ReadingLemmas::found_reads))]
 pub fn head_read(head: &[u8])
     ensures finds { (h : RequestHead) → ReadsRequest head.now h [] → request_of head.now ≡ Some h }
     ensures reads { (h : RequestHead) → request_of head.now ≡ Some h → ReadsRequest head.now h [] }
@@ -35,6 +37,7 @@ pub fn one_value(text: &[u8])
 
 /// A request that passed the checks is valid: its numbers are below 10^18, its encodings are offered, and its metadata
 /// is printable ASCII.
+#[tactic(auto, using(crate::proofs::ValidRequests::request_valid))]
 pub fn valid_requests(bytes: &[u8], set: &IndexSet)
     ensures { (n : ℕ) (r : Request) → answer_of (offers set.now) bytes.now ≡ Judged n (Asks r)
         → IsValidRequest (offers set.now) r }

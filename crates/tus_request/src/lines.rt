@@ -23,6 +23,7 @@ fn is_empty(line: &[u8]) -> bool
 }
 
 /// The position of the first LF.
+#[tactic(auto, using(crate::proofs::Positions::position_is))]
 pub(crate) fn line_feed(bytes: &[u8]) -> Option<usize>
     ensures { result ≡ position (λ b. b == 10) bytes.now }
 {

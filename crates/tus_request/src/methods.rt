@@ -21,6 +21,7 @@ pub(crate) enum Verb {
 }
 
 /// The method of this name. It needs no memory.
+#[tactic(auto, using(crate::proofs::MethodLemmas::no_verb))]
 pub(crate) fn verb_of(alloc: Global, name: &[u8]) -> Verb
     ensures { result ≡ verb_of name.now }
 {

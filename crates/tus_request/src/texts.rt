@@ -19,6 +19,7 @@ fn place_of(text: &[u8], mark: u8) -> Option<usize>
 }
 
 /// The bytes before the first mark, or all of them.
+#[tactic(auto, using(crate::proofs::TextLemmas::cut_some, crate::proofs::TextLemmas::cut_none))]
 pub fn prefix(text: &[u8], mark: u8) -> &[u8]
     ensures { result.now ≡ before mark text.now }
 {

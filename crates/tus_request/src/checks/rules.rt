@@ -70,6 +70,7 @@ fn lacks_version(asking: &Asking<'_>) -> bool
 }
 
 /// Checks a PATCH (tus 1.0.0, PATCH).
+#[tactic(auto, using(crate::proofs::CheckLemmas::patch_passes))]
 fn check_patch(asking: &Asking<'_>, number: u64) -> Verdict
     ensures { verdict_shown result ≡ patch_checked (asking_shown asking.now) number }
 {

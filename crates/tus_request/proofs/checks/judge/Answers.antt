@@ -9,7 +9,6 @@ use Rattle.tus_request.proofs.checks.judge.Goals as goal
 
 pub returns : goal.returns
 returns c =
-    let given = values c.args.fields.now in
     let e = checked_is (offers c.args.set.now) (line_shown c.args.line) (values c.args.fields.now)
     (values c.args.fields.now (codes "transfer-encoding"))
     (values c.args.fields.now (codes "content-length")) (asking_shown c.ask-asking.result) c.in-Some.length

@@ -2,7 +2,8 @@ use Rattle.tus_request.proofs.ReplyLengths.{appended, text}
 use Rattle.tus_request.proofs.replies.reply_text.Goals as goal
 
 pub append-requires : goal.append-requires
-append-requires c = (text c.args.to c.args.«length» c.args.bare c.args.closes _ _ _ c.ranges.«length».fits
+append-requires c =
+    (text c.args.to c.args.«length» c.args.bare c.args.closes _ _ _ c.ranges.«length».fits
     c.type_line.ensures c.length_line-length.ensures c.unless_bare.ensures).short
 
 pub returns : goal.returns
