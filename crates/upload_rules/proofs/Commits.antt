@@ -1,7 +1,6 @@
 -- A body after its upload's bytes.
-use Rattle.std.proofs.Common.{◌≡◌, ℕ, ◌+◌, ◌<◌, ◌≤◌, ◌^◌, Bool, true, false, List, [], ◌++◌, length, Option}
-use Rattle.std.proofs.Common.{Result, Ok, Err, OnErr, refl, sym, ◌∙◌, ap, arith, append-nil}
-use Rattle.std.proofs.Common.{length-append}
+use Rattle.std.proofs.Common.{◌≡◌, ℕ, ◌+◌, ◌<◌, ◌≤◌, ◌^◌, Bool, true, false, List, [], ◌++◌, length, Option, Result, Ok}
+use Rattle.std.proofs.Common.{Err, OnErr, refl, sym, ◌∙◌, ap, arith, append-nil, length-append}
 use Rattle.enc_model.specs.Indexes.{IndexSet}
 use Rattle.enc_model.specs.Decode.{text}
 use Rattle.enc_stream.specs.StateBytes.{state_bytes}

@@ -1,6 +1,5 @@
 -- A table's `create` and `begin`.
-use Rattle.std.proofs.Common.{◌≡◌, ℕ, ◌<◌, ◌≤◌, ◌^◌, false, length, Option, Some, None, Ok, ◌∙◌, ap}
-use Rattle.std.proofs.Common.{arith, Vec, Global}
+use Rattle.std.proofs.Common.{◌≡◌, ℕ, ◌<◌, ◌≤◌, ◌^◌, false, length, Option, Some, None, Ok, ◌∙◌, ap, arith, Vec, Global}
 use Rattle.std.proofs.lemmas.Bool.Decides.{nat_tests}
 use Rattle.upload_rules.specs.declared.errors.UploadRefusal.TheVariants as refusals
 use Rattle.upload_rules.specs.declared.appends.OpenAppend.{OpenAppend}

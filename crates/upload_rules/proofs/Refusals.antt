@@ -1,8 +1,6 @@
 -- Why calls are refused, and a table's commit.
-use Rattle.std.proofs.Common.{◌≡◌, ◌==◌, ℕ, ◌+◌, ◌<◌, ◌≤◌, Bool, true, false, List, [], ◌++◌}
-use Rattle.std.proofs.Common.{length, get_or, set}
-use Rattle.std.proofs.Common.{Option, Some, None, Result, Ok, Err, refl, sym, ◌∙◌, ap, subst, arith, eq-eqb}
-use Rattle.std.proofs.Common.{append-nil}
+use Rattle.std.proofs.Common.{◌≡◌, ◌==◌, ℕ, ◌+◌, ◌<◌, ◌≤◌, Bool, true, false, List, [], ◌++◌, length, get_or, set}
+use Rattle.std.proofs.Common.{Option, Some, None, Result, Ok, Err, refl, sym, ◌∙◌, ap, subst, arith, eq-eqb, append-nil}
 use Rattle.std.proofs.Common.{if◌then◌else◌, Vec, Global}
 use Rattle.std.proofs.lemmas.Bool.{ne_eqb, cases_lt}
 use Rattle.std.proofs.lemmas.Bool.Decides.{nat_tests}
@@ -20,9 +18,8 @@ use Rattle.upload_rules.specs.Store.{Upload, Store, find, upload_of, with_length
 use Rattle.upload_rules.specs.Store.{patched_at, text_with, is_complete}
 use Rattle.upload_rules.specs.World.{Patch, World, is_there, reached, length_then, completes, patch_text}
 use Rattle.upload_rules.specs.Room.{is_short}
-use Rattle.upload_rules.specs.Calls.{or_else, length_refusal, text_refusal, commit_refusal}
-use Rattle.upload_rules.specs.Calls.{is_empty, declares, declares_at, is_idle, text_stays}
-use Rattle.upload_rules.specs.Calls.{committed, committed_store, dropped, longer, appended}
+use Rattle.upload_rules.specs.Calls.{committed_store, length_refusal, commit_refusal, text_refusal, declares_at, longer}
+use Rattle.upload_rules.specs.Calls.{text_stays, committed, is_empty, declares, appended, or_else, is_idle, dropped}
 use Rattle.enc_model.specs.Indexes.{IndexSet}
 use Rattle.upload_rules.specs.declared.errors.UploadRefusal.{UploadRefusal}
 use Rattle.upload_rules.specs.Answers.{Answers, IsLate}

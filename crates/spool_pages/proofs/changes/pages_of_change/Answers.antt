@@ -1,6 +1,4 @@
-use Rattle.std.proofs.Common.{◌∙◌, ◌+◌, option_copied, get_or, below_more, refl, sym}
-use Rattle.std.proofs.Common.{rules}
-use Rattle.std.proofs.Common.{arith}
+use Rattle.std.proofs.Common.{◌∙◌, ◌+◌, option_copied, get_or, below_more, refl, sym, rules, arith}
 use Rattle.spool_journal.specs.Image.{journal_pages}
 use Rattle.spool_pages.specs.Changes.{row_number}
 use Rattle.spool_pages.proofs.Changed.{room_some, room_changes, said_beside}

@@ -1,5 +1,4 @@
-use Rattle.std.proofs.Common.{rules, sym, ◌≤◌, ◌≡◌, ◌+◌, ◌-◌, ℕ, [], length, Ok, Some, List, IsTrue, ◌∙◌, ap}
-use Rattle.std.proofs.Common.{arith}
+use Rattle.std.proofs.Common.{rules, sym, ◌≤◌, ◌≡◌, ◌+◌, ◌-◌, ℕ, [], length, Ok, Some, List, IsTrue, ◌∙◌, ap, arith}
 use Rattle.std.specs.List.{slice_range}
 use Rattle.spool_journal.specs.Image.{byte_of}
 use Rattle.spool_pages.specs.Bytes.{IsPadded}
