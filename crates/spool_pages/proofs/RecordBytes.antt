@@ -41,15 +41,6 @@ abbrev pub room_end : Version → SlotRecord → List ℕ
 room_end version r = metadata_end version r ++ replicate (1536 - length r.metadata) 0
 
 module _ (version : Version) (r : SlotRecord) where
-  pub length-two : length (two_of version r) ≡ 16
-  length-two = refl
-
-  pub length-three : length (three_of version r) ≡ 24
-  length-three = refl
-
-  pub length-four : length (four_of version r) ≡ 32
-  length-four = refl
-
   pub record_is : room_end version r ++ length_tag version r.declared ∷ [] ≡ record_bytes version r
   unfolding record_bytes
   record_is = refl

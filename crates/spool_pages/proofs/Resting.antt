@@ -1,9 +1,9 @@
 -- A spool at rest: images that agree but for blocks that no row owns say the same.
 use Rattle.std.proofs.Common.{◌≡◌, inl, inr, ℕ, zero, suc, ◌+◌, ◌*◌, ◌/◌, ◌≤◌, ◌++◌, Bool, true, false, cond, List, []}
-use Rattle.std.proofs.Common.{◌∷◌, Option, None, Some, get_or, take, refl, sym, ◌∙◌, ap, subst, arith, ⊎_elim}
+use Rattle.std.proofs.Common.{◌∷◌, Option, None, Some, get_or, take, refl, sym, ◌∙◌, ap, arith, ⊎_elim}
 use Rattle.spool_disk.specs.Disk.{IsImage, Keeps}
 use Rattle.spool_disk.proofs.Span.{span_same}
-use Rattle.spool_journal.specs.Image.{journal_pages, Outside, InForm, count, number, overlaid, text_page}
+use Rattle.spool_journal.specs.Image.{journal_pages, Outside, overlaid, text_page}
 use Rattle.spool_journal.specs.Phases.{Idle, Settled, IsBefore, ReadsAs}
 use Rattle.spool_journal.specs.Texts.{owns, block_at, block_bytes, joined, text_shown}
 use Rattle.spool_journal.proofs.Gate.{shut_view}
@@ -31,8 +31,7 @@ module _ (a b : ℕ → ℕ) (first : ℕ) where
       (owned_block slot ordinal rows (x + 1) (λ k p owned e. agree (suc k) p owned (omega (arith, e))))
     where
       unowned : (row : Option (ℕ × ℕ)) → row ≡ None → owns slot ordinal row ≡ true → ⊥
-      unowned None e mine = cc
-      unowned (Some o) e mine = cc
+      unowned row e mine = grind arith
 
       either : (t : Bool) (y z : Option ℕ) → (t ≡ true → block_bytes a first y ≡ block_bytes b first y)
           → block_bytes a first z ≡ block_bytes b first z → block_bytes a first (cond t y z) ≡ block_bytes b first
@@ -82,9 +81,8 @@ says_frees a b v same says =
           (says.rows r lt);
       texts = λ s r e. says.texts s r e ∙ sym
           (owned_shown a b (text_page v.blocks) v.rows
-          (λ x p owned here. same p (inr (omega (arith, here, j)))
-          (λ free. owned (subst (λ (k : ℕ). get_or v.rows k None ≡ None) (omega (arith, free.here, here))
-          free.free))) s r.text_len);
+          (λ x p owned here. same p (inr (omega (arith, here, j))) (λ free. owned (grind (arith, free.here, free.free))))
+          s r.text_len);
     }
 
 pub shut_says : (image : ℕ → ℕ) (v : View) → (image 4096 ≡ 165 → ⊥) → IsViewOf image v → Says image v
@@ -168,8 +166,7 @@ module _ {v : View} {current : ℕ → ℕ} {unsynced : ℕ → Type 0} where
     closed = settled.closed;
     is_synced = λ p l. absurd (settled.is_synced p l);
     is = shut_is current v settled.closed
-        (says_same current bytes v (λ p outside. settled.same p
-        (subst (λ (m : ℕ). Outside (journal_pages m) p) size outside)) says);
+        (says_same current bytes v (λ p outside. settled.same p (rw size at outside)) says);
   }
 
   pub rests_idle : {n : ℕ} → v.blocks ≡ n → Rests v current unsynced → Idle (journal_pages n) current unsynced
@@ -183,14 +180,12 @@ module _ {v : View} {current : ℕ → ℕ} {unsynced : ℕ → Type 0} where
       → IsBefore (journal_pages n) current unsynced image → IsViewOf image v
   rests_before image size rests before =
       rests_is image rests before.closed
-      (λ p outside taken. before.same p (subst (λ (m : ℕ). Outside (journal_pages m) p) size outside)
-      (λ l. taken (rests.is_synced p l)))
+      (λ p outside taken. before.same p (rw size at outside) (λ l. taken (rests.is_synced p l)))
 
 -- the plain reading of the image encodes what the bytes encode
 pub reads_is : {n : ℕ} (image bytes : ℕ → ℕ) (v : View) → v.blocks ≡ n → ReadsAs (journal_pages n) image bytes
     → Says bytes v → IsViewOf image v
 reads_is image bytes v size reads says = record {
-  form = λ ajar. subst (λ (m : ℕ). InForm (journal_pages m) (count image) (number image)) (sym size) (reads.form ajar);
-  says = says_same (overlaid image) bytes v
-      (λ p outside. reads.same p (subst (λ (m : ℕ). Outside (journal_pages m) p) size outside)) says;
+  form = λ ajar. rw size (reads.form ajar);
+  says = says_same (overlaid image) bytes v (λ p outside. reads.same p (rw size at outside)) says;
 }

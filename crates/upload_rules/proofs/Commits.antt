@@ -1,8 +1,7 @@
 -- A body after its upload's bytes.
-use Rattle.std.proofs.Common.{◌≡◌, ℕ, ◌+◌, ◌<◌, ◌≤◌, ◌^◌, Bool, true, false, List, [], ◌++◌, length, Option}
-use Rattle.std.proofs.Common.{Result, Ok, Err, OnErr, refl, sym, ◌∙◌, ap, arith, append-nil}
-use Rattle.std.proofs.Common.{length-append}
-use Rattle.enc_model.specs.Indexes.{IndexSet, tables}
+use Rattle.std.proofs.Common.{◌≡◌, ℕ, ◌+◌, ◌<◌, ◌≤◌, ◌^◌, Bool, true, false, List, [], ◌++◌, length, Option, Result, Ok}
+use Rattle.std.proofs.Common.{Err, OnErr, refl, sym, ◌∙◌, ap, arith, append-nil, length-append}
+use Rattle.enc_model.specs.Indexes.{IndexSet}
 use Rattle.enc_model.specs.Decode.{text}
 use Rattle.enc_stream.specs.StateBytes.{state_bytes}
 use Rattle.upload_rules.specs.declared.records.Record.{Record}
@@ -16,7 +15,7 @@ use Rattle.upload_rules.specs.declared.new_text.NewText.TheVariants.{Growing, Un
 use Rattle.upload_rules.specs.Lengths.{is_length, known_or}
 use Rattle.upload_rules.specs.Store.{Upload, text_of, text_with, with_length, patched, is_complete}
 use Rattle.upload_rules.specs.World.{Patch, is_there, reached, patch_text}
-use Rattle.upload_rules.specs.States.{transcoder_over, transcoder_with, state_with, state_of}
+use Rattle.upload_rules.specs.States.{transcoder_with, state_with, state_of}
 use Rattle.upload_rules.specs.Texts.{HoldsText, IsWhole, IsEnded}
 use Rattle.upload_rules.specs.Slots.{SlotStands}
 use Rattle.upload_rules.specs.Appends.{AppendStands, IsPut}
@@ -39,9 +38,7 @@ complete_patched u declare bytes = ap (is_length (known_or u.declared declare)) 
 pub whole_patched : (x : IndexSet) (u : Upload) (declare : Option ℕ) (bytes : List ℕ)
     → text_with x (patched u declare bytes) [] (is_complete (patched u declare bytes)) ≡ text_with x u bytes
     (is_complete (patched u declare bytes))
-whole_patched x u declare bytes =
-    ap (λ b. text (tables x) u.from u.to u.mode b (is_complete (patched u declare bytes)))
-    (append-nil (u.accepted ++ bytes))
+whole_patched x u declare bytes = rw append-nil refl
 
 pub text_patched : (x : IndexSet) (u : Upload) (declare : Option ℕ) (bytes : List ℕ)
     → text_of x (patched u declare bytes) ≡ (text_with x u bytes (is_complete (patched u declare bytes))).bytes
@@ -51,9 +48,7 @@ text_patched x u declare bytes =
 pub transcoder_patched : (x : IndexSet) (u : Upload) (declare : Option ℕ) (bytes : List ℕ)
     → transcoder_with x (patched u declare bytes) [] (is_complete (patched u declare bytes)) ≡ transcoder_with x u bytes
     (is_complete (patched u declare bytes))
-transcoder_patched x u declare bytes =
-    ap (λ b. transcoder_over (tables x) u.from u.to u.mode b (is_complete (patched u declare bytes)))
-    (append-nil (u.accepted ++ bytes))
+transcoder_patched x u declare bytes = rw append-nil refl
 
 pub state_patched : (x : IndexSet) (u : Upload) (declare : Option ℕ) (bytes : List ℕ)
     → state_of x (patched u declare bytes) ≡ state_with x u bytes (is_complete (patched u declare bytes))
@@ -63,10 +58,7 @@ state_patched x u declare bytes = ap state_bytes (transcoder_patched x u declare
 -- what an append adds is the same whether or not a length was declared since it began
 pub holds_with_length : (x : IndexSet) (u : Upload) (declare : Option ℕ) (bytes : List ℕ) (t : NewText)
     → HoldsText x u bytes t → HoldsText x (with_length u declare) bytes t
-holds_with_length x u declare bytes (Growing t text) holds = (
-  record { unspent = holds.0.unspent; from = holds.0.from; to = holds.0.to; mode = holds.0.mode; at = holds.0.at },
-  holds.1,
-)
+holds_with_length x u declare bytes (Growing t text) holds = assumption
 holds_with_length x u declare bytes Unencodable holds = holds
 holds_with_length x u declare bytes Complete holds = still u.declared holds
   where
@@ -77,35 +69,17 @@ holds_with_length x u declare bytes Complete holds = still u.declared holds
 module _ (x : IndexSet) (next : ℕ) (p : Patch) (o : OpenAppend) (stands : AppendStands x next p o) where
   -- with another text
   pub with_text : (text : NewText) → HoldsText x p.began p.body text → AppendStands x next p (record o { text = text })
-  with_text text holds = record {
-    number = stands.number;
-    offset = stands.offset;
-    came = stands.came;
-    declare = stands.declare;
-    held = stands.held;
-    within = stands.within;
-    fits = stands.fits;
-    below = stands.below;
-    roomy = stands.roomy;
-    text = holds;
-  }
+  with_text text holds = assumption
 
   pub with_piece : (piece : List ℕ) (came : ℕ) (text : NewText) → length p.body + length piece ≤ p.count
       → came ≡ length p.body + length piece
       → HoldsText x p.began (p.body ++ piece) text
       → AppendStands x next (record p { body = p.body ++ piece }) (record o { came = came; text = text })
-  with_piece piece came text held is holds = record {
-    number = stands.number;
-    offset = stands.offset;
-    came = is ∙ sym (length-append p.body piece);
-    declare = stands.declare;
-    held = (let l = length-append p.body piece in omega (arith, l, held));
-    within = stands.within;
-    fits = stands.fits;
-    below = stands.below;
-    roomy = stands.roomy;
-    text = holds;
-  }
+  with_piece piece came text held is holds =
+      let long = length-append p.body piece in
+      let came_is : came ≡ length (p.body ++ piece) = omega arith in
+      let within : length (p.body ++ piece) ≤ p.count = omega arith in
+      assumption
 
   pub reaches : reached p < 2 ^ 64
   reaches = let h = stands.held in let w = stands.within in let f = stands.fits in omega (arith, h, w, f)

@@ -110,18 +110,13 @@ module _ (t : Table) (w : World) (stands : TableStands t w) (n : ℕ) where
       let lt : place < length t.slots.items = let l = first.within in omega (arith, l, count_of t.slots.items) in
       let same : numbers slots.items ≡ remove (numbers t.slots.items) place =
       ap numbers is ∙ numbers_removed t.slots.items place in
-      record {
-        indexes = stands.indexes;
-        next = stands.next;
-        slots = rw is (removed w.store.indexes n w.store.uploads t.slots.items place stands.slots lt first.here
-            stands.rising);
-        rising = rw same (rising_removed (numbers t.slots.items) place first.within stands.rising);
-        below = rw same (below_removed (numbers t.slots.items) place first.within w.store.next stands.below);
-        appends = stands.appends;
-        apart = stands.apart;
-        grown = grown_deleted w n stands.grown;
-        unlimited = stands.unlimited;
-      }
+      let slots' : AllStand w.store.indexes (others n w.store.uploads) slots.items =
+      rw is (removed w.store.indexes n w.store.uploads t.slots.items place stands.slots lt first.here stands.rising) in
+      let rising : IsRising (numbers slots.items) =
+      rw same (rising_removed (numbers t.slots.items) place first.within stands.rising) in
+      let below : IsBelow (numbers slots.items) w.store.next =
+      rw same (below_removed (numbers t.slots.items) place first.within w.store.next stands.below) in
+      assumption (grown_deleted w n stands.grown)
 
   pub there : (place : ℕ) (s : Slot) → IsFirstAt (numbers t.slots.items) n place → s ≡ get_or t.slots.items place s
       → terminate_refusal w n ≡ None

@@ -1,7 +1,7 @@
 -- The least number that no open patch has.
-use Rattle.std.proofs.Common.{◌≡◌, ◌≢◌, ℕ, zero, suc, ◌+◌, ◌<◌, ◌≤◌, true, false, List, length, Option, Some, None}
-use Rattle.std.proofs.Common.{refl, sym, ◌∙◌, ap, arith, inl, inr}
-use Rattle.std.proofs.lemmas.Bool.{true≢false, cases_Bool, cases_lt}
+use Rattle.std.proofs.Common.{◌≡◌, ℕ, zero, suc, ◌+◌, ◌<◌, ◌≤◌, true, false, List, length, Option, Some, None}
+use Rattle.std.proofs.Common.{refl, ◌∙◌, ap, arith}
+use Rattle.std.proofs.lemmas.Bool.{cases_order}
 use Rattle.upload_rules.specs.Store.{find, without}
 use Rattle.upload_rules.specs.World.{Patch, World, is_there, least_from, free_number}
 use Rattle.upload_rules.proofs.Finds.{find_without_other, length_without}
@@ -28,21 +28,11 @@ at_least (suc n) m patches same full =
     omega (arith, shorter, rest)
 
 -- a number that isn't there is the one sought, where all below that one are there
-least_here : (n f : ℕ) (patches : List (ℕ × Patch)) → n ≤ f → IsFull f patches → is_there (find n patches) ≡ false
-    → n ≡ f
-least_here n f patches low full free =
-    elim (cases_lt n f) [ inl lt ↦ absurd (true≢false (sym (full n lt) ∙ free)) | inr ge ↦ omega arith ]
-
 least : (left n f : ℕ) (patches : List (ℕ × Patch)) → n ≤ f → f ≤ n + left → IsFull f patches
     → is_there (find f patches) ≡ false → least_from left n patches ≡ f
 least zero n f patches low high full none = omega arith
 least (suc left) n f patches low high full none =
-    elim (cases_Bool (is_there (find n patches))) [
-      | inl there ↦
-          let ne : n ≢ f = λ e. true≢false (sym there ∙ ap (λ k. is_there (find k patches)) e ∙ none) in
-          rw there (least left (n + 1) f patches (omega arith) (omega arith) full none)
-      | inr free ↦ rw free (least_here n f patches low full free)
-    ]
+    grind (arith, full n, least left (n + 1) f patches, cases_order n f)
 
 pub is_free : (w : World) (f : ℕ) → ((k : ℕ) → k < f → is_there (find k w.patches) ≡ true)
     → is_there (find f w.patches) ≡ false → free_number w ≡ f

@@ -1,7 +1,6 @@
 -- A table's `create` and `begin`.
-use Rattle.std.proofs.Common.{◌≡◌, ℕ, ◌<◌, ◌≤◌, ◌^◌, false, length, Option, Some, None, Ok, refl, ◌∙◌, ap}
-use Rattle.std.proofs.Common.{arith, Vec, Global}
-use Rattle.std.proofs.lemmas.Bool.{le-leb, lt-leb}
+use Rattle.std.proofs.Common.{◌≡◌, ℕ, ◌<◌, ◌≤◌, ◌^◌, false, length, Option, Some, None, Ok, ◌∙◌, ap, arith, Vec, Global}
+use Rattle.std.proofs.lemmas.Bool.Decides.{nat_tests}
 use Rattle.upload_rules.specs.declared.errors.UploadRefusal.TheVariants as refusals
 use Rattle.upload_rules.specs.declared.appends.OpenAppend.{OpenAppend}
 use Rattle.upload_rules.specs.declared.slot.Slot.{Slot}
@@ -11,6 +10,7 @@ use Rattle.upload_rules.specs.Store.{New, Upload, upload_of}
 use Rattle.upload_rules.specs.World.{Patch, World, free_number}
 use Rattle.upload_rules.specs.Calls.{create_refusal, begin_refusal, begin_refusal_at, begun, first_patch}
 use Rattle.upload_rules.specs.Answers.{IsBegun}
+use Rattle.upload_rules.specs.Slots.{AllStand, numbers, IsRising, IsBelow}
 use Rattle.upload_rules.specs.Drafts.{IsPlaced}
 use Rattle.upload_rules.specs.Table.{TableStands, IsOpened}
 use Rattle.upload_rules.proofs.Kept.{counts}
@@ -22,29 +22,15 @@ module _ (t : Table) (w : World) (stands : TableStands t w) where
 
   pub many : (new : New) → is_too_large new.declared ≡ false → 512 ≤ length t.slots.items
       → create_refusal w new ≡ Some refusals.Slots
-  many new small full = rw (
-    small,
-    le-leb 512 (length w.store.uploads)
-        (omega (arith, as_many, full)),
-  ) refl
+  many new small full = grind (arith, nat_tests, as_many)
 
   pub spent_numbers : (new : New) → is_too_large new.declared ≡ false → length t.slots.items < 512 → 10 ^ 18 ≤ t.next
       → create_refusal w new ≡ Some refusals.Slots
-  spent_numbers new small room last =
-      rw (
-        small,
-        lt-leb 512 (length w.store.uploads) (omega (arith, as_many, room)),
-        le-leb (10 ^ 18) w.store.next (let n = stands.next in omega (arith, n, last)),
-      ) refl
+  spent_numbers new small room last = grind (arith, nat_tests, as_many, stands.next)
 
   pub creatable : (new : New) → is_too_large new.declared ≡ false → length t.slots.items < 512 → t.next < 10 ^ 18
       → create_refusal w new ≡ None
-  creatable new small room next =
-      rw (
-        small,
-        lt-leb 512 (length w.store.uploads) (omega (arith, as_many, room)),
-        lt-leb (10 ^ 18) w.store.next (let n = stands.next in omega (arith, n, next)),
-      ) refl
+  creatable new small room next = grind (arith, nat_tests, as_many, stands.next)
 
   pub begun_done : (holds : Patch → Type 0) (any : (p : Patch) → holds p) (n offset count : ℕ) (declare : Option ℕ)
       (u : Option Upload) (o : OpenAppend) (d : ℕ) (v : Appends) → upload_of w.store n ≡ u
@@ -60,14 +46,8 @@ module _ (t : Table) (w : World) (stands : TableStands t w) where
 
   -- as it was, when out of memory
   pub not_created : (v : Vec Slot Global) → v.items ≡ t.slots.items → TableStands (record t { slots = v }) w
-  not_created v same = record {
-    indexes = stands.indexes;
-    next = stands.next;
-    slots = rw same stands.slots;
-    rising = rw same stands.rising;
-    below = rw same stands.below;
-    appends = stands.appends;
-    apart = stands.apart;
-    grown = stands.grown;
-    unlimited = stands.unlimited;
-  }
+  not_created v same =
+      let slots : AllStand w.store.indexes w.store.uploads v.items = rw same stands.slots in
+      let rising : IsRising (numbers v.items) = rw same stands.rising in
+      let below : IsBelow (numbers v.items) w.store.next = rw same stands.below in
+      assumption

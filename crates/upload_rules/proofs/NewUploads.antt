@@ -1,17 +1,16 @@
 -- An upload without bytes: its text is empty, complete or not.
-use Rattle.std.proofs.Common.{◌≡◌, Bool, true, false, [], None, refl, ◌∙◌, ap}
+use Rattle.std.proofs.Common.{◌≡◌, Bool, true, false, [], None, refl, ap}
 use Rattle.enc_model.specs.declared.Encoding.{Encoding}
 use Rattle.enc_model.specs.declared.Encoding.TheVariants as encodings
 use Rattle.enc_model.specs.declared.Mode.{Mode}
 use Rattle.enc_model.specs.Indexes.{IndexSet, tables}
-use Rattle.enc_model.specs.Encode.{Tables, InAscii, Encoder, coded, coded_within, encoder, ended_coded}
+use Rattle.enc_model.specs.Encode.{Tables, InAscii, Encoder, coded, coded_within}
 use Rattle.enc_model.specs.Index.{Index}
 use Rattle.enc_model.specs.Stream.{steps, steps_within}
 use Rattle.enc_model.specs.Utf8.{utf8}
 use Rattle.enc_model.specs.Utf16.{utf16}
 use Rattle.enc_model.specs.Japanese.{SingleState, single, shift_jis, euc_jp, iso2022}
 use Rattle.enc_model.specs.Decode.{decoding, decoding_start, decoded, decode, text}
-use Rattle.enc_model.specs.Transcode.{phase_of}
 use Rattle.enc_model.proofs.Pieces.{decoded_none}
 use Rattle.enc_stream.specs.Standing.{Standing, start, finished}
 use Rattle.upload_rules.specs.Lengths.{is_length}
@@ -53,12 +52,8 @@ text_of_nothing : (t : Tables) (from to : Encoding) (mode : Mode) (done : Bool) 
   state = InAscii;
   fault = None;
 }
-text_of_nothing t from to mode false =
-    text_open t from to mode [] ∙ ap (coded (encoder t to) mode InAscii) (decode_nothing t from false)
-    ∙ nothing_coded (encoder t to) mode
-text_of_nothing t from to mode true =
-    text_done t from to mode [] ∙ ap (λ z. ended_coded (coded (encoder t to) mode InAscii z))
-    (decode_nothing t from true) ∙ ap ended_coded (nothing_coded (encoder t to) mode)
+text_of_nothing t from to mode false = rw (text_open, decode_nothing, nothing_coded) refl
+text_of_nothing t from to mode true = rw (text_done, decode_nothing, nothing_coded) refl
 
 pub new_text : (x : IndexSet) (new : New) → text_of x (new_upload new) ≡ []
 unfolding text_of
@@ -72,15 +67,9 @@ pub new_open : (x : IndexSet) (new : New) (t : Standing) → t ≡ start new.fro
     new.declared 0 ≡ false
     → t.transcoder ≡ transcoder_with x (new_upload new) [] (is_complete (new_upload new))
 new_open x new t is some =
-    ap (λ s. s.transcoder) is
-    ∙ rw (
-      some,
-      ap phase_of (decoded_none (tables x) new.from),
-      ap (λ r. r.state)
-          (text_of_nothing (tables x) new.from new.to new.mode false),
-    ) refl
+    rw (is, some, decoded_none (tables x) new.from, text_of_nothing (tables x) new.from new.to new.mode false) refl
 
 pub new_complete : (x : IndexSet) (new : New) (t : Standing) → t ≡ finished (start new.from new.to new.mode)
     → is_length new.declared 0 ≡ true
     → t.transcoder ≡ transcoder_with x (new_upload new) [] (is_complete (new_upload new))
-new_complete x new t is none = ap (λ s. s.transcoder) is ∙ rw (none) refl
+new_complete x new t is none = rw (is, none) refl

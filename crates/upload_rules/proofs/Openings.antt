@@ -45,10 +45,8 @@ module _ (t : Table) (w : World) (stands : TableStands t w) where
       }))
   opens n offset count declare None s text there held at within fits rules holds = absurd held
   opens n offset count declare (Some u) s text there held at within fits rules holds =
-      let same : s.record.declared ≡ u.declared = held.tells.declared in
       let here : length u.accepted ≡ offset = sym held.tells.accepted ∙ at in
-      let longest_is : longest (known_or s.record.declared declare) ≡ longest (known_or u.declared declare) =
-      ap (λ d. longest (known_or d declare)) same in (
+      let longest_is = ap (λ d. longest (known_or d declare)) held.tells.declared in (
         rules w.store.indexes n u held.tells,
         record {
           number = refl;

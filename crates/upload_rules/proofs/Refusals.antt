@@ -1,8 +1,6 @@
 -- Why calls are refused, and a table's commit.
-use Rattle.std.proofs.Common.{◌≡◌, ◌==◌, ℕ, ◌+◌, ◌<◌, ◌≤◌, Bool, true, false, List, [], ◌++◌}
-use Rattle.std.proofs.Common.{length, get_or, set}
-use Rattle.std.proofs.Common.{Option, Some, None, Result, Ok, Err, refl, sym, ◌∙◌, ap, subst, arith, eq-eqb}
-use Rattle.std.proofs.Common.{append-nil}
+use Rattle.std.proofs.Common.{◌≡◌, ◌==◌, ℕ, ◌+◌, ◌<◌, ◌≤◌, Bool, true, false, List, [], ◌++◌, length, get_or, set}
+use Rattle.std.proofs.Common.{Option, Some, None, Result, Ok, Err, refl, sym, ◌∙◌, ap, subst, arith, eq-eqb, append-nil}
 use Rattle.std.proofs.Common.{if◌then◌else◌, Vec, Global}
 use Rattle.std.proofs.lemmas.Bool.{ne_eqb, cases_lt}
 use Rattle.std.proofs.lemmas.Bool.Decides.{nat_tests}
@@ -20,9 +18,8 @@ use Rattle.upload_rules.specs.Store.{Upload, Store, find, upload_of, with_length
 use Rattle.upload_rules.specs.Store.{patched_at, text_with, is_complete}
 use Rattle.upload_rules.specs.World.{Patch, World, is_there, reached, length_then, completes, patch_text}
 use Rattle.upload_rules.specs.Room.{is_short}
-use Rattle.upload_rules.specs.Calls.{or_else, length_refusal, upload_refusal, text_refusal, commit_refusal}
-use Rattle.upload_rules.specs.Calls.{is_empty, declares, declares_at, is_idle, text_stays}
-use Rattle.upload_rules.specs.Calls.{committed, committed_store, dropped, longer, appended}
+use Rattle.upload_rules.specs.Calls.{committed_store, length_refusal, commit_refusal, text_refusal, declares_at, longer}
+use Rattle.upload_rules.specs.Calls.{text_stays, committed, is_empty, declares, appended, or_else, is_idle, dropped}
 use Rattle.enc_model.specs.Indexes.{IndexSet}
 use Rattle.upload_rules.specs.declared.errors.UploadRefusal.{UploadRefusal}
 use Rattle.upload_rules.specs.Answers.{Answers, IsLate}
@@ -46,11 +43,6 @@ brings_nothing b n e = grind (arith, nat_tests)
 brings : (b : Bool) (n : ℕ) → (if b then false else n == 0) ≡ false → n ≡ 0 → b ≡ true
 brings b n e none = grind (arith, nat_tests)
 
-refusal_is : (w : World) (d : ℕ) (p : Patch) → commit_refusal w d p ≡ or_else
-    (upload_refusal p (upload_of w.store p.number)) (text_refusal w d p)
-unfolding commit_refusal
-refusal_is w d p = refl
-
 patch_text_is : (x : IndexSet) (p : Patch) (done : Bool) → patch_text x p done ≡ text_with x p.began p.body done
 unfolding patch_text
 patch_text_is x p done = refl
@@ -62,28 +54,21 @@ never_short w d p done e f = rw (e, f) refl
 
 pub no_such_upload : (w : World) (d : ℕ) (p : Patch) → upload_of w.store p.number ≡ None
     → commit_refusal w d p ≡ Some refusals.NoSuch
-no_such_upload w d p none = refusal_is w d p ∙ ap (λ u. or_else (upload_refusal p u) (text_refusal w d p)) none
-
-differs : (p : Patch) (u : Upload) → (length u.accepted ≡ length p.began.accepted → ⊥)
-    → upload_refusal p (Some u) ≡ Some refusals.Offset
-differs p u other = rw (ne_eqb (length u.accepted) (length p.began.accepted) other) refl
-
-agrees : (p : Patch) (u : Upload) → length u.accepted ≡ length p.began.accepted
-    → upload_refusal p (Some u) ≡ length_refusal u.declared p.declare (reached p)
-agrees p u same = rw (eq-eqb (length u.accepted) (length p.began.accepted) same) refl
+unfolding commit_refusal
+no_such_upload w d p none = rw none refl
 
 pub other_offset : (w : World) (d : ℕ) (p : Patch) (u : Upload) → upload_of w.store p.number ≡ Some u
     → (length u.accepted ≡ length p.began.accepted → ⊥)
     → commit_refusal w d p ≡ Some refusals.Offset
-other_offset w d p u there other =
-    refusal_is w d p ∙ ap (λ o. or_else o (text_refusal w d p)) (ap (upload_refusal p) there ∙ differs p u other)
+unfolding commit_refusal
+other_offset w d p u there other = rw (there, ne_eqb (length u.accepted) (length p.began.accepted) other) refl
 
 -- where the offset is the upload's, its length decides, and then the text
 same_offset : (w : World) (d : ℕ) (p : Patch) (u : Upload) → upload_of w.store p.number ≡ Some u
     → length u.accepted ≡ length p.began.accepted
     → commit_refusal w d p ≡ or_else (length_refusal u.declared p.declare (reached p)) (text_refusal w d p)
-same_offset w d p u there same =
-    refusal_is w d p ∙ ap (λ o. or_else o (text_refusal w d p)) (ap (upload_refusal p) there ∙ agrees p u same)
+unfolding commit_refusal
+same_offset w d p u there same = rw (there, eq-eqb (length u.accepted) (length p.began.accepted) same) refl
 
 -- WHAT A PATCH BRINGS
 
@@ -129,8 +114,7 @@ no_code w d p moves fault = rw (moves, fault) refl
 text_fine : (w : World) (d : ℕ) (p : Patch) (b : Bool) → text_stays w.store p ≡ b
     → (patch_text w.store.indexes p (completes w.store p)).fault ≡ None → p.short ≡ false → w.blocks ≡ None
     → text_refusal w d p ≡ None
-text_fine w d p true stays fault e f = rw (stays) refl
-text_fine w d p false moves fault e f = rw (moves, fault, never_short w d p (completes w.store p) e f) refl
+text_fine w d p b stays fault e f = grind (arith, never_short w d p (completes w.store p))
 
 nothing_refused : (w : World) (d : ℕ) (p : Patch) → text_stays w.store p ≡ true → text_refusal w d p ≡ None
 nothing_refused w d p stays = rw (stays) refl
@@ -204,12 +188,10 @@ module _ (t : Table) (w : World) (stands : TableStands t w) (d : ℕ) (p : Patch
 
         pub refused_offset : (s.record.accepted ≡ o.offset → ⊥)
             → (commit_refusal w d p ≡ Some refusals.Offset) × TableStands (record t { appends = v }) (dropped w d)
-        refused_offset other =
-            let a = append_is o is in (
-              other_offset w d p upload.0 upload.1 (λ e. other (upload.2.tells.accepted ∙ e ∙ sym a.offset)),
-              drops t w
-                  stands d v gone,
-            )
+        refused_offset other = (
+          other_offset w d p upload.0 upload.1 (λ e. other (upload.2.tells.accepted ∙ e ∙ sym (append_is o is).offset)),
+          drops t w stands d v gone,
+        )
 
         module _ (same : s.record.accepted ≡ o.offset) where
           abbrev u : Upload
@@ -225,16 +207,12 @@ module _ (t : Table) (w : World) (stands : TableStands t w) (d : ℕ) (p : Patch
           pub as_before : (since : Option ℕ) × (u ≡ with_length p.began since)
           as_before = same_upload w d p u stands.grown there there_is as_long
 
-          pub slot_as_before : SlotStands w.store.indexes p.number u s
-          slot_as_before = upload.2
-
           end_is : o.offset + o.came ≡ reached p
           end_is = let a = append_is o is in omega (arith, a.offset, a.came)
 
           length_is : length_refusal s.record.declared o.declare (o.offset + o.came) ≡ length_refusal u.declared
               p.declare (reached p)
-          length_is =
-              cc (upload.2.tells.declared, (append_is o is).declare, end_is)
+          length_is = cc (upload.2.tells.declared, (append_is o is).declare, end_is)
 
           new_is : is_new s.record.declared o.declare ≡ is_new u.declared p.declare
           new_is = cc (upload.2.tells.declared, (append_is o is).declare)
@@ -243,16 +221,14 @@ module _ (t : Table) (w : World) (stands : TableStands t w) (d : ℕ) (p : Patch
               → length_refusal s.record.declared o.declare (o.offset + o.came) ≡ Some e
               → (commit_refusal w d p ≡ Some e) × TableStands (record t { appends = v }) (dropped w d)
           refused_length e refusal = (
-            same_offset w d p u there_is as_long
-                ∙ ap (λ r. or_else r (text_refusal w d p)) (sym length_is ∙ refusal),
+            same_offset w d p u there_is as_long ∙ rw (sym length_is, refusal) refl,
             drops t w stands d v gone,
           )
 
           -- the length lets the bytes come
           module _ (fits : length_refusal s.record.declared o.declare (o.offset + o.came) ≡ None) where
             refused : text_refusal w d p ≡ commit_refusal w d p
-            refused = sym (same_offset w d p u there_is as_long
-                ∙ ap (λ r. or_else r (text_refusal w d p)) (sym length_is ∙ fits))
+            refused = sym (same_offset w d p u there_is as_long ∙ rw (sym length_is, fits) refl)
 
             pub commits_nothing : (if is_new s.record.declared o.declare then false else o.came == 0) ≡ true
                 → (commit_refusal w d p ≡ None) × ((o.offset ≡ reached p) × TableStands (record t { appends = v })
@@ -262,13 +238,9 @@ module _ (t : Table) (w : World) (stands : TableStands t w) (d : ℕ) (p : Patch
                 let brought = brings_nothing (is_new s.record.declared o.declare) o.came idle in
                 let empty : length p.body ≡ 0 = sym a.came ∙ brought.0 in
                 let e = nil_from_length p.body empty in
-                let still = sym new_is ∙ brought.1 in
-                let back : w.store ≡ committed_store w.store p = sym (store_same w.store p u there_is still e) in (
+                let still = sym new_is ∙ brought.1 in (
                   sym refused ∙ nothing_refused w d p (idle_stays w.store p u there_is still e),
-                  (
-                    omega (arith, empty, a.offset),
-                    rw (sym back) (drops t w stands d v gone),
-                  ),
+                  (omega (arith, empty, a.offset), rw (store_same w.store p u there_is still e) (drops t w stands d v gone)),
                 )
 
             -- something is brought
@@ -307,7 +279,7 @@ module _ (t : Table) (w : World) (stands : TableStands t w) (d : ℕ) (p : Patch
                   (puts (record t { appends = v }) (dropped w d) (drops t w stands d v gone) p.number u None [] place
                   new
                   slots there_is first_of_patch inside after_put
-                  (subst (λ z. SlotStands w.store.indexes p.number z new) (sym (with_nothing u)) kept))
+                  (rw (with_nothing u) kept))
 
               -- what has no value is no text that stays
               no_value : (done : Bool) → completes w.store p ≡ done → is_complete u ≡ false

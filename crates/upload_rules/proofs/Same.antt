@@ -1,7 +1,7 @@
 -- The same number and offset mean the same accepted bytes.
-use Rattle.std.proofs.Common.{◌≡◌, ℕ, ◌+◌, List, [], ◌∷◌, ◌++◌, length, Option, Some, None, sym, ◌∙◌, ap, arith}
+use Rattle.std.proofs.Common.{◌≡◌, ℕ, List, [], ◌∷◌, ◌++◌, refl, length, Option, Some, None, sym, ◌∙◌, ap, arith}
 use Rattle.std.proofs.Common.{append-nil}
-use Rattle.std.proofs.lemmas.List.{length-append}
+use Rattle.std.proofs.lemmas.Grind.{common_steps}
 use Rattle.std.proofs.lemmas.Option.{none-some, same_Some}
 use Rattle.upload_rules.specs.Store.{Upload, upload_of, find, with_length, patched}
 use Rattle.upload_rules.specs.World.{Patch, World}
@@ -9,12 +9,8 @@ use Rattle.upload_rules.specs.Grown.{GrewFrom, IsGrown}
 
 same_bytes : (began : Upload) (declare : Option ℕ) (more : List ℕ)
     → length (began.accepted ++ more) ≡ length began.accepted → patched began declare more ≡ with_length began declare
-same_bytes began declare [] e =
-    ap (λ x. record (with_length began declare) { accepted = x }) (append-nil began.accepted)
-same_bytes began declare (b ∷ more) e =
-    let l : length (began.accepted ++ b ∷ more) ≡ length began.accepted + length (b ∷ more) =
-    length-append began.accepted (b ∷ more) in
-    absurd (omega arith)
+same_bytes began declare [] e = rw append-nil refl
+same_bytes began declare (b ∷ more) e = absurd (grind (arith, common_steps))
 
 grew_same : (p : Patch) (o : Option Upload) (u : Upload) → GrewFrom p o → o ≡ Some u
     → length u.accepted ≡ length p.began.accepted

@@ -1,10 +1,10 @@
 -- The text of more bytes: what a prefix of them comes to, and more led_by it.
-use Rattle.std.proofs.Common.{◌≡◌, ℕ, Bool, true, false, List, ◌++◌, Option, Some, None, refl, sym, ◌∙◌, ap}
-use Rattle.std.proofs.Common.{append_assoc, inl, inr}
+use Rattle.std.proofs.Common.{◌≡◌, ℕ, Bool, true, false, List, ◌++◌, Some, None, refl, sym, ◌∙◌, ap}
+use Rattle.std.proofs.Common.{append_assoc, inl, inr, arith}
 use Rattle.std.proofs.lemmas.Bool.{cases_Bool}
 use Rattle.enc_model.specs.declared.Encoding.{Encoding}
 use Rattle.enc_model.specs.declared.Mode.{Mode}
-use Rattle.enc_model.specs.Encode.{Tables, Shift, InAscii, Encoder, Coded, led_by, coded, encoder, encode, encoder_end}
+use Rattle.enc_model.specs.Encode.{Tables, InAscii, Encoder, Coded, led_by, coded, encoder, encode}
 use Rattle.enc_model.specs.Encode.{ended_coded}
 use Rattle.enc_model.specs.Stream.{Run}
 use Rattle.enc_model.specs.Decode.{Decoded, Held, Reading, Decoding, decoded, decoded_text, decode, advance, conclude}
@@ -51,54 +51,27 @@ decode_end t e b =
           rw is (end_reading t e b _ (ap (conclude t e) (sym is) ∙ conclude_all t e b))
     ]
 
-decode_open : (t : Tables) (e : Encoding) (b : List ℕ) (done : Bool) → decode t e b done ≡ decoded_text
-    (decoded t e b done)
-unfolding decode
-decode_open t e b done = refl
-
 -- what is decoded of more bytes has what is decoded of these at the start
 pub decode_after : (t : Tables) (e : Encoding) (b c : List ℕ) (done : Bool)
     → (more : List ℕ) × (decode t e (b ++ c) done ≡ decode t e b false ++ more)
-decode_after t e b c false = (
-  (fed t e (phase_of (decoded t e b false)) c).text,
-  decode_open t e (b ++ c) false ∙ decode_more t e b c
-      ∙ ap (λ z. z ++ (fed t e (phase_of (decoded t e b false)) c).text) (sym (decode_open t e b false)),
-)
+unfolding decode
+decode_after t e b c false = ((fed t e (phase_of (decoded t e b false)) c).text, decode_more t e b c)
 decode_after t e b c true =
-    let x = decoded_text (decoded t e b false) in
     let y = (fed t e (phase_of (decoded t e b false)) c).text in
     let z = fed_end t e (phase_of (decoded t e (b ++ c) false)) in (
       y ++ z,
-      decode_open t e (b ++ c) true ∙ decode_end t e (b ++ c) ∙ ap (λ d. d ++ z) (decode_more t e b c)
-          ∙ append_assoc x y z ∙ ap (λ d. d ++ (y ++ z)) (sym (decode_open t e b false)),
+      decode_end t e (b ++ c) ∙ ap (λ d. d ++ z) (decode_more t e b c)
+          ∙ append_assoc (decoded_text (decoded t e b false)) y z,
     )
 
 -- ENCODING
 
-ended_after_of : (prefix bytes : List ℕ) (s : Shift) (fault : Option ℕ) → let r : Coded = record {
-  bytes = bytes;
-  state = s;
-  fault = fault;
-} in
-    ended_coded (led_by prefix r) ≡ led_by prefix (ended_coded r)
-ended_after_of prefix bytes s None = ap (λ z. record {
-  bytes = z;
-  state = InAscii;
-  fault = None;
-}) (append_assoc prefix bytes (encoder_end s))
-ended_after_of prefix bytes s (Some c) = refl
-
 pub ended_after : (prefix : List ℕ) (r : Coded) → ended_coded (led_by prefix r) ≡ led_by prefix (ended_coded r)
-ended_after prefix r = ended_after_of prefix r.bytes r.state r.fault
-
-ended_fault_of : (bytes : List ℕ) (s : Shift) (fault : Option ℕ)
-    → (ended_coded (record { bytes = bytes; state = s; fault = fault })).fault ≡ fault
-ended_fault_of bytes s None = refl
-ended_fault_of bytes s (Some c) = refl
+ended_after prefix r = grind (arith, append_assoc)
 
 -- the end makes no fault
 pub ended_fault : (r : Coded) → (ended_coded r).fault ≡ r.fault
-ended_fault r = ended_fault_of r.bytes r.state r.fault
+ended_fault r = grind arith
 
 -- TEXTS
 

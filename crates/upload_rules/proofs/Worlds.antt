@@ -1,6 +1,6 @@
 -- What each call makes of a table and of the world that it stands for.
-use Rattle.std.proofs.Common.{◌≡◌, ℕ, ◌+◌, ◌<◌, true, false, List, [], ◌∷◌, ◌++◌, length, set}
-use Rattle.std.proofs.Common.{Option, Some, None, refl, sym, ◌∙◌, ap, arith, Vec, Global}
+use Rattle.std.proofs.Common.{◌≡◌, ℕ, ◌+◌, ◌<◌, true, List, [], ◌∷◌, ◌++◌, length, set}
+use Rattle.std.proofs.Common.{Option, Some, None, sym, ◌∙◌, ap, arith, Vec, Global}
 use Rattle.std.proofs.lemmas.Bool.{cases_lt}
 use Rattle.std.proofs.lemmas.Grind.{common_steps}
 use Rattle.std.proofs.lemmas.List.{map-append}
@@ -11,7 +11,7 @@ use Rattle.upload_rules.specs.declared.table.Table.{Table}
 use Rattle.upload_rules.specs.Store.{New, Upload, find, upload_of, replaced, patched, new_upload}
 use Rattle.upload_rules.specs.World.{Patch, World, is_there, free_number}
 use Rattle.upload_rules.specs.Calls.{created, begun, first_patch, dropped}
-use Rattle.upload_rules.specs.Slots.{number_of, numbers, IsRising, IsBelow, IsFirstAt, SlotStands}
+use Rattle.upload_rules.specs.Slots.{AllStand, number_of, numbers, IsRising, IsBelow, IsFirstAt, SlotStands}
 use Rattle.upload_rules.specs.Drafts.{DraftOf, draft_at, IsPlaced}
 use Rattle.upload_rules.specs.Appends.{AppendStands}
 use Rattle.enc_model.specs.Indexes.{IndexSet}
@@ -28,18 +28,7 @@ Appends = Vec (Option OpenAppend) Global
 
 weaker : (x : IndexSet) (next : ℕ) (p : Patch) (o : OpenAppend) → AppendStands x next p o
     → AppendStands x (next + 1) p o
-weaker x next p o h = record {
-  number = h.number;
-  offset = h.offset;
-  came = h.came;
-  declare = h.declare;
-  held = h.held;
-  within = h.within;
-  fits = h.fits;
-  below = (let b = h.below in omega (arith, b));
-  roomy = h.roomy;
-  text = h.text;
-}
+weaker x next p o h = let below : p.number < next + 1 = omega arith in assumption
 
 -- NUMBERS
 
@@ -55,18 +44,10 @@ below_push ns n below k inside = grind (arith, common_steps, cases_lt k (length 
 module _ (t : Table) (w : World) (stands : TableStands t w) where
   pub drops : (d : ℕ) (v : Appends) → v.items ≡ set t.appends.items d None
       → TableStands (record t { appends = v }) (dropped w d)
-  drops d v is = record {
-    indexes = stands.indexes;
-    next = stands.next;
-    slots = stands.slots;
-    rising = stands.rising;
-    below = stands.below;
-    appends = dropped_stand (AppendStands w.store.indexes w.store.next) w.patches t.appends.items v.items stands.appends
-        d stands.apart is;
-    apart = apart_without d w.patches stands.apart;
-    grown = grown_dropped w stands.grown d stands.apart;
-    unlimited = stands.unlimited;
-  }
+  drops d v is =
+      let appends = dropped_stand (AppendStands w.store.indexes w.store.next) w.patches t.appends.items v.items
+      stands.appends d stands.apart is in
+      assumption (apart_without d w.patches stands.apart, grown_dropped w stands.grown d stands.apart)
 
   -- with another append for a patch that has more of its body
   pub appends_more : (d : ℕ) (p : Patch) (body : List ℕ) (o : OpenAppend) (v : Appends) → find d w.patches ≡ Some p
@@ -74,18 +55,11 @@ module _ (t : Table) (w : World) (stands : TableStands t w) where
       → v.items ≡ set t.appends.items d (Some o) → AppendStands w.store.indexes w.store.next (record p { body = body })
       o
       → TableStands (record t { appends = v }) (record w { patches = replaced d (record p { body = body }) w.patches })
-  appends_more d p body o v there lt is held = record {
-    indexes = stands.indexes;
-    next = stands.next;
-    slots = stands.slots;
-    rising = stands.rising;
-    below = stands.below;
-    appends = appended_stand (AppendStands w.store.indexes w.store.next) w.patches t.appends.items v.items
-        stands.appends d p (record p { body = body }) o there lt is held;
-    apart = apart_replaced d (record p { body = body }) w.patches stands.apart;
-    grown = grown_longer w stands.grown d p body p.short there;
-    unlimited = stands.unlimited;
-  }
+  appends_more d p body o v there lt is held =
+      let appends = appended_stand (AppendStands w.store.indexes w.store.next) w.patches t.appends.items v.items
+      stands.appends d p (record p { body = body }) o there lt is held in
+      let apart = apart_replaced d (record p { body = body }) w.patches stands.apart in
+      assumption (grown_longer w stands.grown d p body p.short there)
 
   -- with a patch more
   pub begins : (n count : ℕ) (declare : Option ℕ) (u : Upload) (d : ℕ) (o : OpenAppend) (v : Appends)
@@ -94,35 +68,20 @@ module _ (t : Table) (w : World) (stands : TableStands t w) where
       → AppendStands w.store.indexes w.store.next (first_patch n count declare u) o
       → (d ≡ free_number w) × TableStands (record t { appends = v }) (begun w n count declare)
   begins n count declare u d o v there placed held =
-      let none : is_there (find d w.patches) ≡ false =
+      let none : find d w.patches ≡ None =
       not_there (find d w.patches) (draft_at t.appends.items d) (stands.appends d) placed.free in
       let full : (k : ℕ) → k < d → is_there (find k w.patches) ≡ true =
       λ k lt. (patch_there (AppendStands w.store.indexes w.store.next) (find k w.patches)
       (draft_at t.appends.items k) (stands.appends k)).1 (placed.least k lt) in
-      let free = sym (is_free w d full none) in (
-        free,
-        rw (there, sym free) (record {
-          indexes = stands.indexes;
-          next = stands.next;
-          slots = stands.slots;
-          rising = stands.rising;
-          below = stands.below;
-          appends = begun_stand (AppendStands w.store.indexes w.store.next) w.patches t.appends.items v.items
-              stands.appends d (first_patch n count declare u) o placed held;
-          apart = (none_there (find d w.patches) none, stands.apart);
-          grown = grown_begun w stands.grown n count declare u d there;
-          unlimited = stands.unlimited;
-        }),
-      )
+      let free = sym (is_free w d full (ap is_there none)) in
+      let appends = begun_stand (AppendStands w.store.indexes w.store.next) w.patches t.appends.items v.items
+      stands.appends d (first_patch n count declare u) o placed held in
+      let grown = grown_begun w stands.grown n count declare u d there in
+      (free, rw (there, sym free) assumption)
     where
-      none_there : (q : Option Patch) → is_there q ≡ false → q ≡ None
-      none_there q e = grind arith
-
       not_there : (q : Option Patch) (o : Option OpenAppend) → DraftOf (AppendStands w.store.indexes w.store.next) q o
-          → o ≡ None → is_there q ≡ false
-      not_there None o h e = refl
-      not_there (Some p) None h e = absurd h
-      not_there (Some p) (Some o) h e = absurd cc
+          → o ≡ None → q ≡ None
+      not_there q o h e = grind arith
 
   -- with an upload more
   pub creates : (new : New) (s : Slot) (v : Vec Slot Global) (next : ℕ) → v.items ≡ t.slots.items ++ s ∷ []
@@ -133,23 +92,20 @@ module _ (t : Table) (w : World) (stands : TableStands t w) where
       let all : numbers v.items ≡ numbers t.slots.items ++ w.store.next ∷ [] =
       ap numbers is ∙ map-append number_of t.slots.items (s ∷ []) ∙ ap (λ n. numbers t.slots.items ++ n ∷ [])
       number in
-      record {
-        indexes = stands.indexes;
-        next = one ∙ ap (λ n. n + 1) stands.next;
-        slots = rw is (push w.store.indexes w.store.next (new_upload new) s w.store.uploads t.slots.items stands.slots
-            (rw stands.next at held));
-        rising = rw all (rising_push (numbers t.slots.items) w.store.next stands.rising stands.below);
-        below = rw all (below_push (numbers t.slots.items) w.store.next stands.below);
-        appends = λ d. held_on (AppendStands w.store.indexes w.store.next)
-            (AppendStands w.store.indexes (w.store.next + 1)) (find d w.patches) (draft_at t.appends.items d)
-            (λ p o is. weaker w.store.indexes w.store.next p o) (stands.appends d);
-        apart = stands.apart;
-        grown = grown_created w stands.grown new (λ d p there.
-            let a = draft_of (AppendStands w.store.indexes w.store.next) p (find d w.patches)
-            (draft_at t.appends.items d) there (stands.appends d) in
-            a.2.below);
-        unlimited = stands.unlimited;
-      }
+      let after : next ≡ w.store.next + 1 = omega (arith, one, stands.next) in
+      let slots : AllStand w.store.indexes (w.store.uploads ++ (w.store.next, new_upload new) ∷ []) v.items =
+      rw is (push w.store.indexes w.store.next (new_upload new) s w.store.uploads t.slots.items stands.slots
+      (rw stands.next at held)) in
+      let rising : IsRising (numbers v.items) =
+      rw all (rising_push (numbers t.slots.items) w.store.next stands.rising stands.below) in
+      let below : IsBelow (numbers v.items) (w.store.next + 1) =
+      rw all (below_push (numbers t.slots.items) w.store.next stands.below) in
+      let appends = λ (d : ℕ). held_on (AppendStands w.store.indexes w.store.next)
+      (AppendStands w.store.indexes (w.store.next + 1)) (find d w.patches) (draft_at t.appends.items d)
+      (λ p o is. weaker w.store.indexes w.store.next p o) (stands.appends d) in
+      assumption (grown_created w stands.grown new (λ d p there.
+      (draft_of (AppendStands w.store.indexes w.store.next) p (find d w.patches) (draft_at t.appends.items d) there
+      (stands.appends d)).2.below))
 
   -- with what a patch brings to an upload
   pub puts : (n : ℕ) (u : Upload) (declare : Option ℕ) (body : List ℕ) (place : ℕ) (s : Slot) (v : Vec Slot Global)
@@ -162,16 +118,9 @@ module _ (t : Table) (w : World) (stands : TableStands t w) where
       let same : numbers v.items ≡ numbers t.slots.items =
       ap numbers is ∙ map-set_same number_of t.slots.items place s s
       (held.tells.number_is ∙ sym first.here ∙ number_at t.slots.items place s lt) in
-      record {
-        indexes = stands.indexes;
-        next = stands.next;
-        slots = rw is (put w.store.indexes n w.store.uploads t.slots.items place (patched u declare body) s
-            stands.slots lt
-            first.here first.before held);
-        rising = rw same stands.rising;
-        below = rw same stands.below;
-        appends = stands.appends;
-        apart = stands.apart;
-        grown = grown_put w stands.grown n u declare body there;
-        unlimited = stands.unlimited;
-      }
+      let slots : AllStand w.store.indexes (replaced n (patched u declare body) w.store.uploads) v.items =
+      rw is (put w.store.indexes n w.store.uploads t.slots.items place (patched u declare body) s stands.slots lt
+      first.here first.before held) in
+      let rising : IsRising (numbers v.items) = rw same stands.rising in
+      let below : IsBelow (numbers v.items) w.store.next = rw same stands.below in
+      assumption (grown_put w stands.grown n u declare body there)

@@ -1,5 +1,4 @@
-use Rattle.std.proofs.Common.{◌∙◌, ◌+◌, ℕ, sym, ap, arith}
-use Rattle.spool_journal.specs.Image.{journal_pages}
+use Rattle.std.proofs.Common.{arith}
 use Rattle.spool_pages.proofs.Changed.{filled_changes}
 use Rattle.spool_pages.proofs.changes.fill_rows.Goals as goal
 
@@ -8,4 +7,4 @@ returns-clause-changes c v v' blocks changes rows =
     let i = c.loop-at.invariant in
     filled_changes c.args.pages.now c.loop-at.pages c.args.rows.now c.first_row_number-first.result i.long i.numbers
     i.others (λ k lt. i.rows k (omega (arith, lt))) v v'
-    (c.first_row_number-first.ensures.number ∙ ap (λ (n : ℕ). 282 + journal_pages n) (sym blocks)) changes rows
+    (rw blocks c.first_row_number-first.ensures.number) changes rows

@@ -1,9 +1,6 @@
-use Rattle.std.proofs.Common.{◌∙◌, ◌+◌, ◌/◌, ◌<◌, ℕ, option_copied, IsSome, get_or, below_more, refl, sym, ap, subst}
-use Rattle.std.proofs.Common.{rules}
-use Rattle.std.proofs.Common.{arith}
+use Rattle.std.proofs.Common.{◌∙◌, ◌+◌, option_copied, get_or, below_more, refl, sym, rules, arith}
 use Rattle.spool_journal.specs.Image.{journal_pages}
-use Rattle.spool_pages.specs.Changes.{page_in, row_number, SaysSlot}
-use Rattle.spool_pages.specs.declared.version.Version.{Version}
+use Rattle.spool_pages.specs.Changes.{row_number}
 use Rattle.spool_pages.proofs.Changed.{room_some, room_changes, said_beside}
 use Rattle.spool_pages.proofs.PageIn.{in_put, in_none, still_some}
 use Rattle.spool_pages.proofs.changes.pages_of_change.Goals as goal
@@ -12,7 +9,7 @@ pub loop-block-init : goal.loop-block-init
 loop-block-init c = record {
   area = search rules;
   prefix = λ page below. refl;
-  last = subst IsSome (sym (in_put c.in_ok-put.ensures.put (in_none _ _ c.new-pages.ensures))) refl;
+  last = rw (in_put c.in_ok-put.ensures.put (in_none _ _ c.new-pages.ensures)) refl;
   there = λ i lt. absurd (omega (arith, lt));
 }
 
@@ -27,8 +24,7 @@ loop-block-preserved c =
       there = below_more _ _
           (λ i lt. still_some c.row_number-page.result c.loop-block.pages c.make_room.new.pages made.there made.others
           (row_number c.args.layout.now (get_or c.args.blocks.now i 0)) (c.loop-block.invariant.there i lt))
-          (subst (λ (page : ℕ). IsSome (page_in page c.make_room.new.pages)) c.row_number-page.ensures.number
-          made.there);
+          (rw c.row_number-page.ensures.number at made.there);
     }
 
 pub returns-clause-some : goal.returns-clause-some
@@ -40,11 +36,7 @@ pub returns-clause-changes : goal.returns-clause-changes
 returns-clause-changes c v blocks version slots beside rows same =
     room_changes c.loop-block.pages c.new-pages.ensures c.in_ok-put.ensures.put v c.args.slot
     (option_copied c.args.kept) c.args.blocks.now rows
-    (λ page below. c.loop-block.invariant.prefix page (subst (λ (n : ℕ). page < 282 + journal_pages n) blocks below))
-    (λ i lt. subst (λ (n : ℕ). IsSome (page_in (row_number n (get_or c.args.blocks.now i 0)) c.loop-block.pages))
-    (sym blocks) (c.loop-block.invariant.there i (omega (arith, lt))))
-    (c.record_number-last.ensures.number ∙ ap (λ (n : ℕ). 26 + journal_pages n + c.args.slot / 2) (sym blocks))
-    c.requires.slot slots
-    (subst (λ (w : Version). SaysSlot c.args.slot c.page_with.result (w, option_copied c.args.kept)) (sym version)
-    c.page_with.ensures.kept)
+    (rw (sym blocks) at c.loop-block.invariant.prefix)
+    (λ i lt. rw blocks (c.loop-block.invariant.there i (omega (arith, lt))))
+    (rw blocks c.record_number-last.ensures.number) c.requires.slot slots (rw version c.page_with.ensures.kept)
     (said_beside v c.args.slot c.page_with.result version beside c.page_with.ensures.beside) same

@@ -1,5 +1,5 @@
-use Rattle.std.proofs.Common.{◌≡◌, ◌+◌, ◌*◌, ◌<◌, ℕ, suc, Bool, false, not, cond, nat_eq, List, [], ◌∷◌, map, length}
-use Rattle.std.proofs.Common.{get_or, refl, sym, ◌∙◌, ap, ap₂, arith, w8}
+use Rattle.std.proofs.Common.{◌≡◌, ◌+◌, ◌<◌, ℕ, suc, Bool, false, not, nat_eq, List, [], ◌∷◌, map, length}
+use Rattle.std.proofs.Common.{get_or, refl, sym, ◌∙◌, ap, arith, w8}
 use Rattle.std.proofs.lemmas.Bool.{eqb-true}
 use Rattle.std.proofs.lemmas.Bool.Decides.{nat_tests}
 use Rattle.std.proofs.lemmas.Simd.{length-chunk, get_or-chunk, bitmask_splat, none_from_empty_mask}
@@ -12,8 +12,8 @@ differs a b = not (nat_eq a b)
 -- no bit is set where no lane passes
 no_bits : (p : ℕ → Bool) (xs : List ℕ) → ((k : ℕ) → k < length xs → p (get_or xs k 0) ≡ false) → mask_l (map p xs) ≡ 0
 no_bits p [] none = refl
-no_bits p (x ∷ xs) none = ap₂ (λ (b : Bool) (n : ℕ). cond b 1 0 + 2 * n) (none 0 (omega arith))
-    (no_bits p xs (λ k lt. none (suc k) (omega (arith, lt))))
+no_bits p (x ∷ xs) none =
+    let rest = no_bits p xs (λ k lt. none (suc k) (omega (arith, lt))) in grind (arith, none 0)
 
 is_zero : (b : ℕ) → differs b 0 ≡ false → b ≡ 0
 is_zero b same = grind (arith, nat_tests)

@@ -1,13 +1,13 @@
-use Rattle.std.proofs.Common.{inl, inr, drop, ◌++◌, ◌-◌, ◌≡◌, ◌+◌, ◌<◌, Some, eqb, ℕ, List, length, take, get_or, true}
-use Rattle.std.proofs.Common.{refl, sym, ◌∙◌, ap, subst, arith, rules}
+use Rattle.std.proofs.Common.{inl, inr, drop, ◌++◌, ◌-◌, ◌≡◌, ◌<◌, ◌≤◌, Some, eqb, ℕ, List, length, take, get_or, true}
+use Rattle.std.proofs.Common.{refl, sym, ◌∙◌, ap, arith, rules}
 use Rattle.std.specs.Int.{to_be_bytes, w32}
 use Rattle.std.specs.List.{starts_with}
-use Rattle.std.specs.Cmp.Lexicographic.{pointwise}
-use Rattle.std.proofs.Math.ListN.{get_or-append, length-take}
+use Rattle.std.proofs.Math.ListN.{get_or-append}
 use Rattle.std.proofs.lemmas.Bool.{cases_lt}
+use Rattle.std.proofs.lemmas.Grind.{common_steps}
 use Rattle.std.proofs.lemmas.Bool.Decides.{Decides-eqb}
 use Rattle.std.proofs.lemmas.Slice.Eq.{starts_is}
-use Rattle.std.proofs.lemmas.List.{get_or-append-add, get_or-take, ext_get_or}
+use Rattle.std.proofs.lemmas.List.{get_or-append-add, ext_get_or}
 use Rattle.spool_journal.specs.Image.{byte_of}
 use Rattle.spool_pages.specs.View.{Stands, magic, first_page}
 use Rattle.spool_pages.proofs.RecordBytes.{stands_beyond}
@@ -15,44 +15,34 @@ use Rattle.spool_pages.proofs.pages.blocks_said.Goals as goal
 
 module _ (prefix : List ℕ) (blocks : ℕ) (long : length prefix ≡ 12)
     (same : (i : ℕ) → i < 12 → get_or prefix i 0 ≡ get_or (first_page blocks) i 0) where
-  magic_there : (i : ℕ) → i < 8 → get_or (first_page blocks) i 0 ≡ get_or magic i 0
-  unfolding first_page
-  magic_there i lt = get_or-append magic (to_be_bytes w32 blocks) 0 i lt
-
   taken : take 8 prefix ≡ magic
-  taken = ext_get_or 0 (take 8 prefix) magic (omega (arith, length-take 8 prefix, long)) (λ i lt.
-      let below : i < 8 = omega (arith, lt, length-take 8 prefix) in
-      get_or-take 8 prefix i 0 below ∙ same i (omega (arith, below)) ∙ magic_there i below)
+  unfolding first_page
+  taken = ext_get_or 0 (take 8 prefix) magic (grind (arith, common_steps)) (λ i lt. grind (arith, common_steps, same i))
 
   whole : Stands (byte_of prefix) 0 12 (first_page blocks)
-  whole = record {
-    each = λ i lt. let at : i
-        ≡ 0 + i = omega arith in subst (λ (p : ℕ). get_or prefix p 0 ≡ get_or (first_page blocks) i 0) at (same i lt);
-  }
+  whole = record { each = λ i lt. grind (arith, same i) }
 
   number_at : Stands (byte_of prefix) 8 4 (to_be_bytes w32 blocks)
   unfolding first_page
   number_at = stands_beyond magic (to_be_bytes w32 blocks) 8 4 refl (omega arith) whole
 
   begins : starts_with eqb prefix magic ≡ true
-  begins = subst (λ (xs : List ℕ). pointwise eqb magic xs ≡ true) (sym taken) refl
+  begins = rw taken refl
 
 module _ (prefix : List ℕ) (blocks : ℕ) (begun : starts_with eqb prefix magic ≡ true)
     (number : Stands (byte_of prefix) 8 4 (to_be_bytes w32 blocks)) where
   prefix_is : prefix ≡ magic ++ drop 8 prefix
   prefix_is = (starts_is Decides-eqb prefix magic (starts_with eqb prefix magic) refl).0 begun
 
+  begun_number : (i : ℕ) → 8 ≤ i → i < 12 → get_or prefix i 0 ≡ get_or (magic ++ to_be_bytes w32 blocks) i 0
+  begun_number i from lt = grind (arith, get_or-append-add magic (to_be_bytes w32 blocks) (i - 8) 0, number.each (i - 8))
+
   is_first : (i : ℕ) → i < 12 → get_or prefix i 0 ≡ get_or (first_page blocks) i 0
   unfolding first_page
   is_first i lt = elim (cases_lt i 8) [
     | inl below ↦ ap (λ (xs : List ℕ). get_or xs i 0) prefix_is ∙ get_or-append magic (drop 8 prefix) 0 i below
         ∙ sym (get_or-append magic (to_be_bytes w32 blocks) 0 i below)
-    | inr from ↦
-        let at : 8 + (i - 8) ≡ i = omega (arith, from) in
-        let here : get_or prefix (8 + (i - 8)) 0 ≡ get_or (magic ++ to_be_bytes w32 blocks) (8 + (i - 8)) 0 =
-        number.each (i - 8) (omega (arith, lt, from)) ∙ sym
-        (get_or-append-add magic (to_be_bytes w32 blocks) (i - 8) 0) in
-        subst (λ (p : ℕ). get_or prefix p 0 ≡ get_or (magic ++ to_be_bytes w32 blocks) p 0) at here
+    | inr from ↦ begun_number i from lt
   ]
 
 pub returns-then-not-starts_with-clause-said : goal.returns-then-not-starts_with-clause-said

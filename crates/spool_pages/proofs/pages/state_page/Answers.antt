@@ -1,6 +1,5 @@
-use Rattle.std.proofs.Common.{refl, [], ◌++◌, ◌∙◌, ap, subst, List, ℕ}
+use Rattle.std.proofs.Common.{refl, []}
 use Rattle.std.specs.Int.{to_be_bytes, w32}
-use Rattle.spool_pages.specs.Bytes.{IsPadded}
 use Rattle.spool_pages.specs.View.{state_page, version_number}
 use Rattle.spool_pages.proofs.Bytes.{padded_zeros}
 use Rattle.spool_pages.proofs.pages.state_page.Goals as goal
@@ -10,8 +9,5 @@ unfolding state_page
 returns c =
     let version = to_be_bytes w32 (version_number c.args.version) in
     let zeros = c.put.ensures.padded [] refl (padded_zeros 4096) in
-    let prefix : IsPadded c.put.new.page version =
-    subst (λ (xs : List ℕ). IsPadded c.put.new.page xs) (c.to_be_bytes.ensures ∙ ap (to_be_bytes w32) c.number.ensures)
-    zeros in
-    let all = c.put-2.ensures.padded version refl prefix in
-    subst (λ (xs : List ℕ). IsPadded c.put-2.new.page (version ++ xs)) c.to_be_bytes-2.ensures all
+    let prefix = rw (c.to_be_bytes.ensures, c.number.ensures) at zeros in
+    rw c.to_be_bytes-2.ensures at (c.put-2.ensures.padded version refl prefix)

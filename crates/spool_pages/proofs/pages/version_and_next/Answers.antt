@@ -1,4 +1,4 @@
-use Rattle.std.proofs.Common.{◌≡◌, ◌<◌, ◌^◌, ℕ, List, Option, Some, None, IfSome, refl, sym, ◌∙◌, subst, arith}
+use Rattle.std.proofs.Common.{◌<◌, ◌^◌, ℕ, List, refl, arith}
 use Rattle.std.specs.Int.{to_be_bytes, w32, w64}
 use Rattle.spool_journal.specs.Image.{byte_of}
 use Rattle.spool_pages.specs.Bytes.{IsPadded}
@@ -23,42 +23,30 @@ small : (version : Version) → version_number version < 2 ^ 32
 small One = omega arith
 small Two = omega arith
 
-some_same : (x y : Version) (o : Option Version) → o ≡ Some x → o ≡ Some y → x ≡ y
-some_same x y o e f = cc
-
-none_some : (x : Version) (o : Option Version) → o ≡ None → o ≡ Some x → ⊥
-none_some x o e f = let no : None ≡ Some x = sym e ∙ f in cc
-
-pair_same : (a b : Version) (c d : ℕ) → a ≡ b → c ≡ d → ◌≡◌ {A = Option (Version × ℕ)} (Some (a, c)) (Some (b, d))
-pair_same a b c d e f = rw (e, f)
-
 pub returns-in-Some-clause-said : goal.returns-in-Some-clause-said
 returns-in-Some-clause-said c version next fits padded =
     let page = c.args.page.now in
     let number =
     c.get_u32.ensures.is (version_number version) (small version) (version_at page version next padded) in
-    pair_same c.in-Some.version version c.get_u64.result next
-    (some_same c.in-Some.version version c.of.result c.in-Some.is (c.of.ensures.known version number))
-    (c.get_u64.ensures.is next fits (next_at page version next padded))
+    let known = c.of.ensures.known version number in
+    let next_is = c.get_u64.ensures.is next fits (next_at page version next padded) in
+    cc (c.in-Some.is)
 
 pub returns-in-Some-clause-there : goal.returns-in-Some-clause-there
 unfolding state_page
 returns-in-Some-clause-there c =
     let version = to_be_bytes w32 (version_number c.in-Some.version) in
-    let number : version_number c.in-Some.version ≡ c.get_u32.result =
-    subst (λ (o : Option Version). IfSome o (λ v. version_number v ≡ c.get_u32.result)) c.in-Some.is
-    c.of.ensures.only in
-    stands_both version (to_be_bytes w64 c.get_u64.result) 4 8 refl
-    (subst (λ (n : ℕ). Stands (byte_of c.args.page.now) 0 4 (to_be_bytes w32 n)) (sym number) c.get_u32.ensures.there)
+    let number = rw c.in-Some.is at c.of.ensures.only in
+    stands_both version (to_be_bytes w64 c.get_u64.result) 4 8 refl (rw number c.get_u32.ensures.there)
     c.get_u64.ensures.there
 
 pub returns-in-None-clause-said : goal.returns-in-None-clause-said
 returns-in-None-clause-said c version next fits padded =
     let at = version_at c.args.page.now version next padded in
-    absurd (none_some version c.of.result c.in-None.is
-    (c.of.ensures.known version (c.get_u32.ensures.is (version_number version) (small version) at)))
+    let known = c.of.ensures.known version (c.get_u32.ensures.is (version_number version) (small version) at) in
+    absurd (cc (c.in-None.is))
 
 pub returns-in-None-clause-unknown : goal.returns-in-None-clause-unknown
 returns-in-None-clause-unknown c none version stands =
-    none_some version c.of.result c.in-None.is
-    (c.of.ensures.known version (c.get_u32.ensures.is (version_number version) (small version) stands))
+    let known = c.of.ensures.known version (c.get_u32.ensures.is (version_number version) (small version) stands) in
+    cc (c.in-None.is)

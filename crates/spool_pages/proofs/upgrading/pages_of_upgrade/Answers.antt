@@ -1,7 +1,7 @@
-use Rattle.std.proofs.Common.{◌≡◌, ◌+◌, ℕ, Some, length, refl, ◌∙◌, ap, subst, arith}
+use Rattle.std.proofs.Common.{◌≡◌, ◌+◌, length, refl, ◌∙◌, ap, arith}
 use Rattle.spool_journal.specs.Image.{journal_pages}
 use Rattle.spool_journal.proofs.Puts.{put_area, put_length}
-use Rattle.spool_pages.specs.Changes.{page_in, state_number}
+use Rattle.spool_pages.specs.Changes.{state_number}
 use Rattle.spool_pages.proofs.PageIn.{in_none, in_put, in_put_else, number_none}
 use Rattle.spool_pages.proofs.RecordBytes.{padded_stands}
 use Rattle.spool_pages.proofs.Upgraded.{slots_more, upgraded_changes}
@@ -49,8 +49,8 @@ returns-clause-changes c v size next slots =
     let inv = c.loop-pair.invariant in
     let n = c.args.layout.now in
     upgraded_changes n c.loop-pair.pages c.args.slots.now c.args.next c.state_page.result
-    (inv.state ∙ subst (λ (q : ℕ). page_in q c.put.new.self ≡ Some c.state_page.result) c.state_number.ensures.number
-    (in_put c.in_ok-put.ensures.put (in_none c.state_number.result c.new-pages.result c.new-pages.ensures)))
+    (inv.state ∙ rw c.state_number.ensures.number at (in_put c.in_ok-put.ensures.put
+    (in_none c.state_number.result c.new-pages.result c.new-pages.ensures)))
     (padded_stands 4096 c.state_page.ensures)
     (λ s lt. inv.says s (omega (arith, lt, c.loop-pair-test.false)))
     (λ q from. inv.none q (omega (arith, from, c.loop-pair.auto.pair-end))) v size next slots

@@ -1,11 +1,9 @@
-use Rattle.std.proofs.Common.{rules, sym, subst, ◌≤◌, ◌≡◌, ◌+◌, ◌-◌, ℕ, [], length, Ok, Some, List, IsTrue, ◌∙◌, ap}
-use Rattle.std.proofs.Common.{arith}
-use Rattle.std.specs.Int.{to_be_bytes, w16, w64}
+use Rattle.std.proofs.Common.{rules, sym, ◌≤◌, ◌≡◌, ◌+◌, ◌-◌, ℕ, [], length, Ok, Some, List, IsTrue, ◌∙◌, ap, arith}
 use Rattle.std.specs.List.{slice_range}
 use Rattle.spool_journal.specs.Image.{byte_of}
 use Rattle.spool_pages.specs.Bytes.{IsPadded}
 use Rattle.spool_pages.specs.Fits.{FitsSlot}
-use Rattle.spool_pages.specs.View.{SlotRecord, Stands, record_bytes}
+use Rattle.spool_pages.specs.View.{SlotRecord, record_bytes}
 use Rattle.spool_pages.specs.declared.version.Version.{Version}
 use Rattle.spool_pages.proofs.Blank.{with_blank_rest, blank_rest, range_blank, blank_range}
 use Rattle.spool_pages.proofs.Numbers.{eight_are}
@@ -25,17 +23,18 @@ module _ (bytes : List ℕ) (version : Version) (r : SlotRecord) (fits : FitsSlo
   -- a record's bytes aren't all 0
   not_blank : IsPadded bytes [] → ⊥
   not_blank blank =
-      let zero : r.number ≡ 0 =
-      sym (eight_are bytes 0 r.number fits.number parts.number)
-      ∙ eight_are bytes 0 0 (omega arith) (no_number bytes blank) in
-      omega (arith, fits.some, zero)
+      omega (
+        arith,
+        fits.some,
+        eight_are bytes 0 r.number fits.number parts.number,
+        eight_are bytes 0 0 (omega arith) (no_number bytes blank),
+      )
 
   -- zeros in the rest of the metadata's room, and after the tag
   room_blank : (end : ℕ) → end ≡ 66 + length r.metadata → IsPadded (slice_range bytes end 1602) []
   room_blank end is =
-      let size : 1536 - length r.metadata ≡ 1602 - end = omega (arith, is) in
-      range_blank bytes end 1602 (subst (λ (m : ℕ). Stands (byte_of bytes) end m []) size
-      (subst (λ (at : ℕ). Stands (byte_of bytes) at (1536 - length r.metadata) []) (sym is) parts.room))
+      let size : 1602 - end ≡ 1536 - length r.metadata = omega (arith, is) in
+      range_blank bytes end 1602 (rw (size, is) parts.room)
 
   rest_blank : length bytes ≡ 2048 → IsPadded (slice_range bytes 1603 2048) []
   rest_blank long = blank_rest bytes 1603 445 (sym long) (record_bytes version r)
@@ -114,27 +113,19 @@ returns-clause-valid c =
     ap length state ∙ length-range bytes 32 64 (omega (arith, long)) in
     let metadata_size : length (slice_range bytes 66 (66 + len)) ≡ len =
     omega (arith, length-range bytes 66 (66 + len) (omega (arith, long, few))) in
-    let room_len : 1602 - (66 + len) ≡ 1536 - length (slice_range bytes 66 (66 + len)) =
-    omega (arith, metadata_size) in
-    let room_at : 66 + len ≡ 66 + length (slice_range bytes 66 (66 + len)) = omega (arith, metadata_size) in
-    let room : Stands (byte_of bytes) (66 + len) (1602 - (66 + len)) [] =
-    blank_range bytes (66 + len) 1602 (c.is_blank-else-metadata_end-gt-TAG.ensures.0 (search rules)) in
+    let room = blank_range bytes (66 + len) 1602 (c.is_blank-else-metadata_end-gt-TAG.ensures.0 (search rules)) in
+    let room_len : 1536 - len ≡ 1602 - (66 + len) = omega arith in
     let said = c.in_ok-declared.ensures in
     let prefix =
     of_parts (byte_of bytes) c.args.version _ size (omega (arith, metadata_size, few)) record {
       number = c.get_u64-number.ensures.there;
-      declared = subst (λ (n : ℕ). Stands (byte_of bytes) 8 8 (to_be_bytes w64 n)) (sym said.number)
-          c.get_u64.ensures.there;
+      declared = rw said.number c.get_u64.ensures.there;
       accepted = c.get_u64-2.ensures.there;
       text_len = c.get_u64-3.ensures.there;
-      state = subst (λ (xs : List ℕ). Stands (byte_of bytes) 32 32 xs) (sym state)
-          (range_stands bytes 32 64 32 (omega arith));
-      metadata_len = subst (λ (n : ℕ). Stands (byte_of bytes) 64 2 (to_be_bytes w16 n)) (sym metadata_size)
-          c.get_u16.ensures.there;
-      metadata = range_stands bytes 66 (66 + len) (length (slice_range bytes 66 (66 + len)))
-          (omega (arith, metadata_size));
-      room = subst (λ (m : ℕ). Stands (byte_of bytes) (66 + length (slice_range bytes 66 (66 + len))) m []) room_len
-          (subst (λ (at : ℕ). Stands (byte_of bytes) at (1602 - (66 + len)) []) room_at room);
+      state = rw state (range_stands bytes 32 64 32 (omega arith));
+      metadata_len = rw metadata_size c.get_u16.ensures.there;
+      metadata = rw metadata_size (range_stands bytes 66 (66 + len) len (omega arith));
+      room = rw (metadata_size, room_len) room;
       tag = sym said.tag;
     } in
     with_blank_rest bytes 1603 445 (sym long) (record_bytes c.args.version _)

@@ -1,7 +1,7 @@
-use Rattle.std.proofs.Common.{rules, ◌≡◌, ◌≤◌, ◌-◌, [], ◌∷◌, ℕ, length, List, ◌++◌, refl, ◌∙◌, ap, subst}
+use Rattle.std.proofs.Common.{rules, ◌≡◌, ◌≤◌, ◌-◌, [], ◌∷◌, ℕ, length, ◌++◌, refl, ap}
 use Rattle.std.specs.Int.{to_be_bytes, w64}
 use Rattle.spool_pages.specs.Bytes.{IsPadded}
-use Rattle.spool_pages.specs.View.{SlotRecord, length_number, length_tag, record_bytes}
+use Rattle.spool_pages.specs.View.{SlotRecord, length_number, length_tag}
 use Rattle.spool_pages.proofs.Bytes.{padded_zeros, padded_room}
 use Rattle.spool_pages.proofs.RecordBytes.{pad, two_of, three_of, four_of, state_end, head_of, metadata_end, room_end}
 use Rattle.spool_pages.proofs.RecordBytes.{length-state_end, length-head, length-room_end, record_is}
@@ -24,7 +24,7 @@ returns c =
     let one : IsPadded c.put.new.page (to_be_bytes w64 r.number) =
     pad [] _ c.to_be_bytes.ensures (c.put.ensures.padded [] refl (padded_zeros 2048)) in
     let length_is : c.to_be_bytes-2.result ≡ to_be_bytes w64 (length_number v r.declared) =
-    c.to_be_bytes-2.ensures ∙ ap (λ (fields : ℕ × ℕ). to_be_bytes w64 fields.0) c.length_fields-length.ensures in
+    rw c.length_fields-length.ensures at c.to_be_bytes-2.ensures in
     let two : IsPadded c.put-2.new.page (two_of v r) =
     pad (to_be_bytes w64 r.number) _ length_is (c.put-2.ensures.padded (to_be_bytes w64 r.number) refl one) in
     let three : IsPadded c.put-3.new.page (three_of v r) =
@@ -42,6 +42,4 @@ returns c =
     let eight : IsPadded c.put-8.new.page (room_end v r ++ length_tag v r.declared ∷ []) =
     pad (room_end v r) _ (ap (λ (fields : ℕ × ℕ). fields.1 ∷ []) c.length_fields-length.ensures)
     (c.put-8.ensures.padded (room_end v r) (length-room_end v r size few) room) in
-    let all : IsPadded c.put-8.new.page (record_bytes v r) =
-    subst (λ (bytes : List ℕ). IsPadded c.put-8.new.page bytes) (record_is v r) eight in
-    subst (λ (said : SlotRecord). IsPadded c.put-8.new.page (record_bytes v said)) c.self.view_is all
+    rw c.self.view_is at (rw (record_is v r) at eight)

@@ -1,10 +1,8 @@
 use Rattle.std.proofs.Common.{◌≡◌, ◌++◌, [], false, None, ap, sym, ◌∙◌, append-nil}
-use Rattle.std.proofs.Common.{length}
 use Rattle.std.proofs.lemmas.Option.{same_Some}
 use Rattle.enc_model.specs.Transcode.{Transcoder}
 use Rattle.enc_stream.specs.Standing.{Standing}
 use Rattle.enc_stream.specs.StateBytes.{IsValid, standing, state_bytes}
-use Rattle.upload_rules.specs.Lengths.{is_length}
 use Rattle.upload_rules.specs.Store.{text_with, is_complete}
 use Rattle.upload_rules.specs.States.{transcoder_with, state_with}
 use Rattle.upload_rules.proofs.Transcoders.{reads}
@@ -20,8 +18,7 @@ pub returns-clause-holds : goal.returns-clause-holds
 unfolding state_with
 returns-clause-holds c x n u tells ok valid =
     let open_still : is_complete u ≡ false =
-    ap (λ d. is_length d (length u.accepted)) (sym tells.declared) ∙ ap (is_length c.args.upload.now.declared)
-    (sym tells.accepted) ∙ sym c.is_length.ensures ∙ c.if-is_length.false in
+    rw (sym tells.declared, sym tells.accepted, sym c.is_length.ensures) c.if-is_length.false in
     let k = c.in_ok-unpack.ensures.only (transcoder_with x u [] (is_complete u)) valid (sym tells.state) in
     let is : c.in_ok-unpack.field-0 ≡ standing (transcoder_with x u [] (is_complete u)) = cc in
     let encodable : (text_with x u [] false).fault ≡ None =

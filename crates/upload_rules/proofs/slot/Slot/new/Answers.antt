@@ -5,9 +5,4 @@ use Rattle.upload_rules.proofs.slot.Slot.new.Goals as goal
 pub returns : goal.returns
 returns c = λ x.
     let kept = c.first.ensures.kept x in
-    record {
-      tells = kept.tells;
-      text = c.new.ensures.items ∙ sym (new_text x c.args.fields);
-      encodable = kept.encodable;
-      valid = kept.valid;
-    }
+    assumption (c.new.ensures.items ∙ sym (new_text x c.args.fields))

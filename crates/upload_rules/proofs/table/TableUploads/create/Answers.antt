@@ -1,21 +1,17 @@
-use Rattle.std.proofs.Common.{◌≡◌, ◌<◌, ◌∙◌, false, [], ◌∷◌, ◌++◌, not, ap, subst, refl, sym, arith, length}
+use Rattle.std.proofs.Common.{◌≡◌, ◌<◌, ◌∙◌, false, [], ◌∷◌, ◌++◌, not, ap, refl, sym, arith, length}
 use Rattle.std.proofs.Common.{if◌then◌else◌}
 use Rattle.upload_rules.specs.Lengths.{is_too_large}
-use Rattle.upload_rules.specs.Store.{New}
-use Rattle.upload_rules.specs.Answers.{IsLate}
 use Rattle.upload_rules.proofs.Makes.{many, spent_numbers, creatable, not_created}
 use Rattle.upload_rules.proofs.Worlds.{creates}
 use Rattle.upload_rules.proofs.table.TableUploads.create.Goals as goal
 use Rattle.upload_rules.proofs.table.TableUploads.create.Goals.{then-len-ge-SLOT_COUNT-via-then-len-ge-SLOT_COUNT}
-use Rattle.upload_rules.proofs.table.TableUploads.create.Goals.{}
 use Rattle.upload_rules.proofs.table.TableUploads.create.Goals.{then-len-ge-SLOT_COUNT-via-else-len-ge-SLOT_COUNT+then-self-ge-NUMBERS_END}
 
 pub returns-then-len-ge-SLOT_COUNT-clause-answer : goal.returns-then-len-ge-SLOT_COUNT-clause-answer
 returns-then-len-ge-SLOT_COUNT-clause-answer c = λ sure w stands.
     let t = c.args.self.now in
     let small : is_too_large c.args.new.declared ≡ false =
-    ap is_too_large (sym (ap (λ (n : New). n.declared) c.new.view_is)) ∙ sym c.is_too_large.ensures
-    ∙ c.if-is_too_large.false in
+    rw (sym c.new.view_is, sym c.is_too_large.ensures) c.if-is_too_large.false in
     let long = c.len.ensures in (
       elim c.then-len-ge-SLOT_COUNT.branch [
         | then-len-ge-SLOT_COUNT-via-then-len-ge-SLOT_COUNT v ↦ many t w stands c.args.new small
@@ -31,11 +27,10 @@ pub returns-then-is_err-clause-answer : goal.returns-then-is_err-clause-answer
 returns-then-is_err-clause-answer c = λ sure w stands.
     let t = c.args.self.now in
     let small : is_too_large c.args.new.declared ≡ false =
-    ap is_too_large (sym (ap (λ (n : New). n.declared) c.new.view_is)) ∙ sym c.is_too_large.ensures
-    ∙ c.if-is_too_large.false in
+    rw (sym c.new.view_is, sym c.is_too_large.ensures) c.if-is_too_large.false in
     let room : length t.slots.items < 512 = omega (arith, c.if-len-ge-SLOT_COUNT.false, c.len.ensures) in
     let more = t.slots.items ++ c.new-2.result ∷ [] in (
-      subst IsLate (sym (creatable t w stands c.args.new small room c.if-self-ge-NUMBERS_END.false)) tt,
+      rw (creatable t w stands c.args.new small room c.if-self-ge-NUMBERS_END.false) tt,
       not_created t w stands c.push.new.self
           (c.push.ensures.items ∙ ap (λ b. if b then more else t.slots.items)
           (c.is_err.ensures.negation ∙ ap not c.if-is_err.true)),
@@ -45,8 +40,7 @@ pub returns-clause-answer : goal.returns-clause-answer
 returns-clause-answer c = λ sure w stands.
     let t = c.args.self.now in
     let small : is_too_large c.args.new.declared ≡ false =
-    ap is_too_large (sym (ap (λ (n : New). n.declared) c.new.view_is)) ∙ sym c.is_too_large.ensures
-    ∙ c.if-is_too_large.false in
+    rw (sym c.new.view_is, sym c.is_too_large.ensures) c.if-is_too_large.false in
     let room : length t.slots.items < 512 = omega (arith, c.if-len-ge-SLOT_COUNT.false, c.len.ensures) in
     let more = t.slots.items ++ c.new-2.result ∷ [] in (
       creatable t w stands c.args.new small room c.if-self-ge-NUMBERS_END.false,
