@@ -18,9 +18,6 @@ get_prefix [] ys i r e = absurd (none-some r e)
 get_prefix (x ∷ xs) ys zero r e = e
 get_prefix (x ∷ xs) ys (suc i) r e = get_prefix xs ys i r e
 
-abbrev Same : Asked → Asked → Type 0
-Same x r = (x.head ≡ r.head) × (x.verdict ≡ r.verdict)
-
 abbrev HasLike : List Asked → ℕ → Asked → Type 0
 HasLike xs i r = (x : Asked) × (slice_get xs i ≡ Some x) × (x.head ≡ r.head) × (x.verdict ≡ r.verdict)
 

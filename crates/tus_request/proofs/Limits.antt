@@ -1,6 +1,6 @@
 -- What a stream comes to, by the first 8,192 bytes of it alone.
 use Rattle.std.proofs.Common.{◌≡◌, ◌-◌, ◌≤◌, min, ℕ, Bool, List, [], ◌++◌, length, take, refl}
-use Rattle.std.proofs.Common.{sym, ◌∙◌, ap, arith, Option, Some, None, nat_lt, if◌then◌else◌}
+use Rattle.std.proofs.Common.{◌∙◌, ap, arith, Option, Some, None, nat_lt, if◌then◌else◌}
 use Rattle.std.proofs.lemmas.List.{take_all, take-take, length-take, take_min}
 use Rattle.std.proofs.lemmas.Bool.Decides.{nat_tests}
 use Rattle.std.proofs.Math.Nat.{min_comm}

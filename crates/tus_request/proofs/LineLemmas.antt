@@ -1,6 +1,6 @@
 -- The lines of a head, one after another.
 use Rattle.std.specs.Prelude.{◌≡◌, ℕ, ◌+◌, ◌<◌, ◌≤◌, ◌⊎◌, Bool, true, false, List, [], ◌∷◌, length, take, drop}
-use Rattle.std.specs.Prelude.{◌==◌, if◌then◌else◌, Option, Some, None, option_map}
+use Rattle.std.specs.Prelude.{◌==◌, Option, Some, None, option_map}
 use Rattle.std.proofs.Common.{arith, ◌∙◌, refl, zero, suc, get_or, inl, inr, add-one}
 use Rattle.std.specs.List.{position}
 use Rattle.std.proofs.lemmas.List.Quantifiers.{position-Some}
@@ -48,15 +48,6 @@ extent_after (suc n) rest = option_map extent_of (up_to_empty rest)
 
 further_none : (len texts n : ℕ) → further len texts (extent_after n []) ≡ None
 further_none len texts n = grind arith
-
-extent_cons : (line : List ℕ) (o : Option (List (List ℕ)))
-    → option_map extent_of (option_map (λ more. line ∷ more) o) ≡ further (length line)
-    (if is_empty_line line then 0 else 1) (option_map extent_of o)
-extent_cons line o = grind arith
-
-further_twice : (len texts m n : ℕ) (o : Option Extent) → further len texts (further m n o) ≡ further (len + m)
-    (texts + n) o
-further_twice len texts m n o = grind arith
 
 -- a line that isn't empty
 pub after_text : (len texts : ℕ) (line : List ℕ) (rest : List (List ℕ)) → is_empty_line line ≡ false

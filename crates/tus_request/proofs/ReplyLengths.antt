@@ -9,7 +9,7 @@ use Rattle.enc_labels.specs.Labels.{name_of}
 use Rattle.tus_request.specs.Faults.{fault_number}
 use Rattle.tus_request.specs.declared.faults.Fault.{Fault}
 use Rattle.tus_request.specs.Replies.{close_line, declared_line, header, length_line, metadata_line, refusal_lead}
-use Rattle.tus_request.specs.Replies.{refusal_line, refusal_lines, reply, reply_created, reply_deleted, reply_head}
+use Rattle.tus_request.specs.Replies.{refusal_line, refusal_lines, reply, reply_created, reply_head}
 use Rattle.tus_request.specs.Replies.{longest_reply, GrowsBy, options_lines}
 use Rattle.tus_request.proofs.ReplyTexts.{one_line, two_lines, three_lines}
 use Rattle.tus_request.specs.Replies.{reply_options, reply_patched, reply_refused, reply_text, status_of, unless_bare}
@@ -52,9 +52,6 @@ pub options_reply : (closes : Bool) (own : List ℕ) → own ≡ options_lines
     → IsReply (reply (codes "204 No Content") (own ++ []) None closes) (reply_options closes)
 options_reply closes own is =
     is_reply _ _ (ap (λ t. reply (codes "204 No Content") t None closes) (append-nil own ∙ is)) (grind arith)
-
-pub deleted_short : (closes : Bool) → length (reply_deleted closes) ≤ 2048
-deleted_short closes = grind arith
 
 pub created : (number : ℕ) (bare closes : Bool) (location size : List ℕ) (n : Option ℕ) → number < 2 ^ 64
     → location ≡ header (codes "Location") (codes "/files/" ++ decimal number) → size ≡ length_line n

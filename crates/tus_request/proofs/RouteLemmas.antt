@@ -1,10 +1,9 @@
 -- What `first` answers on two rows: a word with a slash and a parameter after it, and the word.
-use Rattle.std.specs.Prelude.{◌≡◌, ℕ, ◌-◌, ◌<◌, Bool, true, false, cond, ◌==◌, List, [], ◌∷◌, ◌++◌, length, Option}
+use Rattle.std.specs.Prelude.{◌≡◌, ℕ, ◌-◌, ◌<◌, Bool, false, cond, ◌==◌, List, [], ◌∷◌, ◌++◌, length, Option}
 use Rattle.std.specs.Prelude.{Some, None, codes}
-use Rattle.std.proofs.Common.{arith, ap, ◌∙◌, refl, zero, suc, get_or, inl, inr}
+use Rattle.std.proofs.Common.{arith, refl, zero, suc, get_or}
 use Rattle.matchit.specs.Rows.{RowsOf, param_token, catch_all_token}
 use Rattle.matchit.specs.Seek.{seek, first, has_slash, own, or_else}
-use Rattle.std.proofs.lemmas.Bool.{cases_Bool}
 use Rattle.std.proofs.lemmas.Bool.Decides.{nat_tests}
 use Rattle.matchit.proofs.OnLiterals.{matchit_on_literals}
 
@@ -18,13 +17,9 @@ module _ {K : Type 0} where
   abbrev pub no_param : Bool → ℕ → ℕ × RowsOf K
   no_param v n = cond {A = ℕ × RowsOf K} v (0, []) (n, [])
 
-  or_none : (o : Option K) → or_else o None ≡ o
-  or_none o = grind arith
-
   arm : (v : Bool) (n : ℕ) (path : List ℕ) → ((skip : ℕ) → seek {K = K} skip [] path ≡ None)
       → or_else (seek ((no_param v n).0 - 1) (no_param v n).1 path) None ≡ None
-  arm true n path nothing = rw (nothing (0 - 1))
-  arm false n path nothing = rw (nothing (n - 1))
+  arm v n path nothing = grind (arith, nothing)
 
   pub seek_nothing : (skip : ℕ) (path : List ℕ) → seek {K = K} skip [] path ≡ None
   unfolding matchit_on_literals
@@ -68,10 +63,7 @@ module _ {K : Type 0} where
       → or_else (seek ((cond {A = ℕ × RowsOf K} v (0, []) (length path, ([], u) ∷ [])).0 - 1)
       (cond {A = ℕ × RowsOf K} v (0, []) (length path, ([], u) ∷ [])).1 rest) None
       ≡ cond v None (Some u)
-  one_param true path rest u e = rw (seek_nothing (0 - 1) rest)
-  one_param false path rest u e =
-      let k : length path - 1 ≡ length rest = omega arith in
-      rw (k, skip_all (([], u) ∷ []) rest)
+  one_param v path rest u e = let all = skip_all (([], u) ∷ []) rest in grind (arith, seek_nothing)
 
   pub first_param : (path : List ℕ) (u : K) → get_or path 0 0 < 256
       → first ((param_token ∷ [], u) ∷ []) path ≡ after_slash path u
@@ -85,13 +77,10 @@ module _ {K : Type 0} where
   unfolding matchit_on_literals
   first_after [] f u low = refl
   first_after (b ∷ rest) f u low =
-      elim (cases_Bool (47 == b)) [
-        | inl e ↦ rw (e, first_param rest u low) (
-            ap (λ o. or_else (after_slash rest u) o) (no_arm (has_slash (b ∷ rest)) (length (b ∷ rest)) rest)
-            ∙ or_none (after_slash rest u)
-            )
-        | inr e ↦ rw (e, seek_nothing 0 rest) (no_arm (has_slash (b ∷ rest)) (length (b ∷ rest)) rest)
-      ]
+      let slash = first_param rest u low in
+      let none = seek_nothing 0 rest in
+      let past = no_arm (has_slash (b ∷ rest)) (length (b ∷ rest)) rest in
+      grind (arith, nat_tests)
 
   pub first_both : (word path : List ℕ) (f u : K) → IsPlain word → get_or path (suc (length word)) 0 < 256
       → first (both word f u) path ≡ found word path f u
