@@ -81,7 +81,8 @@ says_frees a b v same says =
           (says.rows r lt);
       texts = λ s r e. says.texts s r e ∙ sym
           (owned_shown a b (text_page v.blocks) v.rows
-          (λ x p owned here. same p (inr (omega (arith, here, j))) (λ free. owned (grind (arith, free.here, free.free))))
+          (λ x p owned here. same p (inr (omega (arith, here, j)))
+          (λ free. owned (grind (arith, free.here, free.free))))
           s r.text_len);
     }
 

@@ -60,7 +60,8 @@ number_there new bytes at n is inside =
 pub free_there : (page : List ℕ) (from at : ℕ) (row : Option (ℕ × ℕ))
     → ((p : ℕ) → from ≤ p → get_or page p 0 ≡ 0) → from ≤ at → row ≡ None
     → Stands (byte_of page) at 8 (row_bytes row)
-free_there page from at row blank le is = rw (is, free_is) (record { each = λ i lt. blank (at + i) (omega (arith, le)) })
+free_there page from at row blank le is =
+    rw (is, free_is) (record { each = λ i lt. blank (at + i) (omega (arith, le)) })
 
 -- a page of free rows
 pub all_free : (page : List ℕ) → length page ≡ 4096

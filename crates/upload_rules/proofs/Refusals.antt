@@ -240,7 +240,10 @@ module _ (t : Table) (w : World) (stands : TableStands t w) (d : ℕ) (p : Patch
                 let e = nil_from_length p.body empty in
                 let still = sym new_is ∙ brought.1 in (
                   sym refused ∙ nothing_refused w d p (idle_stays w.store p u there_is still e),
-                  (omega (arith, empty, a.offset), rw (store_same w.store p u there_is still e) (drops t w stands d v gone)),
+                  (
+                    omega (arith, empty, a.offset),
+                    rw (store_same w.store p u there_is still e) (drops t w stands d v gone),
+                  ),
                 )
 
             -- something is brought

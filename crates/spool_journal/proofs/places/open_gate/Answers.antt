@@ -18,4 +18,5 @@ returns-clause-lasts g c honest j few pages was ready =
 pub returns-clause-opened : goal.returns-clause-opened
 returns-clause-opened g c honest j few pages was ready =
     let syncs = c.sync.ensures.syncs (c.write_at.ensures.honest.0 honest) in
-    on_ok c.sync.result (λ done. opened few ready (gate_now 165 (c.in_ok-write_at.ensures.writes honest) refl syncs done))
+    on_ok c.sync.result (λ done. opened few ready
+    (gate_now 165 (c.in_ok-write_at.ensures.writes honest) refl syncs done))

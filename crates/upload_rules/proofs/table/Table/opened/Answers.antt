@@ -8,7 +8,8 @@ pub returns-in_err-admits : goal.returns-in_err-admits
 returns-in_err-admits c = λ w stands.
     let u = upload_of w.store c.args.number in
     let e = err_from_is_err_and c.from_residual.result c.from_residual.ensures.1 in
-    rw (e.1, e.2) (refuses w c.args.number c.args.offset c.args.count c.args.declare u c.in-Some.slot.now c.in_err-admits.field-0.0
+    rw (e.1, e.2) (refuses w c.args.number c.args.offset c.args.count c.args.declare u c.in-Some.slot.now
+    c.in_err-admits.field-0.0
     (c.in-Some.ensures w stands) c.in_err-admits.ensures.rules)
 
 pub returns : goal.returns
