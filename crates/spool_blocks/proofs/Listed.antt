@@ -51,8 +51,8 @@ pub none_listed : {rows : List Row} {below tops : List (Option ℕ)} {counts : L
     → (rows' : List Row) → rows' ≡ rows → (slot : ℕ) (next : Option ℕ) (list : List ℕ) → slot < 512
     → next ≡ get_or tops slot next → ListedFrom rows' slot next list
 none_listed {tops = tops} linked rows' same slot next list lt is =
-    let next_is : next ≡ get_or tops slot None = get_or_read tops slot next (omega (arith, linked.tops_size, lt)) is
-    None in
+    let next_is : next ≡ get_or tops slot None =
+    get_or_read tops slot next (omega (arith, linked.tops_size, lt)) is None in
     rw same (record {
       owned = λ t at. linked.at_top slot t (cc);
       each = λ b i own. inl (rw next_is (linked.top slot b i own));

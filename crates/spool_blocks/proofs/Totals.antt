@@ -93,33 +93,28 @@ pub none_reserved : (rows : List Row) (flags : List Bool) → ((b : ℕ) → get
     → reserved_count rows flags ≡ 0
 unfolding reserved_count
 none_reserved [] flags none = refl
-none_reserved (None ∷ rows) [] none = refl
-none_reserved (Some o ∷ rows) [] none = refl
-none_reserved (None ∷ rows) (true ∷ flags) none = absurd (none 0 refl)
-none_reserved (None ∷ rows) (false ∷ flags) none = none_reserved rows flags (λ b flagged. none (suc b) flagged)
-none_reserved (Some o ∷ rows) (f ∷ flags) none = none_reserved rows flags (λ b flagged. none (suc b) flagged)
+none_reserved (row ∷ rows) [] none = grind arith
+none_reserved (row ∷ rows) (f ∷ flags) none =
+    let first = none 0 in
+    let rest = none_reserved rows flags (λ b flagged. none (suc b) flagged) in
+    grind arith
 
 pub one_reserved : (rows : List Row) (flags : List Bool) (b : ℕ) → b < length rows → get_or rows b None ≡ None
     → get_or flags b false ≡ true → reserved_count rows (slice_set flags b false) + 1 ≡ reserved_count rows flags
 unfolding reserved_count
 one_reserved [] flags b lt free flagged = absurd (omega (arith, lt))
 one_reserved (row ∷ rows) [] b lt free flagged = absurd cc
-one_reserved (None ∷ rows) (true ∷ flags) zero lt free flagged = omega arith
-one_reserved (None ∷ rows) (false ∷ flags) zero lt free flagged = absurd cc
-one_reserved (Some o ∷ rows) (f ∷ flags) zero lt free flagged = absurd cc
+one_reserved (row ∷ rows) (f ∷ flags) zero lt free flagged = grind arith
 one_reserved (row ∷ rows) (f ∷ flags) (suc b) lt free flagged = grind (arith, one_reserved rows flags b)
 
 pub none_free : (rows : List Row) (flags : List Bool)
     → ((b : ℕ) → IsFree (record { rows = rows; reserved = flags }) b → ⊥) → free_count rows flags ≡ 0
 unfolding free_count
 none_free [] flags none = refl
-none_free (None ∷ rows) [] none = refl
-none_free (Some o ∷ rows) [] none = refl
-none_free (None ∷ rows) (false ∷ flags) none =
-    absurd (none 0 (record { below = omega arith; no_owner = refl; not_reserved = refl }))
-none_free (None ∷ rows) (true ∷ flags) none =
-    none_free rows flags (λ b free. none (suc b)
-    (record { below = omega (arith, free.below); no_owner = free.no_owner; not_reserved = free.not_reserved }))
-none_free (Some o ∷ rows) (f ∷ flags) none =
-    none_free rows flags (λ b free. none (suc b)
-    (record { below = omega (arith, free.below); no_owner = free.no_owner; not_reserved = free.not_reserved }))
+none_free (row ∷ rows) [] none = grind arith
+none_free (row ∷ rows) (f ∷ flags) none =
+    let first = λ (no : row ≡ None) (not : f ≡ false).
+    none 0 (record { below = omega arith; no_owner = no; not_reserved = not }) in
+    let rest = none_free rows flags (λ b free. none (suc b)
+    (record { below = omega (arith, free.below); no_owner = free.no_owner; not_reserved = free.not_reserved })) in
+    grind arith

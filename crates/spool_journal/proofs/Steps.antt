@@ -34,8 +34,8 @@ module _ {was current : ℕ → ℕ} {risk unsynced : ℕ → Type 0} {j : ℕ} 
         closed = λ opened. idle.closed
             (sym (is.same 4096 (λ l. idle.gate (staging.is_synced 4096 gate l)) ∙ staging.same 4096 gate) ∙ opened);
         same = λ p outside is_synced. let away =
-            outside_journal j p outside in is.same p (λ l. is_synced (staging.is_synced p away l))
-            ∙ staging.same p away;
+            outside_journal j p outside in
+            is.same p (λ l. is_synced (staging.is_synced p away l)) ∙ staging.same p away;
       }
 
   pub idle_on : Idle j was risk → Staging j was risk current unsynced → Idle j current unsynced

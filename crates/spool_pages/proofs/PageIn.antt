@@ -43,8 +43,8 @@ pub of_found : (P : List ℕ → Type 0) (q : ℕ) (pages : List (ℕ × List �
 unfolding page_in
 of_found P q [] each bytes is = absurd (cc)
 of_found P q (entry ∷ pages) each bytes is = ⊎_elim
-    (λ (here : entry.0 ≡ q). let same : entry.1 ≡ bytes = grind (arith, nat_tests) in rw (sym same)
-    (each 0 (omega arith) here))
+    (λ (here : entry.0 ≡ q).
+    let same : entry.1 ≡ bytes = grind (arith, nat_tests) in rw (sym same) (each 0 (omega arith) here))
     (λ (ne : entry.0 ≡ q → ⊥). of_found P q pages (λ k lt. each (suc k) (omega (arith, lt))) bytes
     (grind (arith, nat_tests)))
     (cases_eq entry.0 q)

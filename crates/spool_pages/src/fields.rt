@@ -7,6 +7,7 @@ ghost use Rattle.spool_pages.specs.Bytes.{IsPadded};
 ghost use Rattle.spool_pages.specs.View.{Stands};
 
 /// Copies bytes into a page.
+#[tactic(auto, using(crate::proofs::Bytes::padded_more))]
 pub(crate) fn put(page: &mut [u8], at: usize, bytes: &[u8])
     requires { at + length bytes.now ≤ length page.old }
     ensures outside { (p : ℕ) → (In at (length bytes.now) p → ⊥) → get_or page.new p 0 ≡ get_or page.old p 0 }

@@ -18,6 +18,7 @@ pub const ROWS: usize = 512;
 
 // The two numbers of a row: its slot + 1 and its ordinal, or zeros if the block is free.
 #[inline(always)]
+#[tactic(auto, using(crate::proofs::RowBytes::owned_at, crate::proofs::RowBytes::free_of_zeros))]
 fn fields_of(row: Row) -> (u32, u32)
     requires { FitsRow row }
     ensures { (image : ℕ → ℕ) → (at : ℕ) → Stands image at 4 (to_be_bytes w32 result.0)

@@ -4,7 +4,6 @@ use Rattle.std.proofs.Common.{Err, OnErr, refl, sym, ◌∙◌, ap, arith, appen
 use Rattle.enc_model.specs.Indexes.{IndexSet}
 use Rattle.enc_model.specs.Decode.{text}
 use Rattle.enc_stream.specs.StateBytes.{state_bytes}
-use Rattle.upload_rules.specs.declared.records.Record.{Record}
 use Rattle.upload_rules.specs.declared.errors.UploadError.{UploadError}
 use Rattle.upload_rules.specs.declared.errors.UploadError.TheVariants.{NoMemory, DiskFault, Refused}
 use Rattle.upload_rules.specs.declared.errors.UploadRefusal.TheVariants as refusals
@@ -114,24 +113,22 @@ module _ (x : IndexSet) (next : ℕ) (p : Patch) (o : OpenAppend) (stands : Appe
           let v = patched u p.declare p.body in
           let all : new.text.items ≡ text_of x v =
           text ∙ ap (λ z. z ++ more) (kept.text ∙ text_of_is x u ∙ ap (λ b. (text_with x u [] b).bytes) open_still)
-          ∙ whole.rest
-          ∙ ap (λ b. (text_with x u p.body b).bytes) is
-          ∙ sym (text_patched x u p.declare p.body) in (
+          ∙ whole.rest ∙ ap (λ b. (text_with x u p.body b).bytes) is ∙ sym (text_patched x u p.declare p.body) in
+          let long = length-append u.accepted p.body in (
             count,
             ap (λ r. r.fault) (patch_text_is x p done) ∙ whole.encodable,
             record {
-              tells = record {
-                number_is = ap (λ (r : Record). r.number) told ∙ kept.tells.number_is;
-                declared = ap (λ (r : Record). r.declared) told ∙ length_is;
-                accepted = ap (λ (r : Record). r.accepted) told ∙ count ∙ sym (length-append u.accepted p.body);
-                text_len = ap (λ (r : Record). r.text_len) told ∙ ap length all;
-                from = ap (λ (r : Record). r.from) told ∙ kept.tells.from;
-                to = ap (λ (r : Record). r.to) told ∙ kept.tells.to;
-                mode = ap (λ (r : Record). r.mode) told ∙ kept.tells.mode;
-                state = ap (λ (r : Record). r.state) told ∙ whole.state_is ∙ ap (state_with x u p.body) is
-                    ∙ sym (state_patched x u p.declare p.body);
-                metadata = ap (λ (r : Record). r.metadata.bytes.items) told ∙ kept.tells.metadata;
-              };
+              tells = rw told (record {
+                number_is = kept.tells.number_is;
+                declared = length_is;
+                accepted = omega (arith, count, long);
+                text_len = ap length all;
+                from = kept.tells.from;
+                to = kept.tells.to;
+                mode = kept.tells.mode;
+                state = whole.state_is ∙ ap (state_with x u p.body) is ∙ sym (state_patched x u p.declare p.body);
+                metadata = kept.tells.metadata;
+              });
               text = all;
               encodable = ap (λ r. r.fault) (whole_patched x u p.declare p.body)
                   ∙ ap (λ b. (text_with x u p.body b).fault) (sym is) ∙ whole.encodable;

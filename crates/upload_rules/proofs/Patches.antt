@@ -46,10 +46,7 @@ draft_of R p (Some q) (Some a) e h = (a, refl, subst (λ r. R r a) (same_Some q 
 -- and the patch of a draft
 pub patch_there : {A : Type 0} (R : Patch → A → Type 0) (q : Option Patch) (o : Option A) → DraftOf R q o
     → (is_there q ≡ true → is_there o ≡ true) × (is_there o ≡ true → is_there q ≡ true)
-patch_there R None None h = (λ e. e, λ e. e)
-patch_there R None (Some o) h = absurd h
-patch_there R (Some p) None h = absurd h
-patch_there R (Some p) (Some o) h = (λ e. e, λ e. e)
+patch_there R q o h = grind arith
 
 module _ {A : Type 0} (R : Patch → A → Type 0) (ps : List (ℕ × Patch)) (old new : List (Option A))
     (all : (d : ℕ) → DraftOf R (find d ps) (draft_at old d)) where

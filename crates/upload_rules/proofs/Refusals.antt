@@ -242,8 +242,7 @@ module _ (t : Table) (w : World) (stands : TableStands t w) (d : ℕ) (p : Patch
                   sym refused ∙ nothing_refused w d p (idle_stays w.store p u there_is still e),
                   (
                     omega (arith, empty, a.offset),
-                    rw (store_same w.store p u there_is still e)
-                        (drops t w stands d v gone),
+                    rw (store_same w.store p u there_is still e) (drops t w stands d v gone),
                   ),
                 )
 

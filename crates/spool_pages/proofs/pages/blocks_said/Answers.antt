@@ -35,12 +35,8 @@ module _ (prefix : List ℕ) (blocks : ℕ) (begun : starts_with eqb prefix magi
   prefix_is = (starts_is Decides-eqb prefix magic (starts_with eqb prefix magic) refl).0 begun
 
   begun_number : (i : ℕ) → 8 ≤ i → i < 12 → get_or prefix i 0 ≡ get_or (magic ++ to_be_bytes w32 blocks) i 0
-  begun_number i from lt = grind (
-    arith,
-    get_or-append-add magic (to_be_bytes w32 blocks) (i - 8) 0,
-    number.each
-        (i - 8),
-  )
+  begun_number i from lt =
+      grind (arith, get_or-append-add magic (to_be_bytes w32 blocks) (i - 8) 0, number.each (i - 8))
 
   is_first : (i : ℕ) → i < 12 → get_or prefix i 0 ≡ get_or (first_page blocks) i 0
   unfolding first_page

@@ -1,5 +1,5 @@
-use Rattle.std.proofs.Common.{◌≡◌, ◌⊎◌, inl, inr, sym, ◌+◌, ◌-◌, ◌<◌, ◌^◌, ℕ, List, Option, Some, None, Ok, refl, ap}
-use Rattle.std.proofs.Common.{arith}
+use Rattle.std.proofs.Common.{◌≡◌, ◌+◌, ◌-◌, ◌<◌, ◌^◌, ℕ, List, Option, Some, None, Ok, refl, ap, arith}
+use Rattle.std.proofs.Common.{◌⊎◌, inl, inr, sym}
 use Rattle.std.specs.Int.{to_be_bytes, w32}
 use Rattle.spool_journal.specs.Image.{byte_of}
 use Rattle.spool_pages.specs.Fits.{FitsRow}
