@@ -1,6 +1,6 @@
 -- What is seen of a run after one event more.
 use Rattle.std.specs.Io.KnownBytes.{Appends}
-use Rattle.std.proofs.Common.{◌≡◌, true, List, ℕ, ◌∷◌, ◌++◌, Option, refl, subst, ap, ◌∙◌}
+use Rattle.std.proofs.Common.{◌≡◌, true, List, ℕ, ◌∷◌, ◌++◌, Option, refl, ap, ◌∙◌}
 use Rattle.upload_rules.specs.Store.{Store}
 use Rattle.upload_rules.specs.Answers.{Among, Limits}
 use Rattle.tus_session.specs.History.{Event, Mark, step, conn_in}
@@ -31,10 +31,7 @@ pub shows_last : {C : Type 0} (v : View C) (now : C) (held : Option (List ℕ)) 
     → Leaves v now r.state.world.store (shown_by r.state e m) → v.sure ≡ true
     → ShowsLast (v.u.moment now) (v.u.left_only now) v.st (stepped r (conn_in e) e m).past
 shows_last v now held r e m is durable leaves known =
-    last_step v.st r.past e m
-    (subst (λ s. (ms : List Store) → Among s.world.store ms → v.u.left_only v.now s.world.blocks (v.u.moment v.now) ms)
-    is.state (durable known))
-    (subst (λ s. Leaves v now s.world.store (shown_by s e m)) is.state leaves known)
+    last_step v.st r.past e m (rw is.state at (durable known)) (rw is.state at (leaves known))
 
 -- what a call wrote: what its event gave, where that is sure
 abbrev pub Wrote : {C : Type 0} → View C → Option (List ℕ) → Run → Event → Mark → Type 0
@@ -47,7 +44,7 @@ pub last_of : {C : Type 0} (v : View C) (r : Run) (e : Event) (m : Mark) (last :
     → WritesAs v.sure (conn_in e) (step r.state e m).outcome (step r.state e m).text last
     → LastOutput v.sure v.st ((e, m) ∷ r.past) last
 last_of v r e m last is wrote =
-    subst (λ s. WritesAs v.sure (conn_in e) (step s e m).outcome (step s e m).text last) is.state wrote
+    rw is.state at wrote
 
 pub written_on : {C : Type 0} (v : View C) (held : Option (List ℕ)) (r : Run) (e : Event) (m : Mark)
     → IsHistory v r → HasWritten v.sure v.prefix v.held v.st r.past → Wrote v held r e m
@@ -66,8 +63,7 @@ history_on v now held r e m is leaves = record {
   state = ap (λ s. (step s e m).state) is.state;
   output = ap (λ o. o ++ written (conn_in e) (step r.state e m).outcome) is.output
       ∙ ap (λ s. output_of v.st r.past ++ written (conn_in e) (step s e m).outcome) is.state;
-  images = λ known. limits_step v.st r.past e m (is.images known)
-      (subst (λ s. Leaves v now s.world.store (shown_by s e m)) is.state leaves known);
+  images = λ known. limits_step v.st r.past e m (is.images known) (rw is.state at (leaves known));
 }
 
 -- no event was made
@@ -76,6 +72,5 @@ pub history_same : {C : Type 0} (v : View C) (now : C) (held : Option (List ℕ)
 history_same v now held r is leaves = record {
   state = is.state;
   output = is.output;
-  images = λ known. limits_still v.st r.past (is.images known)
-      (subst (λ s. Leaves v now s.world.store s.world.store) is.state leaves known);
+  images = λ known. limits_still v.st r.past (is.images known) (rw is.state at (leaves known));
 }

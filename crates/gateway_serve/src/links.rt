@@ -138,6 +138,7 @@ impl<S: Read + Write> Link<S> {
     }
 
     // What a turn leaves at its time: a connection whose socket had nothing to do is lost, if its time is over.
+    #[tactic(auto, using(crate::proofs::Lost::still_lost))]
     fn left_at(&mut self, left: Left, tick: Tick) -> Left
         ensures socket { socket_of self.new ≡ socket_of self.old }
         ensures same { joint_of self.new ≡ joint_of self.old }
@@ -232,6 +233,7 @@ impl<S: Read + Write> Link<S> {
     }
 
     // Writes of what is left as much as the socket takes.
+    #[tactic(auto, using(crate::proofs::Carries::written_stays, crate::proofs::Lost::failed_lost))]
     fn write(&mut self) -> Left
         ensures lost { IfLost result (λ gone. EndsBy gone (latest_of (socket_of self.new))) }
         ensures stream { StaysOf S.remaining S.contents (socket_of self.old) (socket_of self.new) }
@@ -287,6 +289,7 @@ impl<S: Read + Write> Link<S> {
 
     // Reads what the socket has now, where the session took all that was read before. Where there is nothing to give:
     // what that leaves of the connection.
+    #[tactic(auto, using(crate::proofs::Carries::read_stays, crate::proofs::Lost::failed_lost))]
     fn read(&mut self) -> Option<Left>
         ensures lost { IfSome result (λ left. IfLost left (λ gone. EndsBy gone (latest_of (socket_of self.new)))) }
         ensures stream { StaysOf S.remaining S.contents (socket_of self.old) (socket_of self.new) }
