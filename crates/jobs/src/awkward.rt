@@ -4,6 +4,7 @@
 use crate::digest::Digest;
 use crate::faults::Fault;
 use crate::heads::{Client, Heads};
+use crate::job::Job;
 use crate::ram_disk::RamDisk;
 use crate::random::Random;
 use crate::scripts::Script;
@@ -12,7 +13,7 @@ use crate::texts::Sample;
 use crate::tongues::{
     ISO_2022_JP, SHIFT_JIS, UTF_8, UTF_16LE, WINDOWS_1252, in_utf8, japanese_sjis,
 };
-use crate::words::{Language, Material};
+use crate::words::Language;
 use gateway_engine::run as run_script;
 use spool_image::Spool;
 use std::alloc::{AllocError, Global};
@@ -38,37 +39,38 @@ static REFUSED: [&str; 7] = [
 const MOST_REFUSED: usize = 13;
 
 /// Runs so many scripts over one spool.
-pub(crate) fn run(
-    alloc: Global,
-    scripts: u32,
-    material: &Material,
-    mut random: Random,
-) -> Result<Digest, Fault> {
+pub(crate) fn run(mut job: Job<'_>) -> Result<Digest, Fault> {
     let mut writer = Writer {
-        script: Script::new(alloc),
-        heads: Heads::new(alloc, Client::Curl),
-        bytes: Vec::new(alloc),
+        script: Script::new(job.alloc),
+        heads: Heads::new(job.alloc, Client::Curl),
+        bytes: Vec::new(job.alloc),
         number: 0,
-        legacy: Sample::new(alloc, japanese_sjis(), SAMPLE, material, &mut random)?,
+        legacy: Sample::new(
+            job.alloc,
+            japanese_sjis(),
+            SAMPLE,
+            job.material,
+            &mut job.random,
+        )?,
         russian: Sample::new(
-            alloc,
+            job.alloc,
             in_utf8(Language::Russian),
             SAMPLE,
-            material,
-            &mut random,
+            job.material,
+            &mut job.random,
         )?,
     };
-    let mut disk = RamDisk::spool(alloc, BLOCKS, &material.indexes)?;
+    let mut disk = RamDisk::spool(job.alloc, BLOCKS, &job.material.indexes)?;
     let mut digest = Digest::new();
-    let mut output = Vec::new(alloc);
-    for _ in 0..scripts {
-        writer.write(&mut random)?;
+    let mut output = Vec::new(job.alloc);
+    for _ in 0..job.count {
+        writer.write(&mut job.random)?;
         output.clear();
-        let spool = match Spool::open(alloc, disk) {
+        let spool = match Spool::open(job.alloc, disk) {
             Ok(spool) => spool,
             Err((_, fault)) => return Err(Fault::from(fault)),
         };
-        disk = match run_script(alloc, &mut writer.script.as_bytes(), &mut output, spool) {
+        disk = match run_script(job.alloc, &mut writer.script.as_bytes(), &mut output, spool) {
             Ok(disk) => disk,
             Err((_, fault)) => return Err(Fault::from(fault)),
         };

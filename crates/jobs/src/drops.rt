@@ -4,12 +4,12 @@
 use crate::digest::Digest;
 use crate::faults::Fault;
 use crate::heads::{Client, Heads};
-use crate::ram_disk::RamDisk;
+use crate::job::Job;
 use crate::random::Random;
 use crate::server::Server;
 use crate::texts::{Sample, samples};
 use crate::tongues::{Tongue, in_utf8, japanese_mail, japanese_sjis, japanese_utf16, russian_koi};
-use crate::words::{Language, Material};
+use crate::words::Language;
 use enc_model::Encoding;
 use std::alloc::Global;
 
@@ -22,12 +22,7 @@ const KEPT: u64 = 200;
 const CONNECTIONS: usize = 15;
 
 /// Sends so many texts.
-pub(crate) fn run(
-    alloc: Global,
-    texts: u32,
-    material: &Material,
-    mut random: Random,
-) -> Result<Digest, Fault> {
+pub(crate) fn run(mut job: Job<'_>) -> Result<Digest, Fault> {
     let tongues = [
         japanese_mail(),
         japanese_sjis(),
@@ -35,13 +30,10 @@ pub(crate) fn run(
         in_utf8(Language::Japanese),
         russian_koi(),
     ];
-    let samples = samples(alloc, &tongues, SAMPLE, material, &mut random)?;
-    let disk = RamDisk::spool(alloc, BLOCKS, &material.indexes)?;
-    let mut server = Server::open(alloc, disk, Digest::new())?;
-    let outcome = send_all(alloc, &mut server, &samples, texts, &mut random);
-    let (_disk, digest) = server.close();
-    outcome?;
-    Ok(digest)
+    let samples = samples(job.alloc, &tongues, SAMPLE, job.material, &mut job.random)?;
+    let mut server = Server::over(job.alloc, BLOCKS, job.material)?;
+    let outcome = send_all(job.alloc, &mut server, &samples, job.count, &mut job.random);
+    server.end(outcome)
 }
 
 fn send_all(

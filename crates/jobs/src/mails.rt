@@ -3,12 +3,12 @@
 use crate::digest::Digest;
 use crate::faults::Fault;
 use crate::heads::{Client, Heads};
-use crate::ram_disk::RamDisk;
+use crate::job::Job;
 use crate::random::Random;
 use crate::server::Server;
 use crate::texts::{Sample, samples};
 use crate::tongues::{Tongue, in_utf8, japanese_mail, japanese_sjis, russian_koi};
-use crate::words::{Language, Material};
+use crate::words::Language;
 use std::alloc::Global;
 
 const BLOCKS: u32 = 16_384;
@@ -27,25 +27,17 @@ struct Importer {
 }
 
 /// Sends so many mails.
-pub(crate) fn run(
-    alloc: Global,
-    mails: u32,
-    material: &Material,
-    mut random: Random,
-) -> Result<Digest, Fault> {
+pub(crate) fn run(mut job: Job<'_>) -> Result<Digest, Fault> {
     let tongues = [
         japanese_mail(),
         japanese_sjis(),
         russian_koi(),
         in_utf8(Language::German),
     ];
-    let samples = samples(alloc, &tongues, SAMPLE, material, &mut random)?;
-    let disk = RamDisk::spool(alloc, BLOCKS, &material.indexes)?;
-    let mut server = Server::open(alloc, disk, Digest::new())?;
-    let outcome = import(alloc, &mut server, &samples, mails, &mut random);
-    let (_disk, digest) = server.close();
-    outcome?;
-    Ok(digest)
+    let samples = samples(job.alloc, &tongues, SAMPLE, job.material, &mut job.random)?;
+    let mut server = Server::over(job.alloc, BLOCKS, job.material)?;
+    let outcome = import(job.alloc, &mut server, &samples, job.count, &mut job.random);
+    server.end(outcome)
 }
 
 fn import(

@@ -8,6 +8,7 @@ mod digest;
 mod drops;
 mod faults;
 mod heads;
+mod job;
 mod mails;
 mod marks;
 mod openings;
@@ -22,8 +23,8 @@ mod words;
 
 use digest::Digest;
 use faults::Fault;
+use job::Job;
 use random::Random;
-use std::alloc::Global;
 use std::env;
 use std::process::ExitCode;
 use transfers::Direction;
@@ -55,28 +56,27 @@ fn run(rt: &HostRuntime) -> Result<(), Fault> {
         return Err(Fault::Usage);
     };
     let material = Material::read(rt, alloc)?;
-    let random = Random::new(seed as u64);
-    let digest = job(alloc, name.as_str(), count, &material, random)?;
+    let job = Job {
+        alloc,
+        count,
+        material: &material,
+        random: Random::new(seed as u64),
+    };
+    let digest = done(name.as_str(), job)?;
     println!(rt; "{name} {count}: {digest}")?;
     Ok(())
 }
 
 // The digest of all that a job gave.
-fn job(
-    alloc: Global,
-    name: &str,
-    count: u32,
-    material: &Material,
-    random: Random,
-) -> Result<Digest, Fault> {
+fn done(name: &str, job: Job<'_>) -> Result<Digest, Fault> {
     match name {
-        "texts" => transfers::run(alloc, Direction::In, count, material, random),
-        "back" => transfers::run(alloc, Direction::Back, count, material, random),
-        "marks" => transfers::run(alloc, Direction::Marked, count, material, random),
-        "mails" => mails::run(alloc, count, material, random),
-        "drops" => drops::run(alloc, count, material, random),
-        "openings" => openings::run(alloc, count, material, random),
-        "awkward" => awkward::run(alloc, count, material, random),
+        "texts" => transfers::run(job, Direction::In),
+        "back" => transfers::run(job, Direction::Back),
+        "marks" => transfers::run(job, Direction::Marked),
+        "mails" => mails::run(job),
+        "drops" => drops::run(job),
+        "openings" => openings::run(job),
+        "awkward" => awkward::run(job),
         _ => Err(Fault::Usage),
     }
 }

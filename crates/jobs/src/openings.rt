@@ -4,12 +4,12 @@
 use crate::digest::Digest;
 use crate::faults::Fault;
 use crate::heads::{Client, Heads};
-use crate::ram_disk::RamDisk;
+use crate::job::Job;
 use crate::random::Random;
 use crate::server::Server;
 use crate::texts::{Sample, samples};
 use crate::tongues::{Tongue, in_utf8, japanese_mail, japanese_sjis, russian_koi};
-use crate::words::{Language, Material};
+use crate::words::Language;
 use std::alloc::Global;
 
 const BLOCKS: u32 = 65_536;
@@ -23,32 +23,26 @@ const SIDE_BY_SIDE: usize = 15;
 const LOOKS: usize = 4;
 
 /// Opens the spool so many times.
-pub(crate) fn run(
-    alloc: Global,
-    openings: u32,
-    material: &Material,
-    mut random: Random,
-) -> Result<Digest, Fault> {
+pub(crate) fn run(mut job: Job<'_>) -> Result<Digest, Fault> {
     let tongues = [
         japanese_sjis(),
         in_utf8(Language::English),
         japanese_mail(),
         russian_koi(),
     ];
-    let samples = samples(alloc, &tongues, SAMPLE, material, &mut random)?;
-    let disk = RamDisk::spool(alloc, BLOCKS, &material.indexes)?;
-    let mut server = Server::open(alloc, disk, Digest::new())?;
-    let filled = fill(alloc, &mut server, &samples, &mut random);
+    let samples = samples(job.alloc, &tongues, SAMPLE, job.material, &mut job.random)?;
+    let mut server = Server::over(job.alloc, BLOCKS, job.material)?;
+    let filled = fill(job.alloc, &mut server, &samples, &mut job.random);
     let (mut disk, mut digest) = server.close();
     filled?;
-    let mut heads = Heads::new(alloc, Client::Tuspy);
-    for round in 0..openings {
-        if random.below(2) == 0 {
+    let mut heads = Heads::new(job.alloc, Client::Tuspy);
+    for round in 0..job.count {
+        if job.random.below(2) == 0 {
             disk.open_gate();
         }
         digest.note(round as u64);
-        let mut server = Server::open(alloc, disk, digest)?;
-        let lived = live(&mut server, &mut heads, &samples, round, &mut random);
+        let mut server = Server::open(job.alloc, disk, digest)?;
+        let lived = live(&mut server, &mut heads, &samples, round, &mut job.random);
         (disk, digest) = server.close();
         lived?;
     }

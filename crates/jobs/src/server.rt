@@ -3,6 +3,7 @@
 use crate::digest::Digest;
 use crate::faults::Fault;
 use crate::ram_disk::RamDisk;
+use crate::words::Material;
 use gateway_engine::{Connections, Gateway};
 use spool_image::Spool;
 use std::alloc::Global;
@@ -26,6 +27,19 @@ impl Server {
             }),
             Err((_, fault)) => Err(Fault::from(fault)),
         }
+    }
+
+    /// A gateway over a new spool of so many blocks.
+    pub(crate) fn over(alloc: Global, blocks: u32, material: &Material) -> Result<Self, Fault> {
+        let disk = RamDisk::spool(alloc, blocks, &material.indexes)?;
+        Server::open(alloc, disk, Digest::new())
+    }
+
+    /// Ends all connections, and gives what came back, if all was well.
+    pub(crate) fn end(self, outcome: Result<(), Fault>) -> Result<Digest, Fault> {
+        let (_disk, digest) = self.close();
+        outcome?;
+        Ok(digest)
     }
 
     /// Ends all connections. The spool is on the disk.

@@ -3,7 +3,7 @@
 use crate::digest::Digest;
 use crate::faults::Fault;
 use crate::heads::{Client, Heads};
-use crate::ram_disk::RamDisk;
+use crate::job::Job;
 use crate::random::Random;
 use crate::server::Server;
 use crate::texts::Sample;
@@ -11,7 +11,7 @@ use crate::tongues::{
     EUC_JP, IBM866, ISO_2022_JP, KOI8_R, SHIFT_JIS, Tongue, UTF_8, WINDOWS_1251, WINDOWS_1252,
     archived, in_utf8,
 };
-use crate::words::{Language, Material};
+use crate::words::Language;
 use std::alloc::{AllocError, Global};
 
 // How many uploads are under way at once, and how many blocks of 4,096 bytes the spool has.
@@ -122,24 +122,21 @@ struct Transfer<'a> {
 }
 
 /// Does so many rounds of sixteen texts.
-pub(crate) fn run(
-    alloc: Global,
-    direction: Direction,
-    rounds: u32,
-    material: &Material,
-    mut random: Random,
-) -> Result<Digest, Fault> {
-    let mut samples = Vec::new(alloc);
-    for kind in direction.kinds(alloc)?.iter() {
-        let sample = Sample::new(alloc, kind.tongue, SAMPLE, material, &mut random)?;
+pub(crate) fn run(mut job: Job<'_>, direction: Direction) -> Result<Digest, Fault> {
+    let mut samples = Vec::new(job.alloc);
+    for kind in direction.kinds(job.alloc)?.iter() {
+        let sample = Sample::new(
+            job.alloc,
+            kind.tongue,
+            SAMPLE,
+            job.material,
+            &mut job.random,
+        )?;
         samples.push((*kind, sample))?;
     }
-    let disk = RamDisk::spool(alloc, BLOCKS, &material.indexes)?;
-    let mut server = Server::open(alloc, disk, Digest::new())?;
-    let outcome = transfer_all(alloc, &mut server, &samples, rounds, &mut random);
-    let (_disk, digest) = server.close();
-    outcome?;
-    Ok(digest)
+    let mut server = Server::over(job.alloc, BLOCKS, job.material)?;
+    let outcome = transfer_all(job.alloc, &mut server, &samples, job.count, &mut job.random);
+    server.end(outcome)
 }
 
 fn transfer_all(
