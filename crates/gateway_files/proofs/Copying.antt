@@ -32,7 +32,7 @@ no_code f mode s = refl
 pub copied_none : (t : Tables) (c : Conversion) (s : Standing) (left prefix : Option (List ℕ))
     → s ≡ start c.from c.to c.mode → Copied t c s left left prefix prefix
 copied_none t c s left prefix is =
-    subst (λ (x : Standing). Copied t c x left left prefix prefix) (sym is) (record {
+    rw is (record {
       bytes = [];
       from = refl;
       to = refl;
@@ -52,14 +52,14 @@ copied_more t c s s' left mid left' prefix on held is more =
     let old = (so_far t a is.bytes).bytes in
     let next = grows t a (stepped t a more.piece) more.piece old (old ++ (added t a more.piece).bytes) refl more.fault
     refl is.bytes is.at in
-    subst (λ (x : Standing). Copied t c x left left' prefix held) (sym more.next) (record {
+    rw more.next (record {
       bytes = is.bytes ++ more.piece;
       from = is.from;
       to = is.to;
       mode = is.mode;
       at = next.0;
       read = Consumes-trans left mid left' is.bytes more.piece is.read more.read;
-      wrote = subst (λ (x : List ℕ). Appends prefix held x) (next.1 [] refl)
+      wrote = rw (next.1 [] refl) at
           (Appends-trans prefix on held old (added t a more.piece).bytes is.wrote more.wrote);
     })
 
@@ -75,24 +75,21 @@ known : (t : Tables) (c : Conversion) (left left' prefix held : Option (List ℕ
 known t c None left' prefix held bytes read end is = tt
 known t c (Some x) None prefix held bytes read end is = absurd read
 known t c (Some x) (Some y) prefix held bytes read end is =
-    subst (λ (z : List ℕ). IsStored t c (Some z) prefix held)
-    (sym (read ∙ ap (λ z. bytes ++ z) end ∙ append-nil bytes)) is
+    rw (read ∙ ap (λ z. bytes ++ z) end ∙ append-nil bytes) is
 
 -- nothing was read, and nothing written
 pub copied_still : (t : Tables) (c : Conversion) (s s' : Standing) (left mid left' prefix on held : Option (List ℕ))
     → Copied t c s left mid prefix on → s' ≡ s → Consumes mid left' [] → held ≡ on
     → Copied t c s' left left' prefix held
 copied_still t c s s' left mid left' prefix on held is same none kept =
-    subst (λ (x : Standing). Copied t c x left left' prefix held) (sym same) (record {
+    rw same (record {
       bytes = is.bytes;
       from = is.from;
       to = is.to;
       mode = is.mode;
       at = is.at;
-      read = subst (λ (x : List ℕ). Consumes left left' x) (append-nil is.bytes)
-          (Consumes-trans left mid left' is.bytes [] is.read none);
-      wrote = subst (λ (x : Option (List ℕ)). Appends prefix x (so_far t s.transcoder is.bytes).bytes) (sym kept)
-          is.wrote;
+      read = rw (append-nil is.bytes) at (Consumes-trans left mid left' is.bytes [] is.read none);
+      wrote = rw kept is.wrote;
     })
 
 ended : (t : Tables) (c : Conversion) (s : Standing) (left left' prefix on held : Option (List ℕ))
@@ -104,7 +101,7 @@ ended t c s left left' prefix on held is end ends =
     known t c left left' prefix held is.bytes is.read end
     (stored_with t c s is.bytes prefix held is.from is.to is.mode (
       done.0,
-      subst (λ (x : List ℕ). Appends prefix held x) (done.1 [] refl)
+      rw (done.1 [] refl) at
           (Appends-trans prefix on held old (added_end t a).bytes is.wrote ends.wrote),
     ))
 

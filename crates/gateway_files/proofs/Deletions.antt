@@ -4,6 +4,8 @@ use Rattle.std.proofs.Common.{Bool, true, false, ◌&&◌, List, [], ◌∷◌, 
 use Rattle.std.proofs.Common.{append_assoc, append-nil, if◌then◌else◌}
 use Rattle.std.specs.Prelude.{filter, not}
 use Rattle.std.proofs.KnownBytes.{Appends-nil, Appends-trans}
+use Rattle.std.proofs.lemmas.Bool.Decides.{nat_tests}
+use Rattle.std.proofs.Math.Bool.{and-true}
 use Rattle.std.proofs.lemmas.Bool.{cases_eq, cases_lt, ne_eqb}
 use Rattle.std.specs.Io.KnownBytes.{Appends}
 use Rattle.upload_rules.specs.Answers.{Among, Answers, Counts, Limits}
@@ -21,25 +23,14 @@ use Rattle.gateway_files.specs.Deleting.{all_there, deletion_line, deletion_line
 -- WHERE NONE HAS THE NUMBER all stay
 others_all : (n : ℕ) (xs : List (ℕ × Upload)) → find n xs ≡ None → others n xs ≡ xs
 others_all n [] e = refl
-others_all n (x ∷ xs) e =
-    elim (cases_eq x.0 n) [
-      | inl same ↦ let there : find n (x ∷ xs) ≡ Some x.1 = rw (eq-eqb x.0 n same) refl in
-          let bad : ◌≡◌ {A = Option Upload} None (Some x.1) = sym e ∙ there in absurd (cc)
-      | inr other ↦
-          let less : find n xs ≡ None =
-          sym (ap (λ b. if b then Some x.1 else find n xs) (ne_eqb x.0 n other)) ∙ e in
-          rw (ne_eqb x.0 n other) (ap (λ ys. x ∷ ys) (others_all n xs less))
-    ]
+others_all n (x ∷ xs) e = grind (arith, nat_tests, others_all n xs)
 
 none_there : (o : Option Upload) (e : UploadRefusal) → no_such o ≡ Some e → o ≡ None
-none_there None e is = refl
-none_there (Some u) e is = absurd (cc)
+none_there o e is = grind arith
 
 stays : (stands : World → Type 0) (w : World) (n : ℕ) (e : UploadRefusal) → no_such (upload_of w.store n) ≡ Some e
     → stands w → stands (terminated w n)
-stays stands w n e is now =
-    subst (λ (us : List (ℕ × Upload)). stands (record w { store = record w.store { uploads = us } }))
-    (sym (others_all n w.store.uploads (none_there (upload_of w.store n) e is))) now
+stays stands w n e is now = rw (others_all n w.store.uploads (none_there (upload_of w.store n) e is)) now
 
 pub refused_stays : {T : Type 0} (stands : World → Type 0) (w : World) (n : ℕ) (done : T → Type 0) (f : UploadError)
     (e : UploadRefusal) → f ≡ Refused e → Answers {T = T} (no_such (upload_of w.store n)) (Err f) done (stands w)
@@ -51,10 +42,7 @@ refused_stays stands w n done (Refused f) e is said = stays stands w n f said.0 
 -- no failure was counted
 pub unfailed : (P : Type 0) (a b : ℕ) → (P → ⊥) → Counts P a b → b ≡ a
 unfailed P a b valid c =
-    elim (cases_lt a b) [
-      | inl less ↦ absurd (valid (c.nothing_else less))
-      | inr most ↦ let later = c.later in omega (arith, most, later)
-    ]
+    elim (cases_lt a b) [ inl less ↦ absurd (valid (c.nothing_else less)) | inr most ↦ omega (arith, most, c.later) ]
 
 -- WHAT IS LEFT
 rest_all : (xs : List (ℕ × Upload)) → filter (λ e. not (is_among [] e.0)) xs ≡ xs
@@ -82,12 +70,7 @@ first_stage m [] = inl refl
 first_stage m (n ∷ ns) = inl refl
 
 and_again : (a b c d : Bool) → b ≡ c → (a && b) && d ≡ a && (c && d)
-and_again true b c d e = ap (λ x. x && d) e
-and_again false b c d e = refl
-
-and_true : (a : Bool) → a && true ≡ a
-and_true true = refl
-and_true false = refl
+and_again a b c d e = grind arith
 
 -- ON THE WAY: the store, what was written, and what is still to be deleted
 pub record Halfway {U B : Type 0} (u : Ghosts U B) (sure : Bool) (w : World) (before now : U) (numbers rest : List ℕ)
@@ -125,10 +108,10 @@ module _ {U B : Type 0} (u : Ghosts U B) (sure : Bool) (w : World) (numbers : Li
     pub limits_more : sure ≡ true → LimitsTo (u.moment before) (u.moment next) (u.left_only before) (u.left_only next)
         (stages w.store numbers)
     limits_more e = record {
-      later = let a = (is.limits e).later in let b = (crash e).later in omega (arith, a, b);
+      later = omega (arith, (is.limits e).later, (crash e).later);
       limits = λ blocks t ms le left among.
-          let a = (is.limits e).later in
-          (crash e).limits blocks t ms (omega (arith, le, a)) ((is.limits e).limits blocks t ms le left among)
+          (crash e).limits blocks t ms (omega (arith, le, (is.limits e).later))
+          ((is.limits e).limits blocks t ms le left among)
           (among is.store (is.passed is.store (inl refl)))
           (among (deleted_store is.store n) (is.passed (deleted_store is.store n)
           (inr (first_stage (deleted_store is.store n) rest))));
@@ -156,11 +139,10 @@ module _ {U B : Type 0} (u : Ghosts U B) (sure : Bool) (w : World) (numbers : Li
   module _ (before now : U) (prefix held : Option (List ℕ)) (all : Bool)
       (is : Halfway u sure w before now numbers [] prefix held all) where
     pub done_stands : u.stands now sure (record w { store = left w.store numbers })
-    done_stands = subst (λ s. u.stands now sure (record w { store = s })) (sym (left_all is.store) ∙ is.remains)
-        is.stands
+    done_stands = rw (sym is.remains ∙ left_all is.store) is.stands
 
     pub done_lines : Appends prefix held (deletion_lines w.store numbers)
-    done_lines = subst (λ (x : List ℕ). Appends prefix held x) (sym (append-nil is.out) ∙ is.lines) is.wrote
+    done_lines = rw (sym is.lines ∙ append-nil is.out) is.wrote
 
     pub done_all : all ≡ all_there w.store numbers
-    done_all = sym (and_true all) ∙ is.there
+    done_all = sym (and-true all) ∙ is.there

@@ -1,5 +1,5 @@
 -- How many entries an index has, pointer by pointer.
-use Rattle.std.proofs.Common.{◌≡◌, ◌+◌, ℕ, suc, arith, refl, subst}
+use Rattle.std.proofs.Common.{◌≡◌, ◌+◌, ℕ, add-one, refl}
 use Rattle.enc_model.specs.Index.{Index, code}
 use Rattle.gateway_files.specs.IndexFiles.{entries, one_of}
 
@@ -7,8 +7,7 @@ use Rattle.gateway_files.specs.IndexFiles.{entries, one_of}
 pub entries_next : (index : Index) (n : ℕ) → entries index (n + 1) ≡ entries index n + one_of (code index n)
 unfolding entries
 entries_next index n =
-    let next : suc n ≡ n + 1 = omega arith in
-    subst (λ (k : ℕ). entries index k ≡ entries index n + one_of (code index n)) next refl
+    rw add-one refl
 
 pub entries_none : (index : Index) → 0 ≡ entries index 0
 unfolding entries

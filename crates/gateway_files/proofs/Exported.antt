@@ -4,6 +4,7 @@ use Rattle.std.proofs.Common.{Bool, true, false, ◌||◌, List, [], ◌∷◌, 
 use Rattle.std.proofs.Common.{Option, Some, None, Result, Ok, Err, OnOk}
 use Rattle.std.specs.Prelude.{bytes_eq}
 use Rattle.std.proofs.lemmas.List.{map-append, take-map, take_more}
+use Rattle.std.proofs.Math.Bool.{or-false, or_assoc}
 use Rattle.std.proofs.lemmas.Slice.Eq.{bytes_eq-Decides}
 use Rattle.tus_request.proofs.LineLemmas.{true_or_false}
 use Rattle.upload_rules.specs.Reading.{text_at}
@@ -37,21 +38,13 @@ exported_more m files jobs i job lt is =
     ∙ ap (λ js. exported m files js) (jobs_more jobs i job lt is)
 
 -- whether a file differs, for one job more
-or_false : (b : Bool) → (b || false) ≡ b
-or_false false = refl
-or_false true = refl
-
-or_last : (a b c : Bool) → (a || (b || c)) ≡ ((a || b) || c)
-or_last false b c = refl
-or_last true b c = refl
-
 differ_last : (m : Store) (files : Files) (jobs : List Job) (job : Job)
     → some_differ m files (jobs ++ job ∷ []) ≡ (some_differ m files jobs || differs_one m (exported m files jobs) job)
-differ_last m files [] job = or_false (differs_one m files job)
+differ_last m files [] job = or-false (differs_one m files job)
 differ_last m files (first ∷ jobs) job =
     ap (λ (b : Bool). differs_one m files first || b) (differ_last m (exported_one m files first) jobs job)
-    ∙ or_last (differs_one m files first) (some_differ m (exported_one m files first) jobs)
-    (differs_one m (exported m files (first ∷ jobs)) job)
+    ∙ sym (or_assoc (differs_one m files first) (some_differ m (exported_one m files first) jobs)
+    (differs_one m (exported m files (first ∷ jobs)) job))
 
 pub differ_more : (m : Store) (files : Files) (jobs : List code.Job) (i : ℕ) (job : code.Job) → i < length jobs
     → job ≡ get_or jobs i job
@@ -67,7 +60,7 @@ pub exports_some : (holds : Files → Type 0) (m : Store) (files : Files) (jobs 
     → holds (exported m files (map job_shown (take i jobs))) → ExportsSome holds m (map job_shown jobs) files
 exports_some holds m files jobs i held = record {
   count = i;
-  held = subst (λ js. holds (exported m files js)) (sym (take-map job_shown i jobs)) held;
+  held = rw (take-map job_shown i jobs) held;
 }
 
 -- and that was broken off in one
@@ -78,8 +71,7 @@ pub exports_either : (holds : Files → Type 0) (m : Store) (files : Files) (job
     → ExportsSome holds m (map job_shown jobs) files
 exports_either holds m files jobs i job lt is (inl held) = exports_some holds m files jobs i held
 exports_either holds m files jobs i job lt is (inr held) =
-    exports_some holds m files jobs (i + 1)
-    (subst (λ (now : Files). holds now) (exported_more m files jobs i job lt is) held)
+    exports_some holds m files jobs (i + 1) (rw (exported_more m files jobs i job lt is) at held)
 
 -- WHAT AN EXPORT LEAVES
 
@@ -106,19 +98,12 @@ exported_keeps m files (job ∷ jobs) = λ other held here.
 -- a new file holds its text
 new_here : (there : Option (List ℕ)) (files : Files) (name text : List ℕ) → there ≡ None
     → new_file there files name text name ≡ Some text
-new_here (Some bytes) files name text none = absurd (cc)
-new_here None files name text none =
-    ap (λ (b : Bool). if b then Some text else files name) ((bytes_eq-Decides name name).1 refl)
+new_here there files name text none = grind (arith, bytes_eq-Decides name name)
 
 -- and a file of another name stays
 new_other : (there : Option (List ℕ)) (files : Files) (other name text : List ℕ) → bytes_eq other name ≡ false
     → new_file there files other text name ≡ files name
-new_other (Some bytes) files other name text differs = refl
-new_other None files other name text differs = elim (true_or_false (bytes_eq name other)) [
-  | inl same ↦
-      let one = (bytes_eq-Decides other name).1 (sym ((bytes_eq-Decides name other).0 same)) in absurd (cc)
-  | inr not_one ↦ ap (λ (b : Bool). if b then Some text else files name) not_one
-]
+new_other there files other name text differs = grind (arith, bytes_eq-Decides name other, bytes_eq-Decides other name)
 
 as_other : (files : Files) (job : Option (List ℕ)) (name text : List ℕ) → is_name job name ≡ false
     → exported_as files job text name ≡ files name
@@ -126,8 +111,7 @@ as_other files None name text differs = refl
 as_other files (Some other) name text differs = new_other (files other) files other name text differs
 
 neither : (a b : Bool) → (a || b) ≡ false → (a ≡ false) × (b ≡ false)
-neither false b differs = (refl, differs)
-neither true b differs = absurd (cc)
+neither a b differs = (grind arith, grind arith)
 
 exported_other : (m : Store) (files : Files) (jobs : List Job) (name : List ℕ) → is_used jobs name ≡ false
     → exported m files jobs name ≡ files name
@@ -159,8 +143,7 @@ texts_more m files jobs job new texts number name is none =
       | inl among ↦ as_keeps mid job.1 (text_at m (upload_of m job.0)) name text (texts number name among none)
       | inr same ↦
           let unused = new name (ap (λ (j : Job). j.1) (sym same)) in
-          subst (λ (j : Job). exported_one m mid j name ≡ Some text) same
-          (new_here (mid name) mid name text (exported_other m files jobs name unused ∙ none))
+          rw (← same) (new_here (mid name) mid name text (exported_other m files jobs name unused ∙ none))
     ]
 
 if_fits : (write : Bool) (n k : ℕ) (name : List ℕ) → FitsName n k (Some name)
@@ -170,9 +153,7 @@ if_fits false n k name fits = tt
 
 if_unused : (write : Bool) (jobs : List Job) (name other : List ℕ) → is_used jobs name ≡ false
     → (if write then Some name else None) ≡ Some other → is_used jobs other ≡ false
-if_unused true jobs name other unused same =
-    let one : name ≡ other = cc in subst (λ x. is_used jobs x ≡ false) one unused
-if_unused false jobs name other unused same = absurd (cc)
+if_unused write jobs name other unused same = grind arith
 
 texts_from : (all : Bool) (m : Store) (files : Files) (jobs : List Job) (n : ℕ) (xs : List (ℕ × Upload)) → Rises n xs
     → AllFit n jobs → HoldsTexts m jobs files (exported m files jobs)

@@ -1,6 +1,6 @@
 -- Files that spools are in, of which one is opened and closed.
-use Rattle.std.proofs.Common.{◌≡◌, ◌∙◌, ap, arith, inl, refl, subst, sym, ℕ, Bool, true, false, List, Option, Some, None}
-use Rattle.std.proofs.Common.{if◌then◌else◌}
+use Rattle.std.proofs.Common.{◌≡◌, ◌∙◌, ap, arith, inl, refl, sym, ℕ, Bool, true, false, List, Option, Some}
+use Rattle.std.proofs.Common.{None, if◌then◌else◌}
 use Rattle.std.specs.Prelude.{bytes_eq}
 use Rattle.std.proofs.lemmas.Slice.Eq.{bytes_eq-Decides}
 use Rattle.spool_disk.specs.declared.disk.Disk.{Ghosts}
@@ -16,8 +16,7 @@ unread disk d = record {
 }
 
 twice : {X : Type 0} (b : Bool) (x y z : X) → (if b then y else (if b then x else z)) ≡ (if b then y else z)
-twice true x y z = refl
-twice false x y z = refl
+twice b x y z = grind arith
 
 -- what is put under a path last is there
 with_twice : {D : Type 0} (disks : Disks D) (path : List ℕ) (x y : Option D)
@@ -42,32 +41,31 @@ module _ {D : Type 0} (holds : Disks D → Type 0) (disks : Disks D) (path : Lis
       → P d → Leaves holds disks path P
   leaves_put x P d held so = record {
     disk = d;
-    held = subst holds (with_twice disks path x (Some d)) held;
+    held = rw (with_twice disks path x (Some d)) at held;
     is = so;
   }
 
   pub others_put : (x y : Option D) → holds (with_disk (with_disk disks path x) path y) → LeavesOthers holds disks path
-  others_put x y held = record { there = y; held = subst holds (with_twice disks path x y) held }
+  others_put x y held = record { there = y; held = rw (with_twice disks path x y) at held }
 
   -- where nothing was done
   pub leaves_same : (d : D) (P : D → Type 0) → disks path ≡ Some d → holds disks → P d → Leaves holds disks path P
   leaves_same d P is held so = record {
     disk = d;
-    held = subst holds (sym (with_same disks path (Some d) is)) held;
+    held = rw (with_same disks path (Some d) is) held;
     is = so;
   }
 
   pub others_same : holds disks → LeavesOthers holds disks path
   others_same held = record {
     there = disks path;
-    held = subst holds (sym (with_same disks path (disks path) refl)) held;
+    held = rw (with_same disks path (disks path) refl) held;
   }
 
   -- one disk stands under the path
   pub leaves_as : (there d : D) (Q : D → D → Type 0) → disks path ≡ Some there → disks path ≡ Some d
       → Leaves holds disks path (Q there) → Leaves holds disks path (Q d)
-  leaves_as there d Q is this left =
-      subst (λ (x : D). Leaves holds disks path (Q x)) (one_disk there d (disks path) is this) left
+  leaves_as there d Q is this left = rw (one_disk there d (disks path) is this) at left
 
   -- it was opened, only read, and closed
   pub leaves_read : (disk : Ghosts D) (there d after : D) → disks path ≡ Some there → disks path ≡ Some d

@@ -17,7 +17,7 @@ when_ok (Err e) P ok on = absurd (cc)
 
 shows_one : (n : ℕ) (m : Store) (image : ℕ → ℕ) → ShowsOne n (m ∷ []) image → ImageShows n image m
 shows_one n m image one = elim one.among [
-  | inl is ↦ subst (ImageShows n image) is one.shows
+  | inl is ↦ rw is at one.shows
   | inr never ↦ absurd never
 ]
 
@@ -26,13 +26,10 @@ abbrev pub CountsNow : {D : Type 0} → Ghosts D → D → Type 0
 CountsNow disk d = (t : ℕ) (image : ℕ → ℕ) → t ≤ disk.moment d → IsImage (disk.current d) (disk.unsynced d) image
     → disk.left_since d t image
 
-same_size : (n k : ℕ) → ◌≡◌ {A = Option ℕ} (Some n) (Some k) → k ≡ n
-same_size n k e = cc
-
 -- a spool's images, by the number of blocks that is said
 left_said : {D : Type 0} (disk : Ghosts D) (d : D) (k n t : ℕ) (ms : List Store) → SpoolLeft disk d k (Some n) t ms
     → LeftOnly disk d n t ms
-left_said disk d k n t ms left = subst (λ (size : ℕ). LeftOnly disk d size t ms) (same_size n k left.0) left.1
+left_said disk d k n t ms left = let size : k ≡ n = cc left.0 in rw size at left.1
 
 -- where only these uploads are left since now, each image of now shows them
 pub all_show : {D : Type 0} (disk : Ghosts D) (d : D) (k n : ℕ) (m : Store) → CountsNow disk d
@@ -54,16 +51,14 @@ module _ {D : Type 0} (disk : Ghosts D) (before opened now : D) (k k' n : ℕ) (
   -- what was limited to before it was opened still is
   opened_left : (t : ℕ) (ms : List Store) → t ≤ disk.moment before → Among m ms → LeftOnly disk before n t ms
       → SpoolLeft disk opened k (Some n) t ms
-  opened_left t ms le among left = (
+  opened_left t ms le among left = let size : k ≡ n = cc durable.0 in (
     durable.0,
-    subst (λ (size : ℕ). LeftOnly disk opened size t ms) (sym (same_size n k durable.0)) (record {
+    rw size (record {
       honest = shown.honest;
       room = shown.room;
       each = λ image since. ⊎_elim (left.each image)
-          (λ one. ⊎_elim
-          (λ is. left.each image (counts t image le is))
-          (λ shows. record { store = m; among = among; shows = shows })
-          one)
+          (λ one. ⊎_elim (λ is. left.each image (counts t image le is))
+          (λ shows. record { store = m; among = among; shows = shows }) one)
           (opening.nothing_else t image le since);
     }),
   )

@@ -43,9 +43,7 @@ numbered n fits =
     (λ k ds le is. digits_more k ds (k % 10) (omega arith) is) n (omega (arith, fits)) (codes ".txt")
 
 barred : (a b c : Bool) → b ≡ true → (a && not b && c) ≡ false
-barred true true c is = refl
-barred false true c is = refl
-barred a false c is = absurd (cc)
+barred a b c is = grind arith
 
 -- it is no safe name
 unsafe_number : (n : ℕ) → n < 10 ^ 18 → is_safe_name (number_name n) ≡ false
@@ -103,9 +101,7 @@ not_used n (job ∷ jobs) fits is =
     ∙ not_used n jobs fits is.1
 
 both_true : (a b : Bool) → (a && not b) ≡ true → (a ≡ true) × (b ≡ false)
-both_true true true is = absurd (cc)
-both_true true false is = (refl, refl)
-both_true false b is = absurd (cc)
+both_true a b is = (grind arith, grind arith)
 
 -- the name that is chosen is new
 pub new_name : (jobs : List Job) (n : ℕ) (given : Option (List ℕ)) → n < 10 ^ 18 → AllFit n jobs

@@ -2,11 +2,12 @@
 use Rattle.std.proofs.Common.{◌≡◌, ◌∙◌, ap, arith, sym, ℕ, ◌+◌, ◌-◌, ◌≤◌, List, ◌++◌}
 use Rattle.std.proofs.Common.{length, take, drop, Option}
 use Rattle.std.proofs.lemmas.List.{drop-take, take-append-drop, take-take, take_all}
+use Rattle.std.proofs.KnownBytes.{Appends-trans}
 use Rattle.std.specs.Io.KnownBytes.{Appends}
 use Rattle.upload_rules.specs.Answers.{Quiet}
 use Rattle.upload_rules.specs.Store.{Store}
 use Rattle.gateway_files.specs.Changing.{LimitsTo}
-use Rattle.gateway_files.proofs.Writing.{appends_both, appends_is}
+use Rattle.gateway_files.proofs.Writing.{appends_is}
 
 take_on : (n m : ℕ) (xs : List ℕ) → take n xs ++ take m (drop n xs) ≡ take (n + m) xs
 take_on n m xs =
@@ -19,15 +20,7 @@ pub more_written : (text : List ℕ) (at next : ℕ) (a b c : Option (List ℕ))
 more_written text at next a b c le before now =
     appends_is a c (take at text ++ take (next - at) (drop at text)) (take next text)
     (take_on at (next - at) text ∙ ap (λ k. take k text) (omega (arith, le)))
-    (appends_both a b c (take at text) (take (next - at) (drop at text)) before now)
-
--- all was written
-pub all_written : (text : List ℕ) (at : ℕ) (a b : Option (List ℕ)) → length text ≤ at → Appends a b (take at text)
-    → Appends a b text
-all_written text at a b le is = appends_is a b (take at text) text (take_all at text le) is
-
-pub quiet_still : (m : ℕ) (l : Option ℕ → ℕ → List Store → Type 0) → Quiet m m l l
-quiet_still m l = record { later = omega arith; keeps = λ blocks t ms le left. left }
+    (Appends-trans a b c (take at text) (take (next - at) (drop at text)) before now)
 
 pub quiet_both : (m0 m1 m2 : ℕ) (l0 l1 l2 : Option ℕ → ℕ → List Store → Type 0) → Quiet m0 m1 l0 l1
     → Quiet m1 m2 l1 l2 → Quiet m0 m2 l0 l2

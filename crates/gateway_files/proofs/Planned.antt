@@ -43,7 +43,7 @@ pub planned_next : (x : IndexSet) (all : Bool) (whole jobs more : List Job) (xs 
     now.now.metadata.bytes.items
     → jobs_from all more (after now.now.number xs) ≡ whole
 planned_next x all whole jobs more xs n r now rising e t before pushed =
-    let it = told x (above n xs) now.now (subst (λ o. TellsOf x (above n xs) (option_copied o)) e t) in
+    let it = told x (above n xs) now.now (rw e at t) in
     ap (λ js. jobs_from all js (after now.now.number xs)) (pushed ∙ job_is x all jobs now.now it.0 it.2)
     ∙ (ap (λ k. jobs_from all (with_job all jobs it.0.0 (is_complete it.0.1) it.0.1.metadata) (after k xs))
     it.2.number_is

@@ -5,7 +5,7 @@ use Rattle.gateway_files.specs.Listing.{Lists}
 use Rattle.spool_kept.specs.declared.error.OpenFault.{OpenFault}
 use Rattle.spool_kept.specs.declared.error.OpenFault.TheVariants as opens
 use Rattle.gateway_files.specs.declared.faults.Fault.{Fault}
-use Rattle.gateway_files.specs.declared.faults.Fault.TheVariants.{NoMemory, DiskFault}
+use Rattle.gateway_files.specs.declared.faults.Fault.TheVariants.{Damaged, DiskFault, NoMemory, Version}
 use Rattle.gateway_files.specs.Faults.{open_fault}
 
 -- only by memory and the disk, so it is listed but for these
@@ -23,3 +23,14 @@ pub refused_as : (it e : OpenFault) (f : Fault) → f ≡ open_fault e
 refused_as it e f said (inl is) = inl (said ∙ ap (λ x. open_fault x) is)
 refused_as it e f said (inr (inl is)) = inr (inl (said ∙ ap (λ x. open_fault x) is))
 refused_as it e f said (inr (inr is)) = inr (inr (said ∙ ap (λ x. open_fault x) is))
+
+-- of another version, and damaged
+pub other_version : (e : OpenFault) (f : Fault) → f ≡ open_fault e
+    → (e ≡ opens.Version) ⊎ (e ≡ opens.NoMemory) ⊎ (e ≡ opens.DiskFault)
+    → (f ≡ Version) ⊎ (f ≡ NoMemory) ⊎ (f ≡ DiskFault)
+other_version = refused_as opens.Version
+
+pub is_damaged : (e : OpenFault) (f : Fault) → f ≡ open_fault e
+    → (e ≡ opens.Damaged) ⊎ (e ≡ opens.NoMemory) ⊎ (e ≡ opens.DiskFault)
+    → (f ≡ Damaged) ⊎ (f ≡ NoMemory) ⊎ (f ≡ DiskFault)
+is_damaged = refused_as opens.Damaged

@@ -56,10 +56,8 @@ module _ (size size' : ℕ) (found : Found) (old current : ℕ → ℕ) (unsynce
 
   known_now : (n : ℕ) → n ≡ found.layout → HasKnownVersion n (overlaid current)
   known_now n same =
-      subst (λ (k : ℕ). HasKnownVersion k (overlaid current)) (sym same)
-      (subst (λ (f : ℕ → ℕ). HasKnownVersion found.layout f) (sym (same_function (overlaid current) current plain))
-      (known_stands current _ 12 found.version found.next (omega arith)
-      (found_back size found old current unsynced settled is).fields))
+      rw (same, same_function (overlaid current) current plain) (known_stands current _ 12 found.version found.next
+      (omega arith) (found_back size found old current unsynced settled is).fields)
 
   pub refused_back : (e : OpenFault) → RefusedFor size' current e → RefusedFor size old e
   refused_back NotASpool why = absurd (why found.layout says)

@@ -28,20 +28,19 @@ module _ {D : Type 0} (disk : Ghosts D) (n : ℕ) (m : Store) where
       → AllShow disk d' n m
   whole_shows d d' k is honest size blocks settled = record {
     honest = honest;
-    room = subst (λ (s : ℕ). 4096 * all_pages n ≤ s) (sym size) is.room;
+    room = rw size is.room;
     each = λ image here. image_shows n m image (disk.current d) is.shows
-        (subst (λ (b : ℕ). ReadsAs (journal_pages b) image (overlaid (disk.current d))) blocks
-        (settled_reads image settled (λ p. here.same p (settled.is_synced p))));
+        (rw blocks at (settled_reads image settled (λ p. here.same p (settled.is_synced p))));
   }
 
   -- one after the other
   pub lasts_both : (d d' d'' : D) → Lasts disk d d' (LeftOrShows disk d n m) → AllShow disk d' n m
       → Lasts disk d' d'' (LeftOrShows disk d' n m) → Lasts disk d d'' (LeftOrShows disk d n m)
   lasts_both d d' d'' first shown last = record {
-    later = let a = first.later in let b = last.later in omega (arith, a, b);
+    later = omega (arith, first.later, last.later);
     nothing_else = λ t image le since. ⊎_elim (λ before. first.nothing_else t image le before)
         (λ left. ⊎_elim (λ here. inr (inr (shown.each image here))) (λ shows. inr (inr shows)) left)
-        (last.nothing_else t image (let a = first.later in omega (arith, le, a)) since);
+        (last.nothing_else t image (omega (arith, le, first.later)) since);
   }
 
 -- refused by the disk or out of memory, whatever was to be answered

@@ -2,18 +2,11 @@
 use Rattle.std.proofs.Common.{◌≡◌, ◌∙◌, ap, sym, ℕ, ◌+◌, ◌<◌, List, ◌++◌, length, take, get_or, append_assoc}
 use Rattle.std.proofs.Common.{flat_map, Option, Some, None, []}
 use Rattle.std.proofs.lemmas.List.{flat_map_more, take_more}
+use Rattle.std.proofs.KnownBytes.{Appends-trans}
 use Rattle.std.specs.Io.KnownBytes.{Appends}
 
 pub appends_is : (a b : Option (List ℕ)) (x y : List ℕ) → x ≡ y → Appends a b x → Appends a b y
-appends_is None b x y e p = tt {0}
-appends_is (Some a) (Some b) x y e p = p ∙ ap (λ z. a ++ z) e
-appends_is (Some a) None x y e p = absurd p
-
-pub appends_both : (a b c : Option (List ℕ)) (x y : List ℕ) → Appends a b x → Appends b c y → Appends a c (x ++ y)
-appends_both None b c x y p q = tt {0}
-appends_both (Some a) (Some b) (Some c) x y p q = q ∙ (ap (λ z. z ++ y) p ∙ append_assoc a x y)
-appends_both (Some a) (Some b) None x y p q = q
-appends_both (Some a) None c x y p q = absurd p
+appends_is a b x y e p = rw (← e) p
 
 -- one item more was written
 pub wrote_item : {X : Type 0} (f : X → List ℕ) (head : List ℕ) (xs : List X) (i : ℕ) (d : X) (a b c : Option (List ℕ))
@@ -23,7 +16,7 @@ wrote_item f head xs i d a b c less before now =
     appends_is a c ((head ++ flat_map f (take i xs)) ++ f (get_or xs i d)) (head ++ flat_map f (take (i + 1) xs))
     (flat_map_more f head (take i xs) (get_or xs i d)
     ∙ ap (λ ys. head ++ flat_map f ys) (sym (take_more xs i d less)))
-    (appends_both a b c (head ++ flat_map f (take i xs)) (f (get_or xs i d)) before now)
+    (Appends-trans a b c (head ++ flat_map f (take i xs)) (f (get_or xs i d)) before now)
 
 -- what was written to an empty file is all that it holds
 pub whole_text : (a b : Option (List ℕ)) (text : List ℕ) → a ≡ Some [] → Appends a b text → b ≡ Some text

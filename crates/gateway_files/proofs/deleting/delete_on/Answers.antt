@@ -2,13 +2,12 @@ use Rattle.std.proofs.Common.{[], ◌∷◌, Some, inl, inr, refl, subst, sym, t
 use Rattle.spool_image.specs.LeftOnly.{AllShow}
 use Rattle.spool_image.specs.Spool.{disk_of, size_of}
 use Rattle.spool_image.specs.contracts.spool.SpoolUploads.TheImpl.Laws.{durable-law}
-use Rattle.spool_kept.specs.declared.error.OpenFault.TheVariants.{Damaged, Version}
 use Rattle.upload_rules.specs.World.{at_rest}
 use Rattle.gateway_files.specs.Deleting.{left, stages}
 use Rattle.gateway_files.specs.Leaving.{LastsOver}
 use Rattle.gateway_files.proofs.Deletions.{first_stage}
 use Rattle.gateway_files.proofs.Lasting.{all_show, lasts_over, when_ok}
-use Rattle.gateway_files.proofs.Refusals.{refused_as}
+use Rattle.gateway_files.proofs.Refusals.{is_damaged, other_version}
 use Rattle.gateway_files.proofs.deleting.delete_on.Goals as goal
 
 pub returns-in-Ok-clause-shows : goal.returns-in-Ok-clause-shows
@@ -17,7 +16,7 @@ returns-in-Ok-clause-shows g c n m is ok =
     let m' = left m c.args.numbers.now in
     let stands = when_ok c.delete_uploads-deleted.result _ ok
     (c.delete_uploads-deleted.ensures.stands true (at_rest m (Some n)) (c.in-Ok.ensures.stands n m is)) in
-    subst (λ d. AllShow g.D.Disk d n m') (sym c.into_disk.ensures.same)
+    rw c.into_disk.ensures.same
     (all_show g.D.Disk (disk_of s) (size_of s) n m' (g.met.D.Disk.counts_now (disk_of s))
     (durable-law g.row.D g.D.Disk g.D.Disk-dict
     (record { counts_now = g.met.D.Disk.counts_now; only_now = g.met.D.Disk.only_now }) s
@@ -37,7 +36,7 @@ returns-in-Ok-clause-lasts g c n m is =
     let s = c.delete_uploads-deleted.new.uploads in
     let stores = stages m c.args.numbers.now in
     let stands = c.in-Ok.ensures.stands n m is in
-    inr (subst (λ d. LastsOver g.D.Disk c.args.disk d n m stores) (sym c.into_disk.ensures.same)
+    inr (rw c.into_disk.ensures.same
     (lasts_over g.D.Disk c.args.disk (disk_of opened) (disk_of s) (size_of opened) (size_of s) n m stores
     (g.met.D.Disk.counts_now c.args.disk) (c.in-Ok.ensures.lasts n m is) (c.in-Ok.ensures.shows n m is)
     (first_stage m c.args.numbers.now)
@@ -50,9 +49,7 @@ pub returns-in-Err-clause-lasts : goal.returns-in-Err-clause-lasts
 returns-in-Err-clause-lasts g c n m is = inl (c.in-Err.ensures.lasts n m is)
 
 pub returns-in-Err-clause-version : goal.returns-in-Err-clause-version
-returns-in-Err-clause-version g c honest other =
-    refused_as Version c.in-Err.fault c.from.result c.from.ensures (c.in-Err.ensures.version honest other)
+returns-in-Err-clause-version g c honest is = other_version _ _ c.from.ensures (c.in-Err.ensures.version honest is)
 
 pub returns-in-Err-clause-damaged : goal.returns-in-Err-clause-damaged
-returns-in-Err-clause-damaged g c honest damaged =
-    refused_as Damaged c.in-Err.fault c.from.result c.from.ensures (c.in-Err.ensures.damaged honest damaged)
+returns-in-Err-clause-damaged g c honest is = is_damaged _ _ c.from.ensures (c.in-Err.ensures.damaged honest is)

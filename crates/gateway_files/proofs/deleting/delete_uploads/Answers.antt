@@ -1,7 +1,7 @@
-use Rattle.std.proofs.Common.{◌≡◌, ◌&&◌, Bool, ℕ, List, drop, get_or, ◌∙◌, ◌+◌, refl, subst, sym, true}
+use Rattle.std.proofs.Common.{subst, ◌≡◌, ◌&&◌, Bool, ℕ, List, drop, get_or, ◌∙◌, ◌+◌, refl, true}
 use Rattle.std.proofs.lemmas.List.{drop_all, drop_more}
 use Rattle.upload_rules.specs.World.{World}
-use Rattle.gateway_files.proofs.Deletions.{Halfway, begun, done_all, done_lines, done_stands, further, limits_more}
+use Rattle.gateway_files.proofs.Deletions.{begun, done_all, done_lines, done_stands, further, limits_more}
 use Rattle.gateway_files.proofs.Deletions.{unfailed}
 use Rattle.gateway_files.proofs.deleting.delete_uploads.Goals as goal
 use Rattle.gateway_files.proofs.deleting.delete_uploads.Goals.{then-all, else-all}
@@ -9,15 +9,14 @@ use Rattle.gateway_files.proofs.deleting.delete_uploads.Goals.{then-all, else-al
 pub loop-number-init : goal.loop-number-init
 loop-number-init g c = (
   refl,
-  λ sure w stands. begun g.U.Uploads sure w c.args.numbers.now c.args.uploads.now (g.W.Write.contents c.args.writer.now) stands,
+  λ sure w stands. begun g.U.Uploads sure w c.args.numbers.now c.args.uploads.now
+      (g.W.Write.contents c.args.writer.now) stands,
 )
 
 pub loop-number-preserved : goal.loop-number-preserved
 loop-number-preserved g c =
     let numbers : List ℕ = c.args.numbers.now in
     let i : ℕ = c.loop-number.number-index in
-    let prefix = g.W.Write.contents c.args.writer.now in
-    let held = g.W.Write.contents c.loop-number.writer in
     let both : c.if-all.all ≡ c.loop-number.all && c.in_ok-there.there =
     elim c.if-all.branch [
       | then-all w ↦ rw (w.all-is, w.if-all.true) refl
@@ -25,69 +24,40 @@ loop-number-preserved g c =
     ] in (
       unfailed _ _ _ (λ f. absurd (cc)) c.in_ok-there.ensures.counts ∙ c.loop-number.invariant.0,
       λ sure w stands.
-          let is = subst
-          (λ (rest : List ℕ). Halfway g.U.Uploads sure w c.args.uploads.now c.loop-number.uploads numbers rest prefix held
-          c.loop-number.all)
-          (drop_more numbers i 0 c.loop-number-test.true) (c.loop-number.invariant.1 sure w stands) in
+          let is = rw (drop_more numbers i 0 c.loop-number-test.true) at (c.loop-number.invariant.1 sure w stands) in
           let at : World = record w { store = is.store } in
-          subst
-          (λ (b : Bool). Halfway g.U.Uploads sure w c.args.uploads.now c.delete_one.new.uploads numbers
-          (drop (i + 1) numbers) prefix (g.W.Write.contents c.delete_one.new.writer) b)
-          (sym both)
-          (further g.U.Uploads sure w numbers c.args.uploads.now c.loop-number.uploads c.delete_one.new.uploads
-          (get_or numbers i 0) (drop (i + 1) numbers) prefix held c.loop-number.all is
-          (λ e. c.in_ok-there.ensures.crash at (subst (λ b. g.U.Uploads.stands c.loop-number.uploads b at) e is.stands)) (g.W.Write.contents c.delete_one.new.writer)
+          rw both (further g.U.Uploads sure w numbers c.args.uploads.now c.loop-number.uploads
+          c.delete_one.new.uploads (get_or numbers i 0) (drop (i + 1) numbers) _ _ c.loop-number.all is
+          (λ e. c.in_ok-there.ensures.crash at
+          (subst (λ b. g.U.Uploads.stands c.loop-number.uploads b at) e is.stands))
+          (g.W.Write.contents c.delete_one.new.writer)
           c.in_ok-there.there (c.in_ok-there.ensures.stands sure at is.stands)
           (c.in_ok-there.ensures.there sure at is.stands) c.in_ok-there.ensures.line),
     )
 
 pub returns-in_err-there-clause-crash : goal.returns-in_err-there-clause-crash
 returns-in_err-there-clause-crash g c w stands =
-    let sure = true in
     let numbers : List ℕ = c.args.numbers.now in
     let i : ℕ = c.loop-number.number-index in
-    let prefix = g.W.Write.contents c.args.writer.now in
-    let held = g.W.Write.contents c.loop-number.writer in
-    let is = subst
-    (λ (rest : List ℕ). Halfway g.U.Uploads sure w c.args.uploads.now c.loop-number.uploads numbers rest prefix held
-    c.loop-number.all)
-    (drop_more numbers i 0 c.loop-number-test.true) (c.loop-number.invariant.1 sure w stands) in
+    let is = rw (drop_more numbers i 0 c.loop-number-test.true) at (c.loop-number.invariant.1 true w stands) in
     limits_more g.U.Uploads true w numbers c.args.uploads.now c.loop-number.uploads c.delete_one.new.uploads
-    (get_or numbers i 0) (drop (i + 1) numbers) prefix held c.loop-number.all is
+    (get_or numbers i 0) (drop (i + 1) numbers) _ _ c.loop-number.all is
     (λ e. c.in_err-there.ensures.crash (record w { store = is.store }) is.stands) refl
 
 pub returns-clause-stands : goal.returns-clause-stands
 returns-clause-stands g c sure w stands =
-    let numbers : List ℕ = c.args.numbers.now in
-    let prefix = g.W.Write.contents c.args.writer.now in
-    let held = g.W.Write.contents c.loop-number.writer in
-    done_stands g.U.Uploads sure w numbers c.args.uploads.now c.loop-number.uploads prefix held c.loop-number.all
-    (subst
-    (λ (rest : List ℕ). Halfway g.U.Uploads sure w c.args.uploads.now c.loop-number.uploads numbers rest prefix held
-    c.loop-number.all)
-    (drop_all c.loop-number.number-index numbers c.loop-number-test.false) (c.loop-number.invariant.1 sure w stands))
+    done_stands _ _ _ _ _ _ _ _ _ (rw (drop_all c.loop-number.number-index c.args.numbers.now c.loop-number-test.false)
+    at (c.loop-number.invariant.1 sure w stands))
 
 pub returns-clause-lines : goal.returns-clause-lines
 returns-clause-lines g c sure w stands =
-    let numbers : List ℕ = c.args.numbers.now in
-    let prefix = g.W.Write.contents c.args.writer.now in
-    let held = g.W.Write.contents c.loop-number.writer in
-    done_lines g.U.Uploads sure w numbers c.args.uploads.now c.loop-number.uploads prefix held c.loop-number.all
-    (subst
-    (λ (rest : List ℕ). Halfway g.U.Uploads sure w c.args.uploads.now c.loop-number.uploads numbers rest prefix held
-    c.loop-number.all)
-    (drop_all c.loop-number.number-index numbers c.loop-number-test.false) (c.loop-number.invariant.1 sure w stands))
+    done_lines _ _ _ _ _ _ _ _ _ (rw (drop_all c.loop-number.number-index c.args.numbers.now c.loop-number-test.false)
+    at (c.loop-number.invariant.1 sure w stands))
 
 pub returns-clause-all : goal.returns-clause-all
 returns-clause-all g c sure w stands =
-    let numbers : List ℕ = c.args.numbers.now in
-    let prefix = g.W.Write.contents c.args.writer.now in
-    let held = g.W.Write.contents c.loop-number.writer in
-    done_all g.U.Uploads sure w numbers c.args.uploads.now c.loop-number.uploads prefix held c.loop-number.all
-    (subst
-    (λ (rest : List ℕ). Halfway g.U.Uploads sure w c.args.uploads.now c.loop-number.uploads numbers rest prefix held
-    c.loop-number.all)
-    (drop_all c.loop-number.number-index numbers c.loop-number-test.false) (c.loop-number.invariant.1 sure w stands))
+    done_all _ _ _ _ _ _ _ _ _ (rw (drop_all c.loop-number.number-index c.args.numbers.now c.loop-number-test.false)
+    at (c.loop-number.invariant.1 sure w stands))
 
 pub returns-clause-crash : goal.returns-clause-crash
 returns-clause-crash g c w stands = (c.loop-number.invariant.1 true w stands).limits refl

@@ -22,8 +22,8 @@ returns-in_err-outcome-clause-keeps g c files held =
 
 pub returns-clause-files : goal.returns-clause-files
 returns-clause-files g c w stands files held =
-    subst (λ jobs. g.F.Folder.holds c.loop-job.folder (exported w.store files (map job_shown jobs)))
-    (take_all c.loop-job.job-index c.args.jobs.now c.loop-job-test.false) (c.loop-job.invariant.3 w stands files held)
+    rw (take_all c.loop-job.job-index c.args.jobs.now c.loop-job-test.false)
+    at (c.loop-job.invariant.3 w stands files held)
 
 pub returns-clause-whole : goal.returns-clause-whole
 returns-clause-whole g c w stands files held =
@@ -36,9 +36,6 @@ returns-clause-differs g c w stands files held =
     ∙ ap (λ jobs. some_differ w.store files (map job_shown jobs))
     (take_all c.loop-job.job-index c.args.jobs.now c.loop-job-test.false)
 
-pub returns-clause-keeps : goal.returns-clause-keeps
-returns-clause-keeps g c files held = c.loop-job.invariant.4 files held
-
 pub loop-job-preserved : goal.loop-job-preserved
 loop-job-preserved g c =
     let is = c.loop-job.invariant in (
@@ -46,10 +43,8 @@ loop-job-preserved g c =
       quiet_both _ _ _ _ _ _ is.1 c.in_ok-outcome.ensures.crash,
       λ w stands. c.in_ok-outcome.ensures.stands w (is.2 w stands),
       λ w stands files held.
-          subst (λ now. g.F.Folder.holds c.do_job.new.folder now)
-          (exported_more w.store files c.args.jobs.now c.loop-job.job-index c.job-item.result c.loop-job-test.true
-          c.job-item.is)
-          (c.in_ok-outcome.ensures.files w (is.2 w stands)
+          rw (exported_more w.store files c.args.jobs.now c.loop-job.job-index c.job-item.result c.loop-job-test.true
+          c.job-item.is) at (c.in_ok-outcome.ensures.files w (is.2 w stands)
           (exported w.store files (map job_shown (take c.loop-job.job-index c.args.jobs.now)))
           (is.3 w stands files held)),
       λ files held.

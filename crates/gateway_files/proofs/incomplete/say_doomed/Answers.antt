@@ -13,8 +13,4 @@ loop-number-preserved g c =
 
 pub returns : goal.returns
 returns g c =
-    let numbers = c.args.numbers.now in
-    appends_is (g.W.Write.contents c.args.writer.now) (g.W.Write.contents c.loop-number.writer)
-    (flat_map doomed_line (take c.loop-number.number-index numbers)) (flat_map doomed_line numbers)
-    (ap (λ ys. flat_map doomed_line ys) (take_all c.loop-number.number-index numbers c.loop-number-test.false))
-    c.loop-number.invariant
+    rw (take_all c.loop-number.number-index c.args.numbers.now c.loop-number-test.false) at c.loop-number.invariant

@@ -4,9 +4,8 @@ use Rattle.spool_image.specs.LeftOnly.{AllShow, LeftOrShows}
 use Rattle.spool_image.specs.Spool.{SpoolStands}
 use Rattle.upload_rules.specs.World.{at_rest}
 use Rattle.gateway_files.specs.declared.surveying.Survey.{Survey}
-use Rattle.spool_kept.specs.declared.error.OpenFault.TheVariants.{Damaged, Version}
 use Rattle.gateway_files.proofs.InOrder.{in_order}
-use Rattle.gateway_files.proofs.Refusals.{lists_as, refused_as}
+use Rattle.gateway_files.proofs.Refusals.{lists_as, is_damaged, other_version}
 use Rattle.gateway_files.proofs.listing.list_on.Goals as goal
 
 pub returns-in-Ok-written-clause-lines : goal.returns-in-Ok-written-clause-lines
@@ -16,17 +15,15 @@ returns-in-Ok-written-clause-lines g c n m is =
 
 pub returns-in-Ok-written-clause-shows : goal.returns-in-Ok-written-clause-shows
 returns-in-Ok-written-clause-shows g c n m is ok =
-    subst (λ d. AllShow g.D.Disk d n m) (sym c.into_disk-disk.ensures.same) (c.in-Ok.ensures.shows n m is)
+    rw c.into_disk-disk.ensures.same (c.in-Ok.ensures.shows n m is)
 
 pub returns-in-Ok-written-clause-lasts : goal.returns-in-Ok-written-clause-lasts
 returns-in-Ok-written-clause-lasts g c n m is =
-    subst (λ d. Lasts g.D.Disk c.args.disk d (LeftOrShows g.D.Disk c.args.disk n m)) (sym c.into_disk-disk.ensures.same)
-    (c.in-Ok.ensures.lasts n m is)
+    rw c.into_disk-disk.ensures.same (c.in-Ok.ensures.lasts n m is)
 
 pub returns-in-Err-written-clause-lasts : goal.returns-in-Err-written-clause-lasts
 returns-in-Err-written-clause-lasts g c n m is =
-    subst (λ d. Lasts g.D.Disk c.args.disk d (LeftOrShows g.D.Disk c.args.disk n m)) (sym c.into_disk-disk.ensures.same)
-    (c.in-Ok.ensures.lasts n m is)
+    rw c.into_disk-disk.ensures.same (c.in-Ok.ensures.lasts n m is)
 
 pub returns-in-Err-clause-listed : goal.returns-in-Err-clause-listed
 returns-in-Err-clause-listed g c n m is =
@@ -34,9 +31,7 @@ returns-in-Err-clause-listed g c n m is =
     c.from.ensures (c.in-Err.ensures.stands n m is)
 
 pub returns-in-Err-clause-version : goal.returns-in-Err-clause-version
-returns-in-Err-clause-version g c honest other =
-    refused_as Version c.in-Err.fault c.from.result c.from.ensures (c.in-Err.ensures.version honest other)
+returns-in-Err-clause-version g c honest is = other_version _ _ c.from.ensures (c.in-Err.ensures.version honest is)
 
 pub returns-in-Err-clause-damaged : goal.returns-in-Err-clause-damaged
-returns-in-Err-clause-damaged g c honest damaged =
-    refused_as Damaged c.in-Err.fault c.from.result c.from.ensures (c.in-Err.ensures.damaged honest damaged)
+returns-in-Err-clause-damaged g c honest is = is_damaged _ _ c.from.ensures (c.in-Err.ensures.damaged honest is)

@@ -18,13 +18,7 @@ abbrev other : IndexFile
 other = record { name = no_text; encodings = no_text; standard = 0; entries = None }
 
 pub loop-file-init : goal.loop-file-init
-loop-file-init g c =
-    let files = c.args.files.now in
-    appends_is (g.W.Write.contents c.args.writer.now) (g.W.Write.contents c.writeln.new.self)
-    (codes "index files read: " ++ (decimal c.count_read.result ++ (10 ∷ []))) (head files ++ [])
-    (ap (λ n. codes "index files read: " ++ (decimal n ++ (10 ∷ []))) c.count_read.ensures
-    ∙ sym (append-nil (head files)))
-    c.in_ok-writeln.ensures.bytes
+loop-file-init g c = rw (append-nil, ← c.count_read.ensures) c.in_ok-writeln.ensures.bytes
 
 pub loop-file-preserved : goal.loop-file-preserved
 loop-file-preserved g c =
@@ -34,9 +28,4 @@ loop-file-preserved g c =
     c.in_ok-write.ensures.bytes
 
 pub returns : goal.returns
-returns g c =
-    let files = c.args.files.now in
-    appends_is (g.W.Write.contents c.args.writer.now) (g.W.Write.contents c.loop-file.writer)
-    (head files ++ flat_map file_lines (take c.loop-file.file-index files)) (head files ++ flat_map file_lines files)
-    (ap (λ ys. head files ++ flat_map file_lines ys) (take_all c.loop-file.file-index files c.loop-file-test.false))
-    c.loop-file.invariant
+returns g c = rw (take_all c.loop-file.file-index c.args.files.now c.loop-file-test.false) at c.loop-file.invariant
