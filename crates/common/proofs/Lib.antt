@@ -1,1 +1,3 @@
 pub mod Lives
+pub mod Splits
+mod Numbers

@@ -1,3 +1,5 @@
 pub mod Counts
-pub mod Histories
 pub mod Reading
+pub mod Traces
+pub mod Splits
+pub mod Numbers

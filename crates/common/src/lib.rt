@@ -1,8 +1,13 @@
-//! What several crates build on: why a call stops, the history that clauses read, and the words for counts and reads.
+//! What several crates build on: why a call stops, the sizes and limits, the trace that clauses read, parts of texts,
+//! and the words for counts and reads.
 #![tactic(auto)]
 
-mod history;
+mod limits;
 mod stop;
+mod texts;
+mod trace;
 
-pub use crate::history::History;
+pub use crate::limits::{LEAST_BLOCKS, MOST_BLOCKS, MOST_LENGTH, MOST_METADATA, SLOTS};
 pub use crate::stop::{DiskFault, Stop};
+pub use crate::texts::{after, number, prefix};
+pub use crate::trace::Trace;

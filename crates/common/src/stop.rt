@@ -1,4 +1,4 @@
-//! Why a call can't be done.
+//! Why a call stops.
 ghost use Rattle.std.specs.Prelude.{◌≡◌};
 
 use std::alloc::AllocError;
@@ -16,10 +16,10 @@ impl From<io::Error> for DiskFault {
     }
 }
 
-/// Why a call stops, whatever it was asked: nothing that it was asked for is refused.
+/// Why a call stops that refuses nothing. What stays after it, each call says.
 #[derive(Clone, Copy, Debug, PartialEq, Eq, Drop, Error)]
 pub enum Stop {
-    /// Out of memory, and nothing has changed.
+    /// Out of memory: an allocation failed.
     #[error("out of memory")]
     NoMemory,
     /// A disk fault: the spool has to be opened again.

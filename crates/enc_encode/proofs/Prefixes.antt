@@ -18,7 +18,7 @@ use lib.Utf8.{encode}
 use Rattle.enc_model.specs.declared.Encoding.{Encoding}
 use Rattle.enc_model.specs.declared.Encoding.TheVariants.{Iso2022Jp}
 use Rattle.enc_model.specs.Encode.{Tables, Shift, InAscii, InRoman, InJis, coded, encoder}
-use Rattle.enc_model.proofs.Gathered.{ascii_chars, ascii_utf8}
+use Rattle.enc_model.proofs.Utf8Bytes.{ascii_chars, ascii_utf8}
 use Rattle.enc_encode.specs.declared.error.EncodeError.{EncodeError}
 use Rattle.enc_encode.specs.declared.shift.ShiftState.{ShiftState}
 use Rattle.enc_encode.specs.declared.shift.ShiftState.TheVariants.{Roman, Jis}

@@ -8,7 +8,7 @@ use Rattle.std.proofs.lemmas.List.Elements.{All-head, All-tail}
 use Rattle.std.proofs.lemmas.Str.{chars-nil, chars-append, chars_past_char}
 use Rattle.std.proofs.Math.Seq.{take-append_seam}
 use Rattle.std.specs.Str.{IsUtf8, IsCharBoundary, chars}
-use Rattle.enc_model.proofs.Gathered.{ascii_chars, ascii_utf8}
+use Rattle.enc_model.proofs.Utf8Bytes.{ascii_chars, ascii_utf8}
 use lib.Utf8.{encode}
 use Rattle.enc_model.specs.declared.Encoding.{Encoding}
 use Rattle.enc_model.specs.declared.Mode.{Mode}

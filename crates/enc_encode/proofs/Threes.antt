@@ -4,7 +4,7 @@ use Rattle.std.proofs.Common.{get_or, drop, inl, inr, Option, Some, None, IfSome
 use Rattle.std.proofs.lemmas.Bool.{cases_lt}
 use Rattle.std.specs.Str.{IsUtf8}
 use lib.Utf8.{encode}
-use Rattle.enc_model.proofs.Gathered.{one_byte, two_bytes, three_bytes, four_bytes}
+use Rattle.enc_model.proofs.Utf8Bytes.{one_byte, two_bytes, three_bytes, four_bytes}
 use Rattle.enc_encode.specs.Runs.{FirstGiven}
 use Rattle.enc_encode.proofs.Twos.{begins}
 

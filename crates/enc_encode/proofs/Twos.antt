@@ -4,7 +4,7 @@ use Rattle.std.proofs.Common.{get_or, drop, inl, inr}
 use Rattle.std.proofs.lemmas.Bool.{cases_lt}
 use Rattle.std.specs.Str.{IsUtf8}
 use lib.Utf8.{encode, encodes}
-use Rattle.enc_model.proofs.Gathered.{one_byte, two_bytes, three_bytes, four_bytes}
+use Rattle.enc_model.proofs.Utf8Bytes.{one_byte, two_bytes, three_bytes, four_bytes}
 
 -- a text that isn't empty begins with a character
 pub begins : (b : ℕ) (more : List ℕ) → IsUtf8 (b ∷ more) → (c : ℕ) × (rest : List ℕ) × (b ∷ more ≡ encode c ++ rest)

@@ -4,6 +4,7 @@ pub mod Code
 pub mod State
 pub mod Reasons
 pub mod Sinks
+pub mod CoderSink
 pub mod SinkLaws
 pub mod Singles
 pub mod Runs

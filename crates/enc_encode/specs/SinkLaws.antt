@@ -2,13 +2,14 @@
 use Rattle.std.proofs.Common.{ℕ, ◌≡◌, ◌≤◌, List, ◌++◌, Option, Some, None, refl, ◌∙◌, ap, subst, arith, length}
 use Rattle.std.proofs.Common.{length-append, Vec, vec_capacity}
 use Rattle.std.specs.declared.alloc.Global.{Global}
-use Rattle.enc_model.specs.Sink.{IsSink}
+use Rattle.enc_feed.specs.Sink.{IsSink}
 use Rattle.enc_model.specs.Encode.{Shift, Coded, encoder, joined}
 use Rattle.enc_model.specs.Transcode.{Took, Refused}
 use Rattle.enc_model.specs.Indexes.{tables}
 use Rattle.enc_model.proofs.Coding.{coded_append}
 use Rattle.enc_model.proofs.Steady.{encoder_steady}
-use Rattle.enc_model.proofs.Transcoding.{coder_sink, coded_both}
+use Rattle.enc_model.proofs.Transcoding.{coded_both}
+use Rattle.enc_encode.specs.CoderSink.{coder_sink}
 use Rattle.enc_encode.specs.declared.error.EncodeError.{EncodeError}
 use Rattle.enc_encode.specs.declared.error.EncodeError.TheVariants.{NoMemory}
 use Rattle.enc_encode.specs.Growth.{NoRoom}

@@ -3,11 +3,11 @@ use Rattle.std.proofs.Common.{◌≡◌, ℕ, ◌+◌, ◌-◌, ◌<◌, ◌≤�
 use Rattle.std.proofs.Common.{refl, arith, append_assoc}
 use Rattle.std.proofs.lemmas.Bool.Decides.{nat_tests}
 use Rattle.std.proofs.lemmas.List.{drop_more, drop_all, take_more, take_all, length-drop}
-use Rattle.enc_index.specs.Files.{before, after, without_spaces}
+use Rattle.common.specs.Splits.{before}
+use Rattle.enc_index.specs.Files.{after, without_spaces}
 
 module _ (mark : ℕ) (bytes : List ℕ) (i : ℕ) (h : i < length bytes) where
   pub before_here : get_or bytes i 0 ≡ mark → before mark (drop i bytes) ≡ []
-  unfolding before
   before_here e = rw (drop_more bytes i 0 h) (grind (arith, nat_tests, e))
 
   pub after_here : get_or bytes i 0 ≡ mark → after mark (drop i bytes) ≡ Some (drop (i + 1) bytes)
@@ -16,7 +16,6 @@ module _ (mark : ℕ) (bytes : List ℕ) (i : ℕ) (h : i < length bytes) where
 
   before_next : (get_or bytes i 0 ≡ mark → ⊥) → before mark (drop i bytes) ≡ get_or bytes i 0 ∷ before mark
       (drop (i + 1) bytes)
-  unfolding before
   before_next e = rw (drop_more bytes i 0 h) (grind (arith, nat_tests, e))
 
   pub after_next : (get_or bytes i 0 ≡ mark → ⊥) → after mark (drop i bytes) ≡ after mark (drop (i + 1) bytes)
@@ -28,7 +27,6 @@ module _ (mark : ℕ) (bytes : List ℕ) (i : ℕ) (h : i < length bytes) where
   prefix_next e = rw (before_next e, take_more bytes i 0 h, append_assoc) refl
 
 pub before_end : (mark : ℕ) (bytes : List ℕ) (i : ℕ) → length bytes ≤ i → before mark (drop i bytes) ≡ []
-unfolding before
 before_end mark bytes i h = rw (drop_all i bytes h) refl
 
 pub after_end : (mark : ℕ) (bytes : List ℕ) (i : ℕ) → length bytes ≤ i → after mark (drop i bytes) ≡ None

@@ -1,7 +1,8 @@
 -- The first line of a text, and the lines after it.
 use Rattle.std.proofs.Common.{◌≡◌, ℕ, suc, ◌+◌, ◌<◌, true, false, cond, List, [], ◌∷◌, length, Option, Some, None, Ok}
 use Rattle.std.proofs.Common.{Err, refl, ap, arith, ◌==◌}
-use Rattle.enc_index.specs.Files.{before, after, pieces, onto, without_cr, without_crs, lines_of, with_line}
+use Rattle.common.specs.Splits.{before}
+use Rattle.enc_index.specs.Files.{after, pieces, onto, without_cr, without_crs, lines_of, with_line}
 use Rattle.enc_index.specs.Files.{with_lines}
 use Rattle.enc_model.specs.Index.{Index}
 use Rattle.enc_index.specs.declared.kind.ReadError.{ReadError}
@@ -11,7 +12,7 @@ pieces_after None = []
 pieces_after (Some rest) = pieces rest
 
 pieces_cut : (bytes : List ℕ) → pieces bytes ≡ before 0x0A bytes ∷ pieces_after (after 0x0A bytes)
-unfolding pieces before after
+unfolding pieces after
 pieces_cut [] = refl
 pieces_cut (b ∷ bytes) =
     let rest = pieces_cut bytes in

@@ -5,7 +5,8 @@ use Rattle.enc_index.specs.declared.kind.Kind.TheVariants.{Jis0208, Katakana}
 use Rattle.enc_index.specs.declared.kind.ReadError.TheVariants.{Line, Range, Twice}
 use Rattle.enc_model.specs.Indexes.{IndexSet, no_indexes}
 use Rattle.enc_index.specs.Area.{area_byte, entry_at}
-use Rattle.enc_index.specs.Files.{before, after, pieces, without_crs, onward, without_spaces, pair_of, inserted}
+use Rattle.common.specs.Splits.{before}
+use Rattle.enc_index.specs.Files.{after, pieces, without_crs, onward, without_spaces, pair_of, inserted}
 use Rattle.enc_index.specs.Files.{with_line, with_lines, file_of}
 
 -- a line of two fields, with its LF
@@ -17,7 +18,7 @@ small = codes "# test" ++ 0x0A ∷ 0x0A ∷ [] ++ line (codes "  0") (codes "0x3
     (codes "FF0D") ++ line (codes "61") (codes "FF0D")
 
 accepted : file_of Jis0208 small ≡ Ok ((0, 0x3000) ∷ (60, 0xFF0D) ∷ (61, 0xFF0D) ∷ [])
-unfolding line small before after pieces without_crs onward without_spaces pair_of code inserted with_line with_lines
+unfolding line small after pieces without_crs onward without_spaces pair_of code inserted with_line with_lines
     file_of
 accepted = refl
 
@@ -34,14 +35,14 @@ refused : (file_of Jis0208 (small ++ line (codes "60") (codes "3001")) ≡ Err (
     × (file_of Jis0208 (codes "x") ≡ Err (Line 1))
     × (file_of Jis0208 (line (codes "0000001") (codes "3001")) ≡ Err (Line 1))
     × (file_of Jis0208 (line (codes "0") (codes "0x")) ≡ Err (Line 1))
-unfolding line small before after pieces without_crs onward without_spaces pair_of code inserted with_line with_lines
+unfolding line small after pieces without_crs onward without_spaces pair_of code inserted with_line with_lines
     file_of
 refused = (refl, refl, refl, refl, refl, refl, refl)
 
 -- CR LF, pointers out of order, and a third field
 crlf : file_of Katakana (codes "2" ++ 0x09 ∷ codes "30f2" ++ 0x09 ∷ codes "x" ++ 0x0D ∷ 0x0A ∷ 0x0D ∷ 0x0A ∷ codes
     "0" ++ 0x09 ∷ codes "3002" ++ 0x0D ∷ 0x0A ∷ []) ≡ Ok ((0, 0x3002) ∷ (2, 0x30F2) ∷ [])
-unfolding line before after pieces without_crs onward without_spaces pair_of code inserted with_line with_lines file_of
+unfolding line after pieces without_crs onward without_spaces pair_of code inserted with_line with_lines file_of
 crlf = refl
 
 -- AREAS

@@ -2,6 +2,7 @@
 use Rattle.std.specs.Prelude.{ℕ, ◌+◌, ◌-◌, ◌*◌, Bool, true, ◌&&◌, List, [], ◌∷◌, Option, Some, None, Result, Ok, Err}
 use Rattle.std.specs.Prelude.{length, drop, take, slice_index, ◌==◌, nat_lt, nat_le, if◌then◌else◌}
 use Rattle.std.specs.Char.{digit_value}
+use Rattle.common.specs.Splits.{before}
 use Rattle.enc_model.specs.Index.{Index, code}
 use Rattle.enc_model.specs.Decode.{begins}
 use Rattle.enc_index.specs.Scalars.{is_scalar}
@@ -17,12 +18,7 @@ pointers_of Jis0212 = 8836
 pointers_of Katakana = 63
 pointers_of (Single e) = 128
 
--- The bytes before the first mark.
-unfoldable pub before : ℕ → List ℕ → List ℕ
-before mark [] = []
-before mark (b ∷ bytes) = if b == mark then [] else b ∷ before mark bytes
-
--- The bytes after the first mark.
+-- The bytes after the first mark; none where there is no mark.
 unfoldable pub after : ℕ → List ℕ → Option (List ℕ)
 after mark [] = None
 after mark (b ∷ bytes) = if b == mark then Some bytes else after mark bytes

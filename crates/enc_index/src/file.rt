@@ -3,7 +3,8 @@
 ghost use Rattle.std.specs.Prelude.{◌≡◌, ◌+◌, ◌<◌, ◌≤◌, ◌^◌, length, ◌∷◌, IfSome, Option, Some, Ok, Err};
 ghost use Rattle.std.specs.Prelude.{MatchResult, option_copied};
 ghost use Rattle.enc_index.specs.Entries.{pairs_from, AreScalars};
-ghost use Rattle.enc_index.specs.Files.{lines_after, before, after, without_cr, is_dropped, number, without_spaces};
+ghost use Rattle.common.specs.Splits.{before};
+ghost use Rattle.enc_index.specs.Files.{lines_after, after, without_cr, is_dropped, number, without_spaces};
 ghost use Rattle.enc_index.specs.Files.{without_0x, pair_of, with_pair, with_line, with_lines, lines_of};
 
 use crate::kind::ReadError;

@@ -10,10 +10,10 @@ use Rattle.enc_model.specs.declared.Answer.TheVariants.{Point}
 use Rattle.enc_model.specs.declared.Encoding.{Encoding}
 use Rattle.enc_model.specs.Index.{Index}
 use Rattle.enc_model.specs.Encode.{Tables}
-use Rattle.enc_model.specs.AsciiPrefix.{IsAsciiPrefix}
+use Rattle.enc_feed.specs.AsciiPrefix.{IsAsciiPrefix}
 use Rattle.enc_model.specs.Japanese.{shift_jis, euc_jp, euc_jp_start, EucJp}
 use Rattle.enc_model.proofs.Calm.{shift_jis_calm, euc_jp_calm}
-use Rattle.enc_model.proofs.Prefixes.{prefix_ascii}
+use Rattle.enc_feed.proofs.Prefixes.{prefix_ascii}
 use Rattle.enc_legacy.specs.EucJpState.{IsEucJpState}
 use Rattle.enc_legacy.specs.Singles.{single_in}
 use Rattle.enc_legacy.specs.SinglesCalm.{single_in_calm}

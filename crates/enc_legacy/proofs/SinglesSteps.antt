@@ -10,10 +10,10 @@ use Rattle.enc_model.specs.Encode.{Tables}
 use Rattle.std.specs.Prelude.{unwrap_or}
 use Rattle.std.proofs.lemmas.List.Elements.{All-head, All-tail, All-from_get_or}
 use Rattle.enc_model.specs.declared.Answer.TheVariants.{Point}
-use Rattle.enc_model.specs.Batches.{BatchTook}
+use Rattle.enc_feed.specs.Batches.{BatchTook}
 use Rattle.enc_model.specs.Index.{Index, code}
 use Rattle.enc_model.specs.Stream.{Run, said, after, steps, steps_within, all_bytes, byte_of}
-use Rattle.enc_model.proofs.Gathered.{from_nothing}
+use Rattle.enc_feed.proofs.Gathered.{from_nothing}
 use Rattle.enc_model.proofs.Steps.{steps_bytes}
 use Rattle.enc_index.specs.Bytes.{byte_char}
 use Rattle.enc_model.specs.Japanese.{single, answer_of}

@@ -17,8 +17,8 @@ use Rattle.enc_model.specs.Stream.{Handler, IsCalm, steps}
 use Rattle.enc_model.specs.Japanese.{shift_jis, shift_jis_pair, EucJp, euc_jp, euc_jp_start, euc_jp_pair, iso2022}
 use Rattle.enc_model.specs.Japanese.{Iso2022}
 use Rattle.enc_model.proofs.Calm.{shift_jis_calm, euc_jp_calm, iso2022_calm}
-use Rattle.enc_model.specs.Batches.{ArePairs, BatchTook}
-use Rattle.enc_model.specs.BatchLaws.{batch_sink}
+use Rattle.enc_feed.specs.Batches.{ArePairs, BatchTook}
+use Rattle.enc_feed.specs.BatchLaws.{batch_sink}
 use Rattle.enc_model.proofs.Steps.{steps_none, steps_one, steps_bytes, steps_run, steps_append}
 use Rattle.enc_legacy.specs.ShiftJis.{IsShiftJisLead, IsShiftJisPair}
 use Rattle.enc_legacy.specs.EucJpState.{IsRow, IsEucJpPair}

@@ -3,7 +3,7 @@
 ghost use Rattle.std.specs.Prelude.{◌≡◌, OnOk, false, true, []};
 ghost use Rattle.enc_legacy.specs.EucJpState.{IsEucJpPair, IsEucJpState};
 ghost use Rattle.enc_model.specs.Stream.{steps};
-ghost use Rattle.enc_model.specs.Sink.{Given};
+ghost use Rattle.enc_feed.specs.Sink.{Given};
 ghost use Rattle.enc_model.specs.Japanese.{EucJp, euc_jp, euc_jp_start, euc_jp_pair};
 ghost use Rattle.enc_model.specs.Indexes.{tables};
 ghost use Rattle.enc_model.proofs.Calm.{euc_jp_calm};
@@ -13,9 +13,8 @@ use crate::kana::{half_width, pair_answer};
 use crate::pairs::{ready_rows, row_char};
 use crate::stride::{PairDecoder, Strider, decode_strides, read_run};
 use enc_index::{IndexSet, Kind};
-use enc_model::{
-    Answer, Batch, BlockDecoder, Decoder, PairReader, Restored, Sink, Utf8Char, feed, finish,
-};
+use enc_feed::{Batch, BlockDecoder, Decoder, PairReader, Sink, feed, finish};
+use enc_model::{Answer, Restored, Utf8Char};
 use lane_kernels::{ascii_front, ascii_lanes};
 use std::marker::Model;
 
@@ -115,7 +114,7 @@ impl PairReader for EucJpState {
 
 impl PairDecoder for EucJpState {
     #[inline(always)]
-    #[tactic(auto, using(enc_model::proofs::Prefixes::prefix_none, crate::proofs::Prefixes::euc_front))]
+    #[tactic(auto, using(enc_feed::proofs::Prefixes::prefix_none, crate::proofs::Prefixes::euc_front))]
     fn ascii(&self, _indexes: &IndexSet, bytes: &[u8]) -> usize {
         if self.lead == 0 {
             ascii_front(bytes)
@@ -125,7 +124,7 @@ impl PairDecoder for EucJpState {
     }
 
     #[inline(always)]
-    #[tactic(auto, using(enc_model::proofs::Prefixes::prefix_none, crate::proofs::Prefixes::euc_front))]
+    #[tactic(auto, using(enc_feed::proofs::Prefixes::prefix_none, crate::proofs::Prefixes::euc_front))]
     fn ascii_lanes(&self, _indexes: &IndexSet, bytes: &[u8]) -> usize {
         if self.lead == 0 {
             ascii_lanes(bytes)

@@ -2,11 +2,11 @@
 
 ghost use Rattle.std.specs.Prelude.{◌≡◌, OnOk, ◌+◌, ◌*◌, true, ◌≤◌, false, [], length, take};
 ghost use Rattle.enc_legacy.specs.Iso2022State.{IsStand, IsIso2022Pair};
-ghost use Rattle.enc_model.specs.Batches.{BatchTook};
+ghost use Rattle.enc_feed.specs.Batches.{BatchTook};
 ghost use Rattle.enc_model.specs.declared.Charset.TheVariants.{Ascii, Lead};
 ghost use Rattle.enc_model.specs.declared.Place.TheVariants.{In};
 ghost use Rattle.enc_model.specs.Stream.{restored_bytes, steps};
-ghost use Rattle.enc_model.specs.Sink.{Given};
+ghost use Rattle.enc_feed.specs.Sink.{Given};
 ghost use Rattle.enc_model.specs.Japanese.{Iso2022, iso2022, iso2022_start, iso2022_answer, iso2022_byte, iso2022_end};
 ghost use Rattle.enc_model.specs.Japanese.{iso2022_plain, escape_of, introducer_byte};
 ghost use Rattle.enc_model.proofs.Calm.{iso2022_calm};
@@ -17,10 +17,8 @@ use crate::kana::{answer_for, half_width};
 use crate::pairs::{ready_rows, row_char};
 use crate::stride::{Strider, decode_strides};
 use enc_index::{IndexSet, Kind};
-use enc_model::{
-    Answer, Batch, BlockDecoder, Charset, Decoder, Introducer, PairReader, Place, ROOM, Restored,
-    Sink, Utf8Char, decode_each, feed, finish,
-};
+use enc_feed::{Batch, BlockDecoder, Decoder, PairReader, ROOM, Sink, decode_each, feed, finish};
+use enc_model::{Answer, Charset, Introducer, Place, Restored, Utf8Char};
 use lane_kernels::plain_front_2022;
 use std::marker::Model;
 
@@ -331,7 +329,7 @@ impl Strider for Iso2022State {
 }
 
 impl BlockDecoder for Iso2022State {
-    #[tactic(auto, using(enc_model::proofs::Prefixes::prefix_none))]
+    #[tactic(auto, using(enc_feed::proofs::Prefixes::prefix_none))]
     fn prefix(&self, _indexes: &IndexSet, _bytes: &[u8]) -> usize {
         0
     }

@@ -4,7 +4,7 @@ ghost use Rattle.std.specs.Prelude.{◌≡◌, OnOk, IfSome, true, false, ◌<�
 ghost use Rattle.enc_legacy.specs.ShiftJis.{IsShiftJisLead, IsShiftJisPair, IsShiftJisState};
 ghost use Rattle.enc_model.specs.Index.{Index, code};
 ghost use Rattle.enc_model.specs.Stream.{steps};
-ghost use Rattle.enc_model.specs.Sink.{Given};
+ghost use Rattle.enc_feed.specs.Sink.{Given};
 ghost use Rattle.enc_model.specs.Japanese.{shift_jis, shift_jis_at, shift_jis_pair};
 ghost use Rattle.enc_model.specs.Indexes.{tables};
 ghost use Rattle.enc_model.proofs.Calm.{shift_jis_calm};
@@ -14,9 +14,8 @@ use crate::pairs::{NO_PAIR, TRAILS, ready_rows, row_char};
 use crate::sjis_bytes::PAIRS;
 use crate::stride::{PairDecoder, Strider, decode_strides, read_run};
 use enc_index::{IndexSet, Kind};
-use enc_model::{
-    Answer, Batch, BlockDecoder, Decoder, PairReader, Restored, Sink, Utf8Char, feed, finish,
-};
+use enc_feed::{Batch, BlockDecoder, Decoder, PairReader, Sink, feed, finish};
+use enc_model::{Answer, Restored, Utf8Char};
 use lane_kernels::{ascii_front, ascii_lanes};
 use std::marker::Model;
 
@@ -120,7 +119,7 @@ impl PairReader for ShiftJisState {
 
 impl PairDecoder for ShiftJisState {
     #[inline(always)]
-    #[tactic(auto, using(enc_model::proofs::Prefixes::prefix_none, crate::proofs::Prefixes::sjis_front))]
+    #[tactic(auto, using(enc_feed::proofs::Prefixes::prefix_none, crate::proofs::Prefixes::sjis_front))]
     fn ascii(&self, _indexes: &IndexSet, bytes: &[u8]) -> usize {
         if self.lead == 0 {
             ascii_front(bytes)
@@ -130,7 +129,7 @@ impl PairDecoder for ShiftJisState {
     }
 
     #[inline(always)]
-    #[tactic(auto, using(enc_model::proofs::Prefixes::prefix_none, crate::proofs::Prefixes::sjis_front))]
+    #[tactic(auto, using(enc_feed::proofs::Prefixes::prefix_none, crate::proofs::Prefixes::sjis_front))]
     fn ascii_lanes(&self, _indexes: &IndexSet, bytes: &[u8]) -> usize {
         if self.lead == 0 {
             ascii_lanes(bytes)

@@ -4,7 +4,7 @@ ghost use Rattle.std.specs.Prelude.{◌≡◌, ◌<◌, ◌≤◌, ℕ, OnOk, If
 ghost use Rattle.std.specs.Prelude.{length, take, slice_index};
 ghost use Rattle.enc_index.specs.Bytes.{byte_char};
 ghost use Rattle.enc_model.specs.Stream.{steps};
-ghost use Rattle.enc_model.specs.Sink.{Given};
+ghost use Rattle.enc_feed.specs.Sink.{Given};
 ghost use Rattle.enc_model.specs.Japanese.{single};
 ghost use Rattle.enc_model.specs.Indexes.{tables};
 ghost use Rattle.enc_legacy.specs.Singles.{single_in, single_start};
@@ -12,9 +12,8 @@ ghost use Rattle.enc_legacy.specs.SinglesCalm.{single_in_calm};
 
 use crate::kana::answer_for;
 use enc_index::{IndexSet, Kind};
-use enc_model::{
-    Answer, Batch, Decoder, Encoding, ROOM, Restored, Sink, Utf8Char, feed_each, finish,
-};
+use enc_feed::{Batch, Decoder, ROOM, Sink, feed_each, finish};
+use enc_model::{Answer, Encoding, Restored, Utf8Char};
 use lane_kernels::{AsciiLanes, ascii_front};
 use std::marker::Model;
 

@@ -3,11 +3,12 @@
 ghost use Rattle.std.specs.Prelude.{◌≡◌, ◌≤◌, ◌<◌, ◌+◌, ◌*◌, ◌∷◌, [], ℕ, false, length, take, IfSome, List, Option};
 ghost use Rattle.std.specs.Prelude.{All, slice_index};
 ghost use Rattle.std.specs.Bool.{OnTrue, OnFalse};
-ghost use Rattle.enc_model.specs.Batches.{BatchTook};
-ghost use Rattle.enc_model.specs.AsciiPrefix.{IsAsciiPrefix};
+ghost use Rattle.enc_feed.specs.Batches.{BatchTook};
+ghost use Rattle.enc_feed.specs.AsciiPrefix.{IsAsciiPrefix};
 ghost use Rattle.enc_model.specs.Stream.{steps};
 
-use enc_model::{Batch, Decoder, LANES, PairReader, ROOM, Utf8Char, decode_each};
+use enc_feed::{Batch, Decoder, LANES, PairReader, ROOM, decode_each};
+use enc_model::Utf8Char;
 
 /// A decoder that reads some bytes at once: a run, the bytes of a character, or one byte.
 pub trait Strider: Decoder {

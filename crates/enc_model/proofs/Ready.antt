@@ -4,7 +4,7 @@ use Rattle.std.specs.Char.{IsScalar}
 use Rattle.std.specs.Str.{chars}
 use lib.Utf8.{encode}
 use Rattle.enc_model.specs.Utf8Chars.{IsUtf8Char, char_in}
-use Rattle.enc_model.proofs.Gathered.{one_char, one_byte, two_bytes, three_bytes, four_bytes}
+use Rattle.enc_model.proofs.Utf8Bytes.{one_char, one_byte, two_bytes, three_bytes, four_bytes}
 
 ready : (c : ℕ) (bytes : List ℕ) (len : ℕ) → IsScalar c → len ≤ 4 → take len bytes ≡ encode c
     → (c ≡ char_in bytes len) × IsUtf8Char bytes len

@@ -5,11 +5,6 @@ pub mod Utf16
 pub mod Japanese
 pub mod Encode
 pub mod Decode
-pub mod Sink
-pub mod AsciiPrefix
 pub mod Utf8Chars
-pub mod Batches
-pub mod BatchLaws
 pub mod Transcode
 pub mod Indexes
-pub mod Prefix

@@ -1,18 +1,9 @@
-//! The Encoding Standard's encodings, decoders and encoders as definitions, and the code that runs a decoder over
-//! pieces.
+//! The Encoding Standard's encodings, decoders and encoders as definitions. What runs is in the crates above.
 #![tactic(auto)]
 
-mod batch;
-mod decoder;
 mod laws;
 mod utf8_char;
 
-ghost use Rattle.std.specs.Prelude.{ℕ, ◌<◌, List, [], ◌∷◌, All};
-ghost use Rattle.std.specs.Str.{chars};
-ghost use Rattle.enc_model.specs.Sink.{Given, IsSink};
-
-pub use batch::{AsciiFinder, BLOCK, Batch, LANES, PairReader, ROOM};
-pub use decoder::{BlockDecoder, Decoder, decode_each, feed, feed_each, finish};
 pub use laws::{in_any_cut, restored_first, text_grows, with_a_bom};
 pub use utf8_char::Utf8Char;
 
@@ -68,39 +59,6 @@ pub enum Restored {
     Zero,
     One(u8),
     Two(u8, u8),
-}
-
-/// A taker of decoded text.
-pub trait Sink {
-    /// Why it takes no more.
-    type Refusal;
-
-    // From the first state it takes these scalars and comes to the second.
-    ghost takes: { Self → List ℕ → Self → Type 0 };
-
-    // From the first state it refuses some of these scalars for this reason and comes to the second.
-    ghost refuses: { Self → List ℕ → Self.Refusal → Self → Type 0 };
-
-    /// Takes a character.
-    fn put(&mut self, c: char) -> Result<(), Self::Refusal>
-        ensures { Given takes refuses self.old (c ∷ []) self.new result };
-
-    /// Takes a run of ASCII.
-    fn ascii(&mut self, run: &[u8]) -> Result<(), Self::Refusal>
-        requires { All (λ b. b < 128) run.now }
-        ensures { Given takes refuses self.old run.now self.new result };
-
-    /// Takes a text. By default it takes the characters one by one.
-    fn text(&mut self, run: &str) -> Result<(), Self::Refusal>
-        ensures { Given takes refuses self.old (chars run.now) self.new result }
-    {
-        for c in run.chars() {
-            self.put(c)?;
-        }
-        Ok(())
-    }
-
-    ghost is_sink: { IsSink takes refuses };
 }
 
 /// A character set of ISO-2022-JP (Encoding Standard, section 12.2.1).

@@ -63,7 +63,7 @@ impl Utf8Char {
 
     /// Four bytes, and how many of them are the character's.
     #[inline(always)]
-    pub(crate) fn parts(&self) -> ([u8; 4], u8)
+    pub fn parts(&self) -> ([u8; 4], u8)
         ensures code { take result.1 result.0 ≡ encode_utf8 self.now }
         ensures scalar { IsScalar self.now }
         ensures few { result.1 ≤ 4 }

@@ -3,7 +3,7 @@
 ghost use Rattle.std.specs.Prelude.{◌≡◌, OnOk, IfSome, MatchOption, true, false, []};
 ghost use Rattle.enc_model.specs.Decode.{Decoding, decoding, decoding_start};
 ghost use Rattle.enc_model.specs.Indexes.{tables};
-ghost use Rattle.enc_model.specs.Sink.{Given};
+ghost use Rattle.enc_feed.specs.Sink.{Given};
 ghost use Rattle.enc_stream.specs.AnyDecoder.{decoding_of};
 ghost use Rattle.enc_stream.specs.StateBytes.{IsOwn, IsReached, encoding_of, decoder_bytes, padded};
 
@@ -13,7 +13,8 @@ use crate::states::{
 };
 use enc_index::IndexSet;
 use enc_legacy::{EucJpState, Iso2022State, ShiftJisState, SingleState};
-use enc_model::{Encoding, Sink};
+use enc_feed::Sink;
+use enc_model::Encoding;
 use enc_unicode::{Order, Utf8State, Utf16State};
 
 /// A decoder's state, with its encoding.

@@ -3,7 +3,7 @@
 ghost use Rattle.std.specs.Prelude.{◌≡◌, ◌++◌, ◌↔◌, IfOk, IsTrue, false};
 ghost use Rattle.enc_model.specs.Decode.{decoding, decoding_start};
 ghost use Rattle.enc_model.specs.Indexes.{tables};
-ghost use Rattle.enc_model.specs.Sink.{Given};
+ghost use Rattle.enc_feed.specs.Sink.{Given};
 ghost use Rattle.enc_model.specs.Transcode.{Before, fed, fed_end};
 ghost use Rattle.enc_stream.specs.AnyDecoder.{decoding_of};
 ghost use Rattle.enc_stream.specs.Sniff.{held_bytes, Sniffs};
@@ -15,7 +15,8 @@ use crate::numbers::{encoding_at, number_of_encoding};
 use crate::progress::Progress;
 use crate::sniff::{Held, Sniffed, bytes_of, held_at, held_packed, sniff};
 use enc_index::IndexSet;
-use enc_model::{Encoding, Sink};
+use enc_feed::Sink;
+use enc_model::Encoding;
 
 /// The stage of a transcoder.
 #[derive(Drop)]

@@ -4,16 +4,16 @@ use Rattle.std.proofs.Common.{subst, take, drop, get_or, length, arith}
 use Rattle.std.proofs.lemmas.Bool.Decides.{nat_tests}
 use Rattle.std.proofs.lemmas.List.{take_rest}
 use Rattle.std.proofs.Math.Seq.{drop-cons}
-use Rattle.enc_model.specs.Batches.{BatchTook, BatchRefused}
-use Rattle.enc_model.specs.BatchLaws.{batch_sink}
+use Rattle.enc_feed.specs.Batches.{BatchTook, BatchRefused}
+use Rattle.enc_feed.specs.BatchLaws.{batch_sink}
 use Rattle.enc_model.specs.Stream.{Run, steps}
 use Rattle.enc_model.specs.Utf8.{Utf8, utf8, utf8_start}
 use Rattle.enc_model.specs.declared.Answer.TheVariants.{Error}
-use Rattle.enc_model.specs.declared.batch.Full.{Full}
+use Rattle.enc_feed.specs.declared.batch.Full.{Full}
 use Rattle.enc_model.proofs.Calm.{utf8_calm}
-use Rattle.enc_model.proofs.Feeding.{feed_begins}
-use Rattle.enc_model.proofs.Gathered.{ascii_chars, ascii_utf8}
-use Rattle.enc_model.proofs.Parts.{part_taken, part_state}
+use Rattle.enc_feed.proofs.Feeding.{feed_begins}
+use Rattle.enc_model.proofs.Utf8Bytes.{ascii_chars, ascii_utf8}
+use Rattle.enc_feed.proofs.Parts.{part_taken, part_state}
 use Rattle.enc_model.proofs.Steps.{steps_none, steps_one}
 use Rattle.enc_model.proofs.Texts.{utf8_text}
 use Rattle.enc_unicode.specs.Looks.{begins_none}

@@ -12,7 +12,7 @@ use Rattle.std.proofs.Math.Seq.{take-append-add}
 use Rattle.std.specs.List.{range_with_len}
 use lib.Lanes.{Each1, all_below, mask_l, put_chunk}
 use lib.Utf8.{encode, encodes}
-use Rattle.enc_model.proofs.Gathered.{one_byte, two_bytes, three_bytes}
+use Rattle.enc_model.proofs.Utf8Bytes.{one_byte, two_bytes, three_bytes}
 use Rattle.enc_unicode.specs.Packing.{word, word_bytes, size, sizes, places, row_of}
 use Rattle.enc_unicode.specs.declared.packs.TheConstants.{PACKS}
 

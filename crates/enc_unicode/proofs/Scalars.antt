@@ -8,7 +8,7 @@ use Rattle.std.specs.Bool.{OnTrue}
 use Rattle.std.proofs.lemmas.Bool.{true≢false}
 use Rattle.std.proofs.lemmas.Bool.Decides.{nat_tests}
 use Rattle.std.specs.Str.{chars}
-use Rattle.enc_model.specs.Batches.{BatchTook}
+use Rattle.enc_feed.specs.Batches.{BatchTook}
 use Rattle.lane_kernels.specs.Units.{is_lead, is_scalar_unit, is_trail, lead_of}
 use Rattle.lane_kernels.specs.Steps.{scalar_text, scalars_of, unit_scalar}
 

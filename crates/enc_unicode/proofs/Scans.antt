@@ -10,8 +10,8 @@ use Rattle.std.specs.Char.{IsScalar, is_ascii}
 use Rattle.std.specs.List.{prefix_len}
 use Rattle.std.specs.Str.{IsUtf8}
 use Rattle.enc_model.specs.Index.{within}
-use Rattle.enc_model.proofs.Prefixes.{prefix_all}
-use Rattle.enc_model.proofs.Gathered.{ascii_utf8, two_bytes, three_bytes}
+use Rattle.enc_feed.proofs.Prefixes.{prefix_all}
+use Rattle.enc_model.proofs.Utf8Bytes.{ascii_utf8, two_bytes, three_bytes}
 
 low_scalar : (c : ℕ) → c < 0xD800 → IsScalar c
 low_scalar c l = grind (arith, nat_tests)

@@ -18,7 +18,7 @@ use Rattle.enc_model.specs.Index.{within}
 use Rattle.enc_model.specs.Stream.{after, steps}
 use Rattle.enc_model.specs.Utf16.{utf16, utf16_start}
 use Rattle.enc_model.proofs.Calm.{utf16_calm}
-use Rattle.enc_model.proofs.Gathered.{ascii_utf8, ascii_chars}
+use Rattle.enc_model.proofs.Utf8Bytes.{ascii_utf8, ascii_chars}
 use Rattle.enc_model.proofs.Steps.{steps_append}
 use Rattle.lane_kernels.specs.Units.{ArePaired, is_lead, is_scalar_unit, is_trail, lead_of, units_of}
 use Rattle.lane_kernels.proofs.Made.{length-units_of, none_left}

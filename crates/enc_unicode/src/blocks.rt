@@ -2,14 +2,14 @@
 
 ghost use Rattle.std.specs.Prelude.{◌≡◌, ◌<◌, ◌≤◌, ◌+◌, ◌*◌, false, length, take};
 ghost use Rattle.std.specs.Bool.{OnTrue, OnFalse};
-ghost use Rattle.enc_model.specs.Batches.{BatchTook};
+ghost use Rattle.enc_feed.specs.Batches.{BatchTook};
 ghost use Rattle.enc_model.specs.Stream.{steps};
 ghost use Rattle.enc_model.specs.Utf16.{utf16};
 ghost use Rattle.lane_kernels.specs.Orders.{is_big};
 ghost use Rattle.lane_kernels.specs.Steps.{scalar_text, scalars_of, step_text, unit_scalar};
 ghost use Rattle.lane_kernels.specs.Units.{IsCarried};
 
-use enc_model::{Batch, ROOM};
+use enc_feed::{Batch, ROOM};
 use lane_kernels::{Order, Pairing, Step, lead_in, paired, paired_units_decode};
 
 /// How many bytes are decoded at once.

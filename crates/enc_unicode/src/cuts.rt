@@ -1,12 +1,12 @@
 //! Characters that are cut short by a byte that can't continue them.
 
 ghost use Rattle.std.specs.Prelude.{◌≡◌, ◌+◌, ◌*◌, ◌<◌, ◌≤◌, ◌∷◌, [], ℕ, List, false, length, slice_index, true};
-ghost use Rattle.enc_model.specs.Batches.{BatchTook};
+ghost use Rattle.enc_feed.specs.Batches.{BatchTook};
 ghost use Rattle.enc_model.specs.Index.{within};
 ghost use Rattle.enc_unicode.specs.Cuts.{AreCut, IsLead};
 
 use crate::well_formed::follows;
-use enc_model::{Batch, ROOM};
+use enc_feed::{Batch, ROOM};
 
 /// How many continuation bytes these begin with, at most `most`.
 #[inline(always)]

@@ -1,12 +1,12 @@
 //! Short runs in faulty text: bytes that begin no character, and a little ASCII.
 
 ghost use Rattle.std.specs.Prelude.{◌≡◌, ◌+◌, ◌*◌, ◌<◌, ◌≤◌, false, length, take};
-ghost use Rattle.enc_model.specs.Batches.{BatchTook};
+ghost use Rattle.enc_feed.specs.Batches.{BatchTook};
 ghost use Rattle.enc_model.specs.Stream.{steps};
 ghost use Rattle.enc_model.specs.Utf8.{utf8, utf8_start};
 ghost use Rattle.enc_unicode.specs.Looks.{begins_none};
 
-use enc_model::{Batch, LANES, ROOM};
+use enc_feed::{Batch, LANES, ROOM};
 use lane_kernels::ascii_lanes;
 
 /// The most ASCII that is stored here: more is read faster as a text.

@@ -7,13 +7,14 @@ ghost use Rattle.enc_unicode.specs.Utf16State.{InOrder};
 ghost use Rattle.lane_kernels.specs.Orders.{is_big};
 ghost use Rattle.lane_kernels.specs.Units.{IsCarried};
 ghost use Rattle.enc_model.specs.Stream.{restored_bytes, steps};
-ghost use Rattle.enc_model.specs.Sink.{Given};
+ghost use Rattle.enc_feed.specs.Sink.{Given};
 ghost use Rattle.enc_model.specs.Utf16.{Utf16, utf16, utf16_start, utf16_unit, utf16_end};
 ghost use Rattle.enc_model.proofs.Calm.{utf16_calm};
 
 use crate::blocks::decode_block;
 use crate::runs::{CODE, write_text};
-use enc_model::{Answer, BLOCK, Batch, BlockDecoder, Decoder, Restored, Sink, feed, finish};
+use enc_feed::{BLOCK, Batch, BlockDecoder, Decoder, Sink, feed, finish};
+use enc_model::{Answer, Restored};
 use lane_kernels::{Order, Pairing, paired, unit_in};
 use std::marker::Model;
 use std::str::from_utf8_unchecked;
@@ -122,7 +123,7 @@ impl Decoder for Units {
 }
 
 impl BlockDecoder for Units {
-    #[tactic(auto, using(enc_model::proofs::Prefixes::prefix_none))]
+    #[tactic(auto, using(enc_feed::proofs::Prefixes::prefix_none))]
     fn prefix(&self, _order: &Order, _bytes: &[u8]) -> usize {
         0
     }

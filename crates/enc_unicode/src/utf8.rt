@@ -4,8 +4,8 @@ ghost use Rattle.std.specs.Prelude.{◌≡◌, ◌≢◌, IfSome, IfNone, IfOk, 
 ghost use Rattle.std.specs.Prelude.{◌∷◌, length, take, Some};
 ghost use Rattle.enc_unicode.specs.Utf8State.{IsUtf8State, IsAfter, utf8_after};
 ghost use Rattle.enc_model.specs.Stream.{steps};
-ghost use Rattle.enc_model.specs.Sink.{Given};
-ghost use Rattle.enc_model.specs.Batches.{BatchTook};
+ghost use Rattle.enc_feed.specs.Sink.{Given};
+ghost use Rattle.enc_feed.specs.Batches.{BatchTook};
 ghost use Rattle.enc_model.specs.Index.{within};
 ghost use Rattle.enc_model.specs.Utf8.{Utf8, utf8, utf8_start, utf8_first, utf8_next};
 ghost use Rattle.enc_unicode.specs.Nowhere.{nowhere_sink};
@@ -14,7 +14,8 @@ ghost use Rattle.enc_model.proofs.Calm.{utf8_calm};
 use crate::cuts::{push_cuts, trail_len};
 use crate::faults::push_few;
 use crate::well_formed::{Look, text_before_fault, text_found};
-use enc_model::{Answer, BLOCK, Batch, Decoder, ROOM, Restored, Sink, decode_each, finish};
+use enc_feed::{BLOCK, Batch, Decoder, ROOM, Sink, decode_each, finish};
+use enc_model::{Answer, Restored};
 use std::convert::Infallible;
 use std::marker::Model;
 

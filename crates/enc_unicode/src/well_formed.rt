@@ -6,7 +6,7 @@ ghost use Rattle.enc_model.specs.Index.{within};
 ghost use Rattle.enc_unicode.specs.Looks.{IsNarrow};
 
 use crate::guesses::{FEWEST, seeming_end};
-use enc_model::BLOCK;
+use enc_feed::BLOCK;
 use lane_kernels::ascii_front;
 use simdutf8::basic;
 use std::str::from_utf8_unchecked;

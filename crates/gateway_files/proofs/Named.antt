@@ -10,7 +10,7 @@ use Rattle.std.proofs.lemmas.Fmt.{decimal_by_steps, decimal_is_IsNumeral}
 use Rattle.std.proofs.lemmas.List.{append_cancel_right}
 use Rattle.spool_disk.specs.declared.disk.Disk.{Ghosts}
 use Rattle.spool_image.specs.LeftOnly.{IsSpool}
-use Rattle.tus_request.specs.Reading.{before}
+use Rattle.common.specs.Splits.{before}
 use Rattle.tus_request.proofs.FieldLemmas.{bytes_eq_other}
 use Rattle.tus_request.proofs.LineLemmas.{true_or_false}
 use Rattle.upload_rules.specs.Slots.{IsRising}

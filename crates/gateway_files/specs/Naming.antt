@@ -3,7 +3,7 @@ use Rattle.std.specs.Prelude.{ℕ, Bool, true, false, not, ◌&&◌, ◌||◌, �
 use Rattle.std.specs.Prelude.{length, nat_le, nat_lt, if◌then◌else◌, Option, Some, None}
 use Rattle.std.specs.List.{find, list_all}
 use Rattle.std.specs.Str.{is_utf8}
-use Rattle.tus_request.specs.Reading.{before, after}
+use Rattle.common.specs.Splits.{before, after}
 use Rattle.tus_request.specs.Texts.{parts, skipped}
 use Rattle.tus_request.specs.Value.{value_of}
 

@@ -9,7 +9,7 @@ use crate::spool_files::{open_spool, refused_spool};
 use crate::streams::Noted;
 use enc_labels::name_of;
 use serde::Serialize;
-use spool_blocks::SLOTS;
+use common::SLOTS;
 use spool_image::Spool;
 use std::alloc::Global;
 use std::io::{self, Write};

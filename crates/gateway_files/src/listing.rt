@@ -28,7 +28,7 @@ use crate::streams::Noted;
 use crate::surveying::{Survey, open_surveyed};
 use enc_labels::name_of;
 use enc_model::Mode;
-use spool_blocks::SLOTS;
+use common::SLOTS;
 use spool_disk::{Disk, FileDisk};
 use spool_image::Spool;
 use std::alloc::{AllocError, Global};

@@ -6,7 +6,7 @@ ghost use Rattle.gateway_files.specs.Said.{read_lines, served_line, up_line, upg
 
 use crate::index_files::IndexFile;
 use crate::surveying::Survey;
-use spool_blocks::SLOTS;
+use common::SLOTS;
 use std::io::{self, Write};
 
 /// Says what `format` made.

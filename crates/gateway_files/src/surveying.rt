@@ -17,7 +17,7 @@ ghost use Rattle.spool_kept.specs.Shows.{Shows};
 ghost use Rattle.spool_pages.specs.View.{View};
 ghost use Rattle.gateway_files.specs.Surveying.{disk_left};
 
-use spool_blocks::SLOTS;
+use common::SLOTS;
 use spool_disk::Disk;
 use spool_image::{OpenFault, Spool};
 use spool_load::{Found, find};

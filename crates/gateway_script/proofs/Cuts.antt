@@ -2,7 +2,7 @@
 use Rattle.std.proofs.Common.{◌≡◌, ◌==◌, ◌<◌, ℕ, zero, suc, true, false, List, [], ◌∷◌, length}
 use Rattle.std.proofs.Common.{take, slice_index, refl, ap, arith}
 use Rattle.std.specs.Io.BufRead.{take_through}
-use Rattle.tus_request.specs.Reading.{before}
+use Rattle.common.specs.Splits.{before}
 
 -- none of the first n bytes is an LF
 abbrev pub NoneIn : ℕ → List ℕ → Type 0

@@ -17,7 +17,7 @@ use Rattle.gateway_script.specs.declared.faults.CallFault.{CallFault}
 use Rattle.gateway_script.specs.declared.faults.CallFault.TheVariants as faults
 use Rattle.gateway_script.specs.declared.faults.ScriptFault.{ScriptFault}
 use Rattle.gateway_script.specs.declared.faults.ScriptFault.TheVariants as runs
-use Rattle.tus_request.specs.Reading.{after}
+use Rattle.common.specs.Splits.{after}
 use Rattle.gateway_script.specs.Faults.{script_fault}
 use Rattle.gateway_script.specs.Runs.{View, with_marks, IsAt, Reaches, Leads, run_past, script_past, Stops, Went}
 use Rattle.gateway_script.specs.Runs.{Refuses, CutOne, Ends, LineRan}

@@ -3,8 +3,8 @@ use Rattle.std.specs.Prelude.{◌≡◌, ℕ, zero, suc, ◌+◌, ◌-◌, Bool,
 use Rattle.std.specs.Prelude.{drop, slice_get, codes, bytes_eq, nat_lt, nat_le, ◌==◌, if◌then◌else◌, Option, Some, None}
 use Rattle.std.specs.Fmt.{decimal}
 use Rattle.hex.specs.Hex.{decode_of}
-use Rattle.tus_request.specs.Number.{number_of}
-use Rattle.tus_request.specs.Reading.{before, after}
+use Rattle.common.specs.Numbers.{number_of}
+use Rattle.common.specs.Splits.{before, after}
 use Rattle.tus_request.specs.Value.{answered}
 use Rattle.tus_session.specs.declared.errors.SessionError.{SessionError}
 use Rattle.tus_session.specs.declared.errors.SessionError.TheVariants.{DiskFault}

@@ -1,6 +1,6 @@
 -- The lines of a script, as the code has them.
 use Rattle.std.specs.Prelude.{ℕ, List, [], ◌∷◌, ◌++◌}
-use Rattle.tus_request.specs.Reading.{before, after}
+use Rattle.common.specs.Splits.{before, after}
 use Rattle.gateway_script.specs.Script.{Order, Skip, Open, Give, Hang, Bad, order_with, conn_number, give_hex}
 use Rattle.gateway_script.specs.Script.{hex_bytes}
 use Rattle.gateway_script.specs.declared.orders.Order as code

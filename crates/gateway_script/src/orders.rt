@@ -5,8 +5,7 @@ ghost use Rattle.gateway_script.specs.Shown.{order_shown, say_of, came_of};
 
 use crate::digits::HexDigits;
 use std::alloc::{AllocError, Global};
-use tus_request::number::number;
-use tus_request::texts::{after, prefix};
+use common::{after, number, prefix};
 
 /// What a line of a script asks for.
 #[derive(Drop)]

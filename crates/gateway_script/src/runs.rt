@@ -4,7 +4,7 @@ ghost use Rattle.std.specs.Io.BufRead.{take_through};
 ghost use Rattle.upload_rules.specs.Answers.{Counts};
 ghost use Rattle.tus_session.specs.History.{State, most_open};
 ghost use Rattle.gateway_script.specs.Script.{Run, obeyed, cut_from, run_lines, script_lines, is_long, is_bad};
-ghost use Rattle.tus_request.specs.Reading.{before};
+ghost use Rattle.common.specs.Splits.{before};
 ghost use Rattle.gateway_script.specs.Lines.{IsLine};
 ghost use Rattle.gateway_script.specs.Shown.{order_shown};
 ghost use Rattle.gateway_script.specs.Runs.{view, IsAt, Went, CutOne, LineRan, Ends};

@@ -10,7 +10,7 @@ use Rattle.tus_session.specs.Connections.{mark_of}
 use Rattle.gateway_serve.specs.Conversations.{Conversation, AreTalks, hung_up}
 use Rattle.gateway_serve.specs.Sockets as sockets
 use Rattle.gateway_serve.specs.Sockets.{IsQuietly, IsWhole, Pairs, current_of}
-use Rattle.common.specs.Histories.{history_of}
+use Rattle.common.specs.Traces.{trace_of}
 use Rattle.gateway_serve.specs.declared.sockets.Seen.{Seen}
 use Rattle.gateway_serve.specs.Joined.{Joint, Joins, PlaceJoins, PlaceFell, OthersStay, MayEnd, joint_of}
 use Rattle.gateway_serve.specs.Joined.{PlaceWaits, with_place}
@@ -28,7 +28,7 @@ use Rattle.gateway_serve.proofs.Talks.{talks_here, gave_ended}
 -- its socket is the first of those of the connection
 abbrev current_at : ℕ → Joint → Latest → Reason → Seen
 current_at n j latest reason =
-    record { conn = n; came = history_of j.came; went = history_of j.went; latest = latest; reason = reason }
+    record { conn = n; came = trace_of j.came; went = trace_of j.went; latest = latest; reason = reason }
 
 first_current : (n : ℕ) (s : Seen) (ended : List Seen) → s.conn ≡ n → current_of n (s ∷ ended) ≡ s ∷ current_of n ended
 first_current n s ended e = rw (e, same_number n) refl

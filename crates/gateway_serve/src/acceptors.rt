@@ -1,7 +1,7 @@
 //! Listeners that are asked for clients.
 ghost use Rattle.std.specs.Prelude.{◌≡◌, [], ◌∷◌, List, Bool, is_some};
 
-use common::History;
+use common::Trace;
 use std::net::{OpenListener, OpenStream};
 
 /// A listener that is asked for clients, one at a time, and never waits for one. Its ghost record has each answer.
@@ -25,7 +25,7 @@ pub struct Listening<'a, L> {
     listener: &'a L,
     /// whether it could be made not to wait
     asks: bool,
-    answers: History<bool>,
+    answers: Trace<bool>,
 }
 
 impl<'a, L: OpenListener> Listening<'a, L> {
@@ -38,7 +38,7 @@ impl<'a, L: OpenListener> Listening<'a, L> {
         Listening {
             listener,
             asks: listener.set_nonblocking(true).is_ok(),
-            answers: History::new(),
+            answers: Trace::new(),
         }
     }
 }

@@ -20,7 +20,7 @@ use crate::reasons::{Gone, Reason};
 use crate::requests::Request;
 use crate::sockets::{Seen, Socket, Untouched};
 use crate::stays::{At, Stay};
-use common::{DiskFault, History};
+use common::{DiskFault, Trace};
 use std::alloc::Global;
 use std::io::{self, ErrorKind, Read, Write};
 use std::time::Duration;
@@ -71,7 +71,7 @@ pub(crate) struct Link<S> {
 
 impl<S: Drop> Link<S> {
     /// Puts the socket to those that ended.
-    pub(crate) fn end(self, conn: usize, reason: Reason, ended: &mut History<Seen>)
+    pub(crate) fn end(self, conn: usize, reason: Reason, ended: &mut Trace<Seen>)
         ensures ended { ended.new.items ≡ with_link conn reason self ended.old.items }
         ensures waiting { FewWait self.output }
     {

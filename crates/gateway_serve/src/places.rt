@@ -10,7 +10,7 @@ use crate::idle::Tick;
 use crate::links::{Left, Link};
 use crate::reasons::Reason;
 use crate::sockets::{Seen, Untouched};
-use common::{DiskFault, History};
+use common::{DiskFault, Trace};
 use std::alloc::Global;
 use std::io::{Read, Write};
 use std::mem;
@@ -72,7 +72,7 @@ impl<S: Read + Write + Drop> Place<S> {
         gateway: &mut C,
         conn: usize,
         tick: Tick,
-        ended: &mut History<Seen>,
+        ended: &mut Trace<Seen>,
     ) -> Result<Turned, DiskFault>
         ensures reasons { StayReasoned ended.old.items ended.new.items }
         ensures streams { PlaceKeeps S.remaining S.contents self.old self.new ended.old.items ended.new.items }
@@ -109,7 +109,7 @@ impl<S: Read + Write + Drop> Place<S> {
         gateway: &mut C,
         conn: usize,
         reason: Reason,
-        ended: &mut History<Seen>,
+        ended: &mut Trace<Seen>,
     ) -> Result<(), DiskFault>
         requires { MayEnd reason self.old }
         ensures ended { ended.new.items ≡ with_place conn reason self.old ended.old.items }
@@ -128,7 +128,7 @@ impl<S: Read + Write + Drop> Place<S> {
     }
 
     /// Lets the socket go for this reason, if one is there: the session isn't told.
-    pub(crate) fn free(&mut self, conn: usize, reason: Reason, ended: &mut History<Seen>)
+    pub(crate) fn free(&mut self, conn: usize, reason: Reason, ended: &mut Trace<Seen>)
         ensures waiting { PlaceWaits self.old }
         ensures streams { PlaceKeeps S.remaining S.contents self.old self.new ended.old.items ended.new.items }
         ensures free { self.new ≡ Place.Free }

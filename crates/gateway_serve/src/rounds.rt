@@ -14,7 +14,7 @@ use crate::idle::Tick;
 use crate::places::{Place, Turned};
 use crate::reasons::Reason;
 use crate::sockets::Seen;
-use common::{DiskFault, History};
+use common::{DiskFault, Trace};
 use std::io::{Read, Write};
 use std::time::Duration;
 use tus_session::Connections;
@@ -116,7 +116,7 @@ pub(crate) fn first_free<S: Read + Write + Drop>(places: &[Place<S>]) -> Option<
 pub(crate) fn turn_each<S: Read + Write + Drop, C: Connections>(
     places: &mut [Place<S>],
     gateway: &mut C,
-    ended: &mut History<Seen>,
+    ended: &mut Trace<Seen>,
     round: &mut Round,
 ) -> Result<(), DiskFault>
     ensures streams { AllKeep S.remaining S.contents places.old places.new ended.old.items ended.new.items }
@@ -142,7 +142,7 @@ pub(crate) fn turn_each<S: Read + Write + Drop, C: Connections>(
 pub(crate) fn end_each<S: Read + Write + Drop, C: Connections>(
     places: &mut [Place<S>],
     gateway: &mut C,
-    ended: &mut History<Seen>,
+    ended: &mut Trace<Seen>,
 ) -> Result<(), DiskFault>
     ensures streams { AllKeep S.remaining S.contents places.old places.new ended.old.items ended.new.items }
     ensures once { AtMostOnce ended.old.items ended.new.items }
@@ -161,7 +161,7 @@ pub(crate) fn end_each<S: Read + Write + Drop, C: Connections>(
 }
 
 /// Lets all sockets go: the session isn't told.
-pub(crate) fn free_each<S: Read + Write + Drop>(places: &mut [Place<S>], ended: &mut History<Seen>)
+pub(crate) fn free_each<S: Read + Write + Drop>(places: &mut [Place<S>], ended: &mut Trace<Seen>)
     ensures streams { AllKeep S.remaining S.contents places.old places.new ended.old.items ended.new.items }
     ensures once { AtMostOnce ended.old.items ended.new.items }
     ensures left { (sure : Bool) (st : State) (past : List Marked)

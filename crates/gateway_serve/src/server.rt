@@ -15,7 +15,7 @@ use crate::idle::{Watch, time};
 use crate::places::{Place, unless_failed};
 use crate::rounds::{Round, end_each, first_free, free_each, longest_pause, turn_each};
 use crate::sockets::{Seen, Untouched};
-use common::{DiskFault, History};
+use common::{DiskFault, Trace};
 use std::alloc::Global;
 use std::io::{Read, Write};
 use std::thread;
@@ -29,7 +29,7 @@ pub(crate) struct Server<S> {
     pub(crate) door: Door<S>,
     /// By the connections' numbers. There are at most `MOST_OPEN` places; another one is made when it is needed.
     places: Vec<Place<S>>,
-    pub(crate) ended: History<Seen>,
+    pub(crate) ended: Trace<Seen>,
     closed: u64,
     /// whether anything was done in the latest turn
     busy: bool,
@@ -48,7 +48,7 @@ impl<S: Read + Write + Drop> Server<S> {
             alloc,
             door: Door::new(),
             places: Vec::new(alloc),
-            ended: History::new(),
+            ended: Trace::new(),
             closed: 0,
             busy: false,
             watch,

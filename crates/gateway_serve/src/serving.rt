@@ -12,7 +12,7 @@ use crate::doors::Clients;
 use crate::idle::{Watch, time};
 use crate::server::Server;
 use crate::sockets::Seen;
-use common::{DiskFault, History};
+use common::{DiskFault, Trace};
 use std::alloc::Global;
 use std::io::{Read, Write};
 use std::time::Clock;
@@ -25,7 +25,7 @@ pub struct Outcome<C> {
     /// What became of the clients that the listener gave.
     pub clients: Clients,
     /// The sockets that served them, which only clauses read.
-    pub ended: History<Seen>,
+    pub ended: Trace<Seen>,
     /// `DiskFault` where a call of the session was refused with it: serving stopped there.
     pub served: Result<(), DiskFault>,
 }

@@ -5,7 +5,7 @@ ghost use Rattle.std.specs.Io.{ReadsAtMost, WritesAtMost};
 ghost use Rattle.std.specs.Io.KnownBytes.{ReadConsumes, WriteAppends};
 
 use crate::reasons::Reason;
-use common::History;
+use common::Trace;
 use std::io::{self, ErrorKind, Read, Write};
 use std::marker::Model;
 
@@ -26,8 +26,8 @@ pub enum Latest {
 #[derive(Drop)]
 pub(crate) struct Socket<S> {
     stream: S,
-    came: History<u8>,
-    went: History<u8>,
+    came: Trace<u8>,
+    went: Trace<u8>,
     latest: Latest,
 }
 
@@ -44,8 +44,8 @@ impl<S> Socket<S> {
     {
         Socket {
             stream,
-            came: History::new(),
-            went: History::new(),
+            came: Trace::new(),
+            went: Trace::new(),
             latest: Latest::None,
         }
     }
@@ -149,9 +149,9 @@ pub struct Seen {
     /// The connection's number.
     pub conn: usize,
     /// All bytes that came from the socket.
-    pub came: History<u8>,
+    pub came: Trace<u8>,
     /// All bytes that went to it.
-    pub went: History<u8>,
+    pub went: Trace<u8>,
     /// What the latest call of its stream answered.
     pub latest: Latest,
     /// Why it ended.

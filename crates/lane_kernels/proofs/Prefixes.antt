@@ -7,7 +7,7 @@ use Rattle.std.proofs.lemmas.List.Folds.{prefix_len-append}
 use Rattle.std.proofs.lemmas.Simd.{length-chunk, chunk-drop, get_or-chunk, leading_from_mask_l}
 use Rattle.std.proofs.lemmas.List.Sums.{prefix_len-le-length, prefix_len_passes, prefix_len_stops}
 use Rattle.std.proofs.lemmas.List.{drop-drop, length-take, take-take}
-use Rattle.enc_model.proofs.Prefixes.{prefix_all}
+use Rattle.enc_feed.proofs.Prefixes.{prefix_all}
 use Rattle.std.specs.List.{prefix_len}
 use Rattle.std.proofs.Common.{◌%◌, ◌^◌, bit_or, replicate, w8}
 use Rattle.std.proofs.lemmas.List.{length-map}

@@ -4,7 +4,7 @@ ghost use Rattle.std.specs.Prelude.{◌≤◌, length};
 
 use crate::front::ascii_lanes;
 use crate::lanes::LANES;
-use enc_model::AsciiFinder;
+use enc_feed::AsciiFinder;
 use std::simd::prelude::*;
 
 /// From this many bytes of 80 or more on, looking up each byte is faster.

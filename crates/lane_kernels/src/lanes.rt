@@ -8,7 +8,7 @@ ghost use Rattle.std.specs.Char.{is_ascii};
 ghost use Rattle.enc_model.specs.Index.{within};
 ghost use Rattle.lane_kernels.specs.Classes.{is_plain_2022, first_set};
 
-pub(crate) use enc_model::LANES;
+pub(crate) use enc_feed::LANES;
 use std::simd::prelude::*;
 
 /// How many bytes are loaded at once to skip ASCII.

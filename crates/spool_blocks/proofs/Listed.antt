@@ -4,12 +4,13 @@ use Rattle.std.proofs.Common.{arith, ⊎_elim}
 use Rattle.std.proofs.lemmas.Bool.{cases_eq}
 use Rattle.std.proofs.lemmas.List.{get_or_read}
 use Rattle.std.proofs.lemmas.Option.{none-some}
+use Rattle.common.specs.declared.limits.TheConstants.{MOST_BLOCKS, SLOTS}
 use Rattle.spool_blocks.specs.Blocks.{Row, IsWhole, slot_count}
 use Rattle.spool_blocks.specs.Chains.{Owns, rank, Reaches, Links, Linked, ListedFrom, links_left}
 use Rattle.spool_blocks.proofs.Counts.{within}
 use Rattle.spool_blocks.proofs.Links.{lower}
 
-module _ {rows : List Row} {below : List (Option ℕ)} {slot block : ℕ} {list : List ℕ} (few : length rows ≤ 65536)
+module _ {rows : List Row} {below : List (Option ℕ)} {slot block : ℕ} {list : List ℕ} (few : length rows ≤ MOST_BLOCKS)
     (links : Links rows below) (from : ListedFrom rows slot (Some block) list) where
   held : (k : ℕ) × Owns rows block slot k
   held = from.owned block refl
@@ -48,7 +49,7 @@ all_listed from b i own lt whole =
 
 -- from the slot's highest block on, nothing is listed yet
 pub none_listed : {rows : List Row} {below tops : List (Option ℕ)} {counts : List ℕ} → Linked rows below tops counts
-    → (rows' : List Row) → rows' ≡ rows → (slot : ℕ) (next : Option ℕ) (list : List ℕ) → slot < 512
+    → (rows' : List Row) → rows' ≡ rows → (slot : ℕ) (next : Option ℕ) (list : List ℕ) → slot < SLOTS
     → next ≡ get_or tops slot next → ListedFrom rows' slot next list
 none_listed {tops = tops} linked rows' same slot next list lt is =
     let next_is : next ≡ get_or tops slot None =

@@ -4,9 +4,10 @@ ghost use Rattle.std.specs.Prelude.{replicate, IfOk, IfSome};
 ghost use Rattle.spool_blocks.specs.Blocks.{Row, slot_count, IsWhole};
 ghost use Rattle.spool_blocks.specs.Chains.{Owns, rank, Linked, Taken};
 
+use common::{MOST_BLOCKS, SLOTS};
 use crate::link::Link;
 use crate::lists::fill;
-use crate::{BlockNo, Row, SLOTS};
+use crate::{BlockNo, Row};
 use std::alloc::{AllocError, Global};
 use std::marker::Model;
 
@@ -31,7 +32,7 @@ impl Model for Chains {
 impl Chains {
     /// No slot owns a block.
     pub(crate) fn new(alloc: Global, blocks: usize) -> Result<Self, AllocError>
-        requires { blocks ≤ 65536 }
+        requires { blocks ≤ MOST_BLOCKS }
         ensures { IfOk result (λ chains. chains ≡ replicate blocks None) }
     {
         let rows = vec![in alloc; None; blocks]?;
@@ -48,8 +49,8 @@ impl Chains {
 
     pub(crate) fn rows(&self) -> &[Row]
         ensures same { result.now ≡ self.now }
-        ensures few { length self.now ≤ 65536 }
-        ensures slots { (b slot k : ℕ) → Owns self.now b slot k → slot < 512 }
+        ensures few { length self.now ≤ MOST_BLOCKS }
+        ensures slots { (b slot k : ℕ) → Owns self.now b slot k → slot < SLOTS }
     {
         &self.rows
     }
@@ -58,7 +59,7 @@ impl Chains {
     pub(crate) fn push(&mut self, block: BlockNo, slot: u32, ordinal: u32)
         requires below { block < length self.old }
         requires free { get_or self.old block None ≡ None }
-        requires slot { slot < 512 }
+        requires slot { slot < SLOTS }
         requires above { (c i : ℕ) → Owns self.old c slot i → rank c i < rank block ordinal }
         ensures { self.new ≡ slice_set self.old block (Some (slot, ordinal)) }
     {
@@ -71,7 +72,7 @@ impl Chains {
 
     /// Takes out the slot's highest block if its ordinal is `first` or more.
     pub(crate) fn pop(&mut self, slot: u32, first: u32) -> Option<BlockNo>
-        requires { slot < 512 }
+        requires { slot < SLOTS }
         ensures same { IsNone result → self.new ≡ self.old }
         ensures none { IsNone result → (b k : ℕ) → Owns self.old b slot k → k < first }
         ensures some { IfSome result (λ block. Taken self.old block slot first self.new) }
@@ -90,7 +91,7 @@ impl Chains {
 
     /// The slot's blocks by ordinal, if its n blocks have the ordinals 0 to n - 1. One step for each block.
     pub(crate) fn list_of(&self, alloc: Global, slot: u32) -> Result<Vec<BlockNo>, AllocError>
-        requires { slot < 512 }
+        requires { slot < SLOTS }
         ensures size { IfOk result (λ list. length list.items ≡ slot_count slot self.now) }
         ensures listed { IfOk result
             (λ list. (i : ℕ) → i < length list.items → IsWhole slot self.now

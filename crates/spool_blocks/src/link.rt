@@ -1,6 +1,7 @@
 //! A link from a block to another one.
 ghost use Rattle.std.specs.Prelude.{◌≡◌, ◌<◌, None, IfSome};
 
+use common::MOST_BLOCKS;
 use crate::BlockNo;
 use std::marker::Model;
 
@@ -37,7 +38,7 @@ impl Link {
     /// A link to this block, or none.
     #[inline(always)]
     pub(crate) fn to(block: Option<BlockNo>) -> Self
-        requires { IfSome block (λ b. b < 65536) }
+        requires { IfSome block (λ b. b < MOST_BLOCKS) }
         ensures { result ≡ block }
     {
         match block {

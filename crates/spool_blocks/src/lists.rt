@@ -3,6 +3,7 @@ ghost use Rattle.std.specs.Prelude.{◌≡◌, ◌≤◌, ◌<◌, ℕ, Some, le
 ghost use Rattle.spool_blocks.specs.Blocks.{IsWhole};
 ghost use Rattle.spool_blocks.specs.Chains.{Owns, Links, ListedFrom};
 
+use common::MOST_BLOCKS;
 use crate::link::Link;
 use crate::{BlockNo, Row};
 
@@ -14,7 +15,7 @@ pub(crate) fn fill(
     slot: u32,
     list: &mut [BlockNo],
 )
-    requires few { length rows.now ≤ 65536 }
+    requires few { length rows.now ≤ MOST_BLOCKS }
     requires size { length below.now ≡ length rows.now }
     requires links { Links rows.now below.now }
     requires top { ListedFrom rows.now slot top list.old }

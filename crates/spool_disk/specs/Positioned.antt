@@ -1,13 +1,13 @@
 -- The calls of a file.
 use Rattle.std.specs.Prelude.{ℕ, ◌++◌, nat_lt, Bool, true, false, if◌then◌else◌, List, [], ◌∷◌}
-use Rattle.common.specs.Histories.{history_of}
+use Rattle.common.specs.Traces.{trace_of}
 use Rattle.spool_disk.specs.declared.positioned.FileCall.{FileCall}
 use Rattle.spool_disk.specs.declared.positioned.Made.{Made}
 use Rattle.spool_disk.specs.declared.positioned.FileCall.TheVariants.{Open, Lock, Len, SetLen, SyncAll, SyncFolder}
 
 -- A call that was made, the bytes that it read or wrote, and whether it succeeded.
 abbrev pub made : FileCall → List ℕ → Bool → Made
-made c bs ok = record { call = c; bytes = history_of bs; done = ok }
+made c bs ok = record { call = c; bytes = trace_of bs; done = ok }
 
 -- The calls that open a file, the latest first: it is opened and never emptied, made only if that is asked for, and
 -- then locked.

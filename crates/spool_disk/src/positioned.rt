@@ -2,7 +2,7 @@
 ghost use Rattle.std.specs.Prelude.{◌≡◌, List, [], ◌∷◌, true, is_ok, IfOk, OnErr};
 ghost use Rattle.spool_disk.specs.Positioned.{made};
 
-use common::History;
+use common::Trace;
 use std::io;
 
 /// A call of a file.
@@ -39,7 +39,7 @@ pub struct Made {
     /// The call.
     pub call: FileCall,
     /// The bytes that it read or wrote.
-    pub bytes: History<u8>,
+    pub bytes: Trace<u8>,
     /// Whether it succeeded.
     pub done: bool,
 }
@@ -53,7 +53,7 @@ impl Made {
     {
         Made {
             call,
-            bytes: History::new().then(bytes),
+            bytes: Trace::new().then(bytes),
             done,
         }
     }

@@ -4,7 +4,7 @@ ghost use Rattle.std.specs.Prelude.{◌≡◌, [], ◌∷◌, true, false, is_ok
 ghost use Rattle.spool_disk.specs.Positioned.{made, opened};
 
 use crate::{FileCall, Made, Positioned};
-use common::History;
+use common::Trace;
 use std::fs::{File, Files, OpenOptions, TryLockError};
 use std::io;
 use std::os::unix::fs::FileExt;
@@ -14,7 +14,7 @@ use std::path::Path;
 #[derive(Drop)]
 pub struct SystemFile {
     file: File,
-    log: History<Made>,
+    log: Trace<Made>,
 }
 
 impl SystemFile {
@@ -57,7 +57,7 @@ impl SystemFile {
             .create(create)
             .truncate(truncate)
             .open(rt, path)?;
-        let log = History::new().and(&Made::new(FileCall::Open { create, truncate }, &[], true));
+        let log = Trace::new().and(&Made::new(FileCall::Open { create, truncate }, &[], true));
         Ok(SystemFile { file, log })
     }
 

@@ -22,7 +22,7 @@ ghost use Rattle.spool_kept.specs.Stored.{Stored, ShowsEither};
 use crate::kept::Kept;
 use crate::order::put;
 use crate::records::{KeptRecord, record_at};
-use spool_blocks::SLOTS;
+use common::SLOTS;
 use spool_disk::Disk;
 use spool_journal::Pages;
 use spool_pages::{change, pages_of_new};

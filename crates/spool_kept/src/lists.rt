@@ -10,7 +10,8 @@ ghost use Rattle.spool_pages.specs.View.{View};
 
 use crate::CheckError;
 use crate::records::{KeptRecord, record_at};
-use spool_blocks::{BlockNo, Blocks, Row, SLOTS};
+use common::SLOTS;
+use spool_blocks::{BlockNo, Blocks, Row};
 use std::alloc::{AllocError, Global};
 use std::marker::Model;
 

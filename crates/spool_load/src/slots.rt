@@ -13,7 +13,7 @@ ghost use Rattle.spool_pages.specs.View.{SlotRecord as Said, Stands, slot_bytes,
 
 use crate::LoadError;
 use crate::reading::read_at;
-use spool_blocks::SLOTS;
+use common::SLOTS;
 use spool_disk::Disk;
 use spool_journal::Layout;
 use spool_kept::{CheckError, KeptRecord};

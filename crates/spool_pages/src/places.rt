@@ -5,7 +5,8 @@ ghost use Rattle.spool_pages.specs.Changes.{state_number, record_number, row_num
 ghost use Rattle.spool_pages.specs.View.{index_place, row_place, slot_place, state_place};
 
 use crate::{RECORD, ROWS};
-use spool_blocks::{BlockNo, SLOTS};
+use common::SLOTS;
+use spool_blocks::BlockNo;
 use spool_journal::{Layout, PAGE};
 
 /// The first page of the rows, counted from the state page.

@@ -8,7 +8,7 @@ ghost use Rattle.spool_pages.specs.declared.version.Version.TheVariants.{Two};
 use crate::places::{record_number, state_number};
 use crate::slot_pages::record_page;
 use crate::{SlotRecord, Version, state_page};
-use spool_blocks::SLOTS;
+use common::SLOTS;
 use spool_journal::{Layout, PAGE, Pages};
 use std::alloc::{AllocError, Global};
 

@@ -5,7 +5,7 @@ use Rattle.std.proofs.Common.{arith, ◌∙◌, refl, zero, suc, get_or, inl, in
 use Rattle.std.specs.List.{position}
 use Rattle.std.proofs.lemmas.List.Quantifiers.{position-Some}
 use Rattle.std.proofs.lemmas.List.{length-take, length-drop}
-use Rattle.tus_request.proofs.Positions.{none_passes}
+use Rattle.common.proofs.Splits.{none_passes}
 use Rattle.tus_request.specs.Lines.{lines, is_empty_line, up_to_empty, head_lines, Extent, extent_of, head_extent}
 
 pub true_or_false : (v : Bool) → (v ≡ true) ⊎ (v ≡ false)

@@ -5,7 +5,7 @@ use Rattle.std.specs.List.{list_all}
 use Rattle.std.specs.Char.{is_ascii_digit}
 use Rattle.std.proofs.lemmas.Bool.Decides.{nat_tests}
 use Rattle.matchit.specs.Seek.{has_slash}
-use Rattle.tus_request.specs.Number.{upload_number}
+use Rattle.tus_request.specs.Places.{upload_number}
 use Rattle.tus_request.specs.Places.{place_at}
 use Rattle.matchit.specs.Seek.{first}
 use Rattle.matchit.specs.Router.{RouteOf}

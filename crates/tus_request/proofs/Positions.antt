@@ -5,14 +5,9 @@ use Rattle.std.specs.List.{position, position_or_len}
 use Rattle.std.proofs.lemmas.List.Quantifiers.{position-Some}
 use Rattle.std.proofs.lemmas.List.Sums.{fails_before_first}
 use Rattle.std.proofs.lemmas.Bool.Decides.{nat_tests}
+use Rattle.common.proofs.Splits.{none_passes}
 use Rattle.memchr.specs.Find.{IsFirstByte}
 use Rattle.std.proofs.lemmas.Bool.{both_ways}
-
-pub none_passes : (p : ℕ → Bool) (xs : List ℕ) → position p xs ≡ None → (k : ℕ) → k < length xs
-    → p (get_or xs k 0) ≡ false
-none_passes p xs e k inside =
-    let past : length xs ≤ position_or_len p xs = grind (arith, nat_tests) in
-    fails_before_first p xs k 0 (omega arith)
 
 same_place : (p : ℕ → Bool) (xs : List ℕ) (i k : ℕ) → p (get_or xs i 0) ≡ true
     → ((j : ℕ) → j < i → p (get_or xs j 0) ≡ false) → p (get_or xs k 0) ≡ true

@@ -16,7 +16,8 @@ use Rattle.httparse.specs.Grammar.{is_token_byte, is_uri_byte, is_value_byte, Al
 use Rattle.httparse.specs.Grammar.{print_version, Field, IsField, print_field, RequestHead, IsRequestHead}
 use Rattle.httparse.specs.Grammar.{print_request, is_token, IsToken, ReadsRequest}
 use Rattle.tus_request.specs.Lines.{is_empty_line}
-use Rattle.tus_request.specs.Reading.{before, after, text_of, end_of, field_of, fields_of, last_of, blank_of, filled}
+use Rattle.common.specs.Splits.{before, after}
+use Rattle.tus_request.specs.Reading.{text_of, end_of, field_of, fields_of, last_of, blank_of, filled}
 use Rattle.tus_request.specs.Reading.{guess, is_field, is_request_head, request_of}
 use Rattle.tus_request.proofs.HeadLemmas.{field_text, end_is_empty, request_line, head_as_lines}
 use Rattle.tus_request.proofs.HeadLemmas.{request_line_no_feed, request_line_text, token_is_high, Lacks}

@@ -4,7 +4,7 @@ use Rattle.std.proofs.Common.{sym, ◌∙◌, ap, arith, Option, Some, None, nat
 use Rattle.std.proofs.Common.{◌==◌, ◌+◌, drop, get_or, zero, suc, add-one}
 use Rattle.std.specs.List.{position}
 use Rattle.std.proofs.lemmas.List.Quantifiers.{position-Some}
-use Rattle.tus_request.proofs.Positions.{none_passes}
+use Rattle.common.proofs.Splits.{none_passes}
 use Rattle.std.proofs.lemmas.List.{take_all}
 use Rattle.std.proofs.lemmas.Bool.{eqb-true, ltb-true, lt-ltb, leb-false, lt-leb, cases_Bool}
 use Rattle.std.proofs.lemmas.Bool.{both_ways, or_parts, or_from}

@@ -16,7 +16,7 @@ use Rattle.tus_request.specs.Fields.{values_in}
 use Rattle.enc_model.specs.declared.Encoding.{Encoding}
 use Rattle.enc_model.specs.declared.Encoding.TheVariants as e
 use Rattle.enc_model.specs.declared.Mode.{Mode}
-use Rattle.tus_request.specs.Number.{is_number, number_of}
+use Rattle.common.specs.Numbers.{is_number, number_of}
 use Rattle.tus_request.specs.Metadata.{KeyValue, is_plain, is_metadata, metadata_of, Choice, choice_with, choice_of}
 use Rattle.tus_request.specs.Checks as checks
 use Rattle.tus_request.specs.declared.methods.Verb.{Verb}

@@ -5,8 +5,8 @@ use Rattle.std.specs.List.{list_any}
 use Rattle.httparse.specs.Grammar.{RequestHead}
 use Rattle.httparse.specs.Spans.{name_and_value}
 use Rattle.enc_model.specs.declared.Encoding.{Encoding}
-use Rattle.tus_request.specs.Number.{number_of}
-use Rattle.tus_request.specs.Reading.{before}
+use Rattle.common.specs.Numbers.{number_of}
+use Rattle.common.specs.Splits.{before}
 use Rattle.tus_request.specs.Fields.{values_in}
 use Rattle.tus_request.specs.Texts.{any_case, lists_word}
 use Rattle.tus_request.specs.Methods.{verb_of}

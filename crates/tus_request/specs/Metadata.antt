@@ -6,7 +6,7 @@ use Rattle.enc_model.specs.declared.Encoding.{Encoding}
 use Rattle.enc_model.specs.declared.Mode.{Mode}
 use Rattle.enc_model.specs.declared.Mode.TheVariants.{Html, Fatal}
 use Rattle.enc_labels.specs.Labels.{encoding_of, output_of}
-use Rattle.tus_request.specs.Reading.{before, after}
+use Rattle.common.specs.Splits.{before, after}
 use Rattle.tus_request.specs.Texts.{parts, trimmed}
 use Rattle.tus_request.specs.Value.{value_of}
 

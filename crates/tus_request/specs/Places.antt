@@ -1,7 +1,7 @@
 -- The resources that paths name.
 use Rattle.std.specs.Prelude.{ℕ, Bool, true, false, List, [], ◌∷◌, ◌++◌, if◌then◌else◌, ◌==◌, Option, Some, None}
 use Rattle.std.specs.Prelude.{option_map, codes, bytes_eq}
-use Rattle.tus_request.specs.Number.{upload_number}
+use Rattle.common.specs.Numbers.{number_of}
 use Rattle.tus_request.specs.declared.places.Place.{Place}
 use Rattle.tus_request.specs.declared.places.Place.TheVariants.{Files, Upload}
 
@@ -10,6 +10,11 @@ abbrev pub after : List ℕ → List ℕ → Option (List ℕ)
 after [] text = Some text
 after (p ∷ prefix) [] = None
 after (p ∷ prefix) (b ∷ text) = if p == b then after prefix text else None
+
+-- The number of an upload. It has no leading zero.
+abbrev pub upload_number : List ℕ → Option ℕ
+upload_number [] = None
+upload_number (d ∷ digits) = if d == 48 then None else number_of (d ∷ digits)
 
 -- The upload's number in the rest of a path.
 abbrev pub upload_at : Option (List ℕ) → Option ℕ

@@ -7,16 +7,6 @@ use Rattle.httparse.specs.Grammar.{LineEnd, crlf, lf, is_token, is_uri_byte, is_
 use Rattle.httparse.specs.Grammar.{print_request}
 use Rattle.tus_request.specs.Lines.{lines, is_empty_line}
 
--- The bytes before the first mark, or all.
-abbrev pub before : ℕ → List ℕ → List ℕ
-before mark [] = []
-before mark (b ∷ bytes) = if b == mark then [] else b ∷ before mark bytes
-
--- The bytes after the first mark, or none.
-abbrev pub after : ℕ → List ℕ → List ℕ
-after mark [] = []
-after mark (b ∷ bytes) = if b == mark then bytes else after mark bytes
-
 -- A line without its end.
 abbrev pub text_of : List ℕ → List ℕ
 text_of [] = []

@@ -7,7 +7,8 @@ ghost use Rattle.tus_request.specs.Metadata.{is_plain, pair_value, pair_of, has_
 ghost use Rattle.tus_request.specs.Metadata.{metadata_of, setting, mode_of, choice_of};
 ghost use Rattle.tus_request.specs.Pairs.{pair_shown, choice_shown, bytes_shown, pairs_shown};
 
-use crate::texts::{after, prefix, trimmed};
+use crate::texts::trimmed;
+use common::{after, prefix};
 use base64::DecodeAllocError;
 use base64::engine::general_purpose::STANDARD;
 use enc_labels::{encoding_of, output_of};

@@ -1,9 +1,9 @@
 //! The resources that paths name.
 ghost use Rattle.std.specs.Prelude.{◌≡◌, IfOk};
-ghost use Rattle.tus_request.specs.Places.{place_of, is_files};
+ghost use Rattle.tus_request.specs.Places.{place_of, is_files, upload_number};
 ghost use Rattle.tus_request.specs.RouteTable.{table};
 
-use crate::number::upload;
+use common::number;
 use matchit::{InsertError, Router};
 use std::alloc::{AllocError, Global};
 
@@ -21,6 +21,16 @@ pub(crate) enum Place {
 enum Kind {
     Files,
     Upload,
+}
+
+/// The number of an upload in a path. It has no leading zero, so that each upload has one path.
+fn upload(text: &[u8]) -> Option<u64>
+    ensures { result ≡ upload_number text.now }
+{
+    if text.first() == Some(&b'0') {
+        return None;
+    }
+    number(text)
 }
 
 /// The two routes of the server. Made once, they serve every head.

@@ -1,7 +1,6 @@
 //! Parts of header values.
-ghost use Rattle.std.specs.Prelude.{◌≡◌, ◌==◌};
-ghost use Rattle.std.specs.List.{position};
-ghost use Rattle.tus_request.specs.Reading.{before, after};
+ghost use Rattle.std.specs.Prelude.{◌≡◌};
+ghost use Rattle.common.specs.Splits.{before};
 ghost use Rattle.tus_request.specs.Texts.{any_case, skipped, trimmed, lists_word};
 
 /// Whether the text is the word, compared without case.
@@ -9,34 +8,6 @@ pub(crate) fn is_word(text: &[u8], word: &str) -> bool
     ensures { result ≡ any_case word.now text.now }
 {
     text.eq_ignore_ascii_case(word.as_bytes())
-}
-
-/// The position of the first mark.
-fn place_of(text: &[u8], mark: u8) -> Option<usize>
-    ensures { result ≡ position (λ b. b == mark) text.now }
-{
-    text.iter().position(|b| *b == mark)
-}
-
-/// The bytes before the first mark, or all of them.
-#[tactic(auto, using(crate::proofs::TextLemmas::cut_some, crate::proofs::TextLemmas::cut_none))]
-pub fn prefix(text: &[u8], mark: u8) -> &[u8]
-    ensures { result.now ≡ before mark text.now }
-{
-    match place_of(text, mark) {
-        Some(at) => &text[..at],
-        None => text,
-    }
-}
-
-/// The bytes after the first mark, or none.
-pub fn after(text: &[u8], mark: u8) -> &[u8]
-    ensures { result.now ≡ after mark text.now }
-{
-    match place_of(text, mark) {
-        Some(at) => &text[at + 1..],
-        None => &[],
-    }
 }
 
 /// The text without blanks at its start.

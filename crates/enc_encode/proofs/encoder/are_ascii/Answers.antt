@@ -2,7 +2,7 @@ use Rattle.std.proofs.Common.{◌≡◌, ◌<◌, ◌∙◌, All, length, take, 
 use Rattle.std.proofs.lemmas.Bool.{OnTrue_from}
 use Rattle.std.proofs.lemmas.Bool.Decides.{nat_tests}
 use Rattle.std.proofs.Math.Seq.{take-length}
-use Rattle.enc_model.proofs.Prefixes.{prefix_all}
+use Rattle.enc_feed.proofs.Prefixes.{prefix_all}
 use Rattle.enc_encode.proofs.encoder.are_ascii.Goals as goal
 
 pub returns : goal.returns

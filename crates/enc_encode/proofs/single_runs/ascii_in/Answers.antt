@@ -1,7 +1,7 @@
 use Rattle.std.proofs.Common.{◌<◌, All, take, sym, subst, arith}
 use Rattle.std.proofs.lemmas.List.Sums.{prefix_len-le-length}
 use Rattle.std.specs.Char.{is_ascii}
-use Rattle.enc_model.proofs.Prefixes.{prefix_all}
+use Rattle.enc_feed.proofs.Prefixes.{prefix_all}
 use Rattle.enc_encode.proofs.single_runs.ascii_in.Goals as goal
 
 pub returns-clause-within : goal.returns-clause-within

@@ -1,5 +1,6 @@
 use Rattle.std.proofs.Common.{◌≡◌, ◌++◌, take, drop}
-use Rattle.enc_index.specs.Files.{before, after}
+use Rattle.common.specs.Splits.{before}
+use Rattle.enc_index.specs.Files.{after}
 use Rattle.enc_index.proofs.file.cut.Given as goal
 
 abbrev pub invariant-loop-place : goal.invariant-loop-place

@@ -1,10 +1,10 @@
 use Rattle.std.proofs.Common.{ℕ, refl, arith, take, length-drop}
 use Rattle.std.proofs.lemmas.Grind.{common_steps}
 use Rattle.std.proofs.lemmas.List.{take_all, take_rest, length-take}
-use Rattle.enc_model.specs.Batches.{BatchTook, BatchRefused}
-use Rattle.enc_model.specs.BatchLaws.{batch_sink}
-use Rattle.enc_model.proofs.Gathered.{steps_size}
-use Rattle.enc_model.proofs.Parts.{part_taken, part_state}
+use Rattle.enc_feed.specs.Batches.{BatchTook, BatchRefused}
+use Rattle.enc_feed.specs.BatchLaws.{batch_sink}
+use Rattle.enc_feed.proofs.Gathered.{steps_size}
+use Rattle.enc_feed.proofs.Parts.{part_taken, part_state}
 use Rattle.enc_legacy.proofs.stride.decode_strides.Goals as goal
 
 pub stride-at-requires-clause-room : goal.stride-at-requires-clause-room

@@ -1,11 +1,11 @@
 use Rattle.std.proofs.Common.{refl}
-use Rattle.enc_model.specs.Batches.{BatchTook, BatchRefused}
-use Rattle.enc_model.specs.BatchLaws.{batch_sink}
-use Rattle.enc_model.specs.declared.batch.Full.{Full}
+use Rattle.enc_feed.specs.Batches.{BatchTook, BatchRefused}
+use Rattle.enc_feed.specs.BatchLaws.{batch_sink}
+use Rattle.enc_feed.specs.declared.batch.Full.{Full}
 use Rattle.lane_kernels.specs.Orders.{is_big}
 use Rattle.enc_model.proofs.Calm.{utf16_calm}
-use Rattle.enc_model.proofs.Gathered.{room_left}
-use Rattle.enc_model.proofs.Parts.{read_begins, read_more}
+use Rattle.enc_feed.proofs.Gathered.{room_left}
+use Rattle.enc_feed.proofs.Parts.{read_begins, read_more}
 use Rattle.enc_unicode.proofs.blocks.decode_block.Goals as goal
 
 pub loop-at-init : goal.loop-at-init

@@ -1,8 +1,8 @@
 use Rattle.std.proofs.Common.{◌-◌, length}
 use Rattle.enc_model.specs.Utf16.{utf16}
-use Rattle.enc_model.specs.Batches.{BatchTook}
+use Rattle.enc_feed.specs.Batches.{BatchTook}
 use Rattle.lane_kernels.specs.Orders.{is_big}
-use Rattle.enc_model.proofs.Parts.{ReadTo}
+use Rattle.enc_feed.proofs.Parts.{ReadTo}
 use Rattle.enc_unicode.proofs.blocks.decode_block.Given as goal
 
 abbrev pub invariant-loop-at : goal.invariant-loop-at

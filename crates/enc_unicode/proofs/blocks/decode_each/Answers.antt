@@ -1,15 +1,15 @@
 use Rattle.std.proofs.Common.{ℕ, Result, Ok, ◌-◌, ◌≤◌, ◌≡◌, ap, sym, subst, refl, length, take, drop, arith}
 use Rattle.std.proofs.Common.{length-drop, ◌∙◌}
 use Rattle.std.proofs.lemmas.List.{take_rest}
-use Rattle.enc_model.specs.Batches.{BatchTook, BatchRefused}
-use Rattle.enc_model.specs.BatchLaws.{batch_sink}
+use Rattle.enc_feed.specs.Batches.{BatchTook, BatchRefused}
+use Rattle.enc_feed.specs.BatchLaws.{batch_sink}
 use Rattle.enc_model.specs.Stream.{Run}
 use Rattle.enc_model.specs.Utf16.{Utf16, utf16}
-use Rattle.enc_model.specs.declared.batch.Full.{Full}
+use Rattle.enc_feed.specs.declared.batch.Full.{Full}
 use Rattle.enc_model.proofs.Calm.{utf16_calm}
 use Rattle.enc_model.proofs.Steps.{steps_none}
-use Rattle.enc_model.proofs.Feeding.{feed_begins, feed_byte, state_byte}
-use Rattle.enc_model.proofs.Gathered.{room_left}
+use Rattle.enc_feed.proofs.Feeding.{feed_begins, feed_byte, state_byte}
+use Rattle.enc_feed.proofs.Gathered.{room_left}
 use Rattle.lane_kernels.specs.Orders.{is_big}
 use Rattle.enc_unicode.proofs.blocks.decode_each.Goals as goal
 

@@ -1,5 +1,5 @@
 use Rattle.std.proofs.Common.{◌≡◌, false, take}
-use Rattle.enc_model.specs.Batches.{BatchTook}
+use Rattle.enc_feed.specs.Batches.{BatchTook}
 use Rattle.enc_model.specs.Stream.{steps}
 use Rattle.enc_model.specs.Utf16.{utf16}
 use Rattle.lane_kernels.specs.Orders.{is_big}

@@ -1,5 +1,5 @@
 use Rattle.std.proofs.Common.{ℕ, ◌≡◌, ◌<◌, List, length, subst, sym, ap, ap₂, ◌∙◌, arith}
-use Rattle.enc_model.specs.Batches.{BatchTook}
+use Rattle.enc_feed.specs.Batches.{BatchTook}
 use Rattle.enc_model.specs.Stream.{Run}
 use Rattle.enc_model.specs.Utf16.{Utf16}
 use Rattle.lane_kernels.specs.Orders.{is_big}

@@ -1,5 +1,5 @@
 use Rattle.std.proofs.Common.{ℕ, [], ◌∷◌, ◌++◌, ◌<◌, ◌-◌, length, take, drop, refl, arith}
-use Rattle.enc_model.specs.BatchLaws.{batch_sink}
+use Rattle.enc_feed.specs.BatchLaws.{batch_sink}
 use Rattle.enc_unicode.proofs.CutChars.{more_cuts, rest_inside}
 use Rattle.enc_unicode.proofs.cuts.push_cuts.Goals as goal
 

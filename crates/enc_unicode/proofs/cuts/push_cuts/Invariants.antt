@@ -1,5 +1,5 @@
 use Rattle.std.proofs.Common.{ℕ, List, ◌+◌, ◌*◌, ◌<◌, ◌≤◌, ◌-◌, length}
-use Rattle.enc_model.specs.Batches.{BatchTook}
+use Rattle.enc_feed.specs.Batches.{BatchTook}
 use Rattle.enc_unicode.specs.Cuts.{AreCut}
 use Rattle.enc_unicode.proofs.cuts.push_cuts.Given as goal
 

@@ -2,7 +2,7 @@ use Rattle.std.proofs.Common.{◌<◌, ◌-◌, refl, sym, take, drop, length, a
 use Rattle.std.proofs.lemmas.Grind.{common_steps}
 use Rattle.enc_model.specs.Utf8.{utf8, utf8_start}
 use Rattle.enc_model.proofs.Calm.{utf8_calm}
-use Rattle.enc_model.proofs.Gathered.{room_left}
+use Rattle.enc_feed.proofs.Gathered.{room_left}
 use Rattle.enc_unicode.proofs.FaultRuns.{fault_more, none_read, none_state}
 use Rattle.enc_unicode.proofs.faults.push_faults.Goals as goal
 

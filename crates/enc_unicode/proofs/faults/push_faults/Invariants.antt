@@ -1,5 +1,5 @@
 use Rattle.std.proofs.Common.{◌≡◌, ◌≤◌, ◌-◌, false, take, length}
-use Rattle.enc_model.specs.Batches.{BatchTook}
+use Rattle.enc_feed.specs.Batches.{BatchTook}
 use Rattle.enc_model.specs.Stream.{steps}
 use Rattle.enc_model.specs.Utf8.{utf8, utf8_start}
 use Rattle.enc_unicode.proofs.faults.push_faults.Given as goal

@@ -1,5 +1,5 @@
 use Rattle.std.proofs.Common.{◌≡◌, ◌||◌, ℕ, Bool, false, List, ap, sym, ◌∙◌, Ok, Err}
-use Rattle.tus_request.specs.Reading.{before}
+use Rattle.common.specs.Splits.{before}
 use Rattle.std.proofs.lemmas.Bool.{or_left, or_right}
 use Rattle.std.proofs.lemmas.Result.{err_from_is_err_and}
 use Rattle.gateway_script.specs.Script.{Order, is_long, is_bad, order_of, bared, order_in}

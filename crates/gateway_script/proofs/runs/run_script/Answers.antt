@@ -4,7 +4,7 @@ use Rattle.std.proofs.lemmas.List.{take_rest}
 use Rattle.std.proofs.lemmas.Result.{err_from_is_err_and}
 use Rattle.tus_session.proofs.Counting.{uncounted}
 use Rattle.gateway_script.specs.Faults.{script_fault}
-use Rattle.tus_request.specs.Reading.{after}
+use Rattle.common.specs.Splits.{after}
 use Rattle.gateway_script.specs.Script.{run_lines, script_lines}
 use Rattle.gateway_script.proofs.Outputs.{some_list, no_list}
 use Rattle.gateway_script.proofs.Ending.{ends_after, line_fails, lines_on, line_some, lines_end}

@@ -3,7 +3,7 @@ use Rattle.std.specs.List.{position_or_len}
 use Rattle.std.specs.Prelude.{◌==◌}
 use Rattle.std.proofs.lemmas.List.{take_all}
 use Rattle.std.proofs.lemmas.Str.Pattern.{split_once_first}
-use Rattle.tus_request.proofs.TextLemmas.{before_first_is}
+use Rattle.common.proofs.Splits.{before_first_is}
 use Rattle.tus_request.proofs.texts.path.Goals as goal
 
 pub returns-in-Some : goal.returns-in-Some

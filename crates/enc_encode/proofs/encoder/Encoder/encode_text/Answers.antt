@@ -1,5 +1,5 @@
 use Rattle.std.proofs.Common.{subst, sym, ◌∙◌}
-use Rattle.enc_model.proofs.Gathered.{ascii_chars}
+use Rattle.enc_model.proofs.Utf8Bytes.{ascii_chars}
 use Rattle.enc_encode.specs.Reasons.{Gave}
 use Rattle.enc_model.specs.Indexes.{tables}
 use Rattle.enc_encode.specs.State.{code_from}

@@ -1,6 +1,6 @@
 use Rattle.std.proofs.Common.{arith, ap, ◌∙◌, subst, take, false}
 use Rattle.std.proofs.lemmas.List.{length-take}
-use Rattle.enc_model.specs.Batches.{BatchTook}
+use Rattle.enc_feed.specs.Batches.{BatchTook}
 use Rattle.enc_model.specs.Indexes.{tables}
 use Rattle.enc_model.specs.Japanese.{iso2022}
 use Rattle.enc_model.specs.Stream.{steps}

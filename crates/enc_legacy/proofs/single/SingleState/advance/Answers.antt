@@ -1,7 +1,7 @@
 use Rattle.std.proofs.Common.{subst}
 use Rattle.enc_model.specs.Indexes.{tables}
-use Rattle.enc_model.proofs.Feeding.{feed_refused}
-use Rattle.enc_model.proofs.Parts.{if_err}
+use Rattle.enc_feed.proofs.Feeding.{feed_refused}
+use Rattle.enc_feed.proofs.Parts.{if_err}
 use Rattle.enc_legacy.specs.Singles.{single_in}
 use Rattle.enc_legacy.specs.SinglesCalm.{single_in_calm}
 use Rattle.enc_legacy.proofs.SinglesSteps.{own_chars, singles_gathered}

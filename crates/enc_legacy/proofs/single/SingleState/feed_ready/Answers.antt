@@ -6,8 +6,8 @@ use Rattle.enc_model.specs.declared.Encoding.{Encoding}
 use Rattle.enc_model.specs.Encode.{Tables}
 use Rattle.enc_model.specs.Indexes.{tables}
 use Rattle.enc_model.specs.Stream.{steps}
-use Rattle.enc_model.proofs.Feeding.{feed_refused, given_err}
-use Rattle.enc_model.proofs.Parts.{rest_given}
+use Rattle.enc_feed.proofs.Feeding.{feed_refused, given_err}
+use Rattle.enc_feed.proofs.Parts.{rest_given}
 use Rattle.enc_legacy.specs.Singles.{single_in}
 use Rattle.enc_legacy.specs.SinglesCalm.{single_in_calm}
 use Rattle.enc_legacy.proofs.Prefixes.{single_front}

@@ -3,8 +3,8 @@ use Rattle.std.specs.Str.{chars}
 use Rattle.enc_model.specs.Stream.{Run, steps}
 use Rattle.enc_model.specs.Utf16.{Utf16, utf16}
 use Rattle.enc_model.proofs.Calm.{utf16_calm}
-use Rattle.enc_model.proofs.Feeding.{feed_refused}
-use Rattle.enc_model.proofs.Parts.{if_err}
+use Rattle.enc_feed.proofs.Feeding.{feed_refused}
+use Rattle.enc_feed.proofs.Parts.{if_err}
 use Rattle.lane_kernels.specs.Orders.{is_big}
 use Rattle.enc_unicode.proofs.utf16.Units.advance.Goals as goal
 

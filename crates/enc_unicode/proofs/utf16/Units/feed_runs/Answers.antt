@@ -1,8 +1,8 @@
 use Rattle.std.proofs.Common.{refl}
 use Rattle.lane_kernels.specs.Orders.{is_big}
 use Rattle.enc_model.proofs.Calm.{utf16_calm}
-use Rattle.enc_model.proofs.Feeding.{given_err}
-use Rattle.enc_model.proofs.Parts.{read_begins, read_more, read_refused}
+use Rattle.enc_feed.proofs.Feeding.{given_err}
+use Rattle.enc_feed.proofs.Parts.{read_begins, read_more, read_refused}
 use Rattle.enc_unicode.proofs.utf16.Units.feed_runs.Goals as goal
 
 pub loop-at-init : goal.loop-at-init

@@ -1,7 +1,7 @@
 use Rattle.std.proofs.Common.{◌-◌, length}
 use Rattle.enc_model.specs.Utf16.{utf16}
 use Rattle.lane_kernels.specs.Orders.{is_big}
-use Rattle.enc_model.proofs.Parts.{ReadTo}
+use Rattle.enc_feed.proofs.Parts.{ReadTo}
 use Rattle.enc_unicode.proofs.utf16.Units.feed_runs.Given as goal
 
 abbrev pub invariant-loop-at : goal.invariant-loop-at

@@ -2,9 +2,9 @@ use Rattle.std.proofs.Common.{◌<◌, length, take, false, subst, rules}
 use Rattle.enc_model.specs.Stream.{steps}
 use Rattle.enc_model.specs.Utf8.{utf8}
 use Rattle.enc_model.proofs.Calm.{utf8_calm}
-use Rattle.enc_model.proofs.Feeding.{feed_refused}
-use Rattle.enc_model.proofs.Gathered.{from_nothing}
-use Rattle.enc_model.proofs.Parts.{if_err}
+use Rattle.enc_feed.proofs.Feeding.{feed_refused}
+use Rattle.enc_feed.proofs.Gathered.{from_nothing}
+use Rattle.enc_feed.proofs.Parts.{if_err}
 use Rattle.enc_unicode.proofs.Advances.{text_taken, text_refused, text_state}
 use Rattle.enc_unicode.proofs.utf8.Utf8State.advance.Goals as goal
 

@@ -1,7 +1,7 @@
 use Rattle.std.proofs.Common.{◌-◌, length}
 use Rattle.enc_model.specs.Utf8.{utf8}
-use Rattle.enc_model.specs.Batches.{BatchTook}
-use Rattle.enc_model.proofs.Parts.{ReadTo}
+use Rattle.enc_feed.specs.Batches.{BatchTook}
+use Rattle.enc_feed.proofs.Parts.{ReadTo}
 use Rattle.enc_unicode.proofs.utf8.Utf8State.decode_block.Given as goal
 
 abbrev pub invariant-loop-at : goal.invariant-loop-at

@@ -1,6 +1,6 @@
 use Rattle.std.proofs.Common.{ℕ, ◌∷◌, [], ◌∙◌, ap, sym, subst}
-use Rattle.enc_model.specs.Batches.{BatchTook}
-use Rattle.enc_model.specs.BatchLaws.{batch_sink}
+use Rattle.enc_feed.specs.Batches.{BatchTook}
+use Rattle.enc_feed.specs.BatchLaws.{batch_sink}
 use Rattle.enc_model.specs.Stream.{Run, steps}
 use Rattle.enc_model.specs.Utf8.{Utf8, utf8, utf8_start}
 use Rattle.std.proofs.Common.{false, take}

@@ -1,5 +1,5 @@
 use Rattle.std.proofs.Common.{false, length, take, subst, arith}
-use Rattle.enc_model.specs.Batches.{BatchTook}
+use Rattle.enc_feed.specs.Batches.{BatchTook}
 use Rattle.enc_model.specs.Stream.{steps}
 use Rattle.enc_model.specs.Utf8.{utf8}
 use Rattle.enc_unicode.proofs.Advances.{at_start, text_gathered, text_state}

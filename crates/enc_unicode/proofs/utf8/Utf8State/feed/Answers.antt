@@ -1,6 +1,6 @@
 use Rattle.std.proofs.Common.{refl}
 use Rattle.enc_model.proofs.Calm.{utf8_calm}
-use Rattle.enc_model.proofs.Parts.{rest_given, rest_state}
+use Rattle.enc_feed.proofs.Parts.{rest_given, rest_state}
 use Rattle.enc_unicode.proofs.utf8.Utf8State.feed.Goals as goal
 
 pub returns-clause-given : goal.returns-clause-given

@@ -1,8 +1,8 @@
 use Rattle.std.proofs.Common.{◌<◌, refl, length, rules}
 use Rattle.enc_model.specs.Utf8.{utf8}
 use Rattle.enc_model.proofs.Calm.{utf8_calm}
-use Rattle.enc_model.proofs.Feeding.{feed_refused}
-use Rattle.enc_model.proofs.Parts.{if_err, read_begins, read_more, read_refused}
+use Rattle.enc_feed.proofs.Feeding.{feed_refused}
+use Rattle.enc_feed.proofs.Parts.{if_err, read_begins, read_more, read_refused}
 use Rattle.enc_unicode.proofs.Advances.{text_taken, text_refused, text_state, text_within_rest}
 use Rattle.enc_unicode.proofs.utf8.Utf8State.give_texts.Goals as goal
 

@@ -1,6 +1,6 @@
 use Rattle.std.proofs.Common.{◌-◌, length}
 use Rattle.enc_model.specs.Utf8.{utf8}
-use Rattle.enc_model.proofs.Parts.{ReadTo}
+use Rattle.enc_feed.proofs.Parts.{ReadTo}
 use Rattle.enc_unicode.proofs.utf8.Utf8State.give_texts.Given as goal
 
 abbrev pub invariant-by_windows : goal.invariant-by_windows

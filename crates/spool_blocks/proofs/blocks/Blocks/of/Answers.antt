@@ -1,11 +1,12 @@
 use Rattle.std.proofs.Common.{◌≡◌, ℕ, ◌<◌, ◌≤◌, List, Bool, true, false, None, length, get_or, replicate, rules, arith}
 use Rattle.std.proofs.lemmas.Bool.{cases_lt}
 use Rattle.std.proofs.lemmas.Grind.{common_steps}
+use Rattle.common.specs.declared.limits.TheConstants.{MOST_BLOCKS}
 use Rattle.spool_blocks.specs.Blocks.{Row, Valid}
 use Rattle.spool_blocks.proofs.blocks.Blocks.of.Goals as goal
 
 -- the rows under four names
-valid_new : (rows a b chains : List Row) (reserved : List Bool) {free : List Bool} (n : ℕ) → length rows ≤ 65536
+valid_new : (rows a b chains : List Row) (reserved : List Bool) {free : List Bool} (n : ℕ) → length rows ≤ MOST_BLOCKS
     → chains ≡ a → a ≡ rows → b ≡ rows → n ≡ length rows → reserved ≡ replicate n false → length free ≡ length b
     → ((k : ℕ) → k < length b → get_or free k false ≡ true → get_or b k None ≡ None)
     → ((k : ℕ) → k < length b → get_or b k None ≡ None → get_or free k false ≡ true)

@@ -1,5 +1,0 @@
-use Rattle.std.specs.Prelude.{◌∷◌}
-use Rattle.common.proofs.history.History.and.Given as goal
-
-abbrev pub ghost-chosen : goal.ghost-chosen
-ghost-chosen g a = a._from.now.1.now ∷ a._from.now.0.now.items

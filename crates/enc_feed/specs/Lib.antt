@@ -1,0 +1,4 @@
+pub mod Sink
+pub mod AsciiPrefix
+pub mod Batches
+pub mod BatchLaws

@@ -1,4 +1,0 @@
-use Rattle.enc_model.proofs.Sink.text.Given as goal
-
-abbrev pub invariant-loop-c : goal.invariant-loop-c
-invariant-loop-c g l = g.Self.Sink.takes l.fn.self l.yielded l.self
