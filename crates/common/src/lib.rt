@@ -7,7 +7,7 @@ mod stop;
 mod texts;
 mod trace;
 
-pub use crate::limits::{LEAST_BLOCKS, MOST_BLOCKS, MOST_LENGTH, MOST_METADATA, SLOTS};
+pub use crate::limits::{LEAST_BLOCKS, MOST_BLOCKS, MOST_LENGTH, MOST_METADATA, ROWS, SLOTS};
 pub use crate::stop::{DiskFault, Stop};
 pub use crate::texts::{after, number, prefix};
 pub use crate::trace::Trace;

@@ -15,5 +15,5 @@ pub const MOST_LENGTH: u64 = 1073741824;
 /// The most bytes of `Upload-Metadata`.
 pub const MOST_METADATA: usize = 1536;
 
-/// How many blocks' rows a page has, 8 bytes each.
-pub const ROWS: u32 = 512;
+/// How many rows a page of rows has, 8 bytes each.
+pub const ROWS: usize = 512;

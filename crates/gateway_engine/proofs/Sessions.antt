@@ -8,7 +8,8 @@ use Rattle.upload_rules.specs.Store.{Store}
 use Rattle.upload_rules.specs.Answers.{Limits}
 use Rattle.tus_session.specs.Turns.{Conn}
 use Rattle.tus_session.specs.History.{State, Event, Opened, Came, More, Ended, Served, Refused, Step, step}
-use Rattle.tus_session.specs.History.{most_open, opened_if}
+use Rattle.tus_session.specs.History.{opened_if}
+use Rattle.tus_session.specs.declared.session.TheConstants.{MOST_OPEN}
 use Rattle.tus_session.specs.History.{opened_at, came_at, more_at, ended_at}
 use Rattle.tus_session.specs.Places.{places_of}
 use Rattle.tus_session.specs.Stands.{SessionStands}
@@ -66,7 +67,7 @@ many_case st c false f e = (refusal_is TooMany f e, refl)
 
 opened_stays : (st : State) (c : ℕ) (o : Option Conn) → ManyStays st (opened_at st c o)
 opened_stays st c (Some k) f e = (refusal_is TooMany f e, refl)
-opened_stays st c None f e = many_case st c (nat_lt c most_open) f e
+opened_stays st c None f e = many_case st c (nat_lt c MOST_OPEN) f e
 
 pub opened_refused : (st : State) (c : ℕ) → ManyStays st (step st (Opened c) Served)
 unfolding step

@@ -5,7 +5,8 @@ use Rattle.std.proofs.Common.{◌≡◌, ◌==◌, ◌<◌, inl, arith, ◌+◌,
 use Rattle.std.proofs.Common.{suc, List, [], ◌∷◌, ◌++◌, length, drop, Option, Result}
 use Rattle.std.proofs.Common.{Ok, Err, refl, sym, subst, ap, ◌∙◌, if◌then◌else◌}
 use Rattle.tus_session.specs.History.{State, Ended, Mark, Served, Outcome, Done, Refused, step}
-use Rattle.tus_session.specs.History.{most_open, is_closed}
+use Rattle.tus_session.specs.History.{is_closed}
+use Rattle.tus_session.specs.declared.session.TheConstants.{MOST_OPEN}
 use Rattle.tus_session.specs.declared.errors.SessionError.{SessionError}
 use Rattle.tus_session.specs.declared.errors.SessionError.TheVariants as errors
 use Rattle.tus_session.specs.Connections.{Does, mark_of}
@@ -131,7 +132,7 @@ line_bad v number start line lines r at bad = (r, ([], λ rest. rw at.up (rw (ba
 lines_down : (number start : ℕ) (lines : List (List ℕ)) (r : Run) → r.down ≡ true
     → run_lines number start lines r ≡ ended_as r Faulted
 unfolding run_lines
-lines_down number start [] r down = rw (cut_down most_open 0 r down, down) refl
+lines_down number start [] r down = rw (cut_down MOST_OPEN 0 r down, down) refl
 lines_down number start (line ∷ lines) r down = rw down refl
 
 -- what is answered of a line, or of the lines
@@ -225,14 +226,14 @@ unfolding cut_from
 cut_none n r = ([], λ rest. refl)
 
 end_breaks : {C : Type 0} (v : View C) (fault : CallFault) (number start : ℕ) (r : Run)
-    → Stops v fault run_past (cut_from most_open 0) r → Stops v fault script_past (run_lines number start []) r
+    → Stops v fault run_past (cut_from MOST_OPEN 0) r → Stops v fault script_past (run_lines number start []) r
 unfolding run_lines
 end_breaks v fault number start r p =
-    (p.0, passes_on run_past script_past finished (cut_from most_open 0) r p.0 (λ x. first_same x.past) p.1, p.2)
+    (p.0, passes_on run_past script_past finished (cut_from MOST_OPEN 0) r p.0 (λ x. first_same x.past) p.1, p.2)
 
 -- the fault of the connections' cutting is the run's
 pub lines_end : {C : Type 0} (v : View C) (number start : ℕ) (r : Run) (result : Result (Unit {0}) CallFault)
-    → Went v result (cut_from most_open 0) r → Ends v (result_of result) (run_lines number start []) r
+    → Went v result (cut_from MOST_OPEN 0) r → Ends v (result_of result) (run_lines number start []) r
 unfolding run_lines
 lines_end v number start r (Ok x) p = (p.0, (p.1.0, λ rest. rw (p.1.1 rest, p.2.up) refl), p.2)
 lines_end v number start r (Err faults.DiskFault) p = (p.0, (p.1.0, λ rest. rw (p.1.1 rest, p.2.down) refl), p.2)

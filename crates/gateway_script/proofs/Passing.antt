@@ -2,7 +2,7 @@
 use Rattle.std.proofs.Common.{◌≡◌, Bool, true, false, ℕ, zero, suc, List, [], ◌∷◌, ◌++◌, ◌||◌, ◌+◌, length, drop, refl}
 use Rattle.std.proofs.Common.{sym, ap, subst, ◌∙◌, append_assoc}
 use Rattle.tus_session.specs.History.{Event, Mark, Marked, Came, More, Ended, Opened, Outcome, Gave, Done, Refused}
-use Rattle.tus_session.specs.History.{most_open}
+use Rattle.tus_session.specs.declared.session.TheConstants.{MOST_OPEN}
 use Rattle.tus_session.specs.History.{is_closed}
 use Rattle.gateway_script.specs.Script as script
 use Rattle.gateway_script.specs.Script.{Run, Flow, flow, call, next_mark, mores, mores_after, most_calls, onward}
@@ -100,7 +100,7 @@ line_adds number r f go adds more false false = first_both r.past (f r).past (go
 pub lines_add : (number start : ℕ) (lines : List (List ℕ)) (r : Run) → IsFirst r.past
     (run_lines number start lines r).run.past
 unfolding run_lines
-lines_add number start [] r = cut_adds most_open 0 r
+lines_add number start [] r = cut_adds MOST_OPEN 0 r
 lines_add number start (line ∷ lines) r =
     line_adds number r (obeyed (order_in line)) (run_lines (number + 1) (start + length line) lines)
     (obeyed_adds (order_in line))

@@ -10,7 +10,8 @@ use Rattle.tus_session.specs.declared.errors.SessionError.{SessionError}
 use Rattle.tus_session.specs.declared.errors.SessionError.TheVariants.{DiskFault}
 use Rattle.tus_session.specs.Faults.{error_number}
 use Rattle.tus_session.specs.History.{State, Event, Opened, Came, More, Ended, Mark, Served, Marked, Step, step}
-use Rattle.tus_session.specs.History.{most_open}
+use Rattle.gateway_script.specs.declared.runs.TheConstants.{MOST_LINE, MOST_SCRIPT}
+use Rattle.tus_session.specs.declared.session.TheConstants.{MOST_OPEN}
 use Rattle.tus_session.specs.History.{Outcome, Gave, Done, Refused, is_closed}
 
 -- THE LINES, each with the LF that ends it. The last one may lack it
@@ -207,14 +208,14 @@ abbrev pub is_bad : Order → Bool
 is_bad Bad = true
 is_bad _ = false
 
--- more than 65,536 bytes in a line, not counting its LF, or more than 1,073,741,824 in the script up to the line's end,
+-- more than MOST_LINE bytes in a line, not counting its LF, or more than MOST_SCRIPT in the script up to the line's end,
 -- its LF among them
 abbrev pub is_long : ℕ → List ℕ → Bool
-is_long start line = nat_lt 65536 (length (before 10 line)) || nat_lt 1073741824 (start + length line)
+is_long start line = nat_lt MOST_LINE (length (before 10 line)) || nat_lt MOST_SCRIPT (start + length line)
 
 -- the lines from this one on, of which the first is this number and begins at this byte
 unfoldable pub run_lines : ℕ → ℕ → List (List ℕ) → Run → Result
-run_lines number start [] r = finished (cut_from most_open 0 r)
+run_lines number start [] r = finished (cut_from MOST_OPEN 0 r)
 run_lines number start (line ∷ lines) r =
     let order = order_in line in
     elim r.down [

@@ -2,7 +2,7 @@
 ghost use Rattle.std.specs.Prelude.{◌≡◌, ◌≤◌, ℕ, Bool, Option, List, length, IsErrOf};
 ghost use Rattle.std.specs.Io.BufRead.{take_through};
 ghost use Rattle.upload_rules.specs.Answers.{Counts};
-ghost use Rattle.tus_session.specs.History.{State, most_open};
+ghost use Rattle.tus_session.specs.History.{State};
 ghost use Rattle.gateway_script.specs.Script.{Run, obeyed, cut_from, run_lines, script_lines, is_long, is_bad};
 ghost use Rattle.common.specs.Splits.{before};
 ghost use Rattle.gateway_script.specs.Lines.{IsLine};
@@ -20,10 +20,10 @@ use std::alloc::Global;
 use tus_session::{Connections, MOST_OPEN, SessionError};
 
 /// The most bytes of a line: a CR counts, the LF doesn't.
-const MAX_LINE: usize = 65536;
+const MOST_LINE: usize = 65536;
 
 /// The most bytes of a script: each LF counts.
-const MAX_SCRIPT: u64 = 1_073_741_824;
+const MOST_SCRIPT: u64 = 1_073_741_824;
 
 /// Does what a line asks for.
 fn obey<C: Connections, W: CountedWrite>(
@@ -97,7 +97,7 @@ fn too_long(start: u64, line: &[u8]) -> bool
     requires { IsLine line.now }
     ensures { result ≡ is_long start line.now }
 {
-    text_of(line).len() > MAX_LINE || start.saturating_add(line.len() as u64) > MAX_SCRIPT
+    text_of(line).len() > MOST_LINE || start.saturating_add(line.len() as u64) > MOST_SCRIPT
 }
 
 /// Whether a line asks for nothing that there is.
@@ -146,7 +146,7 @@ fn cut_all<C: Connections, W: CountedWrite>(
     ensures does { (sure : Bool) (before : C) (st : State) (r : Run) (prefix : Option (List ℕ))
         → IsAt (view C.Connections sure before core.old st (W.contents writer.old) prefix) r
         → Went (view C.Connections sure before core.new st (W.contents writer.new) prefix) result
-        (cut_from most_open 0) r }
+        (cut_from MOST_OPEN 0) r }
     ensures counts { Counts (IsErrOf result CallFault.DiskFault) (C.failures core.old) (C.failures core.new) }
     ensures io { Counts (IsErrOf result CallFault.Io) (W.refusals writer.old) (W.refusals writer.new) }
 {

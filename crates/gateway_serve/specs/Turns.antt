@@ -1,6 +1,6 @@
 -- What a server has when a turn begins.
 use Rattle.std.specs.Prelude.{◌≡◌, ◌≢◌, ◌⊎◌, ◌<◌, ◌≤◌, ◌+◌, ◌^◌, ℕ, List, length, get_or, Bool, vec_capacity, vec_len}
-use Rattle.tus_session.specs.History.{most_open}
+use Rattle.tus_session.specs.declared.session.TheConstants.{MOST_OPEN}
 use Rattle.gateway_serve.specs.Joined.{places_of}
 use Rattle.gateway_serve.specs.Acceptors.{LetsInBy}
 use Rattle.gateway_serve.specs.declared.doors.Clients.{Clients}
@@ -29,7 +29,7 @@ NoneIsFree places = (k : ℕ) → k < length places → get_or places k Free ≢
 
 -- no other place can be made: there are as many as may be, or their memory is full
 abbrev pub IsFull : {S : Type 0} → Server S → Type 0
-IsFull s = (most_open ≤ length (places_of s)) ⊎ (vec_capacity s.places ≤ vec_len s.places)
+IsFull s = (MOST_OPEN ≤ length (places_of s)) ⊎ (vec_capacity s.places ≤ vec_len s.places)
 
 -- all but the places, and the client who waits, is as it was
 pub record RestStays {S : Type 0} (s s' : Server S) : Type 0 where

@@ -2,6 +2,7 @@
 use Rattle.std.proofs.Common.{◌≡◌, inl, inr, ◌≤◌, ◌<◌, ◌+◌, ◌-◌, ◌%◌, ◌^◌, ◌++◌, ℕ, Bool, true, false, List, [], ◌∷◌}
 use Rattle.std.proofs.Common.{length, min, eqb, None, refl, sym, ◌∙◌, ap, subst, arith, length-append, ⊎_elim}
 use Rattle.std.proofs.lemmas.Bool.{both_ways}
+use Rattle.spool_journal.specs.declared.TheConstants.{PAGE}
 use Rattle.enc_model.specs.Indexes.{IndexSet}
 use Rattle.spool_blocks.specs.Blocks.{Held}
 use Rattle.upload_rules.specs.Room.{need_of, wants, need}
@@ -127,12 +128,12 @@ module _ (x : IndexSet) (p : Patch) (d : SpoolDraft) (held : Holds x p d) (piece
         sym (ap length open_longer ∙ length-append (open_text x p false) text) in
         let p_roomy : p.short ≡ false = sym held.short ∙ roomy in
         let wanted : need_of d.growth.text_len
-        ((length (open_text x p false) + length text) - d.growth.text_len % 4096) ≡ wants x longer false =
+        ((length (open_text x p false) + length text) - d.growth.text_len % PAGE) ≡ wants x longer false =
         wants_of x longer false d.growth.text_len (length (open_text x p false) + length text) held.committed size
         encodable_after in
         ⊎_elim
         (λ holds. inl (with_growth p.short growth fresh (holds.roomy ∙ sym p_roomy) len reads.stands
-        (holds.listed ∙ ap (λ (t : ℕ). need_of t ((length (open_text x p false) + length text) - t % 4096)) len ∙ wanted
+        (holds.listed ∙ ap (λ (t : ℕ). need_of t ((length (open_text x p false) + length text) - t % PAGE)) len ∙ wanted
         ∙ sym (need_roomy x longer false p_roomy))
         (λ kept. subst (HoldsLen growth) size holds)))
         (λ ran. inr (

@@ -4,6 +4,7 @@ use Rattle.std.proofs.Common.{[], length, drop, Option, None, refl, sym, ◌∙�
 use Rattle.std.proofs.Common.{length-append, length-drop, length-take}
 use Rattle.std.proofs.lemmas.Bool.{cases_Bool}
 use Rattle.std.proofs.Math.Seq.{drop-append_seam}
+use Rattle.spool_journal.specs.declared.TheConstants.{PAGE}
 use Rattle.enc_model.specs.Indexes.{IndexSet, tables}
 use Rattle.upload_rules.specs.Calls.{first_patch}
 use Rattle.upload_rules.specs.Lengths.{is_too_large, known_or, longest}
@@ -62,17 +63,17 @@ module _ (x : IndexSet) (u : Upload) (n count : ℕ) (declare : Option ℕ) wher
     | inl none ↦
         let t = length (text_of x u) in
         let bytes = (patch_text x first false).bytes in
-        let e : length (open_text x first false) - t % 4096 ≡ 0 =
-        omega (arith, no_longer none, length-drop (4096 * (t / 4096)) bytes) in
+        let e : length (open_text x first false) - t % PAGE ≡ 0 =
+        omega (arith, no_longer none, length-drop (PAGE * (t / PAGE)) bytes) in
         need_roomy x first false refl ∙ wants_is x first false none ∙ ap (need_of t) e
     | inr there ↦ need_fault x first false there
   ]
 
-  first_len : is_complete u ≡ false → length (open_text x first false) ≡ length (text_of x u) % 4096
+  first_len : is_complete u ≡ false → length (open_text x first false) ≡ length (text_of x u) % PAGE
   first_len still = omega (
     arith,
     ap length (same_text still),
-    length-drop (4096 * (length (text_of x u) / 4096))
+    length-drop (PAGE * (length (text_of x u) / PAGE))
         (patch_text x first false).bytes,
   )
 
@@ -106,31 +107,31 @@ module _ (x : IndexSet) (u : Upload) (n count : ℕ) (declare : Option ℕ) wher
         needs = ap (λ o. length (list_on o)) none ∙ sym first_need;
         kept = λ kept.
             let size = first_len kept.incomplete in
-            let rest : length (open_text x first false) - growth.text_len % 4096 ≡ 0 =
-            omega (arith, size, ap (λ (t : ℕ). t % 4096) committed) in
+            let rest : length (open_text x first false) - growth.text_len % PAGE ≡ 0 =
+            omega (arith, size, ap (λ (t : ℕ). t % PAGE) committed) in
             record {
               roomy = roomy;
-              some = omega (arith, size, ap (λ (t : ℕ). t % 4096) committed);
+              some = omega (arith, size, ap (λ (t : ℕ). t % PAGE) committed);
               listed = ap (λ o. length (list_on o)) none ∙ sym (ap (need_of growth.text_len) rest);
               count = subst (λ o. HoldsCount o (length (open_text x first false))) (sym none) tt;
             };
       }
 
   -- the committed text's last bytes, where the list has it
-  pub begins_bytes : (current : ℕ → ℕ) (page len : ℕ) (list tail : List ℕ) → len ≤ 4096 * length list
-      → text_on current page list (4096 * (len / 4096)) ++ tail ≡ text_on current page list len
+  pub begins_bytes : (current : ℕ → ℕ) (page len : ℕ) (list tail : List ℕ) → len ≤ PAGE * length list
+      → text_on current page list (PAGE * (len / PAGE)) ++ tail ≡ text_on current page list len
       → text_on current page list len ≡ text_of x u → len ≡ length (text_of x u)
       → is_complete u ≡ false → tail ≡ open_text x first false
   begins_bytes current page len list tail long both is size still =
-      let prefix = text_on current page list (4096 * (len / 4096)) in
-      let k : length prefix ≡ 4096 * (len / 4096) =
+      let prefix = text_on current page list (PAGE * (len / PAGE)) in
+      let k : length prefix ≡ PAGE * (len / PAGE) =
       omega (
         arith,
         long,
-        length-take (4096 * (len / 4096)) (blocks_on current page list),
+        length-take (PAGE * (len / PAGE)) (blocks_on current page list),
         length-blocks_on current page
             list,
       ) in
       sym (drop-append_seam prefix tail)
-      ∙ ap (λ (m : ℕ). drop m (prefix ++ tail)) (k ∙ ap (λ (t : ℕ). 4096 * (t / 4096)) size)
-      ∙ ap (drop (4096 * (length (text_of x u) / 4096))) (both ∙ is ∙ sym (same_text still))
+      ∙ ap (λ (m : ℕ). drop m (prefix ++ tail)) (k ∙ ap (λ (t : ℕ). PAGE * (t / PAGE)) size)
+      ∙ ap (drop (PAGE * (length (text_of x u) / PAGE))) (both ∙ is ∙ sym (same_text still))

@@ -3,6 +3,7 @@ use Rattle.std.proofs.Common.{◌≡◌, ◌<◌, ◌≤◌, ◌+◌, ◌-◌, �
 use Rattle.std.proofs.Common.{drop, get_or, replicate, sym, ◌∙◌, ap, arith, add-one, drop-cons, append-nil}
 use Rattle.std.proofs.Common.{length-append, length-take}
 use Rattle.std.proofs.lemmas.List.{take-append-le, take-append-drop}
+use Rattle.spool_journal.specs.declared.TheConstants.{PAGE}
 use Rattle.spool_disk.specs.Disk.{span}
 use Rattle.spool_disk.proofs.Span.{length-span}
 use Rattle.spool_texts.proofs.Shown.{length-blocks_on, text_joined}
@@ -21,50 +22,50 @@ content_empty current first d text none is =
 
 -- one that begins holds the committed text's last bytes
 pub begun_bytes : (current current' : ℕ → ℕ) (first : ℕ) (g h : Growth) (text : Draft) → g.on ≡ None → h.on ≡ Some text
-    → text.blocks ≡ [] → text.unfinished ≡ prefix_on current first g.tail (g.text_len % 4096)
+    → text.blocks ≡ [] → text.unfinished ≡ prefix_on current first g.tail (g.text_len % PAGE)
     → bytes_on current' first h h.on ≡ bytes_on current first g g.on
 begun_bytes current current' first g h text none some empty is =
     ap (bytes_on current' first h) some ∙ content_empty current' first text _ empty is
     ∙ sym (ap (bytes_on current first g) none)
 
 -- the first bytes of a block, whatever is after it
-prefix_of : (current : ℕ → ℕ) (first b n : ℕ) (rest : List ℕ) → n ≤ 4096
+prefix_of : (current : ℕ → ℕ) (first b n : ℕ) (rest : List ℕ) → n ≤ PAGE
     → text_on current first (b ∷ rest) n ≡ text_on current
     first (b ∷ []) n
 unfolding blocks_on
 prefix_of current first b n rest le =
-    let fits : n ≤ length (span current (4096 * (first + b)) 4096) =
-    omega (arith, le, length-span current (4096 * (first + b)) 4096) in
-    take-append-le n (span current (4096 * (first + b)) 4096) (blocks_on current first rest) fits
-    ∙ sym (take-append-le n (span current (4096 * (first + b)) 4096) (blocks_on current first []) fits)
+    let fits : n ≤ length (span current (PAGE * (first + b)) PAGE) =
+    omega (arith, le, length-span current (PAGE * (first + b)) PAGE) in
+    take-append-le n (span current (PAGE * (first + b)) PAGE) (blocks_on current first rest) fits
+    ∙ sym (take-append-le n (span current (PAGE * (first + b)) PAGE) (blocks_on current first []) fits)
 
 -- a text is on its full blocks and on the next one
-pub tail_on : (current : ℕ → ℕ) (first len : ℕ) (list : List ℕ) → len ≤ 4096 * length list → 0 < len % 4096
-    → text_on current first list (4096 * (len / 4096)) ++ text_on current first (get_or list (len / 4096) 0 ∷ [])
-    (len % 4096) ≡ text_on current first list len
+pub tail_on : (current : ℕ → ℕ) (first len : ℕ) (list : List ℕ) → len ≤ PAGE * length list → 0 < len % PAGE
+    → text_on current first list (PAGE * (len / PAGE)) ++ text_on current first (get_or list (len / PAGE) 0 ∷ [])
+    (len % PAGE) ≡ text_on current first list len
 tail_on current first len list fits some =
-    let n = len / 4096 in
+    let n = len / PAGE in
     let lt : n < length list = omega (arith, fits, some) in
     let cut : drop n list ≡ get_or list n 0 ∷ drop (n + 1) list = rw (add-one, drop-cons list n 0) in
-    ap (λ (xs : List ℕ). text_on current first list (4096 * n) ++ xs)
-    (sym (ap (λ (xs : List ℕ). text_on current first xs (len % 4096)) cut
-    ∙ prefix_of current first (get_or list n 0) (len % 4096) (drop (n + 1) list) (omega arith)))
-    ∙ sym (text_joined current first n (len % 4096) list (drop n list) (omega (arith, lt)))
-    ∙ ap (λ (xs : List ℕ). text_on current first xs (4096 * n + len % 4096)) (take-append-drop n list)
+    ap (λ (xs : List ℕ). text_on current first list (PAGE * n) ++ xs)
+    (sym (ap (λ (xs : List ℕ). text_on current first xs (len % PAGE)) cut
+    ∙ prefix_of current first (get_or list n 0) (len % PAGE) (drop (n + 1) list) (omega arith)))
+    ∙ sym (text_joined current first n (len % PAGE) list (drop n list) (omega (arith, lt)))
+    ∙ ap (λ (xs : List ℕ). text_on current first xs (PAGE * n + len % PAGE)) (take-append-drop n list)
     ∙ ap (λ (k : ℕ). text_on current first list k) (omega arith)
 
-pub no_tail_on : (current : ℕ → ℕ) (first len : ℕ) (list : List ℕ) → len % 4096 ≡ 0
-    → text_on current first list (4096 * (len / 4096)) ++ replicate (len % 4096) 0 ≡ text_on current first list len
+pub no_tail_on : (current : ℕ → ℕ) (first len : ℕ) (list : List ℕ) → len % PAGE ≡ 0
+    → text_on current first list (PAGE * (len / PAGE)) ++ replicate (len % PAGE) 0 ≡ text_on current first list len
 no_tail_on current first len list whole =
-    let full : 4096 * (len / 4096) ≡ len = omega (arith, whole) in
-    ap (λ (k : ℕ). text_on current first list (4096 * (len / 4096)) ++ replicate k 0) whole
-    ∙ append-nil (text_on current first list (4096 * (len / 4096)))
+    let full : PAGE * (len / PAGE) ≡ len = omega (arith, whole) in
+    ap (λ (k : ℕ). text_on current first list (PAGE * (len / PAGE)) ++ replicate k 0) whole
+    ∙ append-nil (text_on current first list (PAGE * (len / PAGE)))
     ∙ ap (λ (k : ℕ). text_on current first list k) full
 
 -- HOW MANY THEY ARE
 
 length-prefix : (current : ℕ → ℕ) (first n : ℕ) (list rest : List ℕ) → n ≤ length list
-    → length (blocks_on current first (take n list) ++ rest) ≡ 4096 * n + length rest
+    → length (blocks_on current first (take n list) ++ rest) ≡ PAGE * n + length rest
 length-prefix current first n list rest le =
     omega (
       arith,
@@ -82,7 +83,7 @@ count_ended current first d list last bytes is =
     omega (
       arith,
       ap length is,
-      length-prefix current first (length list - (length last + 4095) / 4096) list last (omega arith),
+      length-prefix current first (length list - (length last + 4095) / PAGE) list last (omega arith),
       length-append (content_on current first d) bytes,
       length-prefix current first (full_count d) d.blocks d.unfinished (omega arith),
     )

@@ -4,6 +4,7 @@ use Rattle.std.proofs.Common.{List, [], length, None, Err, refl, sym, ◌∙◌,
 use Rattle.std.proofs.Common.{length-drop, ⊎_elim}
 use Rattle.std.proofs.lemmas.Bool.{cases_eq, cases_lt}
 use Rattle.std.specs.declared.alloc.Global.{Global}
+use Rattle.spool_journal.specs.declared.TheConstants.{PAGE}
 use Rattle.enc_model.specs.Indexes.{IndexSet}
 use Rattle.spool_blocks.specs.Blocks.{Held}
 use Rattle.upload_rules.specs.declared.errors.UploadError.{UploadError}
@@ -23,18 +24,18 @@ use Rattle.spool_drafts.proofs.Lengths.{need_some}
 use Rattle.spool_drafts.proofs.Patches.{committed_first, fine_before, open_grows, patch_text_is, wants_of}
 
 -- where no block is needed nothing was added
-need_none : (t n : ℕ) → need_of t (n - t % 4096) ≡ 0 → n ≤ t % 4096
-need_none t n none = ⊎_elim (λ (lt : t % 4096 < n). omega (arith, lt, none, need_some t n lt))
-    (λ (le : n ≤ t % 4096). le) (cases_lt (t % 4096) n)
+need_none : (t n : ℕ) → need_of t (n - t % PAGE) ≡ 0 → n ≤ t % PAGE
+need_none t n none = ⊎_elim (λ (lt : t % PAGE < n). omega (arith, lt, none, need_some t n lt))
+    (λ (le : n ≤ t % PAGE). le) (cases_lt (t % PAGE) n)
 
 -- the length of the text that ended: as it was where no block is listed, and after its full blocks where some are
-whole_is : (t n : ℕ) (list last : List ℕ) (whole : ℕ) → t % 4096 ≤ n → length list ≡ need_of t (n - t % 4096)
+whole_is : (t n : ℕ) (list last : List ℕ) (whole : ℕ) → t % PAGE ≤ n → length list ≡ need_of t (n - t % PAGE)
     → (length list ≡ 0 → whole ≡ t)
-    → (0 < length list → whole ≡ 4096 * (t / 4096) + count_with list last)
-    → (1 ≤ length list → count_with list last ≡ n) → whole ≡ 4096 * (t / 4096) + n
+    → (0 < length list → whole ≡ PAGE * (t / PAGE) + count_with list last)
+    → (1 ≤ length list → count_with list last ≡ n) → whole ≡ PAGE * (t / PAGE) + n
 whole_is t n list last whole some listed nothing more count = elim (cases_eq (length list) 0) [
   | inl none ↦ omega (arith, nothing none, some, need_none t n (sym listed ∙ none))
-  | inr there ↦ more (omega (arith, there)) ∙ ap (λ (k : ℕ). 4096 * (t / 4096) + k) (count (omega (arith, there)))
+  | inr there ↦ more (omega (arith, there)) ∙ ap (λ (k : ℕ). PAGE * (t / PAGE) + k) (count (omega (arith, there)))
 ]
 
 module _ (x : IndexSet) (p : Patch) (d : SpoolDraft) (held : Holds x p d) (still : is_complete p.began ≡ false)
@@ -70,7 +71,7 @@ module _ (x : IndexSet) (p : Patch) (d : SpoolDraft) (held : Holds x p d) (still
     size : length (open_text x p false) + length text ≡ length (open_text x p done)
     size = sym (ap length open_ended ∙ length-append (open_text x p false) text)
 
-    wanted : need_of d.growth.text_len ((length (open_text x p false) + length text) - d.growth.text_len % 4096) ≡ wants
+    wanted : need_of d.growth.text_len ((length (open_text x p false) + length text) - d.growth.text_len % PAGE) ≡ wants
         x p done
     wanted =
         wants_of x p done d.growth.text_len (length (open_text x p false) + length text) held.committed size
@@ -78,9 +79,9 @@ module _ (x : IndexSet) (p : Patch) (d : SpoolDraft) (held : Holds x p d) (still
 
     pub whole : (new : SpoolDraft) (e : DraftEnd) (last : List ℕ) → e.state ≡ state → d.growth.short ≡ false
         → ((n : ℕ) → HoldsLen d.growth n → length (list_of new) ≡ need_of d.growth.text_len
-        ((n + length text) - d.growth.text_len % 4096))
+        ((n + length text) - d.growth.text_len % PAGE))
         → (length (list_of new) ≡ 0 → e.text_len ≡ d.growth.text_len)
-        → (0 < length (list_of new) → e.text_len ≡ 4096 * (d.growth.text_len / 4096) + count_with (list_of new) last)
+        → (0 < length (list_of new) → e.text_len ≡ PAGE * (d.growth.text_len / PAGE) + count_with (list_of new) last)
         → ((n : ℕ) → HoldsLen d.growth n → 1 ≤ length (list_of new) → count_with (list_of new) last ≡ n + length text)
         → IsWhole x p done new e
     whole new e last is roomy listed nothing more count =
@@ -98,8 +99,8 @@ module _ (x : IndexSet) (p : Patch) (d : SpoolDraft) (held : Holds x p d) (still
             size,
             whole_is d.growth.text_len (n + length text) (list_of new) last e.text_len (omega (arith, holds.some))
                 (listed n holds) nothing more (count n holds),
-            ap (λ (k : ℕ). 4096 * (k / 4096)) held.committed,
-            length-drop (4096 * (t / 4096)) (patch_text x p done).bytes,
+            ap (λ (k : ℕ). PAGE * (k / PAGE)) held.committed,
+            length-drop (PAGE * (t / PAGE)) (patch_text x p done).bytes,
             committed_first x p done still encodable_end,
           );
         }

@@ -1,12 +1,13 @@
 -- How many blocks a text needs after the committed one's full blocks, and what the lengths of an upload say.
 use Rattle.std.proofs.Common.{◌≡◌, ℕ, ◌+◌, ◌-◌, ◌/◌, ◌%◌, ◌<◌, ◌≤◌, false, length, Option, Some, None, refl, arith}
 use Rattle.std.proofs.lemmas.Bool.{ne_eqb}
+use Rattle.spool_journal.specs.declared.TheConstants.{PAGE}
 use Rattle.upload_rules.specs.Lengths.{is_length, known_or, longest}
 use Rattle.upload_rules.specs.Store.{Upload, is_complete}
 use Rattle.upload_rules.specs.Room.{need_of}
 
-pub need_some : (t n : ℕ) → t % 4096 < n → need_of t (n - t % 4096) ≡ (n + 4095) / 4096
-need_some t n lt = rw (ne_eqb (n - t % 4096) 0 (λ e. omega (arith, e, lt))) (omega (arith, lt))
+pub need_some : (t n : ℕ) → t % PAGE < n → need_of t (n - t % PAGE) ≡ (n + 4095) / PAGE
+need_some t n lt = rw (ne_eqb (n - t % PAGE) 0 (λ e. omega (arith, e, lt))) (omega (arith, lt))
 
 -- an upload that has room for one byte more isn't complete
 pub is_open : (u : Upload) (declare : Option ℕ) (count : ℕ) → 0 < count

@@ -4,6 +4,7 @@ use Rattle.std.proofs.Common.{drop, Option, None, Some, refl, sym, ◌∙◌, ap
 use Rattle.std.proofs.Common.{length-drop, ⊎_elim}
 use Rattle.std.proofs.lemmas.Bool.{both_ways}
 use Rattle.std.proofs.lemmas.List.{drop-append-le}
+use Rattle.spool_journal.specs.declared.TheConstants.{PAGE}
 use Rattle.enc_model.specs.Indexes.{IndexSet, tables}
 use Rattle.upload_rules.specs.Room.{need_of, wants, need}
 use Rattle.upload_rules.specs.Store.{Upload, text_of, text_with, is_complete}
@@ -68,22 +69,22 @@ committed_first x p done still none =
 -- what a patch wants, by its text after the full blocks of the committed one
 pub wants_is : (x : IndexSet) (p : Patch) (done : Bool) → (patch_text x p done).fault ≡ None
     → wants x p done ≡ need_of (length (text_of x p.began))
-    (length (open_text x p done) - length (text_of x p.began) % 4096)
+    (length (open_text x p done) - length (text_of x p.began) % PAGE)
 unfolding wants
 wants_is x p done none =
     let t = length (text_of x p.began) in
     let bytes = (patch_text x p done).bytes in
-    let e : length bytes - t ≡ length (open_text x p done) - t % 4096 =
-    omega (arith, length-drop (4096 * (t / 4096)) bytes) in
+    let e : length bytes - t ≡ length (open_text x p done) - t % PAGE =
+    omega (arith, length-drop (PAGE * (t / PAGE)) bytes) in
     rw (no_fault (patch_text x p done).fault none) (ap (need_of t) e)
 
 -- the same by two numbers
 pub wants_of : (x : IndexSet) (p : Patch) (done : Bool) (t n : ℕ) → t ≡ length (text_of x p.began)
     → n ≡ length (open_text x p done) → (patch_text x p done).fault ≡ None
-    → need_of t (n - t % 4096) ≡ wants x p done
+    → need_of t (n - t % PAGE) ≡ wants x p done
 wants_of x p done t n committed size none =
-    ap (λ (t : ℕ). need_of t (n - t % 4096)) committed
-    ∙ ap (λ (n : ℕ). need_of (length (text_of x p.began)) (n - length (text_of x p.began) % 4096)) size
+    ap (λ (t : ℕ). need_of t (n - t % PAGE)) committed
+    ∙ ap (λ (n : ℕ). need_of (length (text_of x p.began)) (n - length (text_of x p.began) % PAGE)) size
     ∙ sym (wants_is x p done none)
 
 wants_nothing : (x : IndexSet) (p : Patch) (done : Bool) → is_there (patch_text x p done).fault ≡ true
@@ -112,5 +113,5 @@ pub open_grows : (x : IndexSet) (p : Patch) (piece text : List ℕ) (done done' 
     → open_text x (with_piece p piece) done' ≡ open_text x p done ++ text
 unfolding patch_text
 open_grows x p piece text done done' prefix adds =
-    let n = 4096 * (length (text_of x p.began) / 4096) in
+    let n = PAGE * (length (text_of x p.began) / PAGE) in
     ap (drop n) (sym adds) ∙ drop-append-le n (text_with x p.began p.body done).bytes text (omega (arith, prefix))

@@ -2,6 +2,7 @@
 use Rattle.std.proofs.Common.{◌≡◌, ◌≤◌, ◌*◌, ◌%◌, ◌++◌, ℕ, List, [], ◌∷◌, Option, None, Some, take, refl, sym, ◌∙◌, ap}
 use Rattle.std.proofs.Common.{arith, length-take}
 use Rattle.std.proofs.lemmas.List.{get_or-take}
+use Rattle.spool_journal.specs.declared.TheConstants.{PAGE}
 use Rattle.spool_texts.specs.Drafts.{Draft, full_count, prefix_on, tail_list}
 use Rattle.spool_texts.specs.Written.{NoneOf, SameOutside}
 use Rattle.spool_texts.proofs.Prefixes.{blocks_kept, blocks_same}
@@ -20,7 +21,7 @@ pub bytes_kept : (current current' : ℕ → ℕ) (first : ℕ) (blocks : List �
     → SameOutside first blocks current current' → NoneOf (list_on on) blocks → NoneOf (tail_list g.tail) blocks
     → bytes_on current' first g on ≡ bytes_on current first g on
 bytes_kept current current' first blocks g None same apart away =
-    prefix_kept current current' first blocks g.tail (g.text_len % 4096) same away
+    prefix_kept current current' first blocks g.tail (g.text_len % PAGE) same away
 bytes_kept current current' first blocks g (Some text) same apart away =
     ap (λ (xs : List ℕ). xs ++ text.unfinished)
     (blocks_kept current current' first (take (full_count text) text.blocks) blocks same (λ i k lt lt' e.
@@ -31,7 +32,7 @@ bytes_kept current current' first blocks g (Some text) same apart away =
 -- NO TEXT BLOCK IS ANOTHER
 
 prefix_same : (current current' : ℕ → ℕ) (first : ℕ) (tail : Option ℕ) (n : ℕ)
-    → ((p : ℕ) → 4096 * first ≤ p → current' p ≡ current p)
+    → ((p : ℕ) → PAGE * first ≤ p → current' p ≡ current p)
     → prefix_on current' first tail n ≡ prefix_on current first tail n
 prefix_same current current' first None n same = refl
 prefix_same current current' first (Some block) n same =
@@ -39,9 +40,9 @@ prefix_same current current' first (Some block) n same =
     (arith, e))))
 
 pub bytes_same : (current current' : ℕ → ℕ) (first : ℕ) (g : Growth) (on : Option Draft)
-    → ((p : ℕ) → 4096 * first ≤ p → current' p ≡ current p)
+    → ((p : ℕ) → PAGE * first ≤ p → current' p ≡ current p)
     → bytes_on current' first g on ≡ bytes_on current first g on
-bytes_same current current' first g None same = prefix_same current current' first g.tail (g.text_len % 4096) same
+bytes_same current current' first g None same = prefix_same current current' first g.tail (g.text_len % PAGE) same
 bytes_same current current' first g (Some text) same =
     ap (λ (xs : List ℕ). xs ++ text.unfinished)
     (blocks_same current' current first (take (full_count text) text.blocks) (λ i p lt e. same p (omega (arith, e))))

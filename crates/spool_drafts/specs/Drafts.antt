@@ -1,6 +1,7 @@
 -- Open drafts, and the patches that they represent.
 use Rattle.std.specs.Prelude.{◌≡◌, ◌⊎◌, ◌≤◌, ◌<◌, ◌*◌, ◌+◌, ◌/◌, ◌^◌, ◌++◌, ℕ, Bool, true, false, List, Option, None}
 use Rattle.std.specs.Prelude.{Some, length, drop, Result, Ok, Err}
+use Rattle.spool_journal.specs.declared.TheConstants.{PAGE}
 use Rattle.enc_model.specs.Indexes.{IndexSet}
 use Rattle.enc_stream.specs.StateBytes.{IsValid}
 use Rattle.spool_blocks.specs.Blocks.{Held}
@@ -71,13 +72,13 @@ pub record IsAfter (len : ℕ) (state : List ℕ) (d : SpoolDraft) : Type 0 wher
 pub record EndsAfter (len : ℕ) (state list : List ℕ) (e : DraftEnd) : Type 0 where
   pub same : SameEncodings state e.state
   pub nothing : length list ≡ 0 → e.text_len ≡ len
-  pub blocks : 0 < length list → blocks_of e.text_len ≡ len / 4096 + length list
+  pub blocks : 0 < length list → blocks_of e.text_len ≡ len / PAGE + length list
 
 -- The draft of a patch.
 
 -- The patch's text after the full blocks of the committed one.
 abbrev pub open_text : IndexSet → Patch → Bool → List ℕ
-open_text x p done = drop (4096 * (length (text_of x p.began) / 4096)) (patch_text x p done).bytes
+open_text x p done = drop (PAGE * (length (text_of x p.began) / PAGE)) (patch_text x p done).bytes
 
 -- The draft's text is stored: there is room, no character is unmappable, and bytes may come.
 pub record IsKept (x : IndexSet) (p : Patch) (d : SpoolDraft) : Type 0 where

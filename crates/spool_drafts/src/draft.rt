@@ -22,11 +22,11 @@ ghost use Rattle.spool_drafts.specs.Drafts.{declare_of, committed_len_of, fresh_
 use crate::fresh::Fresh;
 use crate::growth::Growth;
 use crate::spare::Spare;
-use common::Stop;
+use common::{MOST_BLOCKS, Stop};
 use enc_index::IndexSet;
 use spool_blocks::{BlockNo, Blocks};
 use spool_disk::Disk;
-use spool_journal::Layout;
+use spool_journal::{Layout, PAGE};
 use spool_texts::DraftText;
 use std::alloc::Global;
 use upload_rules::{Record, UploadError, UploadRefusal};
@@ -71,8 +71,8 @@ impl SpoolDraft {
         count: u64,
         declare: Option<u64>,
     ) -> Result<Self, UploadRefusal>
-        requires long { upload.now.text_len ≤ 4096 * length list.now }
-        requires few { length list.now ≤ 65536 }
+        requires long { upload.now.text_len ≤ PAGE * length list.now }
+        requires few { length list.now ≤ MOST_BLOCKS }
         ensures begun { (x : Indexes) (n : ℕ) (u : Upload) → Keeps x n upload.now u
             → IsBegun x n offset count declare u result }
         ensures content { (x : Indexes) (n : ℕ) (u : Upload) (current : ℕ → ℕ) (first : ℕ) → Keeps x n upload.now u
@@ -81,8 +81,8 @@ impl SpoolDraft {
         ensures none { IfOk result (λ d. list_of d ≡ []) }
         ensures tail { IfOk result
             (λ d. (i : ℕ) → i < length (tail_of d)
-            → (upload.now.text_len / 4096 < length list.now)
-            × (get_or (tail_of d) i 0 ≡ get_or list.now (upload.now.text_len / 4096) 0)) }
+            → (upload.now.text_len / PAGE < length list.now)
+            × (get_or (tail_of d) i 0 ≡ get_or list.now (upload.now.text_len / PAGE) 0)) }
         ensures placed { (blocks : ℕ) → AllBelow blocks list.now → IfOk result (λ d. IsPlaced blocks d) }
         ensures named { IfOk result
             (λ d. (number_of d ≡ upload.now.number) × (offset_of d ≡ upload.now.accepted) × (declare_of d ≡ declare)) }
@@ -142,7 +142,7 @@ impl SpoolDraft {
     /// The reserved blocks. The first has the ordinal of the committed text's unfinished block.
     pub fn list(&self) -> &[BlockNo]
         ensures blocks { result.now ≡ list_of self.now }
-        ensures few { length (list_of self.now) ≤ 65536 }
+        ensures few { length (list_of self.now) ≤ MOST_BLOCKS }
     {
         self.growth.list()
     }
@@ -162,7 +162,7 @@ impl SpoolDraft {
         indexes: &IndexSet,
         piece: &[u8],
     ) -> Result<(), Stop>
-        requires room { 4096 * all_pages layout.now ≤ D.size disk.old }
+        requires room { PAGE * all_pages layout.now ≤ D.size disk.old }
         requires blocks { length blocks.old.rows ≡ layout.now }
         requires reserved { IsReserved blocks.old (list_of self.old) }
         requires placed { IsPlaced layout.now self.old }
@@ -233,7 +233,7 @@ impl SpoolDraft {
         indexes: &IndexSet,
         completes: bool,
     ) -> Result<DraftEnd, UploadError>
-        requires room { 4096 * all_pages layout.now ≤ D.size disk.old }
+        requires room { PAGE * all_pages layout.now ≤ D.size disk.old }
         requires reserved { IsReserved blocks.old (list_of self.old) }
         requires placed { IsPlaced layout.now self.old }
         ensures size { D.size disk.new ≡ D.size disk.old }
@@ -269,7 +269,7 @@ impl SpoolDraft {
         ensures answer { (p : Patch) → Holds indexes.now p self.old → is_complete p.began ≡ false
             → EndsAs indexes.now p completes self.old self.new blocks.old blocks.new result }
         ensures fits { IfOk result
-            (λ end. 1 ≤ length (list_of self.new) → (length end.last.items + 4095) / 4096 ≤ length (list_of self.new)) }
+            (λ end. 1 ≤ length (list_of self.new) → (length end.last.items + 4095) / PAGE ≤ length (list_of self.new)) }
         ensures content { (p : Patch) → D.honest disk.old → Holds indexes.now p self.old → is_complete p.began ≡ false
             → Carries indexes.now (D.current disk.old) (text_page layout.now) p self.old
             → IfOk result (λ end. 1 ≤ length (list_of self.new)

@@ -10,7 +10,7 @@ ghost use Rattle.spool_drafts.specs.Effect.{Effect, Regrasps};
 ghost use Rattle.spool_drafts.specs.Growth.{list_on, bytes_on, count_with, IsTailed, HoldsLen};
 ghost use Rattle.spool_drafts.specs.Growth.{GrowsTo, ClosesAs};
 
-use common::Stop;
+use common::{MOST_BLOCKS, Stop};
 use spool_blocks::{BlockNo, Blocks};
 use spool_disk::Disk;
 use spool_journal::{Layout, PAGE};
@@ -35,17 +35,17 @@ pub(crate) struct Growth {
 impl Growth {
     /// Nothing after a text of this length on the listed blocks.
     pub(crate) fn after(text_len: u64, list: &[BlockNo]) -> Self
-        requires long { text_len ≤ 4096 * length list.now }
-        requires few { length list.now ≤ 65536 }
+        requires long { text_len ≤ PAGE * length list.now }
+        requires few { length list.now ≤ MOST_BLOCKS }
         ensures len { result.text_len ≡ text_len }
         ensures none { result.on ≡ None }
         ensures roomy { result.short ≡ false }
         ensures tailed { (blocks : ℕ) → AllBelow blocks list.now → IsTailed blocks result }
         ensures tail { (i : ℕ) → i < length (tail_list result.tail)
-            → (text_len / 4096 < length list.now)
-            × (get_or (tail_list result.tail) i 0 ≡ get_or list.now (text_len / 4096) 0) }
+            → (text_len / PAGE < length list.now)
+            × (get_or (tail_list result.tail) i 0 ≡ get_or list.now (text_len / PAGE) 0) }
         ensures bytes { (current : ℕ → ℕ) (first : ℕ)
-            → text_on current first list.now (4096 * (text_len / 4096)) ++ bytes_on current first result None
+            → text_on current first list.now (PAGE * (text_len / PAGE)) ++ bytes_on current first result None
             ≡ text_on current first list.now text_len }
     {
         let tail = if text_len % PAGE as u64 == 0 {
@@ -64,7 +64,7 @@ impl Growth {
     /// The reserved blocks.
     pub(crate) fn list(&self) -> &[BlockNo]
         ensures blocks { result.now ≡ list_on self.now.on }
-        ensures few { length (list_on self.now.on) ≤ 65536 }
+        ensures few { length (list_on self.now.on) ≤ MOST_BLOCKS }
     {
         match &self.on {
             Some(text) => text.list(),
@@ -74,12 +74,12 @@ impl Growth {
 
     /// The length of the whole text, whose last bytes have yet to be written.
     pub(crate) fn len_with(&self, last: &[u8]) -> u64
-        requires few { self.now.text_len ≤ 4096 * 65536 }
+        requires few { self.now.text_len ≤ PAGE * MOST_BLOCKS }
         requires fits { 1 ≤ length (list_on self.now.on)
-            → (length last.now + 4095) / 4096 ≤ length (list_on self.now.on) }
+            → (length last.now + 4095) / PAGE ≤ length (list_on self.now.on) }
         ensures nothing { length (list_on self.now.on) ≡ 0 → result ≡ self.now.text_len }
         ensures more { 0 < length (list_on self.now.on)
-            → result ≡ 4096 * (self.now.text_len / 4096) + count_with (list_on self.now.on) last.now }
+            → result ≡ PAGE * (self.now.text_len / PAGE) + count_with (list_on self.now.on) last.now }
     {
         let count = self.list().len();
         if count == 0 {
@@ -110,7 +110,7 @@ impl Growth {
         blocks: &mut Blocks,
         bytes: &[u8],
     ) -> Result<(), Stop>
-        requires room { 4096 * all_pages layout.now ≤ D.size disk.old }
+        requires room { PAGE * all_pages layout.now ≤ D.size disk.old }
         requires blocks { length blocks.old.rows ≡ layout.now }
         requires reserved { IsReserved blocks.old (list_on self.old.on) }
         requires tailed { IsTailed layout.now self.old }
@@ -168,7 +168,7 @@ impl Growth {
         blocks: &mut Blocks,
         bytes: &[u8],
     ) -> Result<Vec<u8>, UploadError>
-        requires room { 4096 * all_pages layout.now ≤ D.size disk.old }
+        requires room { PAGE * all_pages layout.now ≤ D.size disk.old }
         requires reserved { IsReserved blocks.old (list_on self.old.on) }
         requires tailed { IsTailed layout.now self.old }
         ensures size { D.size disk.new ≡ D.size disk.old }
@@ -180,7 +180,7 @@ impl Growth {
         ensures answer { ClosesAs self.old self.new (length bytes.now) blocks.old blocks.new result }
         ensures fits { IfOk result
             (λ last. 1 ≤ length (list_on self.new.on)
-            → (length last.items + 4095) / 4096 ≤ length (list_on self.new.on)) }
+            → (length last.items + 4095) / PAGE ≤ length (list_on self.new.on)) }
         ensures len { (n : ℕ) → HoldsLen self.old n → IfOk result (λ last. 1 ≤ length (list_on self.new.on)
             → count_with (list_on self.new.on) last.items ≡ n + length bytes.now) }
         ensures content { D.honest disk.old → IfOk result (λ last. 1 ≤ length (list_on self.new.on)
@@ -217,7 +217,7 @@ impl Growth {
 
     // Begins the new text with the committed text's last bytes, unless it has begun.
     fn open<D: Disk>(&mut self, alloc: Global, disk: &mut D, layout: &Layout) -> Result<(), Stop>
-        requires room { 4096 * all_pages layout.now ≤ D.size disk.old }
+        requires room { PAGE * all_pages layout.now ≤ D.size disk.old }
         requires tailed { IsTailed layout.now self.old }
         ensures size { D.size disk.new ≡ D.size disk.old }
         ensures honest { D.honest disk.old ↔ D.honest disk.new }

@@ -1,5 +1,7 @@
 -- What a crash may leave while a spool is made.
 use Rattle.std.proofs.Common.{◌≡◌, inl, inr, ℕ, ◌*◌, ◌≤◌, List, length, refl, ◌∙◌, arith, ⊎_elim}
+use Rattle.spool_journal.specs.declared.TheConstants.{PAGE}
+use Rattle.common.specs.declared.limits.TheConstants.{LEAST_BLOCKS, MOST_BLOCKS}
 use Rattle.enc_model.specs.Indexes.{IndexSet}
 use Rattle.enc_index.specs.Sets.{IsIndexSet}
 use Rattle.spool_disk.specs.Disk.{In, IsImage, Keeps, Syncs, Writes}
@@ -25,7 +27,7 @@ prefix_kept current unsynced = record { same = λ p lt is_synced. refl; unsyncs 
 
 module _ {current current' : ℕ → ℕ} {unsynced unsynced' : ℕ → Type 0} where
   -- after page 0 anything may be written
-  pub prefix_written : {at : ℕ} {bytes : List ℕ} {done : Type 0} → 4096 ≤ at
+  pub prefix_written : {at : ℕ} {bytes : List ℕ} {done : Type 0} → PAGE ≤ at
       → Writes at bytes done current current' unsynced unsynced' → KeepsPrefix current current' unsynced unsynced'
   prefix_written from writes = record {
     same = λ p lt is_synced. writes.outside p (λ within. omega (arith, within.from, from, lt));
@@ -86,7 +88,7 @@ lasts_none disk d P = record { later = omega arith; nothing_else = λ t image le
 -- THE PAGES AFTER IT, which are synced before page 0 is written
 
 pub fresh_image : {n end : ℕ} {x : IndexSet} {a b c : ℕ → ℕ} {lb lc : ℕ → Type 0} {done : Type 0} {bytes : List ℕ}
-    → IsFreshTo n x end a → Still a b lb → Writes 0 bytes done b c lb lc → length bytes ≡ 4096 → (image : ℕ → ℕ)
+    → IsFreshTo n x end a → Still a b lb → Writes 0 bytes done b c lb lc → length bytes ≡ PAGE → (image : ℕ → ℕ)
     → IsImage c lc image → IsFreshTo n x end image
 fresh_image {bytes = bytes} fresh still writes long image is = record {
   each = λ p from below.
@@ -97,15 +99,15 @@ fresh_image {bytes = bytes} fresh still writes long image is = record {
 
 pub fresh_image_synced : {n end : ℕ} {x : IndexSet} {a b c d : ℕ → ℕ} {lb lc ld : ℕ → Type 0} {done synced : Type 0}
     {bytes : List ℕ} → IsFreshTo n x end a → Still a b lb → Writes 0 bytes done b c lb lc → Syncs synced c d lc ld
-    → length bytes ≡ 4096 → (image : ℕ → ℕ) → IsImage d ld image → IsFreshTo n x end image
+    → length bytes ≡ PAGE → (image : ℕ → ℕ) → IsImage d ld image → IsFreshTo n x end image
 fresh_image_synced fresh still writes again long image is =
     fresh_image fresh still writes long image (record {
       same = λ p is_synced. is.same p (λ l. is_synced (again.unsyncs p l)) ∙ again.outside p is_synced;
     })
 
 -- where page 0 is whole then, the image shows no uploads
-pub formats_to : (n : ℕ) (x : IndexSet) (image : ℕ → ℕ) → 16 ≤ n → n ≤ 65536 → IsIndexSet x
-    → IsFreshTo n x (4096 * all_pages n) image → FormatsTo n x image
+pub formats_to : (n : ℕ) (x : IndexSet) (image : ℕ → ℕ) → LEAST_BLOCKS ≤ n → n ≤ MOST_BLOCKS → IsIndexSet x
+    → IsFreshTo n x (PAGE * all_pages n) image → FormatsTo n x image
 formats_to n x image least most valid fresh = record {
   shows = λ prefix. fresh_shows n x image (record { prefix = prefix; after = fresh }) least most valid;
 }

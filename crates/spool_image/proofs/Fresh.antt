@@ -4,6 +4,7 @@ use Rattle.std.proofs.Common.{◌∙◌, arith}
 use Rattle.std.proofs.Math.ListN.{get_or-eq_default}
 use Rattle.std.proofs.lemmas.Bool.{cases_lt}
 use Rattle.std.proofs.lemmas.Bool.Decides.{nat_tests}
+use Rattle.spool_journal.specs.declared.TheConstants.{PAGE}
 use Rattle.enc_model.specs.Indexes.{IndexSet}
 use Rattle.enc_index.specs.Area.{area_byte}
 use Rattle.spool_disk.specs.Disk.{IsImage, Writes, Syncs}
@@ -45,19 +46,19 @@ fresh_zeros n x p from =
 -- a page more
 pub fresh_more : {current current' : ℕ → ℕ} {unsynced unsynced' : ℕ
     → Type 0} {done : Type 0} (n : ℕ) (x : IndexSet) (page : ℕ)
-    (bytes : List ℕ) → IsFreshTo n x (4096 * page) current
-    → Writes (4096 * page) bytes done current current' unsynced unsynced' → done
-    → length bytes ≡ 4096 → ((i : ℕ) → i < 4096 → get_or bytes i 0 ≡ fresh_byte n x (4096 * page + i))
-    → IsFreshTo n x (4096 * (page + 1)) current'
+    (bytes : List ℕ) → IsFreshTo n x (PAGE * page) current
+    → Writes (PAGE * page) bytes done current current' unsynced unsynced' → done
+    → length bytes ≡ PAGE → ((i : ℕ) → i < PAGE → get_or bytes i 0 ≡ fresh_byte n x (PAGE * page + i))
+    → IsFreshTo n x (PAGE * (page + 1)) current'
 fresh_more {current = current} {current' = current'} n x page bytes was writes done long here = record {
-  each = λ p from below. elim (cases_lt p (4096 * page)) [
+  each = λ p from below. elim (cases_lt p (PAGE * page)) [
     | inl before ↦ writes.outside p (λ within. omega (arith, within.from, before)) ∙ was.each p from before
     | inr after ↦
-        let at : 4096 * page + (p - 4096 * page) ≡ p = omega (arith, after) in
-        let there : current' (4096 * page + (p - 4096 * page)) ≡ get_or bytes (p - 4096 * page) 0 =
-        span_at current' (4096 * page) bytes (p - 4096 * page) (writes.inside done)
+        let at : PAGE * page + (p - PAGE * page) ≡ p = omega (arith, after) in
+        let there : current' (PAGE * page + (p - PAGE * page)) ≡ get_or bytes (p - PAGE * page) 0 =
+        span_at current' (PAGE * page) bytes (p - PAGE * page) (writes.inside done)
         (omega (arith, long, below, after)) in
-        let is = here (p - 4096 * page) (omega (arith, below, after)) in
+        let is = here (p - PAGE * page) (omega (arith, below, after)) in
         subst (λ (q : ℕ). current' q ≡ fresh_byte n x q) at (there ∙ is)
   ];
 }
@@ -69,8 +70,8 @@ synced_still syncs done = record { reads = syncs.same done; is_synced = syncs.is
 
 -- the first page before them
 pub fresh_all : {a b c d : ℕ → ℕ} {lb lc ld : ℕ → Type 0} {done : Type 0} (n : ℕ) (x : IndexSet) (bytes : List ℕ)
-    → Still a b lb → Writes 0 bytes done b c lb lc → done → Still c d ld → length bytes ≡ 4096
-    → ((i : ℕ) → get_or bytes i 0 ≡ get_or (first_page n) i 0) → IsFreshTo n x (4096 * all_pages n) a → IsFresh n x d
+    → Still a b lb → Writes 0 bytes done b c lb lc → done → Still c d ld → length bytes ≡ PAGE
+    → ((i : ℕ) → get_or bytes i 0 ≡ get_or (first_page n) i 0) → IsFreshTo n x (PAGE * all_pages n) a → IsFresh n x d
 fresh_all {c = c} n x bytes first writes two second long is was = record {
   prefix = λ i lt.
       let at : 0 + i ≡ i = omega arith in

@@ -1,5 +1,6 @@
 -- What a crash might have left of a spool, from call to call.
 use Rattle.std.proofs.Common.{◌≡◌, ◌≤◌, ◌*◌, ◌↔◌, inl, inr, ℕ, List, Some, refl, sym, ◌∙◌, ap, subst, arith, ⊎_elim}
+use Rattle.spool_journal.specs.declared.TheConstants.{PAGE}
 use Rattle.spool_disk.specs.Disk.{IsImage}
 use Rattle.spool_disk.specs.Views.{Lasts}
 use Rattle.spool_disk.specs.declared.disk.Disk.{Ghosts}
@@ -19,7 +20,7 @@ module _ {D : Type 0} (disk : Ghosts D) (old new : D) (honest : disk.honest old 
       → LeftOnly disk old n t ms → LeftOnly disk new n' t ms
   left_on t ms lasts shows le left = subst (λ (k : ℕ). LeftOnly disk new k t ms) (sym size) (record {
     honest = honest.0 left.honest;
-    room = subst (λ (k : ℕ). 4096 * all_pages n ≤ k) (sym long) left.room;
+    room = subst (λ (k : ℕ). PAGE * all_pages n ≤ k) (sym long) left.room;
     each = λ image since. ⊎_elim (left.each image) (shows image) (lasts.nothing_else t image le since);
   })
 
@@ -71,7 +72,7 @@ quiet_read disk old new honest long n later now lasts = record {
     left.0,
     record {
       honest = honest.0 left.1.honest;
-      room = subst (λ (k : ℕ). 4096 * all_pages n ≤ k) (sym long) left.1.room;
+      room = subst (λ (k : ℕ). PAGE * all_pages n ≤ k) (sym long) left.1.room;
       each = λ image since.
           left.1.each image (⊎_elim (λ before. before) (now t image le)
           ((lasts left.1.honest).nothing_else t image le since));

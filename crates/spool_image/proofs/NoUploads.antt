@@ -4,6 +4,8 @@ use Rattle.std.proofs.Common.{refl, sym, ◌∙◌, ap, subst, arith}
 use Rattle.std.proofs.Math.ListN.{get_or-eq_default, length-replicate}
 use Rattle.std.proofs.lemmas.List.{get_or-replicate}
 use Rattle.std.proofs.lemmas.Bool.{cases_lt}
+use Rattle.spool_journal.specs.declared.TheConstants.{PAGE}
+use Rattle.common.specs.declared.limits.TheConstants.{LEAST_BLOCKS, MOST_BLOCKS, ROWS, SLOTS}
 use Rattle.enc_model.specs.Indexes.{IndexSet}
 use Rattle.enc_index.specs.Area.{area_byte}
 use Rattle.enc_index.specs.Sets.{IsIndexSet}
@@ -39,25 +41,25 @@ fresh_view n x = record {
   version = Two;
   next = 1;
   indexes = x;
-  slots = replicate 512 None;
+  slots = replicate SLOTS None;
   rows = replicate n None;
   texts = λ s. [];
 }
 
 module _ (n : ℕ) (x : IndexSet) (image : ℕ → ℕ) (fresh : IsFresh n x image) where
-  zeros : (place size : ℕ) → state_place n + 12 ≤ place → place + size ≤ 4096 * all_pages n → Stands image place size []
+  zeros : (place size : ℕ) → state_place n + 12 ≤ place → place + size ≤ PAGE * all_pages n → Stands image place size []
   zeros place size from below = record {
     each = λ i lt. fresh.after.each (place + i) (omega (arith, from)) (omega (arith, below, lt))
         ∙ fresh_zeros n x (place + i) (omega (arith, from));
   }
 
-  slot : (s : ℕ) → s < 512 → Stands image (slot_place n s) 2048 []
+  slot : (s : ℕ) → s < SLOTS → Stands image (slot_place n s) 2048 []
   slot s lt = zeros (slot_place n s) 2048 (omega arith) (omega (arith, all_is n, some_journal n, lt))
 
-  row : (b : ℕ) → b < 512 * (journal_pages n - 257) → Stands image (row_place n b) 8 []
+  row : (b : ℕ) → b < ROWS * (journal_pages n - 257) → Stands image (row_place n b) 8 []
   row b lt = zeros (row_place n b) 8 (omega arith) (omega (arith, all_is n, some_journal n, lt))
 
-  row_none : (b : ℕ) → b < 512 * (journal_pages n - 257) → Stands image (row_place n b) 8 (row_bytes None)
+  row_none : (b : ℕ) → b < ROWS * (journal_pages n - 257) → Stands image (row_place n b) 8 (row_bytes None)
   unfolding row_bytes
   row_none b lt = row b lt
 
@@ -84,13 +86,13 @@ module _ (n : ℕ) (x : IndexSet) (image : ℕ → ℕ) (fresh : IsFresh n x ima
               ∙ fresh_state n x (state_place n + i) (omega arith) ∙ ap (λ (p : ℕ). byte_of (state_page Two 1) p) at;
         };
         slots = λ s lt. subst (λ (o : Option SlotRecord). Stands image (slot_place n s) 2048 (slot_bytes Two o))
-            (sym (none_at 512 s)) (slot s lt);
+            (sym (none_at SLOTS s)) (slot s lt);
         rows = λ b lt. subst (λ (o : Option (ℕ × ℕ)). Stands image (row_place n b) 8 (row_bytes o)) (sym (none_at n b))
             (row_none b lt);
-        texts = λ s r e. never (none_at 512 s) e;
+        texts = λ s r e. never (none_at SLOTS s) e;
       }
 
-  fresh_valid : 16 ≤ n → n ≤ 65536 → IsIndexSet x → IsValid (fresh_view n x)
+  fresh_valid : LEAST_BLOCKS ≤ n → n ≤ MOST_BLOCKS → IsIndexSet x → IsValid (fresh_view n x)
   unfolding fresh_view
   fresh_valid least most valid = record {
     least = least;
@@ -98,18 +100,18 @@ module _ (n : ℕ) (x : IndexSet) (image : ℕ → ℕ) (fresh : IsFresh n x ima
     next_least = omega arith;
     next_most = omega arith;
     indexes = valid;
-    slot_count = length-replicate {A = Option SlotRecord} 512 None;
+    slot_count = length-replicate {A = Option SlotRecord} SLOTS None;
     row_count = length-replicate {A = Option (ℕ × ℕ)} n None;
-    records = λ s r e. never (none_at 512 s) e;
-    distinct = λ s t r q e f same. never (none_at 512 s) e;
+    records = λ s r e. never (none_at SLOTS s) e;
+    distinct = λ s t r q e f same. never (none_at SLOTS s) e;
     owners = λ b slot ordinal e. never (none_at n b) e;
-    lists = λ s r e. never (none_at 512 s) e;
+    lists = λ s r e. never (none_at SLOTS s) e;
   }
 
-  gate_shut : image 4096 ≡ 165 → ⊥
+  gate_shut : image PAGE ≡ 165 → ⊥
   gate_shut ajar =
-      let zero_there : image 4096 ≡ 0 =
-      fresh.after.each 4096 (omega arith) (omega (arith, all_is n)) ∙ fresh_prefix n x 4096 (omega arith) in
+      let zero_there : image PAGE ≡ 0 =
+      fresh.after.each PAGE (omega arith) (omega (arith, all_is n)) ∙ fresh_prefix n x PAGE (omega arith) in
       omega (arith, zero_there, ajar)
 
   fresh_is : IsViewOf image (fresh_view n x)
@@ -119,7 +121,7 @@ module _ (n : ℕ) (x : IndexSet) (image : ℕ → ℕ) (fresh : IsFresh n x ima
     says = says_same (overlaid image) image (fresh_view n x) (λ p outside. shut_view image p gate_shut) fresh_says;
   }
 
-  pub fresh_shows : 16 ≤ n → n ≤ 65536 → IsIndexSet x → ImageShows n image (no_uploads x)
+  pub fresh_shows : LEAST_BLOCKS ≤ n → n ≤ MOST_BLOCKS → IsIndexSet x → ImageShows n image (no_uploads x)
   unfolding fresh_view
   fresh_shows least most valid = record {
     view = fresh_view n x;
@@ -130,13 +132,13 @@ module _ (n : ℕ) (x : IndexSet) (image : ℕ → ℕ) (fresh : IsFresh n x ima
       next = refl;
       indexes = refl;
       rising = λ i k lt below. omega (arith, below);
-      told = λ s r e. never (none_at 512 s) e;
+      told = λ s r e. never (none_at SLOTS s) e;
       all = λ k u e. never refl e;
     };
   }
 
   -- in version 2
-  pub fresh_newest : 16 ≤ n → n ≤ 65536 → IsIndexSet x → IsNewest image
+  pub fresh_newest : LEAST_BLOCKS ≤ n → n ≤ MOST_BLOCKS → IsIndexSet x → IsNewest image
   unfolding fresh_view
   fresh_newest least most valid =
       record { view = fresh_view n x; valid = fresh_valid least most valid; new = refl; is = fresh_is }

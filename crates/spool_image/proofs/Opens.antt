@@ -1,5 +1,6 @@
 -- What an opened spool shows.
 use Rattle.std.proofs.Common.{◌⊎◌, inl, inr, ℕ, ◌*◌, ◌≤◌, sym, subst, ⊎_elim}
+use Rattle.spool_journal.specs.declared.TheConstants.{PAGE}
 use Rattle.spool_disk.specs.Disk.{IsImage}
 use Rattle.spool_disk.specs.Views.{Lasts}
 use Rattle.spool_disk.specs.declared.disk.Disk.{Ghosts}
@@ -31,12 +32,12 @@ image_shows n m image was shown reads = record {
 
 -- and the disk has room for its view
 pub view_room : {D : Type 0} (disk : Ghosts D) (d : D) (n : ℕ) (m : Store) (is : IsSpool disk d n m)
-    → 4096 * all_pages is.shows.view.blocks ≤ disk.size d
-view_room disk d n m is = subst (λ (k : ℕ). 4096 * all_pages k ≤ disk.size d) (sym is.shows.blocks) is.room
+    → PAGE * all_pages is.shows.view.blocks ≤ disk.size d
+view_room disk d n m is = subst (λ (k : ℕ). PAGE * all_pages k ≤ disk.size d) (sym is.shows.blocks) is.room
 
 -- what reads the same while a disk is opened shows the same
 pub lasts_shown : {D : Type 0} (disk : Ghosts D) (d d' : D) (n : ℕ) (m : Store) (is : IsSpool disk d n m)
-    → ((v : View) → IsValid v → IsViewOf (disk.current d) v → 4096 * all_pages v.blocks ≤ disk.size d
+    → ((v : View) → IsValid v → IsViewOf (disk.current d) v → PAGE * all_pages v.blocks ≤ disk.size d
     → Lasts disk d d' (λ image. IsImage (disk.current d) (disk.unsynced d) image
     ⊎ ReadsAs (journal_pages v.blocks) image (overlaid (disk.current d))))
     → Lasts disk d d' (LeftOrShows disk d n m)

@@ -1,5 +1,6 @@
 -- At most one reason of a refusal holds, and none of a valid spool.
 use Rattle.std.proofs.Common.{◌≡◌, ◌⊎◌, inl, inr, ℕ, refl, subst, ap, arith}
+use Rattle.spool_journal.specs.declared.TheConstants.{PAGE}
 use Rattle.spool_journal.specs.Image.{overlaid}
 use Rattle.spool_pages.specs.View.{state_place, version_number}
 use Rattle.spool_kept.specs.declared.error.OpenFault.{OpenFault}
@@ -50,7 +51,7 @@ module _ (size : ℕ) (current : ℕ → ℕ) where
     opened_is_known other =
         let v = opened.view in
         other.other (known_at v.blocks other.blocks opened_says other.says
-        (known_stands (overlaid current) (state_place v.blocks) 4096 v.version v.next
+        (known_stands (overlaid current) (state_place v.blocks) PAGE v.version v.next
         (omega arith) opened.is.says.state))
 
     pub opened_is_old : opened.view.version ≡ One → IsAlreadyNew size current → ⊥
@@ -58,7 +59,7 @@ module _ (size : ℕ) (current : ℕ → ℕ) where
         let v = opened.view in
         let N : ℕ → Type 0 = λ k. NamesVersion k (overlaid current) Two in
         let there = subst N (says_one size current new.blocks v.blocks new.says opened_says) new.new in
-        let said = version_stands (overlaid current) (state_place v.blocks) 4096 v.version v.next (omega arith)
+        let said = version_stands (overlaid current) (state_place v.blocks) PAGE v.version v.next (omega arith)
         opened.is.says.state in
         let same : version_number v.version ≡ 2 =
         version_one (overlaid current) (state_place v.blocks) v.version Two said there in

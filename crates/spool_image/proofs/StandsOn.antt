@@ -5,6 +5,7 @@ use Rattle.std.proofs.Common.{arith}
 use Rattle.std.proofs.Math.ListN.{get_or-eq_default, length-replicate}
 use Rattle.std.proofs.lemmas.Bool.{cases_lt}
 use Rattle.std.proofs.lemmas.List.{get_or-replicate}
+use Rattle.spool_journal.specs.declared.TheConstants.{PAGE}
 use Rattle.enc_model.specs.Indexes.{IndexSet}
 use Rattle.spool_blocks.specs.Blocks.{Row, Held}
 use Rattle.spool_disk.specs.Disk.{Keeps}
@@ -117,7 +118,7 @@ stands_opened {sure = sure} disk d' was h drafts m v none honest is keeps shows 
 -- A NEW UPLOAD
 
 module _ {sure : Type 0} (current current' : ℕ → ℕ) (first : ℕ) (slots slots' : List (Option SlotRecord)) (w : World)
-    (new : New) (same : sure → (p : ℕ) → 4096 * first ≤ p → current' p ≡ current p)
+    (new : New) (same : sure → (p : ℕ) → PAGE * first ≤ p → current' p ≡ current p)
     (used : (s n : ℕ) → IsUsedBy slots s n → IsUsedBy slots' s n) where
   draft_still : (rows : List Row) (p : Patch) (o : SpoolDraft)
       → DraftStands sure w.store.indexes current first slots rows
@@ -156,7 +157,7 @@ module _ {sure : Type 0} (current current' : ℕ → ℕ) (first : ℕ) (slots s
 pub stands_created : {D : Type 0} {sure : Bool} (disk : Ghosts D) (d d' : D) (h h' : Holding)
     (drafts : List (Option SpoolDraft)) (w : World) (new : New) → StandsFor sure disk d h drafts w
     → h'.layout ≡ h.layout → h'.blocks ≡ h.blocks → ((s n : ℕ) → IsUsedBy h.slots s n → IsUsedBy h'.slots s n)
-    → (sure ≡ true → (p : ℕ) → 4096 * text_page h.layout ≤ p → disk.current d' p ≡ disk.current d p)
+    → (sure ≡ true → (p : ℕ) → PAGE * text_page h.layout ≤ p → disk.current d' p ≡ disk.current d p)
     → Stored sure disk d' h' (created_store w.store new) → StandsFor sure disk d' h' drafts (created w new)
 stands_created {sure = sure} disk d d' h h' drafts w new s layout blocks used texts stored = record {
   stored = stored;

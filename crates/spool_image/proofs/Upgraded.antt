@@ -4,6 +4,7 @@ use Rattle.std.proofs.Common.{⊎_elim, length}
 use Rattle.std.specs.Result.{IsErrAnd, result_err}
 use Rattle.std.proofs.lemmas.Option.{same_Some}
 use Rattle.std.proofs.Common.{arith}
+use Rattle.spool_journal.specs.declared.TheConstants.{PAGE}
 use Rattle.spool_disk.specs.Disk.{IsImage}
 use Rattle.spool_disk.specs.Views.{Lasts}
 use Rattle.spool_disk.specs.declared.disk.Disk.{Ghosts}
@@ -83,7 +84,7 @@ other_err r e fault is fine bad = fine (same_Some _ _ (ap result_err (sym is ∙
 
 -- what shows after it
 pub rests_show : {D : Type 0} (disk : Ghosts D) (d' : D) (n : ℕ) (m : Store) (v : View) → v.blocks ≡ n
-    → disk.honest d' → 4096 * all_pages n ≤ disk.size d' → Rests v (disk.current d') (disk.unsynced d')
+    → disk.honest d' → PAGE * all_pages n ≤ disk.size d' → Rests v (disk.current d') (disk.unsynced d')
     → ((image : ℕ → ℕ) → IsViewOf image v → ImageShows n image m) → AllShow disk d' n m
 rests_show disk d' n m v same honest room rests shows = record {
   honest = honest;
@@ -106,7 +107,7 @@ upgraded_view_shows n m was image shown is = record {
 }
 
 pub crash_shown : {D : Type 0} (disk : Ghosts D) (d d' : D) (n : ℕ) (m : Store) (is : IsSpool disk d n m)
-    → ((v : View) → IsValid v → IsViewOf (disk.current d) v → 4096 * all_pages v.blocks ≤ disk.size d
+    → ((v : View) → IsValid v → IsViewOf (disk.current d) v → PAGE * all_pages v.blocks ≤ disk.size d
     → Lasts disk d d' (λ image. IsImage (disk.current d) (disk.unsynced d) image ⊎ IsViewOf image v
     ⊎ IsViewOf image (upgraded v)))
     → Lasts disk d d' (LeftOrShows disk d n m)
@@ -188,7 +189,7 @@ other_old Two not = absurd (not refl)
 
 -- after an upgrade each image shows the same, unless the disk failed
 pub after_shows : {D : Type 0} (disk : Ghosts D) (d' : D) (n : ℕ) (m : Store) (v : View)
-    (r : Result (Unit {0}) UpgradeError) → v.blocks ≡ n → disk.honest d' → 4096 * all_pages n ≤ disk.size d'
+    (r : Result (Unit {0}) UpgradeError) → v.blocks ≡ n → disk.honest d' → PAGE * all_pages n ≤ disk.size d'
     → (r ≡ Err (Open DiskFault) → ⊥)
     → OnOk r (Rests (upgraded v) (disk.current d') (disk.unsynced d'))
     → IfErr r (λ e. (e ≡ Open DiskFault → ⊥) → Rests v (disk.current d') (disk.unsynced d'))

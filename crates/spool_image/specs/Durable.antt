@@ -1,6 +1,7 @@
 -- The store that a spool stands for is on its disk.
 use Rattle.std.specs.Prelude.{◌≡◌, ◌≤◌, ◌*◌, ℕ, true, List, Option, Some, length}
 use Rattle.std.proofs.Common.{refl, sym, ◌∙◌, ap}
+use Rattle.spool_journal.specs.declared.TheConstants.{PAGE}
 use Rattle.spool_disk.specs.Disk.{IsImage}
 use Rattle.spool_disk.specs.declared.disk.Disk.{Ghosts}
 use Rattle.spool_drafts.specs.declared.draft.SpoolDraft.{SpoolDraft}
@@ -27,7 +28,7 @@ stored_shows disk d h m image stored is = record {
 
 -- So crash images from now on are limited to lists with that store.
 pub durable_left : {D : Type 0} {disk : Ghosts D} (d : D) (h : Holding) (drafts : List (Option SpoolDraft)) (w : World)
-    (ms : List Store) → 4096 * all_pages h.layout ≤ disk.size d
+    (ms : List Store) → PAGE * all_pages h.layout ≤ disk.size d
     → ((image : ℕ → ℕ) → disk.left_since d (disk.moment d) image → IsImage (disk.current d) (disk.unsynced d) image)
     → StandsFor true disk d h drafts w → Among w.store ms → SpoolLeft disk d h.layout w.blocks (disk.moment d) ms
 durable_left {disk = disk} d h drafts w ms room only stands among =

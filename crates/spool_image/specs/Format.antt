@@ -1,5 +1,7 @@
 -- The refusals of `format`, and the crash images during it.
 use Rattle.std.specs.Prelude.{◌≡◌, ◌⊎◌, ℕ, ◌*◌, ◌<◌, ◌≤◌, Result, Ok, Err}
+use Rattle.spool_journal.specs.declared.TheConstants.{PAGE}
+use Rattle.common.specs.declared.limits.TheConstants.{LEAST_BLOCKS, MOST_BLOCKS}
 use Rattle.enc_model.specs.Indexes.{IndexSet}
 use Rattle.spool_disk.specs.Disk.{span}
 use Rattle.spool_journal.specs.Image.{all_pages, byte_of}
@@ -17,17 +19,17 @@ pub record HasMagic (size : ℕ) (current : ℕ → ℕ) : Type 0 where
 
 -- The number of text blocks is in range, and the disk has room for all pages.
 pub record FitsSpool (blocks size : ℕ) : Type 0 where
-  pub least : 16 ≤ blocks
-  pub most : blocks ≤ 65536
-  pub room : 4096 * all_pages blocks ≤ size
+  pub least : LEAST_BLOCKS ≤ blocks
+  pub most : blocks ≤ MOST_BLOCKS
+  pub room : PAGE * all_pages blocks ≤ size
 
 -- Page 0 is one that a crash could have left before.
 pub record PrefixStays (current : ℕ → ℕ) (unsynced : ℕ → Type 0) (image : ℕ → ℕ) : Type 0 where
-  pub same : (p : ℕ) → p < 4096 → (unsynced p → ⊥) → image p ≡ current p
+  pub same : (p : ℕ) → p < PAGE → (unsynced p → ⊥) → image p ≡ current p
 
 -- If page 0 of the image is complete, it shows no uploads, these indexes and n text blocks.
 pub record FormatsTo (n : ℕ) (x : IndexSet) (image : ℕ → ℕ) : Type 0 where
-  pub shows : ((p : ℕ) → p < 4096 → image p ≡ byte_of (first_page n) p) → ImageShows n image (no_uploads x)
+  pub shows : ((p : ℕ) → p < PAGE → image p ≡ byte_of (first_page n) p) → ImageShows n image (no_uploads x)
 
 -- The plain reading of the image is a valid spool of version 2.
 pub record IsNewest (image : ℕ → ℕ) : Type 0 where

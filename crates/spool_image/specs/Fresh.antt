@@ -1,5 +1,6 @@
 -- A spool of version 2 without uploads, byte by byte.
 use Rattle.std.specs.Prelude.{◌≡◌, ℕ, ◌-◌, ◌*◌, ◌<◌, ◌≤◌, nat_lt, if◌then◌else◌}
+use Rattle.spool_journal.specs.declared.TheConstants.{PAGE}
 use Rattle.enc_model.specs.Indexes.{IndexSet}
 use Rattle.enc_index.specs.Area.{area_byte}
 use Rattle.spool_journal.specs.Image.{byte_of, all_pages}
@@ -15,14 +16,14 @@ fresh_byte n x p =
 
 -- All its pages except page 0 have these bytes, below `end`.
 pub record IsFreshTo (n : ℕ) (x : IndexSet) (end : ℕ) (image : ℕ → ℕ) : Type 0 where
-  pub each : (p : ℕ) → 4096 ≤ p → p < end → image p ≡ fresh_byte n x p
+  pub each : (p : ℕ) → PAGE ≤ p → p < end → image p ≡ fresh_byte n x p
 
 -- Page 0 is as before; some of it may have been synced.
 pub record KeepsPrefix (current current' : ℕ → ℕ) (unsynced unsynced' : ℕ → Type 0) : Type 0 where
-  pub same : (p : ℕ) → p < 4096 → (unsynced p → ⊥) → current' p ≡ current p
-  pub unsyncs : (p : ℕ) → p < 4096 → unsynced' p → unsynced p
+  pub same : (p : ℕ) → p < PAGE → (unsynced p → ⊥) → current' p ≡ current p
+  pub unsyncs : (p : ℕ) → p < PAGE → unsynced' p → unsynced p
 
 -- All its pages have these bytes.
 pub record IsFresh (n : ℕ) (x : IndexSet) (image : ℕ → ℕ) : Type 0 where
-  pub prefix : (i : ℕ) → i < 4096 → image i ≡ byte_of (first_page n) i
-  pub after : IsFreshTo n x (4096 * all_pages n) image
+  pub prefix : (i : ℕ) → i < PAGE → image i ≡ byte_of (first_page n) i
+  pub after : IsFreshTo n x (PAGE * all_pages n) image

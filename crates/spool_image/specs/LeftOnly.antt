@@ -1,5 +1,6 @@
 -- The crash images of a spool, now and since some moment.
 use Rattle.std.specs.Prelude.{◌≡◌, ◌⊎◌, ◌≤◌, ◌*◌, ℕ, List, Option, Some}
+use Rattle.spool_journal.specs.declared.TheConstants.{PAGE}
 use Rattle.spool_disk.specs.Disk.{IsImage}
 use Rattle.spool_disk.specs.declared.disk.Disk.{Ghosts}
 use Rattle.spool_journal.specs.Image.{all_pages}
@@ -12,13 +13,13 @@ use Rattle.spool_kept.specs.Shows.{ImageShows}
 -- The disk is honest and has room for n text blocks, and a read of it shows these uploads: what an opening requires.
 pub record IsSpool {D : Type 0} (disk : Ghosts D) (d : D) (n : ℕ) (m : Store) : Type 0 where
   pub honest : disk.honest d
-  pub room : 4096 * all_pages n ≤ disk.size d
+  pub room : PAGE * all_pages n ≤ disk.size d
   pub shows : ImageShows n (disk.current d) m
 
 -- The same of every crash image.
 pub record AllShow {D : Type 0} (disk : Ghosts D) (d : D) (n : ℕ) (m : Store) : Type 0 where
   pub honest : disk.honest d
-  pub room : 4096 * all_pages n ≤ disk.size d
+  pub room : PAGE * all_pages n ≤ disk.size d
   pub each : (image : ℕ → ℕ) → IsImage (disk.current d) (disk.unsynced d) image → ImageShows n image m
 
 -- A crash image during an opening: one of before, or one that shows the same.
@@ -43,7 +44,7 @@ pub record OpensOne {D : Type 0} (disk : Ghosts D) (d : D) (n : ℕ) (ms : List 
 -- n blocks.
 pub record LeftOnly {D : Type 0} (disk : Ghosts D) (d : D) (n t : ℕ) (ms : List Store) : Type 0 where
   pub honest : disk.honest d
-  pub room : 4096 * all_pages n ≤ disk.size d
+  pub room : PAGE * all_pages n ≤ disk.size d
   pub each : (image : ℕ → ℕ) → disk.left_since d t image → ShowsOne n ms image
 
 -- The same for a block count that may be unlimited.

@@ -1,5 +1,6 @@
 -- Opening a disk, whatever is on it.
 use Rattle.std.specs.Prelude.{◌≡◌, ◌⊎◌, ℕ, ◌*◌, ◌≤◌, Option, None, Some, IfSome, Result, Ok, Err}
+use Rattle.spool_journal.specs.declared.TheConstants.{PAGE}
 use Rattle.spool_journal.specs.Image.{all_pages}
 use Rattle.spool_kept.specs.Shows.{IsValid}
 use Rattle.spool_kept.specs.declared.error.OpenFault.{OpenFault}
@@ -15,7 +16,7 @@ pub record HoldsSpool (size : ℕ) (current : ℕ → ℕ) : Type 0 where
   pub view : View
   pub valid : IsValid view
   pub is : IsViewOf current view
-  pub room : 4096 * all_pages view.blocks ≤ size
+  pub room : PAGE * all_pages view.blocks ≤ size
 
 -- The error of an opening, if it failed.
 abbrev pub refusal_of : {D S : Type 0} → Result S (D × OpenFault) → Option OpenFault

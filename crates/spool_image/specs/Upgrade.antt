@@ -1,5 +1,6 @@
 -- The upgrade to version 2: its effect and its errors.
 use Rattle.std.specs.Prelude.{◌≡◌, ◌⊎◌, ℕ, ◌*◌, ◌≤◌, List, length, Result, Ok, Err}
+use Rattle.spool_journal.specs.declared.TheConstants.{PAGE}
 use Rattle.spool_journal.specs.Image.{all_pages, journal_pages, laid, overlaid, InArea}
 use Rattle.spool_journal.specs.Phases.{Settled}
 use Rattle.spool_kept.specs.Shows.{IsValid}
@@ -29,7 +30,7 @@ pub record UpgradedFrom (size : ℕ) (before current : ℕ → ℕ) (unsynced : 
   pub valid : IsValid view
   pub old : view.version ≡ One
   pub was : IsViewOf before view
-  pub room : 4096 * all_pages view.blocks ≤ size
+  pub room : PAGE * all_pages view.blocks ≤ size
   pub rests : Rests (upgraded view) current unsynced
   pub commit : CommitOfUpgrade view (overlaid before) current unsynced
 

@@ -11,6 +11,7 @@ ghost use Rattle.spool_image.specs.Format.{FitsSpool, PrefixStays, HasMagic, IsN
 ghost use Rattle.spool_image.specs.Fresh.{fresh_byte, IsFreshTo, IsFresh, KeepsPrefix};
 ghost use Rattle.spool_image.specs.LeftOnly.{AllShow};
 
+use common::MOST_BLOCKS;
 use crate::FormatError;
 use enc_index::IndexSet;
 use spool_disk::{Disk, DiskFault};
@@ -19,8 +20,8 @@ use spool_pages::{MAGIC, Version, blank_page, first_page, state_page};
 
 // A page of a spool without uploads, other than page 0.
 fn fresh_page(layout: &Layout, indexes: &IndexSet, page: u32) -> [u8; PAGE]
-    ensures bytes { (i : ℕ) → i < 4096 → get_or result i 0 ≡ fresh_byte layout.now indexes.now (4096 * page + i) }
-    ensures valid { index_place layout.now ≤ 4096 * page → 4096 * page < state_place layout.now
+    ensures bytes { (i : ℕ) → i < PAGE → get_or result i 0 ≡ fresh_byte layout.now indexes.now (PAGE * page + i) }
+    ensures valid { index_place layout.now ≤ PAGE * page → PAGE * page < state_place layout.now
         → IsIndexSet indexes.now }
 {
     let index_page = layout.index_page();
@@ -39,12 +40,12 @@ fn fresh_page(layout: &Layout, indexes: &IndexSet, page: u32) -> [u8; PAGE]
 
 // Writes all pages except page 0.
 fn write_pages<D: Disk>(disk: &mut D, layout: &Layout, indexes: &IndexSet) -> Result<(), DiskFault>
-    requires { 4096 * all_pages layout.now ≤ D.size disk.old }
+    requires { PAGE * all_pages layout.now ≤ D.size disk.old }
     ensures size { D.size disk.new ≡ D.size disk.old }
     ensures honest { D.honest disk.old ↔ D.honest disk.new }
     ensures counts { Counts (IsErr result) (D.failures disk.old) (D.failures disk.new) }
     ensures fresh { D.honest disk.old → OnOk result
-        (IsFreshTo layout.now indexes.now (4096 * all_pages layout.now) (D.current disk.new)) }
+        (IsFreshTo layout.now indexes.now (PAGE * all_pages layout.now) (D.current disk.new)) }
     ensures valid { OnOk result (IsIndexSet indexes.now) }
     ensures prefix { D.honest disk.old
         → KeepsPrefix (D.current disk.old) (D.current disk.new) (D.unsynced disk.old) (D.unsynced disk.new) }
@@ -52,25 +53,25 @@ fn write_pages<D: Disk>(disk: &mut D, layout: &Layout, indexes: &IndexSet) -> Re
         → Lasts D.Disk disk.old disk.new (PrefixStays (D.current disk.old) (D.unsynced disk.old)) }
 {
     for page in 1..layout.pages() {
-        disk.write_at(4096 * page as u64, &fresh_page(layout, indexes, page))?;
+        disk.write_at(PAGE as u64 * page as u64, &fresh_page(layout, indexes, page))?;
     }
     Ok(())
 }
 
 // Syncs the other pages, then writes page 0 and syncs: only then is the disk a spool.
 fn write_first<D: Disk>(disk: &mut D, layout: &Layout) -> Result<(), DiskFault>
-    requires { 4096 * all_pages layout.now ≤ D.size disk.old }
+    requires { PAGE * all_pages layout.now ≤ D.size disk.old }
     ensures size { D.size disk.new ≡ D.size disk.old }
     ensures honest { D.honest disk.old ↔ D.honest disk.new }
     ensures counts { Counts (IsErr result) (D.failures disk.old) (D.failures disk.new) }
     ensures is_synced { D.honest disk.old → OnOk result ((p : ℕ) → D.unsynced disk.new p → ⊥) }
     ensures fresh { D.honest disk.old → OnOk result
-        ((x : Indexes) → IsFreshTo layout.now x (4096 * all_pages layout.now) (D.current disk.old)
+        ((x : Indexes) → IsFreshTo layout.now x (PAGE * all_pages layout.now) (D.current disk.old)
         → IsFresh layout.now x (D.current disk.new)) }
     ensures least { 16 ≤ layout.now }
-    ensures most { layout.now ≤ 65536 }
+    ensures most { layout.now ≤ MOST_BLOCKS }
     ensures crash { D.honest disk.old → (x : Indexes) → IsIndexSet x
-        → IsFreshTo layout.now x (4096 * all_pages layout.now) (D.current disk.old)
+        → IsFreshTo layout.now x (PAGE * all_pages layout.now) (D.current disk.old)
         → Lasts D.Disk disk.old disk.new (LeftByFormat layout.now x (D.current disk.old) (D.unsynced disk.old)) }
 {
     let prefix = first_page(layout.blocks());
@@ -146,7 +147,7 @@ pub fn format<D: Disk>(disk: &mut D, blocks: u32, indexes: &IndexSet) -> Result<
     let Some(layout) = Layout::of(blocks) else {
         return Err(FormatError::Size);
     };
-    if disk.len() < 4096 * layout.pages() as u64 {
+    if disk.len() < PAGE as u64 * layout.pages() as u64 {
         return Err(FormatError::Size);
     }
     make(disk, &layout, indexes)?;
@@ -155,7 +156,7 @@ pub fn format<D: Disk>(disk: &mut D, blocks: u32, indexes: &IndexSet) -> Result<
 
 // Writes all pages.
 fn make<D: Disk>(disk: &mut D, layout: &Layout, indexes: &IndexSet) -> Result<(), DiskFault>
-    requires { 4096 * all_pages layout.now ≤ D.size disk.old }
+    requires { PAGE * all_pages layout.now ≤ D.size disk.old }
     ensures size { D.size disk.new ≡ D.size disk.old }
     ensures honest { D.honest disk.old ↔ D.honest disk.new }
     ensures counts { Counts (IsErr result) (D.failures disk.old) (D.failures disk.new) }

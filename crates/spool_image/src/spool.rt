@@ -14,6 +14,7 @@ ghost use Rattle.spool_load.specs.Refusals.{IsNoSpool, HasOtherVersion, IsDamage
 ghost use Rattle.spool_image.specs.LeftOnly.{AllShow, IsSpool, LeftOrShows};
 ghost use Rattle.spool_image.specs.Opening.{ReadsSame, Unwritten};
 
+use spool_journal::PAGE;
 use enc_index::IndexSet;
 use spool_disk::Disk;
 use spool_drafts::SpoolDraft;
@@ -30,7 +31,7 @@ pub struct Spool<D: Disk> {
     kept: Kept,
     /// By their numbers.
     drafts: Vec<Option<SpoolDraft>>,
-    ghost room: { 4096 * all_pages kept.layout ≤ D.size disk },
+    ghost room: { PAGE * all_pages kept.layout ≤ D.size disk },
     ghost fits: { DraftsFit kept drafts.items } by { fits_prop kept drafts.items },
 }
 
@@ -61,7 +62,7 @@ impl<D: Disk> Spool<D> {
 
         // If a read gives a valid spool, that one is opened, unless memory or the disk refuses.
         ensures opened { D.honest disk → (v : View) → IsValid v → IsViewOf (D.current disk) v
-            → 4096 * all_pages v.blocks ≤ D.size disk → OpensAs result (λ s. Keeps s v) }
+            → PAGE * all_pages v.blocks ≤ D.size disk → OpensAs result (λ s. Keeps s v) }
 
         // What is opened is a valid spool, and it is what a read gives. Each error has its reason.
         ensures valid { D.honest disk → IfOk result (OpensFrom (D.size disk) (D.current disk)) }
@@ -117,7 +118,7 @@ impl<D: Disk> Spool<D> {
     /// The disk, which has room for the spool's blocks.
     pub fn into_disk(self) -> D
         ensures same { result ≡ disk_of self }
-        ensures room { 4096 * all_pages (size_of self) ≤ D.size result }
+        ensures room { PAGE * all_pages (size_of self) ≤ D.size result }
     {
         let Spool {
             alloc: _,

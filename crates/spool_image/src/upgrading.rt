@@ -20,6 +20,7 @@ ghost use Rattle.spool_image.specs.LeftOnly.{AllShow, IsSpool, LeftOrShows};
 ghost use Rattle.spool_image.specs.Upgrade.{CommitOfUpgrade, IsAlreadyNew, IsLateRefusal, IsOldDamaged};
 ghost use Rattle.spool_image.specs.Upgrade.{RefusesUpgradeAs, UpgradedFrom, UpgradeRefusedFor, UpgradesOf};
 
+use spool_journal::PAGE;
 use crate::UpgradeError;
 use spool_disk::Disk;
 use spool_kept::Kept;
@@ -33,7 +34,7 @@ fn load_old<D: Disk>(alloc: Global, disk: &mut D) -> Result<Kept, UpgradeError>
     ensures honest { D.honest disk.old ↔ D.honest disk.new }
     ensures counts { Counts (result ≡ Err (UpgradeError.Open Fault.DiskFault)) (D.failures disk.old)
         (D.failures disk.new) }
-    ensures room { IfOk result (λ kept. 4096 * all_pages kept.layout ≤ D.size disk.old) }
+    ensures room { IfOk result (λ kept. PAGE * all_pages kept.layout ≤ D.size disk.old) }
     ensures said { D.honest disk.old → OfView (D.size disk.old) (D.current disk.old)
         (λ v. UpgradesOf v.version result) }
     ensures kept { D.honest disk.old → OfView (D.size disk.old) (D.current disk.old)
@@ -62,7 +63,7 @@ fn load_old<D: Disk>(alloc: Global, disk: &mut D) -> Result<Kept, UpgradeError>
 
 // Upgrades a spool at rest.
 fn rewrite<D: Disk>(alloc: Global, disk: &mut D, kept: &Kept) -> Result<(), UpgradeError>
-    requires { 4096 * all_pages kept.now.layout ≤ D.size disk.old }
+    requires { PAGE * all_pages kept.now.layout ≤ D.size disk.old }
     ensures size { D.size disk.new ≡ D.size disk.old }
     ensures honest { D.honest disk.old ↔ D.honest disk.new }
     ensures counts { Counts (result ≡ Err (UpgradeError.Open Fault.DiskFault)) (D.failures disk.old)
@@ -133,7 +134,7 @@ pub fn upgrade<D: Disk>(alloc: Global, disk: &mut D) -> Result<(), UpgradeError>
 
     // A crash leaves an image of before, or the same view in the old version or in version 2.
     ensures lasts { D.honest disk.old → (v : View) → IsValid v → IsViewOf (D.current disk.old) v
-        → 4096 * all_pages v.blocks ≤ D.size disk.old → Lasts D.Disk disk.old disk.new (λ image.
+        → PAGE * all_pages v.blocks ≤ D.size disk.old → Lasts D.Disk disk.old disk.new (λ image.
         IsImage (D.current disk.old) (D.unsynced disk.old) image ⊎ IsViewOf image v ⊎ IsViewOf image (upgraded v)) }
 
     // So each crash image is one possible before, or shows the same uploads and block count.

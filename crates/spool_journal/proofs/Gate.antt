@@ -2,6 +2,7 @@
 use Rattle.std.proofs.Common.{◌≡◌, ◌⊎◌, inl, inr, ℕ, suc, ◌+◌, ◌*◌, ◌/◌, ◌%◌, ◌<◌, ◌≤◌, Bool, cond, List, [], ◌∷◌}
 use Rattle.std.proofs.Common.{length, refl, sym, ◌∙◌, ap, arith, ⊎_elim}
 use Rattle.std.proofs.lemmas.Bool.{cases_eq}
+use Rattle.spool_journal.specs.declared.TheConstants.{PAGE}
 use Rattle.spool_disk.specs.Disk.{span, In, IsImage, Writes, Syncs}
 use Rattle.spool_journal.specs.Image.{byte_of, count, number, content, over, replayed, overlaid, laid, InJournal}
 use Rattle.spool_journal.specs.Image.{Outside, InForm, page_number, page_byte}
@@ -9,11 +10,11 @@ use Rattle.spool_journal.specs.Phases.{Idle, ReadsAs, IsBefore, Ready, Opened, H
 use Rattle.spool_journal.proofs.Over.{over_hit, over_pass, over_none, over_same, yes, no}
 use Rattle.spool_journal.proofs.Steps.{span_at, word_same, form_same, outside_journal}
 
-pub open_view : (image : ℕ → ℕ) (p : ℕ) → image 4096 ≡ 165 → overlaid image p ≡ replayed image p
-open_view image p e = ap (λ (b : Bool). cond b (replayed image p) (image p)) (yes (image 4096) 165 e)
+pub open_view : (image : ℕ → ℕ) (p : ℕ) → image PAGE ≡ 165 → overlaid image p ≡ replayed image p
+open_view image p e = ap (λ (b : Bool). cond b (replayed image p) (image p)) (yes (image PAGE) 165 e)
 
-pub shut_view : (image : ℕ → ℕ) (p : ℕ) → (image 4096 ≡ 165 → ⊥) → overlaid image p ≡ image p
-shut_view image p e = ap (λ (b : Bool). cond b (replayed image p) (image p)) (no (image 4096) 165 e)
+pub shut_view : (image : ℕ → ℕ) (p : ℕ) → (image PAGE ≡ 165 → ⊥) → overlaid image p ≡ image p
+shut_view image p e = ap (λ (b : Bool). cond b (replayed image p) (image p)) (no (image PAGE) 165 e)
 
 -- two images with the same journal
 pub record SameJournal (j : ℕ) (a b : ℕ → ℕ) : Type 0 where
@@ -27,8 +28,8 @@ module _ {j : ℕ} {a b : ℕ → ℕ} where
   same_number few some same k below =
       word_same a b (8196 + 4 * k) (8196 + 4 * k) (λ i lt. same.same (8196 + 4 * k + i) (grind arith))
 
-  same_content : SameJournal j a b → (k x : ℕ) → k < j → x < 4096 → content a k x ≡ content b k x
-  same_content same k x below lt = same.same (4096 * (3 + k) + x) (grind arith)
+  same_content : SameJournal j a b → (k x : ℕ) → k < j → x < PAGE → content a k x ≡ content b k x
+  same_content same k x below lt = same.same (PAGE * (3 + k) + x) (grind arith)
 
   -- b's journal is in form; so is a's, and replayed it gives what b's gives where the two agree elsewhere
   pub form_on : j ≤ 385 → 1 ≤ j → SameJournal j a b → InForm j (count b) (number b) → InForm j (count a) (number a)
@@ -37,7 +38,7 @@ module _ {j : ℕ} {a b : ℕ → ℕ} where
       (λ k lt. sym (same_number few some same k (omega (arith, lt, form.few)))) form
 
   pub replay_on : j ≤ 385 → SameJournal j a b → InForm j (count b) (number b) → (p : ℕ)
-      → (((k : ℕ) → k < count b → number b k ≡ p / 4096 → ⊥) → a p ≡ b p) → replayed a p ≡ replayed b p
+      → (((k : ℕ) → k < count b → number b k ≡ p / PAGE → ⊥) → a p ≡ b p) → replayed a p ≡ replayed b p
   replay_on few same form p misses =
       let some : 1 ≤ j = omega (arith, form.some, form.few) in
       let c : count a ≡ count b = same_count some same in
@@ -49,16 +50,16 @@ module _ {j : ℕ} {a b : ℕ → ℕ} where
 
 -- a place of a named page is in the metadata area
 pub hit_from : (j : ℕ) (image : ℕ → ℕ) (p : ℕ) → InForm j (count image) (number image) → Hit image p
-    → 4096 * (25 + j) ≤ p
+    → PAGE * (25 + j) ≤ p
 hit_from j image p form hit = let h = form.inside hit.k hit.below in omega (arith, h.from, hit.here)
 
 -- a place outside is not the gate's byte
-gateless : (j p : ℕ) → Outside j p → p ≡ 4096 → ⊥
+gateless : (j p : ℕ) → Outside j p → p ≡ PAGE → ⊥
 gateless j p outside e = grind arith
 
 -- but for the gate's byte the two agree
 abbrev pub GateApart : (a b : ℕ → ℕ) → Type 0
-GateApart a b = (p : ℕ) → (p ≡ 4096 → ⊥) → a p ≡ b p
+GateApart a b = (p : ℕ) → (p ≡ PAGE → ⊥) → a p ≡ b p
 
 journal_apart : {j : ℕ} {a b : ℕ → ℕ} → GateApart a b → SameJournal j a b
 journal_apart same = record { same = λ p within. same p (λ e. omega (arith, e, within.from)) }
@@ -86,27 +87,27 @@ module _ {j : ℕ} {opened current image : ℕ → ℕ} {unsynced : ℕ → Type
       at : (p : ℕ) → (Hit opened p → ⊥) → image p ≡ opened p
       at p miss = is.same p (λ l. miss (placing.is_synced p l)) ∙ placing.same p miss
 
-      gate : image 4096 ≡ 165
-      gate = at 4096 (λ hit. omega (arith, hit_from j opened 4096 placing.form hit)) ∙ placing.gate
+      gate : image PAGE ≡ 165
+      gate = at PAGE (λ hit. omega (arith, hit_from j opened PAGE placing.form hit)) ∙ placing.gate
 
       journal : SameJournal j image opened
       journal = record {
         same = λ p within. at p (λ hit. omega (arith, hit_from j opened p placing.form hit, within.below));
       }
 
-  pub closing_image : j ≤ 385 → Placed j opened current unsynced → ((p : ℕ) → (p ≡ 4096 → ⊥) → image p ≡ current p)
+  pub closing_image : j ≤ 385 → Placed j opened current unsynced → ((p : ℕ) → (p ≡ PAGE → ⊥) → image p ≡ current p)
       → ReadsAs j image (replayed opened)
   closing_image few placed same =
       record {
         form = λ e. form_on few (omega (arith, placed.form.some, placed.form.few)) journal placed.form;
         same = λ p outside. ⊎_elim
-            (λ (e : image 4096 ≡ 165). open_view image p e ∙ replay_on few journal placed.form p
+            (λ (e : image PAGE ≡ 165). open_view image p e ∙ replay_on few journal placed.form p
             (λ none. at p (gateless _ p outside) (λ hit. none hit.k hit.below hit.here)))
-            (λ (e : image 4096 ≡ 165 → ⊥). shut_view image p e ∙ same p (gateless _ p outside) ∙ placed.all p)
-            (cases_eq (image 4096) 165);
+            (λ (e : image PAGE ≡ 165 → ⊥). shut_view image p e ∙ same p (gateless _ p outside) ∙ placed.all p)
+            (cases_eq (image PAGE) 165);
       }
     where
-      at : (p : ℕ) → (p ≡ 4096 → ⊥) → (Hit opened p → ⊥) → image p ≡ opened p
+      at : (p : ℕ) → (p ≡ PAGE → ⊥) → (Hit opened p → ⊥) → image p ≡ opened p
       at p away miss = same p away ∙ placed.all p
           ∙ over_none (number opened) (content opened) opened (count opened) p (λ k lt e. miss record {
             k = k;
@@ -123,26 +124,26 @@ module _ {j : ℕ} {opened current image : ℕ → ℕ} {unsynced : ℕ → Type
 -- while the gate opens
 pub opening_image : {j : ℕ} {pages : List (ℕ × List ℕ)} {was current image : ℕ → ℕ} {unsynced free : ℕ → Type 0}
     → j ≤ 385
-    → Ready j pages was current unsynced → ((p : ℕ) → (p ≡ 4096 → ⊥) → image p ≡ current p)
+    → Ready j pages was current unsynced → ((p : ℕ) → (p ≡ PAGE → ⊥) → image p ≡ current p)
     → IsBefore j was free image ⊎ ReadsAs j image (laid pages was)
 opening_image {j = j} {pages = pages} {was = was} {current = current} {image = image} few ready same =
     ⊎_elim
-    (λ (e : image 4096 ≡ 165). inr (record {
+    (λ (e : image PAGE ≡ 165). inr (record {
       form = λ _. form_on few (omega (arith, ready.form.some, ready.form.few)) (journal_apart same) ready.form;
       same = λ p outside. open_view image p e ∙ laid_over few ready same p outside;
     }))
-    (λ (e : image 4096 ≡ 165 → ⊥). inl (record {
+    (λ (e : image PAGE ≡ 165 → ⊥). inl (record {
       closed = e;
       same = λ p outside _. same p (gateless _ p outside) ∙ ready.same p (outside_journal _ p outside);
     }))
-    (cases_eq (image 4096) 165)
+    (cases_eq (image PAGE) 165)
 
 -- the gate's byte alone was written
-alone : (p : ℕ) → In 4096 1 p → p ≡ 4096
+alone : (p : ℕ) → In PAGE 1 p → p ≡ PAGE
 alone p here = omega (arith, here.from, here.below)
 
 pub gate_image : {current current' image : ℕ → ℕ} {unsynced unsynced' : ℕ → Type 0} {done : Type 0} (v : ℕ)
-    → ((p : ℕ) → unsynced p → ⊥) → Writes 4096 (v ∷ []) done current current' unsynced unsynced'
+    → ((p : ℕ) → unsynced p → ⊥) → Writes PAGE (v ∷ []) done current current' unsynced unsynced'
     → IsImage current' unsynced' image → GateApart image current
 gate_image v is_synced writes is p away =
     is.same p (λ l. ⊎_elim (is_synced p) (λ here. away (alone p here)) (writes.unsyncs p l))
@@ -151,17 +152,17 @@ gate_image v is_synced writes is p away =
 -- the gate's byte is this one, all is synced, and nothing else changed
 pub record GateIs (v : ℕ) (current current' : ℕ → ℕ) (unsynced' : ℕ → Type 0) : Type 0 where
   pub same : GateApart current' current
-  pub gate : current' 4096 ≡ v
+  pub gate : current' PAGE ≡ v
   pub is_synced : (p : ℕ) → unsynced' p → ⊥
 
 pub gate_now : {current current' current'' : ℕ → ℕ} {unsynced unsynced' unsynced'' : ℕ
     → Type 0} {done synced : Type 0} (v : ℕ)
-    → Writes 4096 (v ∷ []) done current current' unsynced unsynced' → done
+    → Writes PAGE (v ∷ []) done current current' unsynced unsynced' → done
     → Syncs synced current' current'' unsynced' unsynced'' → synced → GateIs v current current'' unsynced''
 unfolding span
 gate_now {current' = current'} v writes wrote syncs synced = record {
   same = λ p away. syncs.same synced p ∙ writes.outside p (λ here. away (alone p here));
-  gate = syncs.same synced 4096 ∙ span_at current' 4096 (v ∷ []) 0 (writes.inside wrote) (omega arith);
+  gate = syncs.same synced PAGE ∙ span_at current' PAGE (v ∷ []) 0 (writes.inside wrote) (omega arith);
   is_synced = syncs.is_synced synced;
 }
 
@@ -202,8 +203,8 @@ settled placed now = record {
 
 module _ {j : ℕ} {opened current current' : ℕ → ℕ} {unsynced unsynced' : ℕ → Type 0} {done : Type 0} where
   pub placing_writes : (i page : ℕ) (bytes : List ℕ) → Placing j opened current unsynced → i < count opened
-      → number opened i ≡ page → length bytes ≡ 4096
-      → Writes (4096 * page) bytes done current current' unsynced unsynced'
+      → number opened i ≡ page → length bytes ≡ PAGE
+      → Writes (PAGE * page) bytes done current current' unsynced unsynced'
       → Placing j opened current' unsynced'
   placing_writes i page bytes placing lt e size writes = record {
     gate = placing.gate;
@@ -212,26 +213,26 @@ module _ {j : ℕ} {opened current current' : ℕ → ℕ} {unsynced unsynced' :
     is_synced = λ p l. ⊎_elim (placing.is_synced p) (hit p) (writes.unsyncs p l);
   }
     where
-      hit : (p : ℕ) → In (4096 * page) (length bytes) p → Hit opened p
+      hit : (p : ℕ) → In (PAGE * page) (length bytes) p → Hit opened p
       hit p here = record { k = i; below = lt; here = omega (arith, here.from, here.below, e, size) }
 
 pub upto_writes : {current current' : ℕ → ℕ} {unsynced unsynced' : ℕ → Type 0} {done : Type 0} (opened : ℕ
     → ℕ) (i page : ℕ)
-    (bytes : List ℕ) → Upto opened current i → number opened i ≡ page → length bytes ≡ 4096
-    → ((x : ℕ) → x < 4096 → content opened i x ≡ byte_of bytes x)
-    → Writes (4096 * page) bytes done current current' unsynced
+    (bytes : List ℕ) → Upto opened current i → number opened i ≡ page → length bytes ≡ PAGE
+    → ((x : ℕ) → x < PAGE → content opened i x ≡ byte_of bytes x)
+    → Writes (PAGE * page) bytes done current current' unsynced
     unsynced' → done → Upto opened current' (i + 1)
 upto_writes {current' = current'} opened i page bytes upto e size same writes wrote p =
     let more : i + 1 ≡ suc i = omega arith in
     rw more (⊎_elim
-    (λ (h : number opened i ≡ p / 4096).
-    let at : 4096 * page + p % 4096 ≡ p = omega (arith, h, e) in
-    (rw at at (span_at current' (4096 * page) bytes (p % 4096) (writes.inside wrote) (omega (arith, size))
-    ∙ sym (same (p % 4096) (omega arith)))) ∙ sym (over_hit (number opened) (content opened) opened i p h))
-    (λ (h : number opened i ≡ p / 4096 → ⊥). writes.outside p
+    (λ (h : number opened i ≡ p / PAGE).
+    let at : PAGE * page + p % PAGE ≡ p = omega (arith, h, e) in
+    (rw at at (span_at current' (PAGE * page) bytes (p % PAGE) (writes.inside wrote) (omega (arith, size))
+    ∙ sym (same (p % PAGE) (omega arith)))) ∙ sym (over_hit (number opened) (content opened) opened i p h))
+    (λ (h : number opened i ≡ p / PAGE → ⊥). writes.outside p
     (λ here. h (omega (arith, here.from, here.below, e, size))) ∙ upto p
     ∙ sym (over_pass (number opened) (content opened) opened i p h))
-    (cases_eq (number opened i) (p / 4096)))
+    (cases_eq (number opened i) (p / PAGE)))
 
 pub placed_syncs : {j : ℕ} {opened current current' : ℕ → ℕ} {unsynced unsynced' : ℕ → Type 0} {done : Type 0}
     → Placing j opened current unsynced → Upto opened current (count opened)
@@ -273,7 +274,7 @@ ready_before none before = record { closed = before.closed; same = λ p outside 
 pub settled_idle : {j : ℕ} {bytes current : ℕ → ℕ} {unsynced : ℕ → Type 0} → Settled j bytes current unsynced
     → Idle j current unsynced
 settled_idle settled = record {
-  gate = settled.is_synced 4096;
+  gate = settled.is_synced PAGE;
   closed = settled.closed;
   area = λ p inside. settled.is_synced p;
 }

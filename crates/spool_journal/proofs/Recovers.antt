@@ -1,6 +1,8 @@
 -- Steps of a recovery.
 use Rattle.std.proofs.Common.{◌≡◌, ◌⊎◌, inl, inr, ℕ, zero, suc, ◌+◌, ◌*◌, ◌<◌, ◌≤◌, ◌==◌, List, length, get_or, refl}
 use Rattle.std.proofs.Common.{sym, ◌∙◌, ap, subst, arith, ⊎_elim}
+use Rattle.spool_journal.specs.declared.TheConstants.{PAGE}
+use Rattle.common.specs.declared.limits.TheConstants.{MOST_BLOCKS}
 use Rattle.spool_disk.specs.Disk.{span, IsImage, Keeps}
 use Rattle.spool_journal.specs.Image.{word, byte_of, journal_pages, all_pages, count, number, content, over, overlaid}
 use Rattle.spool_journal.specs.Image.{text_page, laid, InForm, InArea, Ascends, page_number}
@@ -11,7 +13,7 @@ use Rattle.spool_disk.proofs.Firm.{lasts_more}
 use Rattle.spool_journal.proofs.Steps.{word_same, form_same, few_pages}
 use Rattle.spool_journal.proofs.Gate.{hit_from, shut_view}
 
-pub journal_few : (n : ℕ) → n ≤ 65536 → journal_pages n ≤ 385
+pub journal_few : (n : ℕ) → n ≤ MOST_BLOCKS → journal_pages n ≤ 385
 unfolding journal_pages
 journal_few n few = omega (arith, few)
 
@@ -50,7 +52,7 @@ pub still_image : {bytes current image : ℕ → ℕ} {unsynced : ℕ → Type 0
 still_image still is p = is.same p (still.is_synced p) ∙ still.reads p
 
 -- the bytes of a read page
-pub page_read : (f g : ℕ → ℕ) (at : ℕ) (bytes : List ℕ) (n : ℕ) → n ≡ 4096 → bytes ≡ span f at n → (x : ℕ) → x < 4096
+pub page_read : (f g : ℕ → ℕ) (at : ℕ) (bytes : List ℕ) (n : ℕ) → n ≡ PAGE → bytes ≡ span f at n → (x : ℕ) → x < PAGE
     → f (at + x) ≡ g (at + x) → byte_of bytes x ≡ g (at + x)
 page_read f g at bytes n size e x lt same =
     ap (λ (l : List ℕ). get_or l x 0) e ∙ get_span f at n x (omega (arith, size, lt)) ∙ same
@@ -58,13 +60,13 @@ page_read f g at bytes n size e x lt same =
 -- the journal is as it was when the gate opened
 pub placing_content : {j : ℕ} {opened current : ℕ → ℕ} {unsynced : ℕ → Type 0} → Placing j opened current unsynced
     → (i x : ℕ)
-    → i < count opened → x < 4096 → content current i x ≡ content opened i x
+    → i < count opened → x < PAGE → content current i x ≡ content opened i x
 placing_content {j = j} {opened = opened} placing i x lt below =
-    placing.same (4096 * (3 + i) + x)
+    placing.same (PAGE * (3 + i) + x)
     (λ hit. omega (arith, hit_from j opened _ placing.form hit, lt, below, placing.form.few))
 
 pub still_placing : {j : ℕ} {bytes current : ℕ → ℕ} {unsynced : ℕ → Type 0} → Still bytes current unsynced
-    → bytes 4096 ≡ 165
+    → bytes PAGE ≡ 165
     → InForm j (count bytes) (number bytes) → Placing j bytes current unsynced
 still_placing still gate form = record {
   gate = gate;
@@ -105,16 +107,16 @@ form_head j bytes head few here form =
 
 -- a gate that is closed from the first
 pub still_settled : {j : ℕ} {bytes current : ℕ → ℕ} {unsynced : ℕ → Type 0} → Still bytes current unsynced
-    → (bytes 4096 ≡ 165 → ⊥)
+    → (bytes PAGE ≡ 165 → ⊥)
     → Settled j (overlaid bytes) current unsynced
 still_settled {bytes = bytes} still closed = record {
   is_synced = still.is_synced;
-  closed = λ e. closed (sym (still.reads 4096) ∙ e);
+  closed = λ e. closed (sym (still.reads PAGE) ∙ e);
   same = λ p outside. still.reads p ∙ sym (shut_view bytes p closed);
 }
 
-pub page_read_at : (f g : ℕ → ℕ) (at at' : ℕ) (bytes : List ℕ) (n : ℕ) → n ≡ 4096 → at' ≡ at → bytes ≡ span f at' n
-    → (x : ℕ) → x < 4096 → f (at + x) ≡ g (at + x) → byte_of bytes x ≡ g (at + x)
+pub page_read_at : (f g : ℕ → ℕ) (at at' : ℕ) (bytes : List ℕ) (n : ℕ) → n ≡ PAGE → at' ≡ at → bytes ≡ span f at' n
+    → (x : ℕ) → x < PAGE → f (at + x) ≡ g (at + x) → byte_of bytes x ≡ g (at + x)
 page_read_at f g at at' bytes n size same_place e x lt same =
     page_read f g at bytes n size (subst (λ (a : ℕ). bytes ≡ span f a n) same_place e) x lt same
 
@@ -124,13 +126,13 @@ items_few j items pages few e inside ascends = let size : length items ≡ lengt
     ap (λ (l : List (ℕ × List ℕ)). length l) e in omega (arith, few, size, few_pages j pages inside ascends)
 
 pub items_journal : (n : ℕ) (items pages : List (ℕ × List ℕ)) (size : ℕ) → items ≡ pages
-    → InArea (journal_pages n) pages → Ascends pages → 4096 * all_pages n ≤ size → 4096 * (3 + length items) ≤ size
+    → InArea (journal_pages n) pages → Ascends pages → PAGE * all_pages n ≤ size → PAGE * (3 + length items) ≤ size
 items_journal n items pages size e inside ascends room = let same : length items ≡ length pages =
     ap (λ (l : List (ℕ × List ℕ)). length l) e in omega
     (arith, same, few_pages (journal_pages n) pages inside ascends, all_is n, room)
 
 pub items_room : (n : ℕ) (items pages : List (ℕ × List ℕ)) (size : ℕ) → items ≡ pages → InArea (journal_pages n) pages
-    → 4096 * all_pages n ≤ size → (k : ℕ) → k < length items → 4096 * (page_number items k + 1) ≤ size
+    → PAGE * all_pages n ≤ size → (k : ℕ) → k < length items → PAGE * (page_number items k + 1) ≤ size
 items_room n items pages size e inside room k lt =
     let within = subst (InArea (journal_pages n)) (sym e) inside k lt in
     omega (arith, within.below, all_is n, room)
@@ -148,10 +150,10 @@ lasts_laid {j = j} {current = current} {unsynced = unsynced} {items = items} sam
     (λ reads. inr (subst (λ (l : List (ℕ × List ℕ)). ReadsAs j image (laid l current)) e
     (subst (λ (n : ℕ). ReadsAs n image (laid items current)) same reads))) either)
 
-pub gate_is : (gate : List ℕ) (current bytes : ℕ → ℕ) → gate ≡ span current 4096 1 → ((p : ℕ) → current p ≡ bytes p)
-    → (get_or gate 0 0 == 165) ≡ (bytes 4096 == 165)
+pub gate_is : (gate : List ℕ) (current bytes : ℕ → ℕ) → gate ≡ span current PAGE 1 → ((p : ℕ) → current p ≡ bytes p)
+    → (get_or gate 0 0 == 165) ≡ (bytes PAGE == 165)
 unfolding span
-gate_is gate current bytes e same = ap (λ (b : ℕ). b == 165) (ap (λ (l : List ℕ). get_or l 0 0) e ∙ same 4096)
+gate_is gate current bytes e same = ap (λ (b : ℕ). b == 165) (ap (λ (l : List ℕ). get_or l 0 0) e ∙ same PAGE)
 
 -- a number under the one that was due
 pub not_in_form : (j n k least : ℕ) (num : ℕ → ℕ) → k < n → (k ≡ 0 → least ≡ 25 + j)

@@ -2,6 +2,7 @@
 use Rattle.std.proofs.Common.{◌≡◌, ℕ, zero, suc, ◌+◌, ◌*◌, ◌<◌, ◌≤◌, List, [], ◌∷◌, length, get_or, refl, sym}
 use Rattle.std.proofs.Common.{◌∙◌, arith, ⊎_elim, Result, Ok, Err, OnOk}
 use Rattle.std.proofs.lemmas.Bool.{cases_lt}
+use Rattle.spool_journal.specs.declared.TheConstants.{PAGE}
 use Rattle.spool_disk.specs.Disk.{In, span, IsImage, Writes, Syncs, Counts}
 use Rattle.spool_journal.specs.Image.{word, byte_of, count, number, InMeta, InJournal, Outside, InForm, InArea}
 use Rattle.spool_journal.specs.Image.{Ascends, page_number, page_byte}
@@ -29,10 +30,10 @@ module _ {was current : ℕ → ℕ} {risk unsynced : ℕ → Type 0} {j : ℕ} 
       → IsImage current unsynced image
       → IsBefore j was risk image
   staged_before idle staging is =
-      let gate : InJournal j 4096 → ⊥ = λ within. omega (arith, within.from) in
+      let gate : InJournal j PAGE → ⊥ = λ within. omega (arith, within.from) in
       record {
         closed = λ opened. idle.closed
-            (sym (is.same 4096 (λ l. idle.gate (staging.is_synced 4096 gate l)) ∙ staging.same 4096 gate) ∙ opened);
+            (sym (is.same PAGE (λ l. idle.gate (staging.is_synced PAGE gate l)) ∙ staging.same PAGE gate) ∙ opened);
         same = λ p outside is_synced. let away =
             outside_journal j p outside in
             is.same p (λ l. is_synced (staging.is_synced p away l)) ∙ staging.same p away;
@@ -40,17 +41,17 @@ module _ {was current : ℕ → ℕ} {risk unsynced : ℕ → Type 0} {j : ℕ} 
 
   pub idle_on : Idle j was risk → Staging j was risk current unsynced → Idle j current unsynced
   idle_on idle staging =
-      let gate : InJournal j 4096 → ⊥ = λ within. omega (arith, within.from) in
+      let gate : InJournal j PAGE → ⊥ = λ within. omega (arith, within.from) in
       record {
-        gate = λ l. idle.gate (staging.is_synced 4096 gate l);
-        closed = λ opened. idle.closed (sym (staging.same 4096 gate) ∙ opened);
+        gate = λ l. idle.gate (staging.is_synced PAGE gate l);
+        closed = λ opened. idle.closed (sym (staging.same PAGE gate) ∙ opened);
         area = λ p within l. idle.area p within
             (staging.is_synced p (λ in_journal. omega (arith, within.from, in_journal.below)) l);
       }
 
   pub staging_writes : {current' : ℕ → ℕ} {unsynced' : ℕ → Type 0} {at : ℕ} {bytes : List ℕ} {done : Type 0}
       → Staging j was risk current unsynced → Writes at bytes done current current' unsynced unsynced' → 8192 ≤ at
-      → at + length bytes ≤ 4096 * (3 + j) → Staging j was risk current' unsynced'
+      → at + length bytes ≤ PAGE * (3 + j) → Staging j was risk current' unsynced'
   staging_writes {at = at} {bytes = bytes} staging writes from below = record {
     same = λ p away. writes.outside p (λ here. away (inside p here)) ∙ staging.same p away;
     is_synced = λ p away l. ⊎_elim (staging.is_synced p away) (λ here. absurd (away (inside p here)))
@@ -90,14 +91,14 @@ before_on {j = j} a b = record {
 pub copied_more : {current current' : ℕ → ℕ} {unsynced unsynced' : ℕ
     → Type 0} {done : Type 0} (pages : List (ℕ × List ℕ)) (n : ℕ)
     (bytes : List ℕ) → Copied pages current n
-    → Writes (4096 * (3 + n)) bytes done current current' unsynced unsynced' → done
-    → length bytes ≡ 4096 → ((x : ℕ) → page_byte pages n x ≡ get_or bytes x 0) → Copied pages current' (n + 1)
+    → Writes (PAGE * (3 + n)) bytes done current current' unsynced unsynced' → done
+    → length bytes ≡ PAGE → ((x : ℕ) → page_byte pages n x ≡ get_or bytes x 0) → Copied pages current' (n + 1)
 copied_more {current' = current'} pages n bytes copied writes done size same k x lt below = ⊎_elim
-    (λ (before : k < n). writes.outside (4096 * (3 + k) + x) (λ here. omega (arith, here.from, before, below))
+    (λ (before : k < n). writes.outside (PAGE * (3 + k) + x) (λ here. omega (arith, here.from, before, below))
     ∙ copied k x before below)
     (λ (from : n ≤ k).
     let e : k ≡ n = omega (arith, lt, from) in
-    rw e (span_at current' (4096 * (3 + n)) bytes x (writes.inside done) (omega (arith, below, size)) ∙ sym (same x)))
+    rw e (span_at current' (PAGE * (3 + n)) bytes x (writes.inside done) (omega (arith, below, size)) ∙ sym (same x)))
     (cases_lt k n)
 
 -- a call that did not fail
@@ -106,8 +107,8 @@ no_failure {a = a} {b = b} counts not = grind (arith, cases_lt a b, counts.nothi
 
 -- what was written and synced, by index
 pub head_at : {current mid current' : ℕ → ℕ} {unsynced between unsynced' : ℕ → Type 0} {wrote synced : Type 0} (at : ℕ)
-    (bytes : List ℕ) → length bytes ≡ 4096 → Writes at bytes wrote current mid unsynced between → wrote
-    → Syncs synced mid current' between unsynced' → synced → (i : ℕ) → i < 4096 → current' (at + i) ≡ byte_of bytes i
+    (bytes : List ℕ) → length bytes ≡ PAGE → Writes at bytes wrote current mid unsynced between → wrote
+    → Syncs synced mid current' between unsynced' → synced → (i : ℕ) → i < PAGE → current' (at + i) ≡ byte_of bytes i
 head_at {mid = mid} at bytes size writes wrote syncs synced i lt =
     syncs.same synced (at + i) ∙ span_at mid at bytes i (writes.inside wrote) (omega (arith, lt, size))
 
@@ -143,7 +144,7 @@ pub ready : {was mid current : ℕ → ℕ} {risk between unsynced : ℕ
     → 1 ≤ length pages → length pages ≤ 385 → length pages ≤ j → InArea j pages → Ascends pages
     → Staging j was risk mid between → Copied pages mid (length pages) → word (byte_of head) 0 ≡ length pages
     → ((k : ℕ) → k < length pages → word (byte_of head) (4 + 4 * k) ≡ page_number pages k)
-    → Staging j mid between current unsynced → ((i : ℕ) → i < 4096 → current (8192 + i) ≡ byte_of head i)
+    → Staging j mid between current unsynced → ((i : ℕ) → i < PAGE → current (8192 + i) ≡ byte_of head i)
     → ((p : ℕ) → 12288 ≤ p → current p ≡ mid p) → ((p : ℕ) → unsynced p → ⊥) → Ready j pages was current unsynced
 ready {current = current} {j = j} pages head some few fits inside ascends a copied counted numbered b here kept
     is_synced =

@@ -1,5 +1,6 @@
 -- A sync while pages are placed, and the write of the gate with its sync.
 use Rattle.std.proofs.Common.{ℕ, ◌≤◌, [], ◌∷◌, Result, IsOk, OnOk}
+use Rattle.spool_journal.specs.declared.TheConstants.{PAGE}
 use Rattle.spool_disk.specs.Disk.{Syncs, Elapses, Writes}
 use Rattle.spool_disk.specs.Views.{Lasts}
 use Rattle.spool_disk.specs.declared.disk.Disk.{Ghosts}
@@ -27,7 +28,7 @@ image_after few placing syncs elapses = lasts_call elapses (λ image is. placing
 -- what holds of each image that has the bytes before but for the gate's
 module _ {D : Type 0} {disk : Ghosts D} {old : D} {done : Type 0} {P : (ℕ → ℕ) → Type 0} (mid : D) (v : ℕ)
     (is_synced : (p : ℕ) → disk.unsynced old p → ⊥)
-    (writes : Writes 4096 (v ∷ []) done (disk.current old) (disk.current mid) (disk.unsynced old) (disk.unsynced mid))
+    (writes : Writes PAGE (v ∷ []) done (disk.current old) (disk.current mid) (disk.unsynced old) (disk.unsynced mid))
     (elapses : Elapses (disk.moment old) (disk.moment mid) (disk.left_since old) (disk.left_since mid)
     (disk.current mid) (disk.unsynced mid))
     (holds : (image : ℕ → ℕ) → GateApart image (disk.current old) → P image) where

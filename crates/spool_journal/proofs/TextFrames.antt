@@ -7,40 +7,41 @@ use Rattle.spool_disk.proofs.Span.{span_same}
 use Rattle.spool_journal.specs.Phases.{Idle}
 use Rattle.spool_journal.specs.Texts.{owns, block_at, block_bytes, joined, aside, SameBut, Frame}
 use Rattle.std.proofs.lemmas.Bool.Decides.{nat_tests}
+use Rattle.spool_journal.specs.declared.TheConstants.{PAGE}
 use Rattle.spool_journal.proofs.Gate.{open_view, shut_view, SameJournal, form_on, replay_on}
 use Rattle.spool_journal.specs.Image.{area_end}
 
-pub aside_there : (page : ℕ) (was image : ℕ → ℕ) (p : ℕ) → page ≡ p / 4096 → aside page was image p ≡ was p
+pub aside_there : (page : ℕ) (was image : ℕ → ℕ) (p : ℕ) → page ≡ p / PAGE → aside page was image p ≡ was p
 aside_there page was image p e = grind (arith, nat_tests)
 
-pub aside_else : (page : ℕ) (was image : ℕ → ℕ) (p : ℕ) → (page ≡ p / 4096 → ⊥) → aside page was image p ≡ image p
+pub aside_else : (page : ℕ) (was image : ℕ → ℕ) (p : ℕ) → (page ≡ p / PAGE → ⊥) → aside page was image p ≡ image p
 aside_else page was image p e = grind (arith, nat_tests)
 
 -- but for the page, an image after the write is one from before it
 pub aside_image : {current current' image : ℕ → ℕ} {unsynced unsynced' : ℕ
     → Type 0} {done : Type 0} (page at : ℕ) (bytes : List ℕ)
-    → 4096 * page ≤ at → at + length bytes ≤ 4096 * (page + 1)
+    → PAGE * page ≤ at → at + length bytes ≤ PAGE * (page + 1)
     → Writes at bytes done current current' unsynced unsynced'
     → IsImage current' unsynced' image → IsImage current unsynced (aside page current image)
 aside_image {current = current} {image = image} page at bytes from below writes is = record {
   same = λ p is_synced. ⊎_elim
-      (λ (e : page ≡ p / 4096). aside_there page current image p e)
-      (λ (e : page ≡ p / 4096 → ⊥). aside_else page current image p e ∙ is.same p
+      (λ (e : page ≡ p / PAGE). aside_there page current image p e)
+      (λ (e : page ≡ p / PAGE → ⊥). aside_else page current image p e ∙ is.same p
       (λ l. ⊎_elim is_synced (λ here. e (inside p here)) (writes.unsyncs p l))
       ∙ writes.outside p (λ here. e (inside p here)))
-      (cases_eq page (p / 4096));
+      (cases_eq page (p / PAGE));
 }
   where
-    inside : (p : ℕ) → In at (length bytes) p → page ≡ p / 4096
+    inside : (p : ℕ) → In at (length bytes) p → page ≡ p / PAGE
     inside p here = omega (arith, here.from, here.below, from, below)
 
 pub idle_writes : {j : ℕ} {current current' : ℕ → ℕ} {unsynced unsynced' : ℕ
     → Type 0} {done : Type 0} (at : ℕ) (bytes : List ℕ)
-    → 4096 * area_end j ≤ at → Idle j current unsynced → Writes at bytes done current current' unsynced unsynced'
+    → PAGE * area_end j ≤ at → Idle j current unsynced → Writes at bytes done current current' unsynced unsynced'
     → Idle j current' unsynced'
 idle_writes at bytes from idle writes = record {
-  gate = λ l. ⊎_elim idle.gate (λ here. omega (arith, here.from, from)) (writes.unsyncs 4096 l);
-  closed = λ e. idle.closed (sym (writes.outside 4096 (λ here. omega (arith, here.from, from))) ∙ e);
+  gate = λ l. ⊎_elim idle.gate (λ here. omega (arith, here.from, from)) (writes.unsyncs PAGE l);
+  closed = λ e. idle.closed (sym (writes.outside PAGE (λ here. omega (arith, here.from, from))) ∙ e);
   area = λ p within l. ⊎_elim (idle.area p within) (λ here. omega (arith, here.from, from, within.below))
       (writes.unsyncs p l);
 }
@@ -53,7 +54,7 @@ module _ (image image' : ℕ → ℕ) (first x slot ordinal : ℕ) (same : SameB
   same_block [] b none = refl
   same_block (row ∷ rows) b none =
       cond_case (owns slot ordinal row) (Some b) (block_at slot ordinal rows (b + 1))
-      (λ mine. span_same image image' (4096 * (first + b)) 4096
+      (λ mine. span_same image image' (PAGE * (first + b)) PAGE
       (λ p here. same p (λ e. owned row (none 0) mine (omega (arith, e, here.from, here.below)))))
       (same_block rows (b + 1) (λ k e. none (suc k) (omega (arith, e))))
     where
@@ -81,15 +82,15 @@ same_joined image image' first x slot rows same none ordinal (suc n) =
 pub frame : (j block : ℕ) (a b : ℕ → ℕ) → j ≤ 385 → SameBut (area_end j + block) a b → Frame j (area_end j) block a b
 frame j block a b few same = record {
   texts = λ rows slot len none. ap (λ (l : List ℕ). take len l)
-      (same_joined a b (area_end j) block slot rows same none 0 ((len + 4095) / 4096));
+      (same_joined a b (area_end j) block slot rows same none 0 ((len + 4095) / PAGE));
   form = λ formed gate. let f =
-      formed (sym (same 4096 (λ e. omega (arith, e))) ∙ gate) in form_on few (omega (arith, f.some, f.few)) journal f;
+      formed (sym (same PAGE (λ e. omega (arith, e))) ∙ gate) in form_on few (omega (arith, f.some, f.few)) journal f;
   others = λ formed p away. ⊎_elim
-      (λ (e : a 4096 ≡ 165). let gate : b 4096 ≡ 165 = sym (same 4096 (λ f. omega (arith, f))) ∙ e in
+      (λ (e : a PAGE ≡ 165). let gate : b PAGE ≡ 165 = sym (same PAGE (λ f. omega (arith, f))) ∙ e in
       open_view a p e ∙ replay_on few journal (formed gate) p (λ _. same p away) ∙ sym (open_view b p gate))
-      (λ (e : a 4096 ≡ 165 → ⊥). shut_view a p e ∙ same p away ∙ sym
-      (shut_view b p (λ f. e (same 4096 (λ g. omega (arith, g)) ∙ f))))
-      (cases_eq (a 4096) 165);
+      (λ (e : a PAGE ≡ 165 → ⊥). shut_view a p e ∙ same p away ∙ sym
+      (shut_view b p (λ f. e (same PAGE (λ g. omega (arith, g)) ∙ f))))
+      (cases_eq (a PAGE) 165);
 }
   where
     journal : SameJournal j a b

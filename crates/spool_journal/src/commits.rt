@@ -14,7 +14,7 @@ use spool_disk::{Disk, DiskFault};
 // Writes the pages to their places, and closes the gate.
 fn finish<D: Disk>(disk: &mut D, items: &[(u32, [u8; PAGE])]) -> Result<(), DiskFault>
     requires gate { 8192 ≤ D.size disk.old }
-    requires room { (k : ℕ) → k < length items.now → 4096 * (page_number items.now k + 1) ≤ D.size disk.old }
+    requires room { (k : ℕ) → k < length items.now → PAGE * (page_number items.now k + 1) ≤ D.size disk.old }
     ensures size { D.size disk.new ≡ D.size disk.old }
     ensures honest { D.honest disk.old ↔ D.honest disk.new }
     ensures counts { Counts (IsErr result) (D.failures disk.old) (D.failures disk.new) }
@@ -39,8 +39,8 @@ fn commit_items<D: Disk>(
     requires bound { journal ≤ 385 }
     requires some { 1 ≤ length items.now }
     requires few { length items.now ≤ 385 }
-    requires staged { 4096 * (3 + length items.now) ≤ D.size disk.old }
-    requires room { (k : ℕ) → k < length items.now → 4096 * (page_number items.now k + 1) ≤ D.size disk.old }
+    requires staged { PAGE * (3 + length items.now) ≤ D.size disk.old }
+    requires room { (k : ℕ) → k < length items.now → PAGE * (page_number items.now k + 1) ≤ D.size disk.old }
     ensures size { D.size disk.new ≡ D.size disk.old }
     ensures honest { D.honest disk.old ↔ D.honest disk.new }
     ensures counts { Counts (IsErr result) (D.failures disk.old) (D.failures disk.new) }
@@ -67,7 +67,7 @@ fn commit_items<D: Disk>(
 ///
 /// `DiskFault`.
 pub fn commit<D: Disk>(disk: &mut D, layout: &Layout, pages: &Pages) -> Result<(), DiskFault>
-    requires room { 4096 * all_pages layout.now ≤ D.size disk.old }
+    requires room { PAGE * all_pages layout.now ≤ D.size disk.old }
     requires area { InArea (journal_pages layout.now) pages.now }
     ensures size { D.size disk.new ≡ D.size disk.old }
     ensures honest { D.honest disk.old ↔ D.honest disk.new }

@@ -27,7 +27,7 @@ pub(crate) fn open_gate<D: Disk>(disk: &mut D) -> Result<(), DiskFault>
 
 /// Writes a page to its place.
 pub(crate) fn place<D: Disk>(disk: &mut D, page: u32, bytes: &[u8; PAGE]) -> Result<(), DiskFault>
-    requires { 4096 * (page + 1) ≤ D.size disk.old }
+    requires { PAGE * (page + 1) ≤ D.size disk.old }
     ensures size { D.size disk.new ≡ D.size disk.old }
     ensures honest { D.honest disk.old ↔ D.honest disk.new }
     ensures counts { Counts (IsErr result) (D.failures disk.old) (D.failures disk.new) }
@@ -35,13 +35,13 @@ pub(crate) fn place<D: Disk>(disk: &mut D, page: u32, bytes: &[u8; PAGE]) -> Res
         (D.unsynced disk.old) → i < count opened → number opened i ≡ page → Placing j opened (D.current disk.new)
         (D.unsynced disk.new) }
     ensures upto { D.honest disk.old → (i : ℕ) (opened : ℕ → ℕ) → Upto opened (D.current disk.old) i
-        → number opened i ≡ page → ((x : ℕ) → x < 4096 → content opened i x ≡ byte_of bytes.now x)
+        → number opened i ≡ page → ((x : ℕ) → x < PAGE → content opened i x ≡ byte_of bytes.now x)
         → OnOk result (Upto opened (D.current disk.new) (i + 1)) }
     ensures lasts { D.honest disk.old → (j i : ℕ) → j ≤ 385 → (opened : ℕ → ℕ)
         → Placing j opened (D.current disk.old) (D.unsynced disk.old) → i < count opened → number opened i ≡ page
         → Lasts D.Disk disk.old disk.new (λ image. ReadsAs j image (replayed opened)) }
 {
-    disk.write_at(4096 * page as u64, bytes)
+    disk.write_at(PAGE as u64 * page as u64, bytes)
 }
 
 /// Writes each page to its place.
@@ -49,7 +49,7 @@ pub(crate) fn place_pages<D: Disk>(
     disk: &mut D,
     items: &[(u32, [u8; PAGE])],
 ) -> Result<(), DiskFault>
-    requires room { (k : ℕ) → k < length items.now → 4096 * (page_number items.now k + 1) ≤ D.size disk.old }
+    requires room { (k : ℕ) → k < length items.now → PAGE * (page_number items.now k + 1) ≤ D.size disk.old }
     ensures size { D.size disk.new ≡ D.size disk.old }
     ensures honest { D.honest disk.old ↔ D.honest disk.new }
     ensures counts { Counts (IsErr result) (D.failures disk.old) (D.failures disk.new) }

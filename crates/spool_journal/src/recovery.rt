@@ -35,7 +35,7 @@ fn is_open<D: Disk>(disk: &mut D) -> Result<bool, DiskFault>
     ensures still { D.honest disk.old → (bytes : ℕ → ℕ) → Still bytes (D.current disk.old) (D.unsynced disk.old)
         → Still bytes (D.current disk.new) (D.unsynced disk.new) }
     ensures open { D.honest disk.old → (bytes : ℕ → ℕ) → Still bytes (D.current disk.old) (D.unsynced disk.old)
-        → IfOk result (λ shown. shown ≡ (bytes 4096 == 165)) }
+        → IfOk result (λ shown. shown ≡ (bytes PAGE == 165)) }
     ensures lasts { D.honest disk.old → (bytes : ℕ → ℕ) → Still bytes (D.current disk.old) (D.unsynced disk.old)
         → Lasts D.Disk disk.old disk.new (λ image. (p : ℕ) → image p ≡ bytes p) }
 {
@@ -63,7 +63,7 @@ fn read_head<D: Disk>(disk: &mut D, head: &mut [u8; PAGE]) -> Result<(), DiskFau
 // The number in four bytes, the highest first.
 #[tactic(auto, unfolding(crate::specs::Image::word))]
 fn get_word(head: &[u8; PAGE], at: usize) -> u32
-    requires { at + 4 ≤ 4096 }
+    requires { at + 4 ≤ PAGE }
     ensures { result ≡ word (byte_of head.now) at }
 {
     head[at] as u32 * 16777216
@@ -97,8 +97,8 @@ fn is_in_form(head: &[u8; PAGE], journal: u32) -> bool
 
 // Copies a journal page to its place.
 fn copy_page<D: Disk>(disk: &mut D, from: u32, to: u32) -> Result<(), DiskFault>
-    requires from { 4096 * (from + 1) ≤ D.size disk.old }
-    requires to { 4096 * (to + 1) ≤ D.size disk.old }
+    requires from { PAGE * (from + 1) ≤ D.size disk.old }
+    requires to { PAGE * (to + 1) ≤ D.size disk.old }
     ensures size { D.size disk.new ≡ D.size disk.old }
     ensures honest { D.honest disk.old ↔ D.honest disk.new }
     ensures counts { Counts (IsErr result) (D.failures disk.old) (D.failures disk.new) }
@@ -114,7 +114,7 @@ fn copy_page<D: Disk>(disk: &mut D, from: u32, to: u32) -> Result<(), DiskFault>
         → Lasts D.Disk disk.old disk.new (λ image. ReadsAs j image (replayed opened)) }
 {
     let mut bytes = [0; PAGE];
-    disk.read(4096 * from as u64, &mut bytes)?;
+    disk.read(PAGE as u64 * from as u64, &mut bytes)?;
     place(disk, to, &bytes)
 }
 
@@ -122,7 +122,7 @@ fn copy_page<D: Disk>(disk: &mut D, from: u32, to: u32) -> Result<(), DiskFault>
 fn replay<D: Disk>(disk: &mut D, head: &[u8; PAGE], journal: u32) -> Result<(), DiskFault>
     requires few { journal ≤ 385 }
     requires form { InForm journal (word (byte_of head.now) 0) (λ k. word (byte_of head.now) (4 + 4 * k)) }
-    requires room { 4096 * area_end journal ≤ D.size disk.old }
+    requires room { PAGE * area_end journal ≤ D.size disk.old }
     ensures size { D.size disk.new ≡ D.size disk.old }
     ensures honest { D.honest disk.old ↔ D.honest disk.new }
     ensures counts { Counts (IsErr result) (D.failures disk.old) (D.failures disk.new) }
@@ -149,15 +149,15 @@ fn replay<D: Disk>(disk: &mut D, head: &[u8; PAGE], journal: u32) -> Result<(), 
 fn replay_all<D: Disk>(disk: &mut D, head: &[u8; PAGE], journal: u32) -> Result<(), DiskFault>
     requires few { journal ≤ 385 }
     requires form { InForm journal (word (byte_of head.now) 0) (λ k. word (byte_of head.now) (4 + 4 * k)) }
-    requires room { 4096 * area_end journal ≤ D.size disk.old }
+    requires room { PAGE * area_end journal ≤ D.size disk.old }
     ensures size { D.size disk.new ≡ D.size disk.old }
     ensures honest { D.honest disk.old ↔ D.honest disk.new }
     ensures counts { Counts (IsErr result) (D.failures disk.old) (D.failures disk.new) }
     ensures settled { D.honest disk.old → (bytes : ℕ → ℕ) → HeadOf bytes head.now
-        → Still bytes (D.current disk.old) (D.unsynced disk.old) → bytes 4096 ≡ 165
+        → Still bytes (D.current disk.old) (D.unsynced disk.old) → bytes PAGE ≡ 165
         → OnOk result (Settled journal (replayed bytes) (D.current disk.new) (D.unsynced disk.new)) }
     ensures lasts { D.honest disk.old → (bytes : ℕ → ℕ) → HeadOf bytes head.now
-        → Still bytes (D.current disk.old) (D.unsynced disk.old) → bytes 4096 ≡ 165
+        → Still bytes (D.current disk.old) (D.unsynced disk.old) → bytes PAGE ≡ 165
         → Lasts D.Disk disk.old disk.new (λ image. ReadsAs journal image (replayed bytes)) }
 {
     replay(disk, head, journal)?;
@@ -168,19 +168,19 @@ fn replay_all<D: Disk>(disk: &mut D, head: &[u8; PAGE], journal: u32) -> Result<
 // Replays the journal of an open gate.
 fn mend<D: Disk>(disk: &mut D, journal: u32) -> Result<(), RecoverError>
     requires few { journal ≤ 385 }
-    requires room { 4096 * area_end journal ≤ D.size disk.old }
+    requires room { PAGE * area_end journal ≤ D.size disk.old }
     requires page { 12288 ≤ D.size disk.old }
     ensures size { D.size disk.new ≡ D.size disk.old }
     ensures honest { D.honest disk.old ↔ D.honest disk.new }
     ensures counts { Counts (result ≡ Err RecoverError.DiskFault) (D.failures disk.old) (D.failures disk.new) }
     ensures settled { D.honest disk.old → (bytes : ℕ → ℕ) → Still bytes (D.current disk.old) (D.unsynced disk.old)
-        → bytes 4096 ≡ 165 → OnOk result (Settled journal (replayed bytes) (D.current disk.new) (D.unsynced disk.new)) }
+        → bytes PAGE ≡ 165 → OnOk result (Settled journal (replayed bytes) (D.current disk.new) (D.unsynced disk.new)) }
     ensures form { D.honest disk.old → (bytes : ℕ → ℕ) → Still bytes (D.current disk.old) (D.unsynced disk.old)
         → OnOk result (InForm journal (count bytes) (number bytes)) }
     ensures damaged { D.honest disk.old → (bytes : ℕ → ℕ) → Still bytes (D.current disk.old) (D.unsynced disk.old)
         → result ≡ Err RecoverError.Damaged → InForm journal (count bytes) (number bytes) → ⊥ }
     ensures lasts { D.honest disk.old → (bytes : ℕ → ℕ) → Still bytes (D.current disk.old) (D.unsynced disk.old)
-        → bytes 4096 ≡ 165 → Lasts D.Disk disk.old disk.new
+        → bytes PAGE ≡ 165 → Lasts D.Disk disk.old disk.new
         (λ image. ((p : ℕ) → image p ≡ bytes p) ⊎ ReadsAs journal image (replayed bytes)) }
 {
     let mut head = [0; PAGE];
@@ -200,7 +200,7 @@ fn mend<D: Disk>(disk: &mut D, journal: u32) -> Result<(), RecoverError>
 /// `DiskFault`. `Damaged` if the gate is open and the journal's head has a count other than 1 to J, or page numbers
 /// that don't ascend or lie outside the metadata; no byte was written then.
 pub fn recover<D: Disk>(disk: &mut D, layout: &Layout) -> Result<(), RecoverError>
-    requires { 4096 * all_pages layout.now ≤ D.size disk.old }
+    requires { PAGE * all_pages layout.now ≤ D.size disk.old }
     ensures size { D.size disk.new ≡ D.size disk.old }
     ensures honest { D.honest disk.old ↔ D.honest disk.new }
     ensures counts { Counts (result ≡ Err RecoverError.DiskFault) (D.failures disk.old) (D.failures disk.new) }
@@ -216,10 +216,10 @@ pub fn recover<D: Disk>(disk: &mut D, layout: &Layout) -> Result<(), RecoverErro
 
     // `Damaged` is answered exactly for an open gate with an invalid head.
     ensures form { D.honest disk.old → OnOk result
-        (D.current disk.old 4096 ≡ 165 → InForm (journal_pages layout.now) (count (D.current disk.old))
+        (D.current disk.old PAGE ≡ 165 → InForm (journal_pages layout.now) (count (D.current disk.old))
         (number (D.current disk.old))) }
     ensures damaged { D.honest disk.old → result ≡ Err RecoverError.Damaged
-        → (D.current disk.old 4096 ≡ 165) × (InForm (journal_pages layout.now) (count (D.current disk.old))
+        → (D.current disk.old PAGE ≡ 165) × (InForm (journal_pages layout.now) (count (D.current disk.old))
         (number (D.current disk.old)) → ⊥) }
 
     // A crash during the recovery leaves an image of before, or one that reads the same.
@@ -228,9 +228,9 @@ pub fn recover<D: Disk>(disk: &mut D, layout: &Layout) -> Result<(), RecoverErro
         (overlaid (D.current disk.old))) }
 
     // With a closed gate nothing is written: every crash image is one of before, and a read gives the same.
-    ensures unwritten { D.honest disk.old → (D.current disk.old 4096 ≡ 165 → ⊥)
+    ensures unwritten { D.honest disk.old → (D.current disk.old PAGE ≡ 165 → ⊥)
         → Lasts D.Disk disk.old disk.new (IsImage (D.current disk.old) (D.unsynced disk.old)) }
-    ensures same { D.honest disk.old → (D.current disk.old 4096 ≡ 165 → ⊥) → (result ≡ Err RecoverError.DiskFault → ⊥)
+    ensures same { D.honest disk.old → (D.current disk.old PAGE ≡ 165 → ⊥) → (result ≡ Err RecoverError.DiskFault → ⊥)
         → Still (D.current disk.old) (D.current disk.new) (D.unsynced disk.new) }
 {
     settle(disk)?;

@@ -11,7 +11,7 @@ use spool_disk::{Disk, DiskFault};
 // Writes each page to its journal page.
 fn stage_pages<D: Disk>(disk: &mut D, items: &[(u32, [u8; PAGE])]) -> Result<(), DiskFault>
     requires few { length items.now ≤ 385 }
-    requires room { 4096 * (3 + length items.now) ≤ D.size disk.old }
+    requires room { PAGE * (3 + length items.now) ≤ D.size disk.old }
     ensures size { D.size disk.new ≡ D.size disk.old }
     ensures honest { D.honest disk.old ↔ D.honest disk.new }
     ensures counts { Counts (IsErr result) (D.failures disk.old) (D.failures disk.new) }
@@ -23,7 +23,7 @@ fn stage_pages<D: Disk>(disk: &mut D, items: &[(u32, [u8; PAGE])]) -> Result<(),
         → Lasts D.Disk disk.old disk.new (IsBefore j (D.current disk.old) (D.unsynced disk.old)) }
 {
     for i in 0..items.len() {
-        disk.write_at(4096 * (3 + i as u64), &items[i].1)?;
+        disk.write_at(PAGE as u64 * (3 + i as u64), &items[i].1)?;
     }
     Ok(())
 }
@@ -31,7 +31,7 @@ fn stage_pages<D: Disk>(disk: &mut D, items: &[(u32, [u8; PAGE])]) -> Result<(),
 // Stores a number in four bytes, the highest first.
 #[tactic(auto, unfolding(crate::specs::Image::word))]
 fn put_word(head: &mut [u8; PAGE], at: usize, value: u32)
-    requires { at + 4 ≤ 4096 }
+    requires { at + 4 ≤ PAGE }
     ensures word { word (byte_of head.new) at ≡ value }
     ensures others { (other : ℕ) → Apart other 4 at 4 → word (byte_of head.new) other ≡ word (byte_of head.old) other }
 {
@@ -65,7 +65,7 @@ fn write_head<D: Disk>(disk: &mut D, head: &[u8; PAGE]) -> Result<(), DiskFault>
         ((j : ℕ) → Staging j (D.current disk.old) (D.unsynced disk.old) (D.current disk.new) (D.unsynced disk.new)) }
     ensures is_synced { D.honest disk.old → OnOk result ((p : ℕ) → D.unsynced disk.new p → ⊥) }
     ensures head { D.honest disk.old → OnOk result
-        ((i : ℕ) → i < 4096 → D.current disk.new (8192 + i) ≡ byte_of head.now i) }
+        ((i : ℕ) → i < PAGE → D.current disk.new (8192 + i) ≡ byte_of head.now i) }
     ensures kept { D.honest disk.old → OnOk result ((p : ℕ) → 12288 ≤ p → D.current disk.new p ≡ D.current disk.old p) }
     ensures lasts { D.honest disk.old → (j : ℕ) → Idle j (D.current disk.old) (D.unsynced disk.old)
         → Lasts D.Disk disk.old disk.new (IsBefore j (D.current disk.old) (D.unsynced disk.old)) }
@@ -78,7 +78,7 @@ fn write_head<D: Disk>(disk: &mut D, head: &[u8; PAGE]) -> Result<(), DiskFault>
 pub(crate) fn stage<D: Disk>(disk: &mut D, items: &[(u32, [u8; PAGE])]) -> Result<(), DiskFault>
     requires some { 1 ≤ length items.now }
     requires few { length items.now ≤ 385 }
-    requires room { 4096 * (3 + length items.now) ≤ D.size disk.old }
+    requires room { PAGE * (3 + length items.now) ≤ D.size disk.old }
     ensures size { D.size disk.new ≡ D.size disk.old }
     ensures honest { D.honest disk.old ↔ D.honest disk.new }
     ensures counts { Counts (IsErr result) (D.failures disk.old) (D.failures disk.new) }

@@ -6,7 +6,7 @@ ghost use Rattle.spool_journal.specs.Image.{journal_pages, all_pages, text_page}
 ghost use Rattle.spool_journal.specs.Phases.{Idle};
 ghost use Rattle.spool_journal.specs.Texts.{aside, Frame};
 
-use crate::Layout;
+use crate::{Layout, PAGE};
 use spool_disk::{Disk, DiskFault};
 
 /// Writes bytes into a text block, from `offset` on, without a sync.
@@ -21,13 +21,13 @@ pub fn write_block<D: Disk>(
     offset: u32,
     bytes: &[u8],
 ) -> Result<(), DiskFault>
-    requires room { 4096 * all_pages layout.now ≤ D.size disk.old }
+    requires room { PAGE * all_pages layout.now ≤ D.size disk.old }
     requires block { block + 1 ≤ layout.now }
-    requires within { offset + length bytes.now ≤ 4096 }
+    requires within { offset + length bytes.now ≤ PAGE }
     ensures size { D.size disk.new ≡ D.size disk.old }
     ensures honest { D.honest disk.old ↔ D.honest disk.new }
     ensures counts { Counts (IsErr result) (D.failures disk.old) (D.failures disk.new) }
-    ensures writes { D.honest disk.old → Writes (4096 * (text_page layout.now + block) + offset) bytes.now
+    ensures writes { D.honest disk.old → Writes (PAGE * (text_page layout.now + block) + offset) bytes.now
         (IsOk result) (D.current disk.old) (D.current disk.new) (D.unsynced disk.old) (D.unsynced disk.new) }
     ensures idle { D.honest disk.old → Idle (journal_pages layout.now) (D.current disk.old) (D.unsynced disk.old)
         → Idle (journal_pages layout.now) (D.current disk.new) (D.unsynced disk.new) }
@@ -45,5 +45,5 @@ pub fn write_block<D: Disk>(
         image (aside (text_page layout.now + block) was image) }
 {
     let page = layout.block_page(block);
-    disk.write_at(4096 * page as u64 + offset as u64, bytes)
+    disk.write_at(PAGE as u64 * page as u64 + offset as u64, bytes)
 }

@@ -4,6 +4,7 @@ use Rattle.std.proofs.Common.{◌≡◌, inl, inr, ℕ, ◌<◌, ◌≤◌, List
 use Rattle.std.proofs.Common.{refl, sym, ◌∙◌, ap, subst, arith}
 use Rattle.std.proofs.lemmas.Bool.{cases_lt, cases_eq}
 use Rattle.std.proofs.lemmas.Option.{same_Some}
+use Rattle.common.specs.declared.limits.TheConstants.{SLOTS}
 use Rattle.enc_model.specs.Indexes.{IndexSet}
 use Rattle.spool_texts.specs.Reading.{IsRead as IsPieceRead}
 use Rattle.upload_rules.specs.Reading.{IsRead, no_such, text_at}
@@ -62,7 +63,7 @@ pub used_of : (h : Holding) → FitsTogether h → (number : ℕ) (o : Option �
     → MatchOption o ((s : ℕ) → Lists h.order number s → ⊥) (Lists h.order number)
     → MatchOption o ((s : ℕ) → IsUsedBy h.slots s number → ⊥) (λ s. IsUsedBy h.slots s number)
 used_of h fits number None free = λ s used.
-    let lt : s < 512 = let inside = in_use h.slots s used.used used.there in omega (arith, inside, fits.slot_count) in
+    let lt : s < SLOTS = let inside = in_use h.slots s used.used used.there in omega (arith, inside, fits.slot_count) in
     free s (subst (λ (n : ℕ). Lists h.order n s) used.is (fits.ordered.all s used.used lt used.there))
 used_of h fits number (Some s) there = fits.ordered.names number s there
 
@@ -109,7 +110,7 @@ module _ {h : Holding} {v : View} {m : Store} (kept : KeepsView h v) (shows : Sh
       → (i : ℕ) × (i < length h.order) × (number_at h.order i ≡ j)
   listed j w e =
       let has = shows.all j w e in
-      let lt : has.slot < 512 = search (arith, common_steps) in
+      let lt : has.slot < SLOTS = search (arith, common_steps) in
       let l = kept.ordered.all has.slot has.used lt has.there in
       (l.place, l.below, ap (λ (p : NumberedSlot). p.number) l.here ∙ has.number)
 

@@ -1,6 +1,7 @@
 -- The record of a new upload.
 use Rattle.std.proofs.lemmas.Grind.{common_steps}
 use Rattle.std.proofs.Common.{◌≡◌, ℕ, ◌+◌, ◌≤◌, List, [], false, length, sym, ◌∙◌, ap, subst, arith}
+use Rattle.common.specs.declared.limits.TheConstants.{MOST_METADATA}
 use Rattle.enc_model.specs.Indexes.{IndexSet}
 use Rattle.enc_stream.specs.StateBytes.{state_bytes}
 use Rattle.upload_rules.specs.Lengths.{is_too_large}
@@ -39,7 +40,7 @@ module _ (x : IndexSet) (n : ℕ) (r : Record) (new : New) (keeps : Keeps x n r 
     state_size = ap length state_is ∙ state_length (transcoder_with x (new_upload new) [] (is_complete (new_upload
         new)));
     state = told_state x (said_of r) [] (new_upload new) tells_new;
-    metadata_size = subst (λ (bytes : List ℕ). length bytes ≤ 1536) (sym keeps.tells.metadata) well.short;
+    metadata_size = subst (λ (bytes : List ℕ). length bytes ≤ MOST_METADATA) (sym keeps.tells.metadata) well.short;
     printable = rw (← keeps.tells.metadata) at well.printable;
   }
 

@@ -5,6 +5,8 @@ use Rattle.std.proofs.Common.{sym, ◌∙◌, arith}
 use Rattle.std.specs.Int.{to_be_bytes, w32}
 use Rattle.std.proofs.Math.ListN.{get_or-eq_default}
 use Rattle.std.proofs.lemmas.Bool.{cases_lt}
+use Rattle.common.specs.declared.limits.TheConstants.{ROWS}
+use Rattle.spool_journal.specs.declared.TheConstants.{PAGE}
 use Rattle.spool_disk.specs.Disk.{IsImage}
 use Rattle.spool_disk.specs.Views.{Lasts}
 use Rattle.spool_disk.specs.declared.disk.Disk.{Ghosts}
@@ -47,12 +49,12 @@ module _ (f : ℕ → ℕ) (at : ℕ) where
       (one_number f (at + 4) o.1 p.1 fits.1 fits'.1 (ordinal_at f at o.0 o.1 s) (ordinal_at f at p.0 p.1 s'))
 
 -- the pages of rows hold a row for each block
-pub rows_cover : (n : ℕ) → n ≤ 512 * (journal_pages n - 257)
+pub rows_cover : (n : ℕ) → n ≤ ROWS * (journal_pages n - 257)
 unfolding journal_pages
 rows_cover n = omega arith
 
 module _ (f : ℕ → ℕ) (v v' : View) (valid : IsValid v) (valid' : IsValid v') (says : Says f v) (says' : Says f v') where
-  number_at : (n : ℕ) → Stands f 0 4096 (first_page n) → Stands f 8 4 (to_be_bytes w32 n)
+  number_at : (n : ℕ) → Stands f 0 PAGE (first_page n) → Stands f 8 4 (to_be_bytes w32 n)
   unfolding first_page
   number_at n stands =
       let prefix : Stands f 0 12 (first_page n) = record { each = λ i lt. stands.each i (omega (arith, lt)) } in

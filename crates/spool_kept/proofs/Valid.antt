@@ -3,6 +3,7 @@ use Rattle.std.proofs.lemmas.Grind.{common_steps}
 use Rattle.std.proofs.Common.{◌≡◌, ℕ, ◌+◌, ◌-◌, ◌*◌, ◌^◌, ◌<◌, ◌≤◌, refl, subst, List, Option, None, Some}
 use Rattle.std.proofs.Common.{length, get_or, ltb, true, sym, ◌∙◌, ap, arith}
 use Rattle.std.proofs.lemmas.Bool.Decides.{nat_tests}
+use Rattle.common.specs.declared.limits.TheConstants.{ROWS, SLOTS}
 use Rattle.upload_rules.specs.Room.{blocks_of}
 use Rattle.spool_pages.specs.View.{View, SlotRecord, Says, Stands, slot_at, slot_bytes, row_bytes, index_place}
 use Rattle.spool_pages.specs.View.{slot_place, row_place}
@@ -37,13 +38,13 @@ module _ (bytes : ℕ → ℕ) (v : View) (n : ℕ) (blocks : v.blocks ≡ n) (s
   pub said_area : (i : ℕ) → i < 90112 → bytes (index_place n + i) ≡ area_byte v.indexes i
   said_area i lt = subst (λ (m : ℕ). bytes (index_place m + i) ≡ area_byte v.indexes i) blocks (says.area i lt)
 
-  pub said_slot : (s : ℕ) → s < 512 → Stands bytes (slot_place n s) 2048 (slot_bytes v.version (slot_at v s))
+  pub said_slot : (s : ℕ) → s < SLOTS → Stands bytes (slot_place n s) 2048 (slot_bytes v.version (slot_at v s))
   said_slot s lt = rw blocks at (says.slots s lt)
 
-  pub said_row : (b : ℕ) → b < 512 * (journal_pages n - 257) → Stands bytes (row_place n b) 8
+  pub said_row : (b : ℕ) → b < ROWS * (journal_pages n - 257) → Stands bytes (row_place n b) 8
       (row_bytes (get_or v.rows b None))
   said_row b lt =
-      let P : ℕ → Type 0 = λ m. b < 512 * (journal_pages m - 257) → Stands bytes (row_place m b) 8
+      let P : ℕ → Type 0 = λ m. b < ROWS * (journal_pages m - 257) → Stands bytes (row_place m b) 8
       (row_bytes (get_or v.rows b None)) in
       subst P blocks (says.rows b) lt
 

@@ -1,5 +1,6 @@
 -- A new upload comes into what is kept.
 use Rattle.std.specs.Prelude.{◌≡◌, ℕ, ◌^◌, ◌+◌, ◌<◌, ◌≤◌, false, [], None, Some, get_or, slice_set}
+use Rattle.common.specs.declared.limits.TheConstants.{SLOTS}
 use Rattle.enc_model.specs.Indexes.{IndexSet}
 use Rattle.upload_rules.specs.Lengths.{is_too_large}
 use Rattle.upload_rules.specs.Store.{New, new_upload}
@@ -9,7 +10,7 @@ use Rattle.spool_kept.specs.Shows.{IsValidRecord, IsRecordOf}
 
 -- a free slot, and a next number that may be followed by another
 pub record HasRoomAt (h : Holding) (slot : ℕ) : Type 0 where
-  pub within : slot < 512
+  pub within : slot < SLOTS
   pub free : get_or h.slots slot None ≡ None
   pub next : h.next < 10 ^ 18
 

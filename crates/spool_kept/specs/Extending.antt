@@ -1,6 +1,7 @@
 -- What a patch makes of what is kept in memory.
 use Rattle.std.specs.Prelude.{◌≡◌, ◌≢◌, ◌⊎◌, ℕ, ◌*◌, ◌+◌, ◌-◌, ◌/◌, ◌%◌, ◌<◌, ◌≤◌, ◌++◌, List, [], Some, None, Bool}
 use Rattle.std.specs.Prelude.{true, false, Option, length, get_or, drop, slice_set}
+use Rattle.spool_journal.specs.declared.TheConstants.{PAGE}
 use Rattle.enc_model.specs.Indexes.{IndexSet}
 use Rattle.enc_stream.specs.StateBytes.{IsValid}
 use Rattle.spool_disk.specs.declared.disk.Disk.{Ghosts}
@@ -42,7 +43,7 @@ pub record OnlyDeclares (r : SlotRecord) (longer : Longer) : Type 0 where
 
 -- how many bytes of a text are on full blocks
 abbrev pub full_bytes : ℕ → ℕ
-full_bytes len = len - len % 4096
+full_bytes len = len - len % PAGE
 
 -- the slot's upload may become this with these blocks, or with none where its text stays
 pub record MayExtend (h : Holding) (longer : Longer) (more : List ℕ) : Type 0 where
@@ -50,7 +51,7 @@ pub record MayExtend (h : Holding) (longer : Longer) (more : List ℕ) : Type 0 
   pub there : get_or h.slots longer.slot None ≡ Some used
   pub state : SameEncodings used.state longer.state
   pub same : length more ≡ 0 → longer.text_len ≡ used.text_len
-  pub blocks : 0 < length more → blocks_of longer.text_len ≡ used.text_len / 4096 + length more
+  pub blocks : 0 < length more → blocks_of longer.text_len ≡ used.text_len / PAGE + length more
 
 -- the listed blocks are reserved no more; the others are as they were
 pub record HandsOn (old new : List Bool) (list : List ℕ) : Type 0 where
@@ -65,7 +66,7 @@ pub record IsLonger (h : Holding) (used : SlotRecord) (longer : Longer) (more : 
   pub indexes : new.indexes ≡ h.indexes
   pub slots : new.slots ≡ slice_set h.slots longer.slot (Some (longer_record used longer))
   pub same : length more ≡ 0 → new.blocks ≡ h.blocks
-  pub rows : 0 < length more → HandsOver h.blocks.rows longer.slot (used.text_len / 4096) more new.blocks.rows
+  pub rows : 0 < length more → HandsOver h.blocks.rows longer.slot (used.text_len / PAGE) more new.blocks.rows
 
 -- with this length, where none was known, and these bytes the upload's text has these after it, and where the disk is
 -- sure to hold what was written, the blocks hold what is not on the old full ones
@@ -101,7 +102,7 @@ pub record IsPending {D : Type 0} (sure : Bool) (disk : Ghosts D) (d : D) (h : H
     (declare : Option ℕ) (bytes : List ℕ) (longer : Longer) (more last : List ℕ) : Type 0 where
   pub stored : Stored sure disk d h m
   pub text : List ℕ
-  pub fits : 1 ≤ length more → (length last + 4095) / 4096 ≤ length more
+  pub fits : 1 ≤ length more → (length last + 4095) / PAGE ≤ length more
   pub held : sure ≡ true → 1 ≤ length more → bytes_with (disk.current d) (text_page h.layout) more last ≡ text
   pub append : (e : D) → Stored sure disk e h m
       → (sure ≡ true → 1 ≤ length more → text_on (disk.current e) (text_page h.layout) more (length text) ≡ text)
@@ -113,4 +114,4 @@ pub record IsWritten {D : Type 0} (sure : Bool) (disk : Ghosts D) (old new : D) 
   pub mid : D
   pub only : disk.honest old → OnlyWrites disk (journal_pages h.layout) more old mid
   pub append : IsAppend sure disk mid h m n declare bytes longer more
-  pub texts : sure ≡ true → (p : ℕ) → 4096 * text_page h.layout ≤ p → disk.current new p ≡ disk.current mid p
+  pub texts : sure ≡ true → (p : ℕ) → PAGE * text_page h.layout ≤ p → disk.current new p ≡ disk.current mid p

@@ -1,5 +1,6 @@
 -- What is kept of a spool in memory, and how its parts fit one another, whatever the disk said.
 use Rattle.std.specs.Prelude.{◌≡◌, ◌⊎◌, ℕ, ◌<◌, ◌≤◌, List, [], Option, None, Some, length, get_or}
+use Rattle.common.specs.declared.limits.TheConstants.{SLOTS}
 use Rattle.enc_model.specs.Indexes.{IndexSet}
 use Rattle.spool_blocks.specs.Blocks.{Row, Held}
 use Rattle.spool_blocks.specs.Chains.{OwnsOneEach}
@@ -111,10 +112,10 @@ held_of k = record {
 }
 
 pub record FitsTogether (h : Holding) : Type 0 where
-  pub slot_count : length h.slots ≡ 512
-  pub list_count : length h.lists ≡ 512
+  pub slot_count : length h.slots ≡ SLOTS
+  pub list_count : length h.lists ≡ SLOTS
   pub row_count : length h.blocks.rows ≡ h.layout
   pub rows_fit : (b : ℕ) → FitsRow (get_or h.blocks.rows b None)
   pub below : AreBelow h.next h.slots
-  pub ordered : Orders h.slots h.order 512
-  pub listed : AreListsTo h.blocks.rows h.slots h.lists 512
+  pub ordered : Orders h.slots h.order SLOTS
+  pub listed : AreListsTo h.blocks.rows h.slots h.lists SLOTS

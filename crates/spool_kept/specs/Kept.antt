@@ -1,5 +1,6 @@
 -- What is kept in memory of what a view says.
 use Rattle.std.specs.Prelude.{◌≡◌, ℕ, [], Some, false, length, get_or, replicate}
+use Rattle.common.specs.declared.limits.TheConstants.{SLOTS}
 use Rattle.spool_texts.specs.TextOn.{IsListed}
 use Rattle.upload_rules.specs.Room.{blocks_of}
 use Rattle.spool_pages.specs.View.{SlotRecord, View, slot_at}
@@ -13,7 +14,7 @@ pub record KeepsView (h : Holding) (v : View) : Type 0 where
   pub indexes : h.indexes ≡ v.indexes
   pub slots : h.slots ≡ v.slots
   pub rows : h.blocks.rows ≡ v.rows
-  pub ordered : Orders v.slots h.order 512
+  pub ordered : Orders v.slots h.order SLOTS
   pub listed : (s : ℕ) (r : SlotRecord) → slot_at v s ≡ Some r → IsListed v.rows s (get_or h.lists s [])
   pub sizes : (s : ℕ) (r : SlotRecord) → slot_at v s ≡ Some r → length (get_or h.lists s []) ≡ blocks_of r.text_len
 

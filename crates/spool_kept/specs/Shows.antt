@@ -1,5 +1,6 @@
 -- A view shows uploads: all that is kept of them stands there, and all checks hold.
 use Rattle.std.specs.Prelude.{◌≡◌, ℕ, ◌^◌, ◌<◌, ◌≤◌, true, false, All, List, [], Option, Some, None, length, map}
+use Rattle.common.specs.declared.limits.TheConstants.{LEAST_BLOCKS, MOST_BLOCKS, MOST_LENGTH, MOST_METADATA, SLOTS}
 use Rattle.enc_model.specs.Indexes.{IndexSet}
 use Rattle.enc_model.specs.Transcode.{Transcoder, Phase, Before, During, Over}
 use Rattle.enc_index.specs.Sets.{IsIndexSet}
@@ -32,11 +33,11 @@ pub record IsValidRecord (next : ℕ) (r : SlotRecord) : Type 0 where
   pub some : 1 ≤ r.number
   pub below : r.number < next
   pub accepted : r.accepted ≤ longest r.declared
-  pub declared : longest r.declared ≤ 1073741824
+  pub declared : longest r.declared ≤ MOST_LENGTH
   pub text_fits : r.text_len < 2 ^ 64
   pub state_size : length r.state ≡ 32
   pub state : HasState r
-  pub metadata_size : length r.metadata ≤ 1536
+  pub metadata_size : length r.metadata ≤ MOST_METADATA
   pub printable : All (λ b. (0x20 ≤ b) × (b ≤ 0x7E)) r.metadata
 
 -- the row's slot is in use, and its ordinal fits four bytes
@@ -46,12 +47,12 @@ pub record IsOwned (v : View) (slot ordinal : ℕ) : Type 0 where
   pub fits : ordinal < 2 ^ 32
 
 pub record IsValid (v : View) : Type 0 where
-  pub least : 16 ≤ v.blocks
-  pub most : v.blocks ≤ 65536
+  pub least : LEAST_BLOCKS ≤ v.blocks
+  pub most : v.blocks ≤ MOST_BLOCKS
   pub next_least : 1 ≤ v.next
   pub next_most : v.next ≤ 10 ^ 18
   pub indexes : IsIndexSet v.indexes
-  pub slot_count : length v.slots ≡ 512
+  pub slot_count : length v.slots ≡ SLOTS
   pub row_count : length v.rows ≡ v.blocks
   pub records : (s : ℕ) (r : SlotRecord) → slot_at v s ≡ Some r → IsValidRecord v.next r
   pub distinct : (s t : ℕ) (r q : SlotRecord) → slot_at v s ≡ Some r → slot_at v t ≡ Some q → r.number ≡ q.number

@@ -16,6 +16,8 @@ ghost use Rattle.spool_kept.specs.Records.{HasTextOn, IsUploadOf, KeepsOf};
 ghost use Rattle.spool_kept.specs.Shows.{Shows};
 ghost use Rattle.spool_pages.specs.View.{View, Says};
 
+use spool_journal::PAGE;
+use common::{MOST_BLOCKS, SLOTS};
 use crate::kept::Kept;
 use crate::order::{NumberedSlot, places_to, slot_of};
 use enc_index::IndexSet;
@@ -39,7 +41,7 @@ impl Kept {
         ensures used { MatchOption result ((s : ℕ) → IsUsedBy self.now.slots s number → ⊥)
             (λ s. IsUsedBy self.now.slots s number) }
         ensures only { IfSome result (λ s. (t : ℕ) → IsUsedBy self.now.slots t number → t ≡ s) }
-        ensures below { IfSome result (λ s. s < 512) }
+        ensures below { IfSome result (λ s. s < SLOTS) }
     {
         slot_of(&self.order, number)
     }
@@ -60,8 +62,8 @@ impl Kept {
     /// The upload of a number, with the blocks of its text.
     pub(crate) fn upload(&self, number: u64) -> Option<KeptUpload<'_>>
         ensures below { IfSome result (λ u. AllBelow self.now.layout u.list.now) }
-        ensures long { IfSome result (λ u. u.upload.now.text_len ≤ 4096 * length u.list.now) }
-        ensures few { IfSome result (λ u. length u.list.now ≤ 65536) }
+        ensures long { IfSome result (λ u. u.upload.now.text_len ≤ PAGE * length u.list.now) }
+        ensures few { IfSome result (λ u. length u.list.now ≤ MOST_BLOCKS) }
         ensures owned { IfSome result (λ u. IsOwnedBy self.now.slots self.now.blocks.rows number u.list.now) }
         ensures numbered { IfSome result (λ u. u.upload.now.number < self.now.next) }
         ensures kept { IfSome result (λ u. IsKept self.now.slots u.upload.now) }
@@ -88,7 +90,7 @@ impl Kept {
         at: u64,
         buf: &mut [u8],
     ) -> Result<usize, UploadError>
-        requires { 4096 * all_pages self.now.layout ≤ D.size disk.old }
+        requires { PAGE * all_pages self.now.layout ≤ D.size disk.old }
         ensures size { D.size disk.new ≡ D.size disk.old }
         ensures honest { D.honest disk.old ↔ D.honest disk.new }
         ensures counts { Counts (IsErrOf result UploadError.DiskFault) (D.failures disk.old) (D.failures disk.new) }

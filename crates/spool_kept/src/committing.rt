@@ -24,6 +24,7 @@ ghost use Rattle.spool_kept.specs.Holding.{IsUsedBy};
 ghost use Rattle.spool_kept.specs.Shows.{ImageShows};
 ghost use Rattle.spool_kept.specs.Stored.{ShowsEither, Stored};
 
+use spool_journal::PAGE;
 use crate::extending::{Longer, extend};
 use crate::kept::Kept;
 use common::Stop;
@@ -94,7 +95,7 @@ fn ended<D: Disk>(
     draft: &mut SpoolDraft,
     found: Found,
 ) -> Result<(Longer, Vec<u8>), UploadError>
-    requires room { 4096 * all_pages kept.old.layout ≤ D.size disk.old }
+    requires room { PAGE * all_pages kept.old.layout ≤ D.size disk.old }
     requires found { IsFound kept.old.slots draft.old found }
     requires after { IsAfterSlot kept.old.slots found.slot draft.old }
     requires goes { found.stays ≡ false }
@@ -161,7 +162,7 @@ fn append_to<D: Disk>(
     draft: SpoolDraft,
     found: Found,
 ) -> Result<u64, UploadError>
-    requires room { 4096 * all_pages kept.old.layout ≤ D.size disk.old }
+    requires room { PAGE * all_pages kept.old.layout ≤ D.size disk.old }
     requires found { IsFound kept.old.slots draft found }
     requires after { IsAfterSlot kept.old.slots found.slot draft }
     requires goes { found.stays ≡ false }
@@ -220,7 +221,7 @@ fn set_length<D: Disk>(
     slot: u32,
     declared: Option<u64>,
 ) -> Result<u64, UploadError>
-    requires room { 4096 * all_pages kept.old.layout ≤ D.size disk.old }
+    requires room { PAGE * all_pages kept.old.layout ≤ D.size disk.old }
     requires may { MayDeclare kept.old.slots slot declared }
     ensures size { D.size disk.new ≡ D.size disk.old }
     ensures honest { D.honest disk.old ↔ D.honest disk.new }
@@ -267,7 +268,7 @@ pub fn commit<D: Disk>(
     drafts: &mut Vec<Option<SpoolDraft>>,
     number: usize,
 ) -> Result<u64, UploadError>
-    requires room { 4096 * all_pages kept.old.layout ≤ D.size disk.old }
+    requires room { PAGE * all_pages kept.old.layout ≤ D.size disk.old }
     requires fits { DraftsFit kept.old drafts.old.items }
     ensures fits { DraftsFit kept.new drafts.new.items }
     ensures layout { kept.new.layout ≡ kept.old.layout }

@@ -24,15 +24,15 @@ use crate::order::put;
 use crate::records::{KeptRecord, record_at};
 use common::SLOTS;
 use spool_disk::Disk;
-use spool_journal::Pages;
+use spool_journal::{PAGE, Pages};
 use spool_pages::{change, pages_of_new};
 use std::alloc::{AllocError, Global};
 use upload_rules::{NUMBERS_END, New, Record, UploadError, UploadRefusal, is_too_large};
 
 // The first free slot.
 fn free_slot(slots: &[Option<KeptRecord>]) -> Option<u32>
-    ensures { MatchOption result ((s : ℕ) → s < 512 → IsSome (get_or slots.now s None))
-        (λ s. (s < 512) × (get_or slots.now s None ≡ None)) }
+    ensures { MatchOption result ((s : ℕ) → s < SLOTS → IsSome (get_or slots.now s None))
+        (λ s. (s < SLOTS) × (get_or slots.now s None ≡ None)) }
 {
     for slot in 0..SLOTS {
         if record_at(slots, slot as usize).is_none() {
@@ -47,7 +47,7 @@ impl Kept {
     fn slot_for_new(&self) -> Option<u32>
         ensures room { IfSome result (HasRoomAt self.now) }
         ensures few { (v : View) (m : Store) → KeepsView self.now v → Shows v m
-            → MatchOption result ((512 ≤ length m.uploads) ⊎ (10 ^ 18 ≤ m.next)) (λ s. length m.uploads < 512) }
+            → MatchOption result ((SLOTS ≤ length m.uploads) ⊎ (10 ^ 18 ≤ m.next)) (λ s. length m.uploads < SLOTS) }
     {
         if self.order.len() >= SLOTS as usize || self.next >= NUMBERS_END {
             return None;
@@ -133,7 +133,7 @@ pub fn create<D: Disk>(
     kept: &mut Kept,
     new: New,
 ) -> Result<u64, UploadError>
-    requires room { 4096 * all_pages kept.old.layout ≤ D.size disk.old }
+    requires room { PAGE * all_pages kept.old.layout ≤ D.size disk.old }
     requires well_formed { IsWellFormed new }
     ensures size { D.size disk.new ≡ D.size disk.old }
     ensures honest { D.honest disk.old ↔ D.honest disk.new }
@@ -155,7 +155,7 @@ pub fn create<D: Disk>(
     ensures refused { (e : UploadRefusal) → IsErrOf result (UploadError.Refused e)
         → (disk.new ≡ disk.old) × (kept.new ≡ kept.old) }
     ensures texts { (m : Store) → Stored true D.Disk disk.old kept.old m
-        → OnOk result ((p : ℕ) → 4096 * text_page kept.old.layout ≤ p → D.current disk.new p ≡ D.current disk.old p) }
+        → OnOk result ((p : ℕ) → PAGE * text_page kept.old.layout ≤ p → D.current disk.new p ≡ D.current disk.old p) }
 {
     if is_too_large(new.declared) {
         return Err(UploadError::Refused(UploadRefusal::TooLarge));

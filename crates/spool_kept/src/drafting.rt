@@ -16,6 +16,7 @@ ghost use Rattle.spool_kept.specs.Drafting.{CarriesFor, DraftsFit, IsOfUpload, I
 ghost use Rattle.spool_kept.specs.Drafting.{StandsFor};
 ghost use Rattle.spool_kept.specs.Shows.{ImageShows, Shows};
 
+use spool_journal::PAGE;
 use crate::kept::Kept;
 use common::Stop;
 use spool_disk::Disk;
@@ -87,7 +88,7 @@ pub fn append<D: Disk>(
     number: usize,
     piece: &[u8],
 ) -> Result<(), UploadError>
-    requires room { 4096 * all_pages kept.old.layout ≤ D.size disk.old }
+    requires room { PAGE * all_pages kept.old.layout ≤ D.size disk.old }
     requires fits { DraftsFit kept.old drafts.old.items }
     ensures fits { DraftsFit kept.new drafts.new.items }
     ensures same { OnlyReserves kept.old kept.new }

@@ -19,10 +19,10 @@ ghost use Rattle.spool_pages.specs.View.{SlotRecord as Said};
 use crate::kept::Kept;
 use crate::lists::blocks_from;
 use crate::records::KeptRecord;
-use common::Stop;
+use common::{MOST_BLOCKS, Stop};
 use spool_blocks::BlockNo;
 use spool_disk::Disk;
-use spool_journal::{Layout, Pages};
+use spool_journal::{Layout, PAGE, Pages};
 use spool_pages::{SlotRecord, change, fill_rows, pages_of_change};
 use spool_texts::write_last;
 use std::alloc::{AllocError, Global};
@@ -59,13 +59,13 @@ impl Kept {
     // How many full blocks a slot's text has.
     fn full_blocks(&self, slot: u32) -> u32
         requires { IsSome (get_or self.now.slots slot None) }
-        ensures full { (r : Said) → get_or self.now.slots slot None ≡ Some r → result ≡ r.text_len / 4096 }
-        ensures few { length self.now.blocks.rows ≤ 65536 }
+        ensures full { (r : Said) → get_or self.now.slots slot None ≡ Some r → result ≡ r.text_len / PAGE }
+        ensures few { length self.now.blocks.rows ≤ MOST_BLOCKS }
         ensures listed { result ≤ length (get_or self.now.lists slot []) }
     {
         let _few = self.blocks.rows();
         let kept = self.in_slot(slot).unwrap();
-        (kept.record().text_len / 4096) as u32
+        (kept.record().text_len / PAGE as u64) as u32
     }
 
     // The blocks whose rows change: the new ones, and the slot's last ones, which they replace. None where there are no
@@ -83,7 +83,7 @@ impl Kept {
         ensures differ { (r : Said) → get_or self.now.slots slot None ≡ Some r → (old new : List HeldRow)
             → (length more.now ≡ 0 → SameRowsBut [] old new)
             → (0 < length more.now
-            → SameRowsBut (more.now ++ drop (r.text_len / 4096) (get_or self.now.lists slot [])) old new)
+            → SameRowsBut (more.now ++ drop (r.text_len / PAGE) (get_or self.now.lists slot [])) old new)
             → IfOk result (λ blocks. SameRowsBut blocks.items old new) }
     {
         let mut blocks = Vec::new(alloc);
@@ -111,7 +111,7 @@ impl Kept {
             → v.slots ≡ self.now.slots → (r : Said) → get_or self.now.slots longer.now.slot None ≡ Some r
             → (rows : List HeldRow) → (length more.now ≡ 0 → SameRowsBut [] v.rows rows)
             → (0 < length more.now
-            → SameRowsBut (more.now ++ drop (r.text_len / 4096) (get_or self.now.lists longer.now.slot [])) v.rows rows)
+            → SameRowsBut (more.now ++ drop (r.text_len / PAGE) (get_or self.now.lists longer.now.slot [])) v.rows rows)
             → IfOk result (λ pages. ChangesButRows pages v (record
             (with_record v longer.now.slot (longer_record r longer.now)) { rows = rows })) }
     {
@@ -176,7 +176,7 @@ pub(crate) fn extend<D: Disk>(
     more: &[BlockNo],
     last: &[u8],
 ) -> Result<(), Stop>
-    requires room { 4096 * all_pages kept.old.layout ≤ D.size disk.old }
+    requires room { PAGE * all_pages kept.old.layout ≤ D.size disk.old }
     requires may { MayExtend kept.old longer.now more.now }
     requires reserved { IsReserved kept.old.blocks more.now }
     ensures size { D.size disk.new ≡ D.size disk.old }

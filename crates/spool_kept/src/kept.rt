@@ -10,6 +10,7 @@ ghost use Rattle.spool_pages.specs.Changes.{neighbour};
 ghost use Rattle.spool_pages.specs.Fits.{FitsRow};
 ghost use Rattle.spool_pages.specs.View.{SlotRecord as Said, View};
 
+use common::{MOST_METADATA, SLOTS};
 use crate::CheckError;
 use crate::lists::{BlockList, lists_of};
 use crate::order::{NumberedSlot, order_of};
@@ -68,7 +69,7 @@ impl Kept {
         slots: Vec<Option<KeptRecord>>,
         blocks: Blocks,
     ) -> Result<Kept, CheckError>
-        requires slots { length slots.items ≡ 512 }
+        requires slots { length slots.items ≡ SLOTS }
         requires rows { length blocks.rows ≡ layout }
         requires fits { (b : ℕ) → FitsRow (get_or blocks.rows b None) }
         requires below { AreBelow next slots.items }
@@ -119,7 +120,7 @@ impl Kept {
     /// The record of a slot, none where the slot is free or isn't there.
     pub(crate) fn in_slot(&self, slot: u32) -> Option<&KeptRecord>
         ensures kept { option_copied result ≡ get_or self.now.slots slot None }
-        ensures below { IfSome (option_copied result) (λ r. slot < 512) }
+        ensures below { IfSome (option_copied result) (λ r. slot < SLOTS) }
     {
         record_at(&self.slots, slot as usize)
     }
@@ -128,7 +129,7 @@ impl Kept {
     pub(crate) fn list(&self, slot: u32) -> &[BlockNo]
         requires { IsSome (get_or self.now.slots slot None) }
         ensures blocks { result.now ≡ get_or self.now.lists slot [] }
-        ensures below { slot < 512 }
+        ensures below { slot < SLOTS }
         ensures fits { FitsTogether self.now }
     {
         self.lists[slot as usize].blocks()
@@ -136,9 +137,9 @@ impl Kept {
 
     /// The record of the other slot on a slot's page.
     pub(crate) fn beside(&self, slot: u32) -> Option<SlotRecord<'_>>
-        requires { slot < 512 }
+        requires { slot < SLOTS }
         ensures said { result ≡ get_or self.now.slots (neighbour slot) None }
-        ensures short { IfSome result (λ r. length r.metadata ≤ 1536) }
+        ensures short { IfSome result (λ r. length r.metadata ≤ MOST_METADATA) }
     {
         slot_record_at(&self.slots, neighbour(slot) as usize)
     }
@@ -146,7 +147,7 @@ impl Kept {
 
 // The slot whose record is on the same page.
 fn neighbour(slot: u32) -> u32
-    requires { slot < 512 }
+    requires { slot < SLOTS }
     ensures { result ≡ neighbour slot }
 {
     if slot % 2 == 0 { slot + 1 } else { slot - 1 }

@@ -67,7 +67,7 @@ pub(crate) fn blocks_from(list: &[BlockNo], first: usize) -> &[BlockNo]
 pub fn blocks_of(len: u64) -> u64
     ensures { result ≡ blocks_of len }
 {
-    len.div_ceil(4096)
+    len.div_ceil(PAGE as u64)
 }
 
 // Whether the slot owns each listed block, at its place's ordinal.
@@ -103,7 +103,7 @@ fn checked_list(
     slot: u32,
     len: u64,
 ) -> Result<BlockList, CheckError>
-    requires { slot < 512 }
+    requires { slot < SLOTS }
     ensures blocks { IfOk result (λ list. HasBlocks blocks.now.rows slot len list) }
     ensures whole { OnOk result (OwnsOneEach blocks.now.rows slot (blocks_of len)) }
     ensures passes { slot_count slot blocks.now.rows ≡ blocks_of len → IsWhole slot blocks.now.rows
@@ -124,7 +124,7 @@ fn push_list(
     slots: &[Option<KeptRecord>],
     slot: u32,
 ) -> Result<(), CheckError>
-    requires { slot < 512 }
+    requires { slot < SLOTS }
     ensures long { OnOk result (length lists.new.items ≡ length lists.old.items + 1) }
     ensures lists { length lists.old.items ≡ slot → AreListsTo blocks.now.rows slots.now lists.old.items slot
         → OnOk result (AreListsTo blocks.now.rows slots.now lists.new.items (slot + 1)) }
@@ -150,9 +150,9 @@ pub(crate) fn lists_of(
     blocks: &Blocks,
     slots: &[Option<KeptRecord>],
 ) -> Result<Vec<BlockList>, CheckError>
-    ensures long { IfOk result (λ lists. length lists.items ≡ 512) }
-    ensures lists { IfOk result (λ lists. AreListsTo blocks.now.rows slots.now lists.items 512) }
-    ensures whole { OnOk result ((s : ℕ) → s < 512 → OwnsText blocks.now.rows s (get_or slots.now s None)) }
+    ensures long { IfOk result (λ lists. length lists.items ≡ SLOTS) }
+    ensures lists { IfOk result (λ lists. AreListsTo blocks.now.rows slots.now lists.items SLOTS) }
+    ensures whole { OnOk result ((s : ℕ) → s < SLOTS → OwnsText blocks.now.rows s (get_or slots.now s None)) }
     ensures passes { (v : View) → IsValid v → slots.now ≡ v.slots → blocks.now.rows ≡ v.rows
         → IsOkUnless result CheckError.NoMemory }
 {

@@ -7,6 +7,7 @@ ghost use Rattle.spool_kept.specs.Extending.{longer_record};
 ghost use Rattle.spool_kept.specs.Records.{FitsKept, FitsMemory, IsReadable, IsUnpacked, said_of};
 ghost use Rattle.spool_pages.specs.View.{SlotRecord as Said};
 
+use common::MOST_METADATA;
 use crate::CheckError;
 use crate::extending::Longer;
 use enc_stream::Transcoder;
@@ -41,7 +42,7 @@ impl KeptRecord {
     /// `Damaged` where the state is none of a transcoder, or the metadata isn't printable ASCII; `NoMemory` where an
     /// allocation was refused.
     pub fn of(alloc: Global, record: &SlotRecord<'_>) -> Result<KeptRecord, CheckError>
-        requires { length «record».now.metadata ≤ 1536 }
+        requires { length «record».now.metadata ≤ MOST_METADATA }
         ensures passes { FitsKept (Some «record».now) → IsOkUnless result CheckError.NoMemory }
         ensures same { IfOk result (λ kept. kept ≡ «record».now) }
         ensures valid { OnOk result (IsReadable «record».now) }
@@ -96,7 +97,7 @@ impl KeptRecord {
     /// The record as its slot's bytes say it.
     pub(crate) fn slot_record(&self) -> SlotRecord<'_>
         ensures said { result ≡ self.now }
-        ensures short { length result.metadata ≤ 1536 }
+        ensures short { length result.metadata ≤ MOST_METADATA }
     {
         SlotRecord {
             number: self.record.number,
@@ -122,7 +123,7 @@ pub fn record_at(slots: &[Option<KeptRecord>], slot: usize) -> Option<&KeptRecor
 /// The record of a slot as its bytes say it, none where the slot is free or isn't there.
 pub(crate) fn slot_record_at(slots: &[Option<KeptRecord>], slot: usize) -> Option<SlotRecord<'_>>
     ensures said { result ≡ get_or slots.now slot None }
-    ensures short { IfSome result (λ r. length r.metadata ≤ 1536) }
+    ensures short { IfSome result (λ r. length r.metadata ≤ MOST_METADATA) }
 {
     Some(record_at(slots, slot)?.slot_record())
 }

@@ -21,7 +21,7 @@ use crate::kept::Kept;
 use crate::order::{NumberedSlot, places_to};
 use spool_disk::Disk;
 use spool_drafts::SpoolDraft;
-use spool_journal::Pages;
+use spool_journal::{PAGE, Pages};
 use spool_pages::{change, fill_rows, pages_of_change};
 use std::alloc::{AllocError, Global};
 use upload_rules::{UploadError, UploadRefusal};
@@ -101,7 +101,7 @@ pub fn terminate<D: Disk>(
     drafts: &mut Vec<Option<SpoolDraft>>,
     number: u64,
 ) -> Result<(), UploadError>
-    requires room { 4096 * all_pages kept.old.layout ≤ D.size disk.old }
+    requires room { PAGE * all_pages kept.old.layout ≤ D.size disk.old }
     requires fits { DraftsFit kept.old drafts.old.items }
     ensures fits { DraftsFit kept.new drafts.new.items }
     ensures size { D.size disk.new ≡ D.size disk.old }
@@ -132,7 +132,7 @@ pub fn terminate<D: Disk>(
 
     // No block is written by it.
     ensures texts { (w : World) → StandsFor true D.Disk disk.old kept.old drafts.old.items w
-        → OnOk result ((p : ℕ) → 4096 * text_page kept.old.layout ≤ p → D.current disk.new p ≡ D.current disk.old p) }
+        → OnOk result ((p : ℕ) → PAGE * text_page kept.old.layout ≤ p → D.current disk.new p ≡ D.current disk.old p) }
 {
     let Some(slot) = kept.slot_of(number) else {
         return Err(UploadError::Refused(UploadRefusal::NoSuch));

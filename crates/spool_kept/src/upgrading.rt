@@ -7,6 +7,7 @@ ghost use Rattle.spool_pages.specs.Changes.{Changes, upgraded};
 ghost use Rattle.spool_pages.specs.View.{View};
 ghost use Rattle.upload_rules.specs.Store.{Store};
 
+use common::MOST_METADATA;
 use crate::kept::Kept;
 use crate::records::{KeptRecord, slot_record_at};
 use spool_journal::Pages;
@@ -26,7 +27,7 @@ fn slot_records(
 ) -> Result<Vec<Option<SlotRecord<'_>>>, AllocError>
     ensures said { IfOk result (λ records. records.items ≡ slots.now) }
     ensures short { IfOk result (λ records. (s : ℕ)
-        → IfSome (get_or records.items s None) (λ r. length r.metadata ≤ 1536)) }
+        → IfSome (get_or records.items s None) (λ r. length r.metadata ≤ MOST_METADATA)) }
 {
     let mut records = Vec::with_capacity(alloc, slots.len())?;
     for slot in 0..slots.len() {

@@ -18,6 +18,8 @@ use Rattle.spool_pages.specs.declared.version.Version.{Version as Known}
 use Rattle.spool_pages.proofs.Says.{all_is}
 use Rattle.spool_load.specs.Reads.{OnlyReads, IsReadAt, IsPrefixOf, IsSameTo, StandSlots, StandRows}
 use Rattle.std.proofs.lemmas.List.{ext_get_or, get_or-append-add}
+use Rattle.common.specs.declared.limits.TheConstants.{ROWS}
+use Rattle.spool_journal.specs.declared.TheConstants.{PAGE}
 
 pub reads_on : {D : Type 0} {disk : Ghosts D} {a b c : D} → OnlyReads disk a b → OnlyReads disk b c → OnlyReads disk a c
 reads_on first second = record {
@@ -31,7 +33,7 @@ reads_on first second = record {
 }
 
 -- what ends before the text blocks is on the disk
-pub before_texts : (n size end : ℕ) → 4096 * all_pages n ≤ size → end ≤ 4096 * text_page n → end ≤ size
+pub before_texts : (n size end : ℕ) → PAGE * all_pages n ≤ size → end ≤ PAGE * text_page n → end ≤ size
 before_texts n size end room few = omega (arith, all_is n, room, few)
 
 pub read_bytes : (current bytes : ℕ → ℕ) {unsynced : ℕ → Type 0} (place n : ℕ) (buf : List ℕ)
@@ -169,27 +171,27 @@ module _ (old new : List (Option (ℕ × ℕ))) (at : ℕ) (row : Option (ℕ ×
 
 -- the rows of a page, in the buffer
 pub rows_stand : (bytes : ℕ → ℕ) (n place page : ℕ) (buf : List ℕ) (all : List (Option (ℕ × ℕ)))
-    → IsReadAt bytes place buf → length buf ≡ 4096 → place ≡ row_place n (512 * page) → 257 + page < journal_pages n
-    → ((b : ℕ) → b < 512 * (journal_pages n - 257) → Stands bytes (row_place n b) 8 (row_bytes (get_or all b None)))
-    → (k : ℕ) → k < 512 → Stands (byte_of buf) (8 * k) 8 (row_bytes (get_or all (512 * page + k) None))
+    → IsReadAt bytes place buf → length buf ≡ PAGE → place ≡ row_place n (ROWS * page) → 257 + page < journal_pages n
+    → ((b : ℕ) → b < ROWS * (journal_pages n - 257) → Stands bytes (row_place n b) 8 (row_bytes (get_or all b None)))
+    → (k : ℕ) → k < ROWS → Stands (byte_of buf) (8 * k) 8 (row_bytes (get_or all (ROWS * page + k) None))
 rows_stand bytes n place page buf all read long here few stands k lt =
-    read_stands bytes place (row_place n (512 * page + k)) (8 * k) 8 buf _ read (omega (arith, lt, long))
-    (omega (arith, here)) (stands (512 * page + k) (omega (arith, lt, few)))
+    read_stands bytes place (row_place n (ROWS * page + k)) (8 * k) 8 buf _ read (omega (arith, lt, long))
+    (omega (arith, here)) (stands (ROWS * page + k) (omega (arith, lt, few)))
 
 -- a page of rows more
 pub rows_read : (bytes : ℕ → ℕ) (n place page : ℕ) (buf : List ℕ) (old new : List (Option (ℕ × ℕ)))
-    → IsReadAt bytes place buf → length buf ≡ 4096 → place ≡ row_place n (512 * page)
-    → StandRows bytes n (512 * page) old → ((b : ℕ) → b < 512 * page → get_or new b None ≡ get_or old b None)
-    → ((k : ℕ) → k < 512 → Stands (byte_of buf) (8 * k) 8 (row_bytes (get_or new (512 * page + k) None)))
-    → StandRows bytes n (512 * (page + 1)) new
+    → IsReadAt bytes place buf → length buf ≡ PAGE → place ≡ row_place n (ROWS * page)
+    → StandRows bytes n (ROWS * page) old → ((b : ℕ) → b < ROWS * page → get_or new b None ≡ get_or old b None)
+    → ((k : ℕ) → k < ROWS → Stands (byte_of buf) (8 * k) 8 (row_bytes (get_or new (ROWS * page + k) None)))
+    → StandRows bytes n (ROWS * (page + 1)) new
 rows_read bytes n place page buf old new read long here was before filled = record {
-  each = λ b lt. elim (cases_lt b (512 * page)) [
+  each = λ b lt. elim (cases_lt b (ROWS * page)) [
     | inl below ↦ subst (λ (o : Option (ℕ × ℕ)). Stands bytes (row_place n b) 8 (row_bytes o)) (sym (before b below))
         (was.each b below)
     | inr over ↦
-        let k : ℕ = b - 512 * page in
-        let few : k < 512 = omega (arith, lt, over) in
-        let at : 512 * page + k ≡ b = omega (arith, over) in
+        let k : ℕ = b - ROWS * page in
+        let few : k < ROWS = omega (arith, lt, over) in
+        let at : ROWS * page + k ≡ b = omega (arith, over) in
         let stands = filled k few in
         let there =
         read_back bytes place (row_place n b) (8 * k) 8 buf _ read (omega (arith, few, long))

@@ -2,6 +2,7 @@
 use Rattle.std.proofs.Common.{◌≡◌, ◌⊎◌, inl, inr, ℕ, ◌+◌, ◌*◌, ◌<◌, ◌≤◌, get_or, Result, Ok, Err, IfOk, refl, sym, ◌∙◌}
 use Rattle.std.proofs.Common.{subst, arith}
 use Rattle.std.proofs.lemmas.Bool.{cases_eq}
+use Rattle.spool_journal.specs.declared.TheConstants.{PAGE}
 use Rattle.spool_disk.specs.Disk.{IsImage, Keeps}
 use Rattle.spool_disk.specs.Views.{Lasts}
 use Rattle.spool_disk.specs.declared.disk.Disk.{Ghosts}
@@ -25,16 +26,16 @@ pub same_function : (f g : ℕ → ℕ) → ((p : ℕ) → f p ≡ g p) → f �
 same_function f g same = λ i p. same p i
 
 -- page 0 is never one of the journal's places
-pub prefix_plain : (j : ℕ) (image : ℕ → ℕ) → (image 4096 ≡ 165 → InForm j (count image) (number image)) → (p : ℕ)
-    → p < 4096 → image p ≡ overlaid image p
-prefix_plain j image form p lt = elim (cases_eq (image 4096) 165) [
+pub prefix_plain : (j : ℕ) (image : ℕ → ℕ) → (image PAGE ≡ 165 → InForm j (count image) (number image)) → (p : ℕ)
+    → p < PAGE → image p ≡ overlaid image p
+prefix_plain j image form p lt = elim (cases_eq (image PAGE) 165) [
   | inl ajar ↦
       sym (open_view image p ajar ∙ over_none (number image) (content image) image (count image) p
       (λ k below e. omega (arith, ((form ajar).inside k below).from, e, lt)))
   | inr shut ↦ sym (shut_view image p shut)
 ]
 
-pub first_plain : (image : ℕ → ℕ) (v : View) → IsViewOf image v → (i : ℕ) → i < 4096
+pub first_plain : (image : ℕ → ℕ) (v : View) → IsViewOf image v → (i : ℕ) → i < PAGE
     → image i ≡ get_or (first_page v.blocks) i 0
 first_plain image v is i lt =
     let at : 0 + i ≡ i = omega arith in
@@ -43,7 +44,7 @@ first_plain image v is i lt =
     prefix_plain (journal_pages v.blocks) image is.form i lt ∙ there
 
 pub view_says_blocks : (size : ℕ) (image : ℕ → ℕ) (v : View) → IsValid v → IsViewOf image v
-    → 4096 * all_pages v.blocks ≤ size → SaysBlocks size image v.blocks
+    → PAGE * all_pages v.blocks ≤ size → SaysBlocks size image v.blocks
 view_says_blocks size image v valid is room = record {
   least = valid.least;
   most = valid.most;
@@ -69,8 +70,8 @@ keeps_on first then = record {
 -- where no journal is to be replayed the gate is shut, also after a read
 pub gate_shut : {current current' : ℕ → ℕ} {unsynced unsynced' : ℕ → Type 0} {size n : ℕ}
     → Keeps current current' unsynced unsynced'
-    → SaysBlocks size current n → (NeedsReplay size current → ⊥) → current' 4096 ≡ 165 → ⊥
-gate_shut {n = n} keeps says none ajar = none (record { blocks = n; says = says; gate = sym (keeps.same 4096) ∙ ajar })
+    → SaysBlocks size current n → (NeedsReplay size current → ⊥) → current' PAGE ≡ 165 → ⊥
+gate_shut {n = n} keeps says none ajar = none (record { blocks = n; says = says; gate = sym (keeps.same PAGE) ∙ ajar })
 
 -- after a recovery
 pub settled_still : {j : ℕ} {bytes current : ℕ → ℕ} {unsynced : ℕ → Type 0} → Settled j bytes current unsynced
@@ -85,7 +86,7 @@ pub settled_reads : {j : ℕ} {bytes current : ℕ → ℕ} {unsynced : ℕ → 
     → Settled j bytes current unsynced
     → ((p : ℕ) → image p ≡ current p) → ReadsAs j image bytes
 settled_reads image settled same =
-    let shut : image 4096 ≡ 165 → ⊥ = λ ajar. settled.closed (sym (same 4096) ∙ ajar) in
+    let shut : image PAGE ≡ 165 → ⊥ = λ ajar. settled.closed (sym (same PAGE) ∙ ajar) in
     record {
       form = λ ajar. absurd (shut ajar);
       same = λ p outside. shut_view image p shut ∙ same p ∙ settled.same p outside;
@@ -96,7 +97,7 @@ pub settled_on : {j : ℕ} {bytes current current' : ℕ → ℕ} {unsynced unsy
     → Still current current' unsynced' → Settled j bytes current' unsynced'
 settled_on settled still = record {
   is_synced = still.is_synced;
-  closed = λ ajar. settled.closed (sym (still.reads 4096) ∙ ajar);
+  closed = λ ajar. settled.closed (sym (still.reads PAGE) ∙ ajar);
   same = λ p outside. still.reads p ∙ settled.same p outside;
 }
 

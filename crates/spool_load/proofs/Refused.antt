@@ -5,6 +5,7 @@ use Rattle.std.specs.Option.{ok_or}
 use Rattle.std.proofs.Common.{refl, sym, ◌∙◌, ap, subst, arith}
 use Rattle.std.specs.Int.{to_be_bytes, from_be_bytes, w32}
 use Rattle.std.proofs.lemmas.Nat.{from_be_bytes-to_be_bytes_4}
+use Rattle.spool_journal.specs.declared.TheConstants.{PAGE}
 use Rattle.spool_journal.specs.Image.{journal_pages, all_pages, byte_of, overlaid}
 use Rattle.spool_journal.specs.Phases.{Settled}
 use Rattle.spool_pages.specs.View.{View, Stands, IsViewOf, magic, first_page, state_page, state_place, version_number}
@@ -77,9 +78,9 @@ version_one f at a b = number_one f at (version_number a) (version_number b) (sm
 
 -- what was found in a page that was read
 found_read : (bytes : ℕ → ℕ) (n place : ℕ) (buf : List ℕ) (found : Found) → IsReadAt bytes place buf
-    → length buf ≡ 4096 → state_place n ≡ place + 0 → found.layout ≡ n
+    → length buf ≡ PAGE → state_place n ≡ place + 0 → found.layout ≡ n
     → Stands (byte_of buf) 0 12 (state_page found.version found.next)
-    → (IsTrue found.is_rest_blank ↔ Stands (byte_of buf) 0 4096 (state_page found.version found.next))
+    → (IsTrue found.is_rest_blank ↔ Stands (byte_of buf) 0 PAGE (state_page found.version found.next))
     → StandsFound bytes found
 found_read bytes n place buf found read long here same fields rest =
     let said = state_page found.version found.next in
@@ -88,18 +89,18 @@ found_read bytes n place buf found read long here same fields rest =
       fields = subst (S 12) (sym same) (read_back bytes place (state_place n) 0 12 buf said read (omega (arith, long))
           here fields);
       rest = (
-        λ blank. subst (S 4096) (sym same) (read_back bytes place (state_place n) 0 4096 buf said read
+        λ blank. subst (S PAGE) (sym same) (read_back bytes place (state_place n) 0 PAGE buf said read
             (omega (arith, long)) here (rest.0 blank)),
-        λ there. rest.1 (read_stands bytes place (state_place n) 0 4096 buf said read (omega (arith, long)) here
-            (subst (S 4096) same there)),
+        λ there. rest.1 (read_stands bytes place (state_place n) 0 PAGE buf said read (omega (arith, long)) here
+            (subst (S PAGE) same there)),
       );
     }
 
 pub state_read : (bytes : ℕ → ℕ) (n place : ℕ) (buf : List ℕ) (said : Option Found) → IsReadAt bytes place buf
-    → length buf ≡ 4096 → state_place n ≡ place + 0 → IfSome said (λ found. found.layout ≡ n)
+    → length buf ≡ PAGE → state_place n ≡ place + 0 → IfSome said (λ found. found.layout ≡ n)
     → IfSome said (λ found. Stands (byte_of buf) 0 12 (state_page found.version found.next))
     → IfSome said (λ found. IsTrue found.is_rest_blank
-    ↔ Stands (byte_of buf) 0 4096 (state_page found.version found.next))
+    ↔ Stands (byte_of buf) 0 PAGE (state_page found.version found.next))
     → (IsNone said → SaysKnownVersion (byte_of buf) 0 → ⊥)
     → MatchOption said (SaysKnownVersion bytes (state_place n) → ⊥) (StandsFound bytes)
 state_read bytes n place buf (Some found) read long here same fields rest unknown =
@@ -143,10 +144,10 @@ module _ (n : ℕ) (old current : ℕ → ℕ) (unsynced : ℕ
         state = record {
           fields = subst (S (overlaid old) 12) (sym same) (state_on 12 said (subst (S current 12) same stands.fields));
           rest = (
-            λ blank. subst (S (overlaid old) 4096) (sym same)
-                (state_on 4096 said (subst (S current 4096) same (stands.rest.0 blank))),
-            λ there. stands.rest.1 (subst (S current 4096) (sym same)
-                (state_back 4096 said (subst (S (overlaid old) 4096) same there))),
+            λ blank. subst (S (overlaid old) PAGE) (sym same)
+                (state_on PAGE said (subst (S current PAGE) same (stands.rest.0 blank))),
+            λ there. stands.rest.1 (subst (S current PAGE) (sym same)
+                (state_back PAGE said (subst (S (overlaid old) PAGE) same there))),
           );
         };
       }
@@ -161,9 +162,9 @@ module _ (n : ℕ) (old current : ℕ → ℕ) (unsynced : ℕ
   says_on size size' same says = record {
     least = says.least;
     most = says.most;
-    room = subst (λ (k : ℕ). 4096 * all_pages n ≤ k) (sym same) says.room;
+    room = subst (λ (k : ℕ). PAGE * all_pages n ≤ k) (sym same) says.room;
     prefix = λ i lt.
-        let inside : i < 4096 = omega (arith, lt) in
+        let inside : i < PAGE = omega (arith, lt) in
         settled.same i (inl inside) ∙ sym (prefix_plain (journal_pages n) old journal i inside) ∙ says.prefix i lt;
   }
 
@@ -182,7 +183,7 @@ module _ (n : ℕ) (old current : ℕ → ℕ) (unsynced : ℕ
           form = subst J (sym loaded.blocks) journal;
           says = says_same (overlaid old) current v (λ p outside. sym (here.same p outside)) loaded.says;
         };
-        room = subst (λ (k : ℕ). 4096 * all_pages k ≤ size) (sym loaded.blocks) says.room;
+        room = subst (λ (k : ℕ). PAGE * all_pages k ≤ size) (sym loaded.blocks) says.room;
         keeps = loaded.keeps;
       }
 
@@ -197,7 +198,7 @@ found_back size found old current unsynced settled is =
     let on = λ (many : ℕ). state_on n old current unsynced settled is.journal many said in
     record {
       fields = back 12 is.state.fields;
-      rest = (λ blank. back 4096 (is.state.rest.0 blank), λ there. is.state.rest.1 (on 4096 there));
+      rest = (λ blank. back PAGE (is.state.rest.0 blank), λ there. is.state.rest.1 (on PAGE there));
     }
 
 -- what was found on the state page; an unknown version is refused
@@ -241,7 +242,7 @@ unfound_reason size current DiskFault why = tt
 
 -- and so is why what was found isn't read
 pub read_reason : (size : ℕ) (current : ℕ → ℕ) (found : Found) (e : LoadError) → FoundOn size current found
-    → ((v : View) → IsValid v → IsViewOf current v → 4096 * all_pages v.blocks ≤ size → TellsNothing e)
+    → ((v : View) → IsValid v → IsViewOf current v → PAGE * all_pages v.blocks ≤ size → TellsNothing e)
     → RefusedFor size current (load_fault e)
 read_reason size current found loads.DiskFault is said = tt
 read_reason size current found (loads.Check checks.NoMemory) is said = tt
@@ -251,6 +252,6 @@ read_reason size current found (loads.Check checks.Damaged) is said = record {
   version = λ form. known_stands (overlaid current) (state_place found.layout) 12 found.version found.next (omega arith)
       is.state.fields;
   no_view = λ v valid view e.
-      let nothing = said v valid view (subst (λ (k : ℕ). 4096 * all_pages k ≤ size) (sym e) is.says.room) in
+      let nothing = said v valid view (subst (λ (k : ℕ). PAGE * all_pages k ≤ size) (sym e) is.says.room) in
       absurd (cc);
 }

@@ -1,6 +1,8 @@
 -- A valid view, of what was read and what was checked of it.
 use Rattle.std.proofs.Common.{◌≡◌, ℕ, Bool, ◌+◌, ◌-◌, ◌*◌, ◌<◌, ◌≤◌, List, [], Option, None, Some}
 use Rattle.std.proofs.Common.{false, replicate, length, get_or, refl, sym, subst, ap, ◌∙◌, arith}
+use Rattle.spool_journal.specs.declared.TheConstants.{PAGE}
+use Rattle.common.specs.declared.limits.TheConstants.{LEAST_BLOCKS, MOST_BLOCKS, ROWS, SLOTS}
 use Rattle.enc_model.specs.Indexes.{IndexSet}
 use Rattle.enc_index.specs.Area.{area_byte}
 use Rattle.enc_index.specs.Sets.{IsIndexSet}
@@ -51,17 +53,17 @@ module _ (bytes : ℕ → ℕ) (n : ℕ) (v : View) (valid : IsValid v) (blocks 
   area_said said = said v.indexes valid.indexes (said_area bytes v n blocks says)
 
   pub slots_said : (version : Version) → version ≡ v.version → {Q : List (Option SlotRecord) → Type 0}
-      → ((said : List (Option SlotRecord)) → length said ≡ 512 → ((s : ℕ) → FitsKept (get_or said s None))
-      → ((s : ℕ) → s < 512 → Stands bytes (slot_place n s) 2048 (slot_bytes version (get_or said s None))) → Q said)
+      → ((said : List (Option SlotRecord)) → length said ≡ SLOTS → ((s : ℕ) → FitsKept (get_or said s None))
+      → ((s : ℕ) → s < SLOTS → Stands bytes (slot_place n s) 2048 (slot_bytes version (get_or said s None))) → Q said)
       → Q v.slots
   slots_said version is said =
       let S : Version → Type 0 =
-      λ w. (s : ℕ) → s < 512 → Stands bytes (slot_place n s) 2048 (slot_bytes w (get_or v.slots s None)) in
+      λ w. (s : ℕ) → s < SLOTS → Stands bytes (slot_place n s) 2048 (slot_bytes w (get_or v.slots s None)) in
       said v.slots valid.slot_count (slots_fit v valid) (subst S (sym is) (said_slot bytes v n blocks says))
 
   pub rows_said : {Q : List (Option (ℕ × ℕ)) → Type 0} → ((all : List (Option (ℕ × ℕ))) → length all ≡ n
       → ((b : ℕ) → FitsRow (get_or all b None))
-      → ((b : ℕ) → b < 512 * (journal_pages n - 257) → Stands bytes (row_place n b) 8 (row_bytes (get_or all b None)))
+      → ((b : ℕ) → b < ROWS * (journal_pages n - 257) → Stands bytes (row_place n b) 8 (row_bytes (get_or all b None)))
       → Q all) → Q v.rows
   rows_said said = said v.rows (valid.row_count ∙ blocks) (rows_fit v valid) (said_row bytes v n blocks says)
 
@@ -84,8 +86,8 @@ module _ (bytes : ℕ → ℕ) (n : ℕ) (version : Version) (next : ℕ) (x : I
     texts = λ s. shown_at s (get_or slots s None);
   }
 
-  pub read_says : StandFields bytes n x → Stands bytes (state_place n) 4096 (state_page version next)
-      → StandSlots bytes n version slots → length slots ≡ 512 → StandRows bytes n (512 * (journal_pages n - 257)) rows
+  pub read_says : StandFields bytes n x → Stands bytes (state_place n) PAGE (state_page version next)
+      → StandSlots bytes n version slots → length slots ≡ SLOTS → StandRows bytes n (ROWS * (journal_pages n - 257)) rows
       → Says bytes view_read
   read_says fields state stand long there = record {
     first = fields.first;
@@ -117,7 +119,7 @@ module _ (bytes : ℕ → ℕ) (n : ℕ) (version : Version) (next : ℕ) (x : I
         printable = fits.1;
       }
 
-  pub read_valid : 16 ≤ n → n ≤ 65536 → StandFields bytes n x → StandSlots bytes n version slots → length slots ≡ 512
+  pub read_valid : LEAST_BLOCKS ≤ n → n ≤ MOST_BLOCKS → StandFields bytes n x → StandSlots bytes n version slots → length slots ≡ SLOTS
       → length rows ≡ n
       → RecordsPass next slots → RowsPass slots rows → ((b : ℕ) → FitsRow (get_or rows b None)) → AreDistinct slots
       → ((s : ℕ) (r : SlotRecord) → get_or slots s None ≡ Some r → OwnsOneEach rows s (blocks_of r.text_len))
@@ -140,10 +142,10 @@ module _ (bytes : ℕ → ℕ) (n : ℕ) (version : Version) (next : ℕ) (x : I
   }
 
   -- and so it is kept
-  pub read_loaded : (reserved : List Bool) (h : Holding) → 16 ≤ n → n ≤ 65536
-      → StandFields bytes n x → Stands bytes (state_place n) 4096 (state_page version next)
-      → StandSlots bytes n version slots → length slots ≡ 512
-      → length rows ≡ n → StandRows bytes n (512 * (journal_pages n - 257)) rows → RecordsPass next slots
+  pub read_loaded : (reserved : List Bool) (h : Holding) → LEAST_BLOCKS ≤ n → n ≤ MOST_BLOCKS
+      → StandFields bytes n x → Stands bytes (state_place n) PAGE (state_page version next)
+      → StandSlots bytes n version slots → length slots ≡ SLOTS
+      → length rows ≡ n → StandRows bytes n (ROWS * (journal_pages n - 257)) rows → RecordsPass next slots
       → RowsPass slots rows → ((b : ℕ) → FitsRow (get_or rows b None))
       → reserved ≡ replicate n false → AreDistinct slots
       → ((s : ℕ) (q : SlotRecord) → get_or slots s None ≡ Some q → OwnsOneEach rows s (blocks_of q.text_len))

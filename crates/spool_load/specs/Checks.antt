@@ -1,5 +1,6 @@
 -- The checks of what was read.
 use Rattle.std.specs.Prelude.{◌≡◌, ℕ, ◌^◌, ◌<◌, ◌≤◌, List, Option, Some, None, get_or}
+use Rattle.common.specs.declared.limits.TheConstants.{MOST_LENGTH}
 use Rattle.spool_blocks.specs.Chains.{Owns}
 use Rattle.upload_rules.specs.Lengths.{longest}
 use Rattle.upload_rules.specs.Room.{blocks_of}
@@ -10,7 +11,7 @@ use Rattle.spool_pages.specs.View.{SlotRecord}
 pub record RecordPasses (next : ℕ) (r : SlotRecord) : Type 0 where
   pub below : r.number < next
   pub accepted : r.accepted ≤ longest r.declared
-  pub declared : longest r.declared ≤ 1073741824
+  pub declared : longest r.declared ≤ MOST_LENGTH
   pub state : HasState r
 
 -- The next number and all records are valid.

@@ -1,5 +1,6 @@
 -- What was read is a valid view of the bytes.
 use Rattle.std.specs.Prelude.{◌≡◌, ◌↔◌, ℕ, ◌*◌, ◌≤◌, IsTrue}
+use Rattle.spool_journal.specs.declared.TheConstants.{PAGE}
 use Rattle.spool_journal.specs.Image.{all_pages, overlaid}
 use Rattle.spool_kept.specs.Holding.{Holding}
 use Rattle.spool_kept.specs.Kept.{KeepsAlone}
@@ -13,7 +14,7 @@ use Rattle.spool_load.specs.declared.finding.Found.{Found}
 -- The fields of the state page, and whether its rest is zeros.
 pub record StandsFound (bytes : ℕ → ℕ) (found : Found) : Type 0 where
   pub fields : Stands bytes (state_place found.layout) 12 (state_page found.version found.next)
-  pub rest : IsTrue found.is_rest_blank ↔ Stands bytes (state_place found.layout) 4096
+  pub rest : IsTrue found.is_rest_blank ↔ Stands bytes (state_place found.layout) PAGE
       (state_page found.version found.next)
 
 -- The disk begins as a spool of this layout, its journal is valid, and the state page was read plainly.
@@ -46,5 +47,5 @@ pub record OpenedFrom (size : ℕ) (current : ℕ → ℕ) (kept : Holding) : Ty
   pub view : View
   pub valid : IsValid view
   pub is : IsViewOf current view
-  pub room : 4096 * all_pages view.blocks ≤ size
+  pub room : PAGE * all_pages view.blocks ≤ size
   pub keeps : KeepsAlone kept view

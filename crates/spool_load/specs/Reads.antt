@@ -1,5 +1,7 @@
 -- Calls that only read, and what they read.
 use Rattle.std.specs.Prelude.{◌≡◌, ℕ, ◌+◌, ◌*◌, ◌<◌, ◌≤◌, List, Option, None, length, get_or}
+use Rattle.spool_journal.specs.declared.TheConstants.{PAGE}
+use Rattle.common.specs.declared.limits.TheConstants.{LEAST_BLOCKS, MOST_BLOCKS}
 use Rattle.spool_disk.specs.Views.{Lasts}
 use Rattle.spool_disk.specs.declared.disk.Disk.{Ghosts}
 use Rattle.spool_journal.specs.Image.{all_pages}
@@ -24,16 +26,16 @@ pub record OnlyReads {D : Type 0} (disk : Ghosts D) (old new : D) : Type 0 where
 
 -- The disk begins as a spool of this many text blocks, and has room for it.
 pub record SaysBlocks (size : ℕ) (current : ℕ → ℕ) (blocks : ℕ) : Type 0 where
-  pub least : 16 ≤ blocks
-  pub most : blocks ≤ 65536
-  pub room : 4096 * all_pages blocks ≤ size
+  pub least : LEAST_BLOCKS ≤ blocks
+  pub most : blocks ≤ MOST_BLOCKS
+  pub room : PAGE * all_pages blocks ≤ size
   pub prefix : (i : ℕ) → i < 12 → current i ≡ get_or (first_page blocks) i 0
 
 -- Its gate is open, so a journal has to be replayed.
 pub record NeedsReplay (size : ℕ) (current : ℕ → ℕ) : Type 0 where
   pub blocks : ℕ
   pub says : SaysBlocks size current blocks
-  pub gate : current 4096 ≡ 165
+  pub gate : current PAGE ≡ 165
 
 -- The buffer has the bytes from the place on.
 pub record IsReadAt (bytes : ℕ → ℕ) (place : ℕ) (buf : List ℕ) : Type 0 where
@@ -61,7 +63,7 @@ pub record StandsArea (bytes : ℕ → ℕ) (n : ℕ) (x : IndexSet) : Type 0 wh
 
 -- Page 0 is that of a spool, and the index area is that of the set.
 pub record StandFields (bytes : ℕ → ℕ) (n : ℕ) (x : IndexSet) : Type 0 where
-  pub first : Stands bytes 0 4096 (first_page n)
+  pub first : Stands bytes 0 PAGE (first_page n)
   pub area : StandsArea bytes n x
 
 -- The first slots have these records, or are free, in this version.

@@ -1,5 +1,6 @@
 -- What finding, recovering and reading a spool leaves of a disk.
 use Rattle.std.specs.Prelude.{◌≡◌, ◌⊎◌, ℕ, ◌*◌, ◌≤◌}
+use Rattle.spool_journal.specs.declared.TheConstants.{PAGE}
 use Rattle.spool_disk.specs.Disk.{IsImage, Keeps}
 use Rattle.spool_disk.specs.Views.{Lasts}
 use Rattle.spool_disk.specs.declared.disk.Disk.{Ghosts}
@@ -11,7 +12,7 @@ use Rattle.spool_pages.specs.View.{View, IsViewOf}
 
 -- This is so of the valid view that a read gives, if there is one and the disk has room for it.
 abbrev pub OfView : ℕ → (ℕ → ℕ) → (View → Type 0) → Type 0
-OfView size current So = (v : View) → IsValid v → IsViewOf current v → 4096 * all_pages v.blocks ≤ size → So v
+OfView size current So = (v : View) → IsValid v → IsViewOf current v → PAGE * all_pages v.blocks ≤ size → So v
 
 -- All of a disk of n text blocks is synced then, and its gate is closed.
 abbrev pub Recovered : {D : Type 0} → Ghosts D → ℕ → D → D → Type 0

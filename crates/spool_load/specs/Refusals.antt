@@ -2,6 +2,7 @@
 -- hold, and none holds if the plain reading gives a valid view.
 use Rattle.std.specs.Prelude.{◌≡◌, ℕ}
 use Rattle.std.specs.Int.{to_be_bytes, w32}
+use Rattle.spool_journal.specs.declared.TheConstants.{PAGE}
 use Rattle.spool_journal.specs.Image.{journal_pages, InForm, count, number, overlaid}
 use Rattle.spool_kept.specs.declared.error.OpenFault.{OpenFault}
 use Rattle.spool_kept.specs.declared.error.OpenFault.TheVariants.{NotASpool, DiskFault, Damaged, Version, NoMemory}
@@ -12,7 +13,7 @@ use Rattle.spool_load.specs.Reads.{SaysBlocks}
 
 -- If the gate is open, the journal's head is valid.
 abbrev pub HasJournal : ℕ → (ℕ → ℕ) → Type 0
-HasJournal n current = current 4096 ≡ 165 → InForm (journal_pages n) (count current) (number current)
+HasJournal n current = current PAGE ≡ 165 → InForm (journal_pages n) (count current) (number current)
 
 -- The number of this version is at the place.
 abbrev pub SaysVersion : (ℕ → ℕ) → ℕ → Known → Type 0

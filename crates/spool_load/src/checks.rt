@@ -10,6 +10,7 @@ ghost use Rattle.spool_kept.specs.Records.{said_of};
 ghost use Rattle.spool_pages.specs.Fits.{FitsRow};
 ghost use Rattle.spool_pages.specs.View.{SlotRecord};
 
+use common::SLOTS;
 use enc_stream::{Progress, Transcoder};
 use spool_blocks::Row;
 use spool_kept::{KeptRecord, blocks_of, record_at};
@@ -83,7 +84,7 @@ fn is_row_valid(slots: &[Option<KeptRecord>], row: Row) -> bool
     ensures valid { IsTrue result
         ↔ ((slot ordinal : ℕ) → row ≡ Some (slot, ordinal) → RowPasses slots.now slot ordinal) }
     ensures slot { result ≡ true → (slot ordinal : ℕ) → row ≡ Some (slot, ordinal) → slot < length slots.now }
-    ensures fits { result ≡ true → length slots.now ≡ 512 → FitsRow row }
+    ensures fits { result ≡ true → length slots.now ≡ SLOTS → FitsRow row }
 {
     let Some((slot, ordinal)) = row else {
         return true;
@@ -96,9 +97,9 @@ fn is_row_valid(slots: &[Option<KeptRecord>], row: Row) -> bool
 
 /// Whether each row's slot is in use, and its ordinal below the number of the text's blocks.
 pub(crate) fn are_rows_valid(slots: &[Option<KeptRecord>], rows: &[Row]) -> bool
-    requires { length slots.now ≡ 512 }
+    requires { length slots.now ≡ SLOTS }
     ensures valid { IsTrue result ↔ RowsPass slots.now rows.now }
-    ensures slots { result ≡ true → (b slot ordinal : ℕ) → Owns rows.now b slot ordinal → slot < 512 }
+    ensures slots { result ≡ true → (b slot ordinal : ℕ) → Owns rows.now b slot ordinal → slot < SLOTS }
     ensures fits { result ≡ true → (b : ℕ) → FitsRow (get_or rows.now b None) }
 {
     for i in 0..rows.len() {

@@ -61,7 +61,7 @@ fn find_layout<D: Disk>(disk: &mut D) -> Result<Option<Layout>, DiskFault>
         → Keeps (D.current disk.old) (D.current disk.new) (D.unsynced disk.old) (D.unsynced disk.new) }
     ensures lasts { D.honest disk.old → Lasts D.Disk disk.old disk.new
         (IsImage (D.current disk.old) (D.unsynced disk.old)) }
-    ensures room { IfOk result (λ found. IfSome found (λ layout. 4096 * all_pages layout ≤ D.size disk.old)) }
+    ensures room { IfOk result (λ found. IfSome found (λ layout. PAGE * all_pages layout ≤ D.size disk.old)) }
     ensures found { D.honest disk.old → IfOk result (λ found. MatchOption found
         (IsNoSpool (D.size disk.old) (D.current disk.old)) (SaysBlocks (D.size disk.old) (D.current disk.old))) }
 {
@@ -75,7 +75,7 @@ fn find_layout<D: Disk>(disk: &mut D) -> Result<Option<Layout>, DiskFault>
     let Some(layout) = Layout::of(blocks) else {
         return Ok(None);
     };
-    if disk.len() < 4096 * layout.pages() as u64 {
+    if disk.len() < PAGE as u64 * layout.pages() as u64 {
         return Ok(None);
     }
     Ok(Some(layout))
@@ -88,7 +88,7 @@ fn found_in(layout: Layout, page: &[u8; PAGE]) -> Option<Found>
         → IsSomeAnd result (SaysState version next) }
     ensures fields { IfSome result (λ found. Stands (byte_of page.now) 0 12 (state_page found.version found.next)) }
     ensures rest { IfSome result (λ found. IsTrue found.is_rest_blank
-        ↔ Stands (byte_of page.now) 0 4096 (state_page found.version found.next)) }
+        ↔ Stands (byte_of page.now) 0 PAGE (state_page found.version found.next)) }
     ensures unknown { IsNone result → SaysKnownVersion (byte_of page.now) 0 → ⊥ }
 {
     let (version, next) = version_and_next(page)?;
@@ -102,13 +102,13 @@ fn found_in(layout: Layout, page: &[u8; PAGE]) -> Option<Found>
 
 // Reads the state page. None if its version is unknown.
 fn load_state<D: Disk>(disk: &mut D, layout: Layout) -> Result<Option<Found>, DiskFault>
-    requires { 4096 * all_pages layout ≤ D.size disk.old }
+    requires { PAGE * all_pages layout ≤ D.size disk.old }
     ensures reads { OnlyReads D.Disk disk.old disk.new }
     ensures counts { Counts (IsErr result) (D.failures disk.old) (D.failures disk.new) }
     ensures layout { IfOk result (λ said. IfSome said (λ found. found.layout ≡ layout)) }
     ensures said { D.honest disk.old → (bytes : ℕ → ℕ) → Still bytes (D.current disk.old) (D.unsynced disk.old)
         → (version : Known) (next : ℕ) → next < 2 ^ 64
-        → Stands bytes (state_place layout) 4096 (state_page version next)
+        → Stands bytes (state_place layout) PAGE (state_page version next)
         → IfOk result (λ said. IsSomeAnd said (SaysState version next)) }
     ensures found { D.honest disk.old → (bytes : ℕ → ℕ) → Still bytes (D.current disk.old) (D.unsynced disk.old)
         → IfOk result (λ said. MatchOption said (SaysKnownVersion bytes (state_place layout) → ⊥) (StandsFound bytes)) }
@@ -120,7 +120,7 @@ fn load_state<D: Disk>(disk: &mut D, layout: Layout) -> Result<Option<Found>, Di
 
 // Recovers a spool and reads its version.
 fn restore<D: Disk>(disk: &mut D, layout: Layout) -> Result<Found, OpenFault>
-    requires { 4096 * all_pages layout ≤ D.size disk.old }
+    requires { PAGE * all_pages layout ≤ D.size disk.old }
     ensures size { D.size disk.new ≡ D.size disk.old }
     ensures honest { D.honest disk.old ↔ D.honest disk.new }
     ensures counts { Counts (result ≡ Err OpenFault.DiskFault) (D.failures disk.old) (D.failures disk.new) }
@@ -133,9 +133,9 @@ fn restore<D: Disk>(disk: &mut D, layout: Layout) -> Result<Found, OpenFault>
     ensures settled { D.honest disk.old → IfOk result
         (λ found. Recovered D.Disk layout disk.old disk.new) }
     ensures lasts { D.honest disk.old → LeavesRead D.Disk layout disk.old disk.new }
-    ensures unwritten { D.honest disk.old → (D.current disk.old 4096 ≡ 165 → ⊥)
+    ensures unwritten { D.honest disk.old → (D.current disk.old PAGE ≡ 165 → ⊥)
         → Lasts D.Disk disk.old disk.new (IsImage (D.current disk.old) (D.unsynced disk.old)) }
-    ensures same { D.honest disk.old → (D.current disk.old 4096 ≡ 165 → ⊥) → (result ≡ Err OpenFault.DiskFault → ⊥)
+    ensures same { D.honest disk.old → (D.current disk.old PAGE ≡ 165 → ⊥) → (result ≡ Err OpenFault.DiskFault → ⊥)
         → Keeps (D.current disk.old) (D.current disk.new) (D.unsynced disk.old) (D.unsynced disk.new) }
 {
     recover(disk, &layout)?;
@@ -152,7 +152,7 @@ pub fn find<D: Disk>(disk: &mut D) -> Result<Found, OpenFault>
     ensures size { D.size disk.new ≡ D.size disk.old }
     ensures honest { D.honest disk.old ↔ D.honest disk.new }
     ensures counts { Counts (result ≡ Err OpenFault.DiskFault) (D.failures disk.old) (D.failures disk.new) }
-    ensures room { IfOk result (λ found. 4096 * all_pages found.layout ≤ D.size disk.old) }
+    ensures room { IfOk result (λ found. PAGE * all_pages found.layout ≤ D.size disk.old) }
 
     // If a read gives a valid spool, that one is found, unless there is a disk fault.
     ensures said { D.honest disk.old → OfView (D.size disk.old) (D.current disk.old)

@@ -13,6 +13,7 @@ ghost use Rattle.spool_kept.specs.Shows.{IsValid};
 ghost use Rattle.spool_pages.specs.Fits.{FitsRow};
 ghost use Rattle.spool_pages.specs.View.{View, Says, first_page};
 
+use common::{ROWS, SLOTS};
 use crate::checks::{are_rows_valid, are_valid};
 use crate::owners::load_rows;
 use crate::reading::{check_prefix, load_indexes};
@@ -21,14 +22,14 @@ use crate::{Found, LoadError};
 use enc_index::IndexSet;
 use spool_blocks::Blocks;
 use spool_disk::Disk;
-use spool_journal::Layout;
+use spool_journal::{Layout, PAGE};
 use spool_kept::{Kept, KeptRecord};
 use spool_pages::Damaged;
 use std::alloc::Global;
 
 // Checks the rest of page 0, and reads the index files.
 fn load_fields<D: Disk>(alloc: Global, disk: &mut D, layout: &Layout) -> Result<IndexSet, LoadError>
-    requires { 4096 * all_pages layout.now ≤ D.size disk.old }
+    requires { PAGE * all_pages layout.now ≤ D.size disk.old }
     ensures reads { OnlyReads D.Disk disk.old disk.new }
     ensures counts { Counts (IsErrOf result LoadError.DiskFault) (D.failures disk.old) (D.failures disk.new) }
     ensures said { D.honest disk.old → (bytes : ℕ → ℕ) → Still bytes (D.current disk.old) (D.unsynced disk.old)
@@ -49,8 +50,8 @@ fn load_blocks<D: Disk>(
     layout: &Layout,
     slots: &[Option<KeptRecord>],
 ) -> Result<Blocks, LoadError>
-    requires room { 4096 * all_pages layout.now ≤ D.size disk.old }
-    requires slots { length slots.now ≡ 512 }
+    requires room { PAGE * all_pages layout.now ≤ D.size disk.old }
+    requires slots { length slots.now ≡ SLOTS }
     ensures long { IfOk result (λ blocks. length blocks.rows ≡ layout.now) }
     ensures fits { IfOk result (λ blocks. (b : ℕ) → FitsRow (get_or blocks.rows b None)) }
     ensures reads { OnlyReads D.Disk disk.old disk.new }
@@ -59,7 +60,7 @@ fn load_blocks<D: Disk>(
         → (v : View) → IsValid v → v.blocks ≡ layout.now → Says bytes v → slots.now ≡ v.slots
         → Loads result (λ blocks. (blocks.rows ≡ v.rows) × (blocks.reserved ≡ replicate v.blocks false)) }
     ensures valid { D.honest disk.old → (bytes : ℕ → ℕ) → Still bytes (D.current disk.old) (D.unsynced disk.old)
-        → IfOk result (λ blocks. StandRows bytes layout.now (512 * (journal_pages layout.now - 257)) blocks.rows) }
+        → IfOk result (λ blocks. StandRows bytes layout.now (ROWS * (journal_pages layout.now - 257)) blocks.rows) }
     ensures owners { IfOk result (λ blocks. RowsPass slots.now blocks.rows) }
     ensures reserved { IfOk result (λ blocks. blocks.reserved ≡ replicate layout.now false) }
 {
@@ -78,7 +79,7 @@ fn load_blocks<D: Disk>(
 ///
 /// `Check(Damaged)` if the spool is invalid; `Check(NoMemory)` when out of memory; `DiskFault` at a disk fault.
 pub fn read<D: Disk>(alloc: Global, disk: &mut D, found: Found) -> Result<Kept, LoadError>
-    requires { 4096 * all_pages found.layout ≤ D.size disk.old }
+    requires { PAGE * all_pages found.layout ≤ D.size disk.old }
     ensures reads { OnlyReads D.Disk disk.old disk.new }
     ensures counts { Counts (IsErrOf result LoadError.DiskFault) (D.failures disk.old) (D.failures disk.new) }
     ensures layout { IfOk result (λ kept. kept.layout ≡ found.layout) }

@@ -13,6 +13,7 @@ ghost use Rattle.spool_load.specs.Recovered.{LeavesRead, OfView, ReadsSame, Reco
 ghost use Rattle.spool_load.specs.Refusals.{RefusedFor};
 ghost use Rattle.spool_pages.specs.View.{View, IsViewOf};
 
+use spool_journal::PAGE;
 use crate::finding::find;
 use crate::loading::read;
 use spool_disk::Disk;
@@ -30,7 +31,7 @@ pub fn load<D: Disk>(alloc: Global, disk: &mut D) -> Result<Kept, OpenFault>
     ensures size { D.size disk.new ≡ D.size disk.old }
     ensures honest { D.honest disk.old ↔ D.honest disk.new }
     ensures counts { Counts (result ≡ Err OpenFault.DiskFault) (D.failures disk.old) (D.failures disk.new) }
-    ensures room { IfOk result (λ kept. 4096 * all_pages kept.layout ≤ D.size disk.old) }
+    ensures room { IfOk result (λ kept. PAGE * all_pages kept.layout ≤ D.size disk.old) }
 
     // If a read gives a valid spool, that one is read into memory, unless memory or the disk refuses.
     ensures said { D.honest disk.old → OfView (D.size disk.old) (D.current disk.old)

@@ -9,12 +9,13 @@ ghost use Rattle.spool_load.specs.Faults.{Loads};
 ghost use Rattle.spool_load.specs.Reads.{OnlyReads, IsFreeFrom, IsSameTo, StandRows};
 ghost use Rattle.spool_pages.specs.View.{Stands, row_bytes, row_place};
 
+use common::{MOST_BLOCKS, ROWS};
 use crate::LoadError;
 use crate::reading::read_at;
 use spool_blocks::Row;
 use spool_disk::Disk;
 use spool_journal::{Layout, PAGE};
-use spool_pages::{Damaged, ROWS, are_free, row_at, row_pages, rows_place};
+use spool_pages::{Damaged, are_free, row_at, row_pages, rows_place};
 use std::alloc::Global;
 
 // Stores a row at its place. `Damaged` if there is no such place and the row isn't free.
@@ -35,15 +36,15 @@ fn put_row(rows: &mut [Row], block: usize, row: Row) -> Result<(), Damaged>
 // Stores the rows of a page from `first` on. `Damaged` if a row has an ordinal without a slot, or isn't free after the
 // last place.
 fn put_rows(rows: &mut [Row], page: &[u8; PAGE], first: usize) -> Result<(), Damaged>
-    requires { first ≤ 65536 }
+    requires { first ≤ MOST_BLOCKS }
     ensures said { (all : List (Option (ℕ × ℕ))) → length all ≡ length rows.old
         → ((b : ℕ) → FitsRow (get_or all b None))
-        → ((k : ℕ) → k < 512 → Stands (byte_of page.now) (8 * k) 8 (row_bytes (get_or all (first + k) None)))
-        → IsSameTo first all rows.old → IsOkAnd result (λ done. IsSameTo (first + 512) all rows.new) }
+        → ((k : ℕ) → k < ROWS → Stands (byte_of page.now) (8 * k) 8 (row_bytes (get_or all (first + k) None)))
+        → IsSameTo first all rows.old → IsOkAnd result (λ done. IsSameTo (first + ROWS) all rows.new) }
     ensures valid { OnOk result
-        ((k : ℕ) → k < 512 → Stands (byte_of page.now) (8 * k) 8 (row_bytes (get_or rows.new (first + k) None))) }
+        ((k : ℕ) → k < ROWS → Stands (byte_of page.now) (8 * k) 8 (row_bytes (get_or rows.new (first + k) None))) }
     ensures before { (b : ℕ) → b < first → get_or rows.new b None ≡ get_or rows.old b None }
-    ensures after { (b : ℕ) → first + 512 ≤ b → get_or rows.new b None ≡ get_or rows.old b None }
+    ensures after { (b : ℕ) → first + ROWS ≤ b → get_or rows.new b None ≡ get_or rows.old b None }
 {
     for k in 0..ROWS {
         put_row(rows, first + k, row_at(page, 8 * k)?)?;
@@ -54,16 +55,16 @@ fn put_rows(rows: &mut [Row], page: &[u8; PAGE], first: usize) -> Result<(), Dam
 // Stores the rows of a page from `first` on, where all are free so far. `Damaged` if a row has an ordinal without a
 // slot, or isn't free after the last place.
 fn fill(rows: &mut [Row], page: &[u8; PAGE], first: usize) -> Result<(), Damaged>
-    requires few { first ≤ 65536 }
+    requires few { first ≤ MOST_BLOCKS }
     requires free { IsFreeFrom first rows.old }
     ensures said { (all : List (Option (ℕ × ℕ))) → length all ≡ length rows.old
         → ((b : ℕ) → FitsRow (get_or all b None))
-        → ((k : ℕ) → k < 512 → Stands (byte_of page.now) (8 * k) 8 (row_bytes (get_or all (first + k) None)))
-        → IsSameTo first all rows.old → IsOkAnd result (λ done. IsSameTo (first + 512) all rows.new) }
+        → ((k : ℕ) → k < ROWS → Stands (byte_of page.now) (8 * k) 8 (row_bytes (get_or all (first + k) None)))
+        → IsSameTo first all rows.old → IsOkAnd result (λ done. IsSameTo (first + ROWS) all rows.new) }
     ensures valid { OnOk result
-        ((k : ℕ) → k < 512 → Stands (byte_of page.now) (8 * k) 8 (row_bytes (get_or rows.new (first + k) None))) }
+        ((k : ℕ) → k < ROWS → Stands (byte_of page.now) (8 * k) 8 (row_bytes (get_or rows.new (first + k) None))) }
     ensures before { (b : ℕ) → b < first → get_or rows.new b None ≡ get_or rows.old b None }
-    ensures after { OnOk result (IsFreeFrom (first + 512) rows.new) }
+    ensures after { OnOk result (IsFreeFrom (first + ROWS) rows.new) }
 {
     if are_free(page) {
         return Ok(());
@@ -78,21 +79,21 @@ fn load_page<D: Disk>(
     rows: &mut [Row],
     page: u32,
 ) -> Result<(), LoadError>
-    requires room { 4096 * all_pages layout.now ≤ D.size disk.old }
+    requires room { PAGE * all_pages layout.now ≤ D.size disk.old }
     requires page { 257 + page < journal_pages layout.now }
     requires few { page < 128 }
-    requires free { IsFreeFrom (512 * page) rows.old }
+    requires free { IsFreeFrom (ROWS * page) rows.old }
     ensures reads { OnlyReads D.Disk disk.old disk.new }
     ensures counts { Counts (IsErrOf result LoadError.DiskFault) (D.failures disk.old) (D.failures disk.new) }
     ensures said { D.honest disk.old → (bytes : ℕ → ℕ) → Still bytes (D.current disk.old) (D.unsynced disk.old)
         → (all : List (Option (ℕ × ℕ))) → length all ≡ length rows.old → ((b : ℕ) → FitsRow (get_or all b None))
-        → ((b : ℕ) → b < 512 * (journal_pages layout.now - 257)
+        → ((b : ℕ) → b < ROWS * (journal_pages layout.now - 257)
         → Stands bytes (row_place layout.now b) 8 (row_bytes (get_or all b None)))
-        → IsSameTo (512 * page) all rows.old → Loads result (λ done. IsSameTo (512 * (page + 1)) all rows.new) }
+        → IsSameTo (ROWS * page) all rows.old → Loads result (λ done. IsSameTo (ROWS * (page + 1)) all rows.new) }
     ensures valid { D.honest disk.old → (bytes : ℕ → ℕ) → Still bytes (D.current disk.old) (D.unsynced disk.old)
-        → StandRows bytes layout.now (512 * page) rows.old
-        → OnOk result (StandRows bytes layout.now (512 * (page + 1)) rows.new) }
-    ensures after { OnOk result (IsFreeFrom (512 * (page + 1)) rows.new) }
+        → StandRows bytes layout.now (ROWS * page) rows.old
+        → OnOk result (StandRows bytes layout.now (ROWS * (page + 1)) rows.new) }
+    ensures after { OnOk result (IsFreeFrom (ROWS * (page + 1)) rows.new) }
 {
     let mut bytes = [0; PAGE];
     read_at(disk, rows_place(layout, page), &mut bytes)?;
@@ -102,17 +103,17 @@ fn load_page<D: Disk>(
 
 // Reads all pages of rows.
 fn load_pages<D: Disk>(disk: &mut D, layout: &Layout, rows: &mut [Row]) -> Result<(), LoadError>
-    requires room { 4096 * all_pages layout.now ≤ D.size disk.old }
+    requires room { PAGE * all_pages layout.now ≤ D.size disk.old }
     requires free { IsFreeFrom 0 rows.old }
     ensures reads { OnlyReads D.Disk disk.old disk.new }
     ensures counts { Counts (IsErrOf result LoadError.DiskFault) (D.failures disk.old) (D.failures disk.new) }
     ensures said { D.honest disk.old → (bytes : ℕ → ℕ) → Still bytes (D.current disk.old) (D.unsynced disk.old)
         → (all : List (Option (ℕ × ℕ))) → length all ≡ length rows.old → ((b : ℕ) → FitsRow (get_or all b None))
-        → ((b : ℕ) → b < 512 * (journal_pages layout.now - 257)
+        → ((b : ℕ) → b < ROWS * (journal_pages layout.now - 257)
         → Stands bytes (row_place layout.now b) 8 (row_bytes (get_or all b None)))
-        → Loads result (λ done. IsSameTo (512 * (journal_pages layout.now - 257)) all rows.new) }
+        → Loads result (λ done. IsSameTo (ROWS * (journal_pages layout.now - 257)) all rows.new) }
     ensures valid { D.honest disk.old → (bytes : ℕ → ℕ) → Still bytes (D.current disk.old) (D.unsynced disk.old)
-        → OnOk result (StandRows bytes layout.now (512 * (journal_pages layout.now - 257)) rows.new) }
+        → OnOk result (StandRows bytes layout.now (ROWS * (journal_pages layout.now - 257)) rows.new) }
 {
     for page in 0..row_pages(layout) {
         load_page(disk, layout, rows, page)?;
@@ -126,17 +127,17 @@ pub(crate) fn load_rows<D: Disk>(
     disk: &mut D,
     layout: &Layout,
 ) -> Result<Vec<Row>, LoadError>
-    requires { 4096 * all_pages layout.now ≤ D.size disk.old }
+    requires { PAGE * all_pages layout.now ≤ D.size disk.old }
     ensures reads { OnlyReads D.Disk disk.old disk.new }
     ensures counts { Counts (IsErrOf result LoadError.DiskFault) (D.failures disk.old) (D.failures disk.new) }
     ensures long { IfOk result (λ rows. length rows.items ≡ layout.now) }
     ensures said { D.honest disk.old → (bytes : ℕ → ℕ) → Still bytes (D.current disk.old) (D.unsynced disk.old)
         → (all : List (Option (ℕ × ℕ))) → length all ≡ layout.now → ((b : ℕ) → FitsRow (get_or all b None))
-        → ((b : ℕ) → b < 512 * (journal_pages layout.now - 257)
+        → ((b : ℕ) → b < ROWS * (journal_pages layout.now - 257)
         → Stands bytes (row_place layout.now b) 8 (row_bytes (get_or all b None)))
         → Loads result (λ rows. rows.items ≡ all) }
     ensures valid { D.honest disk.old → (bytes : ℕ → ℕ) → Still bytes (D.current disk.old) (D.unsynced disk.old)
-        → IfOk result (λ rows. StandRows bytes layout.now (512 * (journal_pages layout.now - 257)) rows.items) }
+        → IfOk result (λ rows. StandRows bytes layout.now (ROWS * (journal_pages layout.now - 257)) rows.items) }
 {
     let mut rows = vec![in alloc; None; layout.blocks() as usize]?;
     load_pages(disk, layout, &mut rows)?;

@@ -32,14 +32,14 @@ pub(crate) fn read_at<D: Disk>(disk: &mut D, place: u64, buf: &mut [u8]) -> Resu
 
 /// Checks that zeros follow the fields of page 0.
 pub(crate) fn check_prefix<D: Disk>(disk: &mut D, layout: &Layout) -> Result<(), LoadError>
-    requires { 4096 * all_pages layout.now ≤ D.size disk.old }
+    requires { PAGE * all_pages layout.now ≤ D.size disk.old }
     ensures reads { OnlyReads D.Disk disk.old disk.new }
     ensures counts { Counts (IsErrOf result LoadError.DiskFault) (D.failures disk.old) (D.failures disk.new) }
     ensures said { D.honest disk.old → (bytes : ℕ → ℕ) → Still bytes (D.current disk.old) (D.unsynced disk.old)
-        → (n : ℕ) → Stands bytes 0 4096 (first_page n) → Loads result (λ done. Unit {0}) }
+        → (n : ℕ) → Stands bytes 0 PAGE (first_page n) → Loads result (λ done. Unit {0}) }
     ensures valid { D.honest disk.old → (bytes : ℕ → ℕ) → Still bytes (D.current disk.old) (D.unsynced disk.old)
         → (n : ℕ) → ((i : ℕ) → i < 12 → bytes i ≡ get_or (first_page n) i 0)
-        → OnOk result (Stands bytes 0 4096 (first_page n)) }
+        → OnOk result (Stands bytes 0 PAGE (first_page n)) }
 {
     let mut page = [0; PAGE];
     read_at(disk, 0, &mut page)?;
@@ -57,13 +57,13 @@ fn push_area_page<D: Disk>(
     area: &mut Vec<u8>,
     page: u32,
 ) -> Result<(), LoadError>
-    requires room { 4096 * all_pages layout.now ≤ D.size disk.old }
+    requires room { PAGE * all_pages layout.now ≤ D.size disk.old }
     requires page { page < 22 }
     ensures reads { OnlyReads D.Disk disk.old disk.new }
     ensures counts { Counts (IsErrOf result LoadError.DiskFault) (D.failures disk.old) (D.failures disk.new) }
-    ensures others { Loads result (λ done. length area.new.items ≡ length area.old.items + 4096) }
+    ensures others { Loads result (λ done. length area.new.items ≡ length area.old.items + PAGE) }
     ensures pushed { D.honest disk.old → (bytes : ℕ → ℕ) → Still bytes (D.current disk.old) (D.unsynced disk.old)
-        → IsReadAt bytes (index_place layout.now) area.old.items → length area.old.items ≡ 4096 * page
+        → IsReadAt bytes (index_place layout.now) area.old.items → length area.old.items ≡ PAGE * page
         → OnOk result (IsReadAt bytes (index_place layout.now) area.new.items) }
 {
     let mut bytes = [0; PAGE];
@@ -74,7 +74,7 @@ fn push_area_page<D: Disk>(
 
 // Reads the index area.
 fn load_area<D: Disk>(alloc: Global, disk: &mut D, layout: &Layout) -> Result<Vec<u8>, LoadError>
-    requires { 4096 * all_pages layout.now ≤ D.size disk.old }
+    requires { PAGE * all_pages layout.now ≤ D.size disk.old }
     ensures reads { OnlyReads D.Disk disk.old disk.new }
     ensures counts { Counts (IsErrOf result LoadError.DiskFault) (D.failures disk.old) (D.failures disk.new) }
     ensures long { Loads result (λ area. length area.items ≡ 90112) }
@@ -94,7 +94,7 @@ pub(crate) fn load_indexes<D: Disk>(
     disk: &mut D,
     layout: &Layout,
 ) -> Result<IndexSet, LoadError>
-    requires { 4096 * all_pages layout.now ≤ D.size disk.old }
+    requires { PAGE * all_pages layout.now ≤ D.size disk.old }
     ensures reads { OnlyReads D.Disk disk.old disk.new }
     ensures counts { Counts (IsErrOf result LoadError.DiskFault) (D.failures disk.old) (D.failures disk.new) }
     ensures said { D.honest disk.old → (bytes : ℕ → ℕ) → Still bytes (D.current disk.old) (D.unsynced disk.old)

@@ -15,7 +15,7 @@ use crate::LoadError;
 use crate::reading::read_at;
 use common::SLOTS;
 use spool_disk::Disk;
-use spool_journal::Layout;
+use spool_journal::{Layout, PAGE};
 use spool_kept::{CheckError, KeptRecord};
 use spool_pages::{RECORD, SlotRecord, Version, slot_place};
 use std::alloc::Global;
@@ -48,8 +48,8 @@ fn load_slot<D: Disk>(
     version: Version,
     slot: u32,
 ) -> Result<Option<KeptRecord>, LoadError>
-    requires room { 4096 * all_pages layout.now ≤ D.size disk.old }
-    requires slot { slot < 512 }
+    requires room { PAGE * all_pages layout.now ≤ D.size disk.old }
+    requires slot { slot < SLOTS }
     ensures reads { OnlyReads D.Disk disk.old disk.new }
     ensures counts { Counts (IsErrOf result LoadError.DiskFault) (D.failures disk.old) (D.failures disk.new) }
     ensures said { D.honest disk.old → (bytes : ℕ → ℕ) → Still bytes (D.current disk.old) (D.unsynced disk.old)
@@ -74,13 +74,13 @@ fn push_slot<D: Disk>(
     slots: &mut Vec<Option<KeptRecord>>,
     slot: u32,
 ) -> Result<(), LoadError>
-    requires room { 4096 * all_pages layout.now ≤ D.size disk.old }
-    requires slot { slot < 512 }
+    requires room { PAGE * all_pages layout.now ≤ D.size disk.old }
+    requires slot { slot < SLOTS }
     ensures reads { OnlyReads D.Disk disk.old disk.new }
     ensures counts { Counts (IsErrOf result LoadError.DiskFault) (D.failures disk.old) (D.failures disk.new) }
     ensures long { OnOk result (length slots.new.items ≡ length slots.old.items + 1) }
     ensures said { D.honest disk.old → (bytes : ℕ → ℕ) → Still bytes (D.current disk.old) (D.unsynced disk.old)
-        → (said : List (Option Said)) → length said ≡ 512 → FitsKept (get_or said slot None)
+        → (said : List (Option Said)) → length said ≡ SLOTS → FitsKept (get_or said slot None)
         → Stands bytes (slot_place layout.now slot) 2048 (slot_bytes version (get_or said slot None))
         → length slots.old.items ≡ slot → IsPrefixOf said slots.old.items
         → Loads result (λ done. IsPrefixOf said slots.new.items) }
@@ -102,13 +102,13 @@ pub(crate) fn load_slots<D: Disk>(
     layout: &Layout,
     version: Version,
 ) -> Result<Vec<Option<KeptRecord>>, LoadError>
-    requires { 4096 * all_pages layout.now ≤ D.size disk.old }
+    requires { PAGE * all_pages layout.now ≤ D.size disk.old }
     ensures reads { OnlyReads D.Disk disk.old disk.new }
     ensures counts { Counts (IsErrOf result LoadError.DiskFault) (D.failures disk.old) (D.failures disk.new) }
-    ensures long { IfOk result (λ slots. length slots.items ≡ 512) }
+    ensures long { IfOk result (λ slots. length slots.items ≡ SLOTS) }
     ensures said { D.honest disk.old → (bytes : ℕ → ℕ) → Still bytes (D.current disk.old) (D.unsynced disk.old)
-        → (said : List (Option Said)) → length said ≡ 512 → ((s : ℕ) → FitsKept (get_or said s None))
-        → ((s : ℕ) → s < 512 → Stands bytes (slot_place layout.now s) 2048 (slot_bytes version (get_or said s None)))
+        → (said : List (Option Said)) → length said ≡ SLOTS → ((s : ℕ) → FitsKept (get_or said s None))
+        → ((s : ℕ) → s < SLOTS → Stands bytes (slot_place layout.now s) 2048 (slot_bytes version (get_or said s None)))
         → Loads result (λ slots. slots.items ≡ said) }
     ensures valid { D.honest disk.old → (bytes : ℕ → ℕ) → Still bytes (D.current disk.old) (D.unsynced disk.old)
         → IfOk result (λ slots. StandSlots bytes layout.now version slots.items) }

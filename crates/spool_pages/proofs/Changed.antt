@@ -4,6 +4,7 @@ use Rattle.std.proofs.Common.{get_or, refl, ◌∙◌, ap, arith, ⊎_elim}
 use Rattle.std.proofs.lemmas.Bool.{cases_eq}
 use Rattle.std.proofs.lemmas.Bool.Decides.{nat_tests}
 use Rattle.std.proofs.lemmas.List.{get_or-set_same, get_or-set_other}
+use Rattle.common.specs.declared.limits.TheConstants.{ROWS, SLOTS}
 use Rattle.spool_blocks.specs.Blocks.{Row}
 use Rattle.spool_journal.specs.Image.{IsPut, byte_of, journal_pages, page_number}
 use Rattle.spool_pages.specs.Changes.{page_in, Said, state_number, record_number, row_number, SaysState, SaysSlot}
@@ -24,11 +25,11 @@ module _ (pages : List (ℕ × List ℕ)) (v : View) (slot : ℕ) (kept : Option
   abbrev now : ℕ → Version × Option SlotRecord
   now s = (v.version, slot_at (with_slot v slot kept) s)
 
-  pub slots_said : length v.slots ≡ 512 → slot < 512 → page_in (record_number v.blocks slot) pages ≡ Some bytes
-      → ((s : ℕ) → s < 512 → (s / 2 ≡ slot / 2 → ⊥) → page_in (record_number v.blocks s) pages ≡ None)
+  pub slots_said : length v.slots ≡ SLOTS → slot < SLOTS → page_in (record_number v.blocks slot) pages ≡ Some bytes
+      → ((s : ℕ) → s < SLOTS → (s / 2 ≡ slot / 2 → ⊥) → page_in (record_number v.blocks s) pages ≡ None)
       → SaysSlot slot bytes (v.version, kept)
       → SaysSlot (neighbour slot) bytes (v.version, slot_at v (neighbour slot))
-      → (s : ℕ) → s < 512 → Said (page_in (record_number v.blocks s) pages) (SaysSlot s) (was s) (now s)
+      → (s : ℕ) → s < SLOTS → Said (page_in (record_number v.blocks s) pages) (SaysSlot s) (was s) (now s)
   slots_said long few here others says beside s lt = ⊎_elim
       (λ (e : s ≡ slot). rw (e, here, get_or-set_same v.slots slot kept None (omega (arith, long, few))) says)
       (λ (ne : s ≡ slot → ⊥). rw (get_or-set_other v.slots slot s kept None ne) (⊎_elim
@@ -48,7 +49,7 @@ said_beside v slot bytes version beside says = rw (beside, version) says
 module _ {none first both : List (ℕ × List ℕ)} {state place : ℕ} {state_bytes bytes : List ℕ} where
   pub new_changes : none ≡ [] → IsPut none state state_bytes first → IsPut first place bytes both
       → (v : View) (next slot : ℕ) (r : SlotRecord)
-      → state ≡ state_number v.blocks → place ≡ record_number v.blocks slot → slot < 512 → length v.slots ≡ 512
+      → state ≡ state_number v.blocks → place ≡ record_number v.blocks slot → slot < SLOTS → length v.slots ≡ SLOTS
       → SaysState state_bytes (v.version, next) → SaysSlot slot bytes (v.version, Some r)
       → SaysSlot (neighbour slot) bytes (v.version, slot_at v (neighbour slot))
       → Changes both v (record (with_record v slot r) { next = next })
@@ -89,7 +90,7 @@ module _ (pages : List (ℕ × List ℕ)) {none first : List (ℕ × List ℕ)} 
       → (v : View) (slot : ℕ) (kept : Option SlotRecord) (blocks : List ℕ) (rows : List Row)
       → ((page : ℕ) → page < 282 + journal_pages v.blocks → page_in page pages ≡ page_in page first)
       → ((i : ℕ) → i < length blocks → IsSome (page_in (row_number v.blocks (get_or blocks i 0)) pages))
-      → place ≡ record_number v.blocks slot → slot < 512 → length v.slots ≡ 512
+      → place ≡ record_number v.blocks slot → slot < SLOTS → length v.slots ≡ SLOTS
       → SaysSlot slot bytes (v.version, kept)
       → SaysSlot (neighbour slot) bytes (v.version, slot_at v (neighbour slot))
       → SameRowsBut blocks v.rows rows
@@ -115,9 +116,9 @@ module _ (pages : List (ℕ × List ℕ)) {none first : List (ℕ × List ℕ)} 
 module _ (old new : List (ℕ × List ℕ)) (rows : List Row) (first : ℕ) where
   pub filled_changes : length new ≡ length old → ((k : ℕ) → k < length old → page_number new k ≡ page_number old k)
       → ((k : ℕ) → page_number old k < first → get_or new k (0, []) ≡ get_or old k (0, []))
-      → ((k : ℕ) → k < length old → first ≤ page_number old k → (i : ℕ) → i < 512
+      → ((k : ℕ) → k < length old → first ≤ page_number old k → (i : ℕ) → i < ROWS
       → Stands (byte_of (get_or new k (0, [])).1) (8 * i) 8
-      (row_bytes (get_or rows (512 * (page_number old k - first) + i) None)))
+      (row_bytes (get_or rows (ROWS * (page_number old k - first) + i) None)))
       → (v v' : View) → first ≡ 282 + journal_pages v.blocks → ChangesButRows old v v' → v'.rows ≡ rows
       → Changes new v v'
   filled_changes long numbers others filled v v' first_is changes rows_are = record {
@@ -136,16 +137,16 @@ module _ (old new : List (ℕ × List ℕ)) (rows : List Row) (first : ℕ) wher
           (λ k lt e. ap (λ (p : ℕ × List ℕ). p.1) (others k (omega (arith, e, below))))
 
       row_in : (b k : ℕ) → k < length new → page_number new k ≡ row_number v.blocks b
-          → Stands (byte_of (get_or new k (0, [])).1) (8 * (b % 512)) 8 (row_bytes (get_or v'.rows b None))
+          → Stands (byte_of (get_or new k (0, [])).1) (8 * (b % ROWS)) 8 (row_bytes (get_or v'.rows b None))
       row_in b k lt e =
           let number = numbers k (omega (arith, lt, long)) in
-          let at : 512 * (page_number old k - first) + b % 512 ≡ b = omega (arith, number, e, first_is) in
-          rw rows_are (rw at at (filled k (omega (arith, lt, long)) (omega (arith, number, e, first_is)) (b % 512)
+          let at : ROWS * (page_number old k - first) + b % ROWS ≡ b = omega (arith, number, e, first_is) in
+          rw rows_are (rw at at (filled k (omega (arith, lt, long)) (omega (arith, number, e, first_is)) (b % ROWS)
           (omega arith)))
 
-      by : (b : ℕ) → b < 512 * (journal_pages v.blocks - 257) → (o : Option (List ℕ))
+      by : (b : ℕ) → b < ROWS * (journal_pages v.blocks - 257) → (o : Option (List ℕ))
           → page_in (row_number v.blocks b) new ≡ o → Said o (SaysRow b) (get_or v.rows b None) (get_or v'.rows b None)
       by b lt None is = changes.rows b lt (none_same (row_number v.blocks b) old new long numbers is)
       by b lt (Some bytes) is =
-          of_found (λ (xs : List ℕ). Stands (byte_of xs) (8 * (b % 512)) 8 (row_bytes (get_or v'.rows b None)))
+          of_found (λ (xs : List ℕ). Stands (byte_of xs) (8 * (b % ROWS)) 8 (row_bytes (get_or v'.rows b None)))
           (row_number v.blocks b) new (row_in b) bytes is

@@ -5,6 +5,8 @@ use Rattle.std.proofs.lemmas.Bool.{cases_eq, cases_lt}
 use Rattle.spool_journal.specs.Image.{byte_of, journal_pages, InMeta, over, laid, page_number, page_byte, InArea}
 use Rattle.spool_journal.specs.Image.{text_page, Ascends}
 use Rattle.std.proofs.lemmas.Bool.Decides.{nat_tests}
+use Rattle.common.specs.declared.limits.TheConstants.{ROWS, SLOTS}
+use Rattle.spool_journal.specs.declared.TheConstants.{PAGE}
 use Rattle.spool_pages.proofs.PageIn.{number_none}
 use Rattle.spool_journal.proofs.Over.{over_hit, over_pass, over_none}
 use Rattle.spool_pages.specs.Changes.{page_in, Said, Changes, state_number, record_number, row_number}
@@ -33,8 +35,8 @@ page_some n (entry ∷ pages) bytes e = elim (cases_eq entry.0 n) [
 ]
 
 -- a page that is the last one of its number
-over_at : (num : ℕ → ℕ) (con : ℕ → ℕ → ℕ) (base : ℕ → ℕ) (n k p : ℕ) → k < n → num k ≡ p / 4096
-    → ((i : ℕ) → k < i → i < n → num i ≡ p / 4096 → ⊥) → over num con base n p ≡ con k (p % 4096)
+over_at : (num : ℕ → ℕ) (con : ℕ → ℕ → ℕ) (base : ℕ → ℕ) (n k p : ℕ) → k < n → num k ≡ p / PAGE
+    → ((i : ℕ) → k < i → i < n → num i ≡ p / PAGE → ⊥) → over num con base n p ≡ con k (p % PAGE)
 over_at num con base zero k p lt here last = omega (arith, lt)
 over_at num con base (suc n) k p lt here last = elim (cases_lt k n) [
   | inl below ↦ over_pass num con base n p (last n below (omega arith))
@@ -48,32 +50,32 @@ farther pages ascends i zero lt = grind (arith, ascends i)
 farther pages ascends i (suc d) lt = grind (arith, ascends (i + d + 1), farther pages ascends i d)
 
 module _ (pages : List (ℕ × List ℕ)) (base : ℕ → ℕ) where
-  pub laid_none : (n p : ℕ) → page_in n pages ≡ None → n ≡ p / 4096 → laid pages base p ≡ base p
+  pub laid_none : (n p : ℕ) → page_in n pages ≡ None → n ≡ p / PAGE → laid pages base p ≡ base p
   laid_none n p none here =
       over_none (page_number pages) (page_byte pages) base (length pages) p
       (λ k lt e. number_none n pages none k lt (e ∙ sym here))
 
-  pub laid_some : (n p : ℕ) (bytes : List ℕ) → Ascends pages → page_in n pages ≡ Some bytes → n ≡ p / 4096
-      → laid pages base p ≡ byte_of bytes (p % 4096)
+  pub laid_some : (n p : ℕ) (bytes : List ℕ) → Ascends pages → page_in n pages ≡ Some bytes → n ≡ p / PAGE
+      → laid pages base p ≡ byte_of bytes (p % PAGE)
   laid_some n p bytes ascends some here =
       let there = page_some n pages bytes some in
       over_at (page_number pages) (page_byte pages) base (length pages) there.at p there.below (there.number ∙ here)
-      (later there) ∙ ap (λ (xs : List ℕ). get_or xs (p % 4096) 0) there.bytes_are
+      (later there) ∙ ap (λ (xs : List ℕ). get_or xs (p % PAGE) 0) there.bytes_are
     where
-      later : (there : PageAt n pages bytes) (i : ℕ) → there.at < i → i < length pages → page_number pages i ≡ p / 4096
+      later : (there : PageAt n pages bytes) (i : ℕ) → there.at < i → i < length pages → page_number pages i ≡ p / PAGE
           → ⊥
       later there i from below e =
           grind (arith, farther pages ascends there.at (i - there.at - 1), there.number, here)
 
   -- outside the metadata
-  pub laid_out : (j p : ℕ) → InArea j pages → (InMeta j (p / 4096) → ⊥) → laid pages base p ≡ base p
+  pub laid_out : (j p : ℕ) → InArea j pages → (InMeta j (p / PAGE) → ⊥) → laid pages base p ≡ base p
   laid_out j p inside away =
       over_none (page_number pages) (page_byte pages) base (length pages) p
       (λ k lt e. away (rw e at (inside k lt)))
 
   -- the bytes of a page that is laid over, or those that were there
   pub stands_said : {A : Type 0} (bytes_of : A → List ℕ) (old new : A) (page at size place : ℕ) → Ascends pages
-      → at + size ≤ 4096 → place ≡ 4096 * page + at
+      → at + size ≤ PAGE → place ≡ PAGE * page + at
       → Said (page_in page pages) (λ bytes x. Stands (byte_of bytes) at size (bytes_of x)) old new
       → Stands base place size (bytes_of old) → Stands (laid pages base) place size (bytes_of new)
   stands_said {A = A} bytes_of old new page at size place ascends fits here said stood =
@@ -88,7 +90,7 @@ module _ (pages : List (ℕ × List ℕ)) (base : ℕ → ℕ) where
       }
       by_page (Some bytes) some says = record {
         each = λ i lt.
-            let within : (place + i) % 4096 ≡ at + i = omega (arith, here, fits, lt) in
+            let within : (place + i) % PAGE ≡ at + i = omega (arith, here, fits, lt) in
             laid_some page (place + i) bytes ascends some (omega (arith, here, fits, lt)) ∙ ap (byte_of bytes) within
             ∙ says.each i lt;
       }
@@ -98,27 +100,27 @@ module _ (pages : List (ℕ × List ℕ)) (base : ℕ → ℕ) where
 module _ (pages : List (ℕ × List ℕ)) (current : ℕ → ℕ) (v v' : View)
     (inside : InArea (journal_pages v.blocks) pages) (ascends : Ascends pages) (changes : Changes pages v v')
     (texts : HasTexts current v') (says : Says current v) where
-  out : (p : ℕ) → (InMeta (journal_pages v.blocks) (p / 4096) → ⊥) → laid pages current p ≡ current p
+  out : (p : ℕ) → (InMeta (journal_pages v.blocks) (p / PAGE) → ⊥) → laid pages current p ≡ current p
   out p away = laid_out pages current (journal_pages v.blocks) p inside away
 
   same_journal : journal_pages v'.blocks ≡ journal_pages v.blocks
   same_journal = ap journal_pages changes.others.blocks
 
-  state_there : Stands (laid pages current) (state_place v.blocks) 4096 (state_page v'.version v'.next)
+  state_there : Stands (laid pages current) (state_place v.blocks) PAGE (state_page v'.version v'.next)
   state_there = stands_said pages current (λ (s : Version × ℕ). state_page s.0 s.1) (v.version, v.next)
-      (v'.version, v'.next) (state_number v.blocks) 0 4096 (state_place v.blocks) ascends (omega arith) (omega arith)
+      (v'.version, v'.next) (state_number v.blocks) 0 PAGE (state_place v.blocks) ascends (omega arith) (omega arith)
       changes.others.state says.state
 
-  slot_there : (s : ℕ) → s < 512 → Stands (laid pages current) (slot_place v.blocks s) 2048
+  slot_there : (s : ℕ) → s < SLOTS → Stands (laid pages current) (slot_place v.blocks s) 2048
       (slot_bytes v'.version (slot_at v' s))
   slot_there s lt = stands_said pages current (λ (x : Version × Option SlotRecord). slot_bytes x.0 x.1)
       (v.version, slot_at v s) (v'.version, slot_at v' s) (record_number v.blocks s) (2048 * (s % 2)) 2048
       (slot_place v.blocks s) ascends (omega arith) (omega arith) (changes.others.slots s lt) (says.slots s lt)
 
-  row_there : (b : ℕ) → b < 512 * (journal_pages v.blocks - 257) → Stands (laid pages current) (row_place v.blocks b) 8
+  row_there : (b : ℕ) → b < ROWS * (journal_pages v.blocks - 257) → Stands (laid pages current) (row_place v.blocks b) 8
       (row_bytes (get_or v'.rows b None))
   row_there b lt = stands_said pages current row_bytes (get_or v.rows b None) (get_or v'.rows b None)
-      (row_number v.blocks b) (8 * (b % 512)) 8 (row_place v.blocks b) ascends (omega arith) (omega arith)
+      (row_number v.blocks b) (8 * (b % ROWS)) 8 (row_place v.blocks b) ascends (omega arith) (omega arith)
       (changes.rows b lt) (says.rows b lt)
 
   laid_says : Says (laid pages current) v'

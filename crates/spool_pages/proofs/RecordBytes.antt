@@ -6,6 +6,7 @@ use Rattle.std.specs.List.{slice_range}
 use Rattle.std.proofs.lemmas.Bool.{cases_lt}
 use Rattle.std.proofs.lemmas.Grind.{common_steps}
 use Rattle.std.proofs.lemmas.List.{ext_get_or}
+use Rattle.common.specs.declared.limits.TheConstants.{MOST_METADATA}
 use Rattle.spool_journal.specs.Image.{byte_of}
 use Rattle.spool_pages.specs.Bytes.{IsPadded}
 use Rattle.spool_pages.proofs.Bytes.{padded_zeros}
@@ -38,7 +39,7 @@ abbrev pub metadata_end : Version → SlotRecord → List ℕ
 metadata_end version r = head_of version r ++ r.metadata
 
 abbrev pub room_end : Version → SlotRecord → List ℕ
-room_end version r = metadata_end version r ++ replicate (1536 - length r.metadata) 0
+room_end version r = metadata_end version r ++ replicate (MOST_METADATA - length r.metadata) 0
 
 module _ (version : Version) (r : SlotRecord) where
   pub record_is : room_end version r ++ length_tag version r.declared ∷ [] ≡ record_bytes version r
@@ -55,10 +56,10 @@ module _ (version : Version) (r : SlotRecord) where
     pub length-metadata_end : length (metadata_end version r) ≡ 66 + length r.metadata
     length-metadata_end = grind (arith, common_steps)
 
-    pub length-room_end : length r.metadata ≤ 1536 → length (room_end version r) ≡ 1602
+    pub length-room_end : length r.metadata ≤ MOST_METADATA → length (room_end version r) ≡ 1602
     length-room_end few = grind (arith, common_steps)
 
-    pub length-record : length r.metadata ≤ 1536 → length (record_bytes version r) ≡ 1603
+    pub length-record : length r.metadata ≤ MOST_METADATA → length (record_bytes version r) ≡ 1603
     unfolding record_bytes
     length-record few = grind (arith, common_steps)
 
@@ -116,11 +117,11 @@ pub record PartsAt (f : ℕ → ℕ) (version : Version) (r : SlotRecord) : Type
   pub state : Stands f 32 32 r.state
   pub metadata_len : Stands f 64 2 (to_be_bytes w16 (length r.metadata))
   pub metadata : Stands f 66 (length r.metadata) r.metadata
-  pub room : Stands f (66 + length r.metadata) (1536 - length r.metadata) []
+  pub room : Stands f (66 + length r.metadata) (MOST_METADATA - length r.metadata) []
   pub tag : f 1602 ≡ length_tag version r.declared
 
 module _ (f : ℕ → ℕ) (version : Version) (r : SlotRecord) (size : length r.state ≡ 32)
-    (few : length r.metadata ≤ 1536) where
+    (few : length r.metadata ≤ MOST_METADATA) where
   at : 0 + (66 + length r.metadata) ≡ 66 + length r.metadata
   at = omega arith
 
@@ -145,8 +146,8 @@ module _ (f : ℕ → ℕ) (version : Version) (r : SlotRecord) (size : length r
         metadata_len = stands_beyond (state_end version r) _ 64 2 (length-state_end version r size) (omega arith) head;
         metadata = stands_beyond (head_of version r) _ 66 (length r.metadata) (length-head version r size) (omega arith)
             metadata;
-        room = rw at at (of_zeros (1536 - length r.metadata) (stands_beyond (metadata_end version r) _
-            (66 + length r.metadata) (1536 - length r.metadata) long (omega (arith, few)) room));
+        room = rw at at (of_zeros (MOST_METADATA - length r.metadata) (stands_beyond (metadata_end version r) _
+            (66 + length r.metadata) (MOST_METADATA - length r.metadata) long (omega (arith, few)) room));
         tag = tag.each 0 (omega arith);
       }
 
@@ -160,10 +161,10 @@ module _ (f : ℕ → ℕ) (version : Version) (r : SlotRecord) (size : length r
       stands_both (state_end version r) _ 64 2 (length-state_end version r size) state parts.metadata_len in
       let metadata =
       stands_both (head_of version r) _ 66 (length r.metadata) (length-head version r size) head parts.metadata in
-      let room = stands_both (metadata_end version r) _ (66 + length r.metadata) (1536 - length r.metadata)
-      (length-metadata_end version r size) metadata (to_zeros (1536 - length r.metadata)
+      let room = stands_both (metadata_end version r) _ (66 + length r.metadata) (MOST_METADATA - length r.metadata)
+      (length-metadata_end version r size) metadata (to_zeros (MOST_METADATA - length r.metadata)
       (rw (sym at) at parts.room)) in
-      let full : 66 + length r.metadata + (1536 - length r.metadata) ≡ 1602 = omega (arith, few) in
+      let full : 66 + length r.metadata + (MOST_METADATA - length r.metadata) ≡ 1602 = omega (arith, few) in
       rw (record_is version r) at (stands_both (room_end version r) _ 1602 1 (length-room_end version r size few)
       (rw full at room) (one_stands parts.tag))
 

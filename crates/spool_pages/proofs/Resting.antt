@@ -1,6 +1,7 @@
 -- A spool at rest: images that agree but for blocks that no row owns say the same.
 use Rattle.std.proofs.Common.{◌≡◌, inl, inr, ℕ, zero, suc, ◌+◌, ◌*◌, ◌/◌, ◌≤◌, ◌++◌, Bool, true, false, cond, List, []}
 use Rattle.std.proofs.Common.{◌∷◌, Option, None, Some, get_or, take, refl, sym, ◌∙◌, ap, arith, ⊎_elim}
+use Rattle.spool_journal.specs.declared.TheConstants.{PAGE}
 use Rattle.spool_disk.specs.Disk.{IsImage, Keeps}
 use Rattle.spool_disk.proofs.Span.{span_same}
 use Rattle.spool_journal.specs.Image.{journal_pages, Outside, overlaid, text_page}
@@ -18,7 +19,7 @@ use Rattle.spool_pages.proofs.Says.{some_journal, stands_same, says_same}
 module _ (a b : ℕ → ℕ) (first : ℕ) where
   -- from this block on, the two agree on the blocks that the rows say are owned
   abbrev AgreeFrom : ℕ → List (Option (ℕ × ℕ)) → Type 0
-  AgreeFrom x rows = (k p : ℕ) → (get_or rows k None ≡ None → ⊥) → first + (x + k) ≡ p / 4096 → a p ≡ b p
+  AgreeFrom x rows = (k p : ℕ) → (get_or rows k None ≡ None → ⊥) → first + (x + k) ≡ p / PAGE → a p ≡ b p
 
   owned_block : (slot ordinal : ℕ) (rows : List (Option (ℕ × ℕ))) (x : ℕ) → AgreeFrom x rows
       → block_bytes a first (block_at slot ordinal rows x) ≡ block_bytes b first (block_at slot ordinal rows x)
@@ -26,7 +27,7 @@ module _ (a b : ℕ → ℕ) (first : ℕ) where
   owned_block slot ordinal [] x agree = refl
   owned_block slot ordinal (row ∷ rows) x agree =
       either (owns slot ordinal row) (Some x) (block_at slot ordinal rows (x + 1))
-      (λ mine. span_same a b (4096 * (first + x)) 4096
+      (λ mine. span_same a b (PAGE * (first + x)) PAGE
       (λ p within. agree 0 p (λ none. unowned row none mine) (omega (arith, within.from, within.below))))
       (owned_block slot ordinal rows (x + 1) (λ k p owned e. agree (suc k) p owned (omega (arith, e))))
     where
@@ -49,16 +50,16 @@ module _ (a b : ℕ → ℕ) (first : ℕ) where
       (owned_joined rows agree slot (ordinal + 1) n)
 
   pub owned_shown : (rows : List (Option (ℕ × ℕ)))
-      → ((x p : ℕ) → (get_or rows x None ≡ None → ⊥) → first + x ≡ p / 4096 → a p ≡ b p) → (slot len : ℕ)
+      → ((x p : ℕ) → (get_or rows x None ≡ None → ⊥) → first + x ≡ p / PAGE → a p ≡ b p) → (slot len : ℕ)
       → text_shown a first rows slot len ≡ text_shown b first rows slot len
   owned_shown rows agree slot len =
       ap (λ (xs : List ℕ). take len xs)
-      (owned_joined rows (λ k p owned e. agree k p owned (omega (arith, e))) slot 0 ((len + 4095) / 4096))
+      (owned_joined rows (λ k p owned e. agree k p owned (omega (arith, e))) slot 0 ((len + 4095) / PAGE))
 
 -- WHAT AN IMAGE SAYS
 
 -- no place before the text blocks is in one
-pub not_free : (v : View) (p : ℕ) → p / 4096 + 1 ≤ text_page v.blocks → OnFree v p → ⊥
+pub not_free : (v : View) (p : ℕ) → p / PAGE + 1 ≤ text_page v.blocks → OnFree v p → ⊥
 not_free v p below free = omega (arith, free.here, below)
 
 -- neither gate and journal nor the blocks that no row owns matter
@@ -86,10 +87,10 @@ says_frees a b v same says =
           s r.text_len);
     }
 
-pub shut_says : (image : ℕ → ℕ) (v : View) → (image 4096 ≡ 165 → ⊥) → IsViewOf image v → Says image v
+pub shut_says : (image : ℕ → ℕ) (v : View) → (image PAGE ≡ 165 → ⊥) → IsViewOf image v → Says image v
 shut_says image v shut is = says_same image (overlaid image) v (λ p outside. sym (shut_view image p shut)) is.says
 
-pub shut_is : (image : ℕ → ℕ) (v : View) → (image 4096 ≡ 165 → ⊥) → Says image v → IsViewOf image v
+pub shut_is : (image : ℕ → ℕ) (v : View) → (image PAGE ≡ 165 → ⊥) → Says image v → IsViewOf image v
 shut_is image v shut says = record {
   form = λ ajar. absurd (shut ajar);
   says = says_same (overlaid image) image v (λ p outside. shut_view image p shut) says;
@@ -111,14 +112,14 @@ module _ {v : View} {current : ℕ → ℕ} {unsynced : ℕ → Type 0} where
   rests_says rests = shut_says current v rests.closed rests.is
 
   -- an image that agrees with it but for gate, journal and the blocks that no row owns
-  pub rests_is : (image : ℕ → ℕ) → Rests v current unsynced → (image 4096 ≡ 165 → ⊥)
+  pub rests_is : (image : ℕ → ℕ) → Rests v current unsynced → (image PAGE ≡ 165 → ⊥)
       → ((p : ℕ) → Outside (journal_pages v.blocks) p → (OnFree v p → ⊥) → image p ≡ current p) → IsViewOf image v
   rests_is image rests shut same = shut_is image v shut (says_frees image current v same (rests_says rests))
 
   pub rests_agrees : (image : ℕ → ℕ) → Rests v current unsynced → ((p : ℕ) → (OnFree v p → ⊥) → image p ≡ current p)
       → IsViewOf image v
   rests_agrees image rests same =
-      rests_is image rests (λ ajar. rests.closed (sym (same 4096 (not_free v 4096 (omega arith))) ∙ ajar))
+      rests_is image rests (λ ajar. rests.closed (sym (same PAGE (not_free v PAGE (omega arith))) ∙ ajar))
       (λ p outside. same p)
 
   pub rests_image : (image : ℕ → ℕ) → Rests v current unsynced → IsImage current unsynced image → IsViewOf image v
@@ -128,7 +129,7 @@ module _ {v : View} {current : ℕ → ℕ} {unsynced : ℕ → Type 0} where
       → Keeps current current' unsynced unsynced'
       → Rests v current' unsynced'
   rests_keeps {current' = current'} rests keeps = record {
-    closed = λ ajar. rests.closed (sym (keeps.same 4096) ∙ ajar);
+    closed = λ ajar. rests.closed (sym (keeps.same PAGE) ∙ ajar);
     is_synced = λ p l. rests.is_synced p (keeps.unsyncs p l);
     is = rests_agrees current' rests (λ p taken. keeps.same p);
   }
@@ -138,7 +139,7 @@ module _ {v : View} {current : ℕ → ℕ} {unsynced : ℕ → Type 0} where
       → Unowned v.rows blocks → WritesIn (text_page n) blocks current current' unsynced unsynced'
       → Rests v current' unsynced'
   rests_writes {current' = current'} blocks size rests unowned writes = record {
-    closed = λ ajar. rests.closed (sym (same 4096 (not_free v 4096 (omega arith))) ∙ ajar);
+    closed = λ ajar. rests.closed (sym (same PAGE (not_free v PAGE (omega arith))) ∙ ajar);
     is_synced = λ p l. ⊎_elim (rests.is_synced p) (in_free p size unowned) (writes.unsyncs p l);
     is = rests_agrees current' rests same;
   }
@@ -172,7 +173,7 @@ module _ {v : View} {current : ℕ → ℕ} {unsynced : ℕ → Type 0} where
 
   pub rests_idle : {n : ℕ} → v.blocks ≡ n → Rests v current unsynced → Idle (journal_pages n) current unsynced
   rests_idle size rests = record {
-    gate = λ l. not_free v 4096 (omega arith) (rests.is_synced 4096 l);
+    gate = λ l. not_free v PAGE (omega arith) (rests.is_synced PAGE l);
     closed = rests.closed;
     area = λ p within l. not_free v p (omega (arith, within.below, ap journal_pages size)) (rests.is_synced p l);
   }

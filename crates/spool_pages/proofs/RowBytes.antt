@@ -4,6 +4,8 @@ use Rattle.std.proofs.Common.{refl, ◌∙◌, arith}
 use Rattle.std.proofs.lemmas.List.{get_or_past}
 use Rattle.std.proofs.lemmas.Bool.{cases_lt}
 use Rattle.std.specs.Int.{to_be_bytes, w32}
+use Rattle.common.specs.declared.limits.TheConstants.{ROWS, SLOTS}
+use Rattle.spool_journal.specs.declared.TheConstants.{PAGE}
 use Rattle.spool_journal.specs.Image.{byte_of}
 use Rattle.spool_pages.specs.Bytes.{IsPadded}
 use Rattle.spool_pages.specs.Fits.{FitsRow}
@@ -64,12 +66,12 @@ free_there page from at row blank le is =
     rw (is, free_is) (record { each = λ i lt. blank (at + i) (omega (arith, le)) })
 
 -- a page of free rows
-pub all_free : (page : List ℕ) → length page ≡ 4096
-    → ((k : ℕ) → k < 512 → Stands (byte_of page) (8 * k) 8 (row_bytes None)) → IsPadded page []
+pub all_free : (page : List ℕ) → length page ≡ PAGE
+    → ((k : ℕ) → k < ROWS → Stands (byte_of page) (8 * k) 8 (row_bytes None)) → IsPadded page []
 all_free page full rows = record {
   each = λ i.
-      let row = λ (lt : i / 8 < 512). (rw free_is at (rows (i / 8) lt)).each (i % 8) in
-      grind (arith, get_or_past, cases_lt i 4096);
+      let row = λ (lt : i / 8 < SLOTS). (rw free_is at (rows (i / 8) lt)).each (i % 8) in
+      grind (arith, get_or_past, cases_lt i PAGE);
 }
 
 -- a row that stands where all is zeros

@@ -1,6 +1,7 @@
 -- Two images that say the same.
 use Rattle.std.proofs.Common.{◌≡◌, inl, inr, ℕ, zero, suc, ◌+◌, ◌*◌, ◌/◌, ◌<◌, ◌≤◌, ◌++◌, List, Option, None, Some}
 use Rattle.std.proofs.Common.{take, refl, sym, ◌∙◌, ap, arith}
+use Rattle.spool_journal.specs.declared.TheConstants.{PAGE}
 use Rattle.spool_disk.proofs.Span.{span_same}
 use Rattle.spool_journal.specs.Image.{journal_pages, all_pages, Outside, text_page}
 use Rattle.spool_journal.specs.Texts.{block_at, block_bytes, joined, text_shown}
@@ -16,11 +17,11 @@ all_is n = refl
 
 -- TEXTS
 
-module _ (a b : ℕ → ℕ) (first : ℕ) (same : (p : ℕ) → 4096 * first ≤ p → a p ≡ b p) where
+module _ (a b : ℕ → ℕ) (first : ℕ) (same : (p : ℕ) → PAGE * first ≤ p → a p ≡ b p) where
   block_same : (block : Option ℕ) → block_bytes a first block ≡ block_bytes b first block
   unfolding block_bytes
   block_same None = refl
-  block_same (Some x) = span_same a b (4096 * (first + x)) 4096 (λ p within. same p (omega (arith, within.from)))
+  block_same (Some x) = span_same a b (PAGE * (first + x)) PAGE (λ p within. same p (omega (arith, within.from)))
 
   joined_same : (rows : List (Option (ℕ × ℕ))) (slot ordinal n : ℕ) → joined a first rows slot ordinal n ≡ joined b
       first rows slot ordinal n
@@ -33,7 +34,7 @@ module _ (a b : ℕ → ℕ) (first : ℕ) (same : (p : ℕ) → 4096 * first �
 
   pub shown_same : (rows : List (Option (ℕ × ℕ))) (slot len : ℕ) → text_shown a first rows slot len ≡ text_shown b first
       rows slot len
-  shown_same rows slot len = ap (λ (xs : List ℕ). take len xs) (joined_same rows slot 0 ((len + 4095) / 4096))
+  shown_same rows slot len = ap (λ (xs : List ℕ). take len xs) (joined_same rows slot 0 ((len + 4095) / PAGE))
 
 -- WHAT AN IMAGE SAYS
 

@@ -2,6 +2,7 @@
 use Rattle.std.proofs.Common.{◌≡◌, inl, inr, ℕ, ◌+◌, ◌*◌, ◌/◌, ◌%◌, ◌<◌, ◌≤◌, List, Option, Some, None, get_or}
 use Rattle.std.proofs.Common.{refl, ◌∙◌, arith}
 use Rattle.std.proofs.lemmas.Bool.{cases_eq, cases_lt}
+use Rattle.common.specs.declared.limits.TheConstants.{SLOTS}
 use Rattle.spool_journal.specs.Image.{IsPut, byte_of, journal_pages}
 use Rattle.spool_pages.specs.Changes.{page_in, state_number, record_number, row_number, SaysState, SaysSlot}
 use Rattle.spool_pages.specs.Changes.{Changes, upgraded}
@@ -49,7 +50,7 @@ module _ (n pair : ℕ) (slots : List (Option SlotRecord)) {old new : List (ℕ 
 -- the state page and all slots' pages bring the view to version 2
 pub upgraded_changes : (n : ℕ) (pages : List (ℕ × List ℕ)) (slots : List (Option SlotRecord)) (next : ℕ)
     (state : List ℕ) → page_in (state_number n) pages ≡ Some state → SaysState state (Two, next)
-    → ((s : ℕ) → s < 512 → SaysAt n pages s (get_or slots s None))
+    → ((s : ℕ) → s < SLOTS → SaysAt n pages s (get_or slots s None))
     → ((q : ℕ) → 282 + journal_pages n ≤ q → page_in q pages ≡ None)
     → (v : View) → v.blocks ≡ n → v.next ≡ next → v.slots ≡ slots → Changes pages v (upgraded v)
 upgraded_changes n pages slots next state state_in says_state each none v size next_is slots_are = record {

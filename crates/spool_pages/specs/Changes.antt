@@ -1,6 +1,8 @@
 -- The effect of changed pages on a view.
 use Rattle.std.specs.Prelude.{◌≡◌, ℕ, ◌+◌, ◌-◌, ◌*◌, ◌/◌, ◌%◌, ◌<◌, ◌==◌, if◌then◌else◌, List, [], ◌∷◌, Option, Some}
 use Rattle.std.specs.Prelude.{None, length, get_or, slice_set}
+use Rattle.common.specs.declared.limits.TheConstants.{ROWS, SLOTS}
+use Rattle.spool_journal.specs.declared.TheConstants.{PAGE}
 use Rattle.spool_blocks.specs.Blocks.{Row}
 use Rattle.spool_journal.specs.Image.{byte_of, journal_pages}
 use Rattle.spool_pages.specs.View.{SlotRecord, View, Stands, slot_at, state_page, slot_bytes, row_bytes}
@@ -29,13 +31,13 @@ record_number n slot = 26 + journal_pages n + slot / 2
 
 -- The page of a block's row.
 abbrev pub row_number : ℕ → ℕ → ℕ
-row_number n block = 282 + journal_pages n + block / 512
+row_number n block = 282 + journal_pages n + block / ROWS
 
 -- What the pages encode.
 
 -- The version and the next number.
 abbrev pub SaysState : List ℕ → Version × ℕ → Type 0
-SaysState bytes state = Stands (byte_of bytes) 0 4096 (state_page state.0 state.1)
+SaysState bytes state = Stands (byte_of bytes) 0 PAGE (state_page state.0 state.1)
 
 -- A slot, in a version.
 abbrev pub SaysSlot : ℕ → List ℕ → Version × Option SlotRecord → Type 0
@@ -43,7 +45,7 @@ SaysSlot slot bytes kept = Stands (byte_of bytes) (2048 * (slot % 2)) 2048 (slot
 
 -- A row.
 abbrev pub SaysRow : ℕ → List ℕ → Row → Type 0
-SaysRow block bytes row = Stands (byte_of bytes) (8 * (block % 512)) 8 (row_bytes row)
+SaysRow block bytes row = Stands (byte_of bytes) (8 * (block % ROWS)) 8 (row_bytes row)
 
 -- A change leaves the size and the index files. The version only changes if all pages that depend on it do.
 
@@ -52,15 +54,15 @@ pub record ChangesButRows (pages : List (ℕ × List ℕ)) (v v' : View) : Type 
   pub blocks : v'.blocks ≡ v.blocks
   pub indexes : v'.indexes ≡ v.indexes
   pub state : Said (page_in (state_number v.blocks) pages) SaysState (v.version, v.next) (v'.version, v'.next)
-  pub slots : (s : ℕ) → s < 512 → Said (page_in (record_number v.blocks s) pages) (SaysSlot s)
+  pub slots : (s : ℕ) → s < SLOTS → Said (page_in (record_number v.blocks s) pages) (SaysSlot s)
       (v.version, slot_at v s) (v'.version, slot_at v' s)
-  pub rows : (b : ℕ) → b < 512 * (journal_pages v.blocks - 257) → page_in (row_number v.blocks b) pages ≡ None
+  pub rows : (b : ℕ) → b < ROWS * (journal_pages v.blocks - 257) → page_in (row_number v.blocks b) pages ≡ None
       → get_or v'.rows b None ≡ get_or v.rows b None
 
 -- The pages are changed to those of view v'.
 pub record Changes (pages : List (ℕ × List ℕ)) (v v' : View) : Type 0 where
   pub others : ChangesButRows pages v v'
-  pub rows : (b : ℕ) → b < 512 * (journal_pages v.blocks - 257) → Said (page_in (row_number v.blocks b) pages)
+  pub rows : (b : ℕ) → b < ROWS * (journal_pages v.blocks - 257) → Said (page_in (row_number v.blocks b) pages)
       (SaysRow b) (get_or v.rows b None) (get_or v'.rows b None)
 
 -- The new view.

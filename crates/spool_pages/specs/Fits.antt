@@ -1,5 +1,6 @@
 -- Values that fit their bytes.
 use Rattle.std.specs.Prelude.{◌≡◌, ℕ, ◌+◌, ◌^◌, ◌<◌, ◌≤◌, Option, Some, None, All, length}
+use Rattle.common.specs.declared.limits.TheConstants.{MOST_METADATA}
 use Rattle.spool_pages.specs.View.{SlotRecord}
 
 -- A known length is below 2^64 - 1, whose bytes encode an unknown one in version 1.
@@ -15,7 +16,7 @@ pub record FitsSlot (r : SlotRecord) : Type 0 where
   pub accepted : r.accepted < 2 ^ 64
   pub text_len : r.text_len < 2 ^ 64
   pub state : length r.state ≡ 32
-  pub metadata : length r.metadata ≤ 1536
+  pub metadata : length r.metadata ≤ MOST_METADATA
 
 -- The numbers of a row fit.
 abbrev pub FitsRow : Option (ℕ × ℕ) → Type 0

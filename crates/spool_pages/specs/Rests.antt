@@ -1,5 +1,6 @@
 -- Spools at rest: every crash image has the same view.
 use Rattle.std.specs.Prelude.{◌≡◌, ℕ, ◌+◌, ◌/◌, ◌<◌, List, None, Some, length, get_or}
+use Rattle.spool_journal.specs.declared.TheConstants.{PAGE}
 use Rattle.spool_blocks.specs.Blocks.{Row}
 use Rattle.spool_journal.specs.Texts.{text_shown}
 use Rattle.spool_journal.specs.Image.{text_page}
@@ -8,12 +9,12 @@ use Rattle.spool_pages.specs.View.{SlotRecord, View, slot_at, IsViewOf}
 -- The place is in a text block that no row owns.
 pub record OnFree (v : View) (p : ℕ) : Type 0 where
   pub block : ℕ
-  pub here : text_page v.blocks + block ≡ p / 4096
+  pub here : text_page v.blocks + block ≡ p / PAGE
   pub free : get_or v.rows block None ≡ None
 
 -- The spool is at rest: the gate is closed, and only blocks that no row owns may be unsynced.
 pub record Rests (v : View) (current : ℕ → ℕ) (unsynced : ℕ → Type 0) : Type 0 where
-  pub closed : current 4096 ≡ 165 → ⊥
+  pub closed : current PAGE ≡ 165 → ⊥
   pub is_synced : (p : ℕ) → unsynced p → OnFree v p
   pub is : IsViewOf current v
 

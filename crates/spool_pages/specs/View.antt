@@ -2,6 +2,8 @@
 use Rattle.std.specs.Prelude.{◌≡◌, ℕ, ◌+◌, ◌-◌, ◌*◌, ◌<◌, List, [], ◌∷◌, ◌++◌, Option, Some, None, length, get_or}
 use Rattle.std.specs.Prelude.{replicate}
 use Rattle.std.specs.Int.{to_be_bytes, w16, w32, w64}
+use Rattle.spool_journal.specs.declared.TheConstants.{PAGE}
+use Rattle.common.specs.declared.limits.TheConstants.{MOST_METADATA, ROWS, SLOTS}
 use Rattle.enc_model.specs.Indexes.{IndexSet}
 use Rattle.enc_index.specs.Area.{area_byte}
 use Rattle.spool_journal.specs.Image.{byte_of, journal_pages, InForm, count, number, overlaid, text_page}
@@ -71,7 +73,7 @@ unfoldable pub record_bytes : Version → SlotRecord → List ℕ
 record_bytes version r =
     to_be_bytes w64 r.number ++ to_be_bytes w64 (length_number version r.declared) ++ to_be_bytes w64 r.accepted
     ++ to_be_bytes w64 r.text_len ++ r.state ++ to_be_bytes w16 (length r.metadata) ++ r.metadata
-    ++ replicate (1536 - length r.metadata) 0 ++ length_tag version r.declared ∷ []
+    ++ replicate (MOST_METADATA - length r.metadata) 0 ++ length_tag version r.declared ∷ []
 
 -- A free slot is all zeros.
 abbrev pub slot_bytes : Version → Option SlotRecord → List ℕ
@@ -87,19 +89,19 @@ row_bytes (Some o) = to_be_bytes w32 (o.0 + 1) ++ to_be_bytes w32 o.1
 
 -- The index area.
 abbrev pub index_place : ℕ → ℕ
-index_place n = 4096 * (3 + journal_pages n)
+index_place n = PAGE * (3 + journal_pages n)
 
 -- The state page.
 abbrev pub state_place : ℕ → ℕ
-state_place n = 4096 * (25 + journal_pages n)
+state_place n = PAGE * (25 + journal_pages n)
 
 -- The record of slot s.
 abbrev pub slot_place : ℕ → ℕ → ℕ
-slot_place n s = state_place n + 4096 + 2048 * s
+slot_place n s = state_place n + PAGE + 2048 * s
 
 -- The row of block b.
 abbrev pub row_place : ℕ → ℕ → ℕ
-row_place n b = state_place n + 4096 * 257 + 8 * b
+row_place n b = state_place n + PAGE * 257 + 8 * b
 
 -- From this place on the image has these bytes, and zeros up to the size.
 pub record Stands (image : ℕ → ℕ) (place size : ℕ) (bytes : List ℕ) : Type 0 where
@@ -109,12 +111,12 @@ pub record Stands (image : ℕ → ℕ) (place size : ℕ) (bytes : List ℕ) : 
 
 -- The bytes encode this view.
 pub record Says (image : ℕ → ℕ) (v : View) : Type 0 where
-  pub first : Stands image 0 4096 (first_page v.blocks)
+  pub first : Stands image 0 PAGE (first_page v.blocks)
   pub area : (i : ℕ) → i < 90112 → image (index_place v.blocks + i) ≡ area_byte v.indexes i
-  pub state : Stands image (state_place v.blocks) 4096 (state_page v.version v.next)
-  pub slots : (s : ℕ) → s < 512 → Stands image (slot_place v.blocks s) 2048
+  pub state : Stands image (state_place v.blocks) PAGE (state_page v.version v.next)
+  pub slots : (s : ℕ) → s < SLOTS → Stands image (slot_place v.blocks s) 2048
       (slot_bytes v.version (slot_at v s))
-  pub rows : (b : ℕ) → b < 512 * (journal_pages v.blocks - 257) → Stands image (row_place v.blocks b) 8
+  pub rows : (b : ℕ) → b < ROWS * (journal_pages v.blocks - 257) → Stands image (row_place v.blocks b) 8
       (row_bytes (get_or v.rows b None))
   pub texts : (s : ℕ) (r : SlotRecord) → slot_at v s ≡ Some r → v.texts s ≡ text_shown image (text_page v.blocks) v.rows
       s r.text_len
@@ -122,5 +124,5 @@ pub record Says (image : ℕ → ℕ) (v : View) : Type 0 where
 -- The plain reading of the image has this view: if its gate is open, the journal's head is valid and its pages lie over
 -- their places.
 pub record IsViewOf (image : ℕ → ℕ) (v : View) : Type 0 where
-  pub form : image 4096 ≡ 165 → InForm (journal_pages v.blocks) (count image) (number image)
+  pub form : image PAGE ≡ 165 → InForm (journal_pages v.blocks) (count image) (number image)
   pub says : Says (overlaid image) v

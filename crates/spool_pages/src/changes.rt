@@ -8,6 +8,7 @@ ghost use Rattle.spool_pages.specs.Changes.{SameRowsBut};
 ghost use Rattle.spool_pages.specs.Fits.{FitsRow};
 ghost use Rattle.spool_pages.specs.View.{View, slot_at};
 
+use common::{MOST_METADATA, SLOTS};
 use crate::places::{first_row_number, record_number, row_number, state_number};
 use crate::slot_pages::page_with;
 use crate::{SlotRecord, Version, blank_page, row_page, state_page};
@@ -30,12 +31,12 @@ pub fn pages_of_new(
     kept: &SlotRecord<'_>,
     beside: Option<&SlotRecord<'_>>,
 ) -> Result<Pages, AllocError>
-    requires slot { slot < 512 }
-    requires kept { length kept.now.metadata ≤ 1536 }
-    requires beside { IfSome beside (λ r. length r.now.metadata ≤ 1536) }
+    requires slot { slot < SLOTS }
+    requires kept { length kept.now.metadata ≤ MOST_METADATA }
+    requires beside { IfSome beside (λ r. length r.now.metadata ≤ MOST_METADATA) }
     ensures area { IfOk result (λ pages. InArea (journal_pages layout.now) pages) }
     ensures some { IfOk result (λ pages. 1 ≤ length pages) }
-    ensures changes { (v : View) → v.blocks ≡ layout.now → v.version ≡ version → length v.slots ≡ 512
+    ensures changes { (v : View) → v.blocks ≡ layout.now → v.version ≡ version → length v.slots ≡ SLOTS
         → slot_at v (neighbour slot) ≡ option_copied beside.entry
         → IfOk result (λ pages. Changes pages v (record (with_record v slot kept.now) { next = next })) }
 {
@@ -86,13 +87,13 @@ pub fn pages_of_change(
     beside: Option<&SlotRecord<'_>>,
     blocks: &[BlockNo],
 ) -> Result<Pages, AllocError>
-    requires slot { slot < 512 }
-    requires kept { IfSome kept (λ r. length r.now.metadata ≤ 1536) }
-    requires beside { IfSome beside (λ r. length r.now.metadata ≤ 1536) }
+    requires slot { slot < SLOTS }
+    requires kept { IfSome kept (λ r. length r.now.metadata ≤ MOST_METADATA) }
+    requires beside { IfSome beside (λ r. length r.now.metadata ≤ MOST_METADATA) }
     requires blocks { (i : ℕ) → i < length blocks.now → get_or blocks.now i 0 < layout.now }
     ensures area { IfOk result (λ pages. InArea (journal_pages layout.now) pages) }
     ensures some { IfOk result (λ pages. 1 ≤ length pages) }
-    ensures changes { (v : View) → v.blocks ≡ layout.now → v.version ≡ version → length v.slots ≡ 512
+    ensures changes { (v : View) → v.blocks ≡ layout.now → v.version ≡ version → length v.slots ≡ SLOTS
         → slot_at v (neighbour slot) ≡ option_copied beside.entry
         → (rows : List HeldRow) → SameRowsBut blocks.now v.rows rows
         → IfOk result (λ pages. ChangesButRows pages v

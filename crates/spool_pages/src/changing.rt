@@ -9,7 +9,7 @@ ghost use Rattle.spool_pages.specs.Rests.{Rests, HasTexts};
 ghost use Rattle.spool_pages.specs.View.{View, IsViewOf};
 
 use spool_disk::{Disk, DiskFault};
-use spool_journal::{Layout, Pages, commit};
+use spool_journal::{Layout, PAGE, Pages, commit};
 
 /// Changes at least one page of a spool at rest, all of them or none, and syncs all earlier writes first. So the new
 /// rows may own blocks that were written since the last sync. It allocates nothing.
@@ -18,7 +18,7 @@ use spool_journal::{Layout, Pages, commit};
 ///
 /// `DiskFault`.
 pub fn change<D: Disk>(disk: &mut D, layout: &Layout, pages: &Pages) -> Result<(), DiskFault>
-    requires room { 4096 * all_pages layout.now ≤ D.size disk.old }
+    requires room { PAGE * all_pages layout.now ≤ D.size disk.old }
     requires area { InArea (journal_pages layout.now) pages.now }
     requires some { 1 ≤ length pages.now }
     ensures size { D.size disk.new ≡ D.size disk.old }
@@ -41,7 +41,7 @@ pub fn change<D: Disk>(disk: &mut D, layout: &Layout, pages: &Pages) -> Result<(
         → Rests v (D.current disk.old) (D.unsynced disk.old) → OnOk result ((p : ℕ) → D.unsynced disk.new p → ⊥) }
     ensures texts { D.honest disk.old → (v : View) → v.blocks ≡ layout.now
         → Rests v (D.current disk.old) (D.unsynced disk.old) → OnOk result
-        ((p : ℕ) → 4096 * text_page layout.now ≤ p → D.current disk.new p ≡ D.current disk.old p) }
+        ((p : ℕ) → PAGE * text_page layout.now ≤ p → D.current disk.new p ≡ D.current disk.old p) }
 
     // A crash during the change leaves the old view or the new one.
     ensures lasts { D.honest disk.old → (v v' : View) → v.blocks ≡ layout.now

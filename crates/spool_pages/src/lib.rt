@@ -22,8 +22,8 @@ pub use pages::{
     version_and_next,
 };
 pub use places::{index_place, row_pages, rows_place, slot_place, state_place};
-pub use records::{METADATA, RECORD, SlotRecord};
+pub use records::{RECORD, SlotRecord};
 pub use rests::{resting_images, resting_writes, settled_rests};
-pub use rows::{ROWS, are_free, row_at, row_page};
+pub use rows::{are_free, row_at, row_page};
 pub use upgrading::pages_of_upgrade;
 pub use version::Version;

@@ -107,9 +107,9 @@ pub fn version_and_next(page: &[u8; PAGE]) -> Option<(Version, u64)>
 /// Whether only zeros follow the 12 bytes of fields on page 0 or on the state page.
 pub fn is_blank_after_fields(page: &[u8; PAGE]) -> bool
     ensures first { (blocks : ℕ) → Stands (byte_of page.now) 0 12 (first_page blocks)
-        → (IsTrue result ↔ Stands (byte_of page.now) 0 4096 (first_page blocks)) }
+        → (IsTrue result ↔ Stands (byte_of page.now) 0 PAGE (first_page blocks)) }
     ensures state { (version : Known) (next : ℕ) → Stands (byte_of page.now) 0 12 (state_page version next)
-        → (IsTrue result ↔ Stands (byte_of page.now) 0 4096 (state_page version next)) }
+        → (IsTrue result ↔ Stands (byte_of page.now) 0 PAGE (state_page version next)) }
 {
     is_blank(&page[12..])
 }

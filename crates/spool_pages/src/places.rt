@@ -4,8 +4,8 @@ ghost use Rattle.spool_journal.specs.Image.{journal_pages, InMeta};
 ghost use Rattle.spool_pages.specs.Changes.{state_number, record_number, row_number};
 ghost use Rattle.spool_pages.specs.View.{index_place, row_place, slot_place, state_place};
 
-use crate::{RECORD, ROWS};
-use common::SLOTS;
+use crate::RECORD;
+use common::{ROWS, SLOTS};
 use spool_blocks::BlockNo;
 use spool_journal::{Layout, PAGE};
 
@@ -15,7 +15,7 @@ const FIRST_ROW_PAGE: u32 = 1 + SLOTS / 2;
 /// The place of a page of the index area, in bytes.
 pub fn index_place(layout: &Layout, page: u32) -> u64
     requires { page < 22 }
-    ensures place { result ≡ index_place layout.now + 4096 * page }
+    ensures place { result ≡ index_place layout.now + PAGE * page }
 {
     PAGE as u64 * (layout.index_page() as u64 + page as u64)
 }
@@ -30,7 +30,7 @@ pub fn state_place(layout: &Layout) -> u64
 
 /// The place of a slot's record, in bytes.
 pub fn slot_place(layout: &Layout, slot: u32) -> u64
-    requires { slot < 512 }
+    requires { slot < SLOTS }
     ensures place { result ≡ slot_place layout.now slot }
 {
     state_place(layout) + PAGE as u64 + RECORD as u64 * slot as u64
@@ -39,7 +39,7 @@ pub fn slot_place(layout: &Layout, slot: u32) -> u64
 /// The place of a page of rows, in bytes.
 pub fn rows_place(layout: &Layout, page: u32) -> u64
     requires { page < 128 }
-    ensures place { result ≡ row_place layout.now (512 * page) }
+    ensures place { result ≡ row_place layout.now (ROWS * page) }
 {
     state_place(layout) + PAGE as u64 * (FIRST_ROW_PAGE as u64 + page as u64)
 }
@@ -65,7 +65,7 @@ pub(crate) fn state_number(layout: &Layout) -> u32
 
 /// The number of the page of a slot's record.
 pub(crate) fn record_number(layout: &Layout, slot: u32) -> u32
-    requires { slot < 512 }
+    requires { slot < SLOTS }
     ensures number { result ≡ record_number layout.now slot }
     ensures inside { InMeta (journal_pages layout.now) result }
 {

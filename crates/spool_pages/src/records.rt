@@ -5,6 +5,7 @@ ghost use Rattle.spool_pages.specs.Bytes.{IsPadded};
 ghost use Rattle.spool_pages.specs.Fits.{FitsLength, FitsSlot};
 ghost use Rattle.spool_pages.specs.View.{SlotRecord as Said, length_number, length_tag, record_bytes, slot_bytes};
 
+use common::MOST_METADATA;
 use crate::fields::{get_u16, get_u64, put};
 use crate::{Damaged, Version, is_blank};
 use std::marker::Model;
@@ -12,11 +13,8 @@ use std::marker::Model;
 /// The length of a slot in bytes.
 pub const RECORD: usize = 2048;
 
-/// The most bytes of metadata in a slot.
-pub const METADATA: usize = 1536;
-
 // The offset of the length's tag in a slot.
-const TAG: usize = 66 + METADATA;
+const TAG: usize = 66 + MOST_METADATA;
 
 // The number of an unknown length in version 1. Version 2 doesn't use it.
 const UNKNOWN: u64 = u64::MAX;
@@ -83,7 +81,7 @@ impl<'a> Model for SlotRecord<'a> {
 impl<'a> SlotRecord<'a> {
     /// The slot's bytes in a spool of this version.
     pub fn to_bytes(&self, version: Version) -> [u8; RECORD]
-        requires { length self.now.metadata ≤ 1536 }
+        requires { length self.now.metadata ≤ MOST_METADATA }
         ensures { IsPadded result (record_bytes version self.now) }
     {
         let (length, tag) = length_fields(version, self.declared);

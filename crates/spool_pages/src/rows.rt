@@ -8,13 +8,11 @@ ghost use Rattle.spool_pages.specs.Bytes.{IsPadded};
 ghost use Rattle.spool_pages.specs.Fits.{FitsRow};
 ghost use Rattle.spool_pages.specs.View.{Stands, row_bytes};
 
+use common::ROWS;
 use crate::fields::{get_u32, put};
 use crate::{Damaged, blank_page, is_blank};
 use spool_blocks::Row;
 use spool_journal::PAGE;
-
-/// How many rows a page has.
-pub const ROWS: usize = 512;
 
 // The two numbers of a row: its slot + 1 and its ordinal, or zeros if the block is free.
 #[inline(always)]
@@ -47,9 +45,9 @@ fn put_row(page: &mut [u8], at: usize, row: Row)
 // Writes at most 512 rows into a blank page.
 fn write_rows(page: &mut [u8; PAGE], rows: &[Row])
     requires blank { IsPadded page.old [] }
-    requires few { length rows.now ≤ 512 }
+    requires few { length rows.now ≤ ROWS }
     requires fits { (b : ℕ) → FitsRow (get_or rows.now b None) }
-    ensures { (k : ℕ) → k < 512 → Stands (byte_of page.new) (8 * k) 8 (row_bytes (get_or rows.now k None)) }
+    ensures { (k : ℕ) → k < ROWS → Stands (byte_of page.new) (8 * k) 8 (row_bytes (get_or rows.now k None)) }
 {
     for k in 0..rows.len() {
         put_row(page, 8 * k, rows[k]);
@@ -59,8 +57,8 @@ fn write_rows(page: &mut [u8; PAGE], rows: &[Row])
 // The rows of a page: 512, or fewer at the end.
 fn rows_of(rows: &[Row], page: usize) -> &[Row]
     requires { page < 128 }
-    ensures few { length result.now ≤ 512 }
-    ensures rows { (k : ℕ) → k < 512 → get_or result.now k None ≡ get_or rows.now (512 * page + k) None }
+    ensures few { length result.now ≤ ROWS }
+    ensures rows { (k : ℕ) → k < ROWS → get_or result.now k None ≡ get_or rows.now (ROWS * page + k) None }
     ensures fits { ((b : ℕ) → FitsRow (get_or rows.now b None)) → (b : ℕ) → FitsRow (get_or result.now b None) }
 {
     let first = rows.len().min(ROWS * page);
@@ -105,8 +103,8 @@ pub fn row_at(page: &[u8], at: usize) -> Result<Row, Damaged>
 
 /// Whether all 512 rows of a page are free.
 pub fn are_free(page: &[u8; PAGE]) -> bool
-    ensures free { IsTrue result ↔ ((k : ℕ) → k < 512 → Stands (byte_of page.now) (8 * k) 8 (row_bytes None)) }
-    ensures only { result ≡ true → (k : ℕ) → k < 512 → (row : Option (ℕ × ℕ)) → FitsRow row
+    ensures free { IsTrue result ↔ ((k : ℕ) → k < ROWS → Stands (byte_of page.now) (8 * k) 8 (row_bytes None)) }
+    ensures only { result ≡ true → (k : ℕ) → k < ROWS → (row : Option (ℕ × ℕ)) → FitsRow row
         → Stands (byte_of page.now) (8 * k) 8 (row_bytes row) → row ≡ None }
 {
     is_blank(page)
@@ -116,8 +114,8 @@ pub fn are_free(page: &[u8; PAGE]) -> bool
 pub fn row_page(rows: &[Row], page: usize) -> [u8; PAGE]
     requires page { page < 128 }
     requires fits { (b : ℕ) → FitsRow (get_or rows.now b None) }
-    ensures { (k : ℕ) → k < 512
-        → Stands (byte_of result) (8 * k) 8 (row_bytes (get_or rows.now (512 * page + k) None)) }
+    ensures { (k : ℕ) → k < ROWS
+        → Stands (byte_of result) (8 * k) 8 (row_bytes (get_or rows.now (ROWS * page + k) None)) }
 {
     let mut bytes = blank_page();
     write_rows(&mut bytes, up_to_owned(rows_of(rows, page)));

@@ -5,13 +5,14 @@ ghost use Rattle.spool_pages.specs.Bytes.{IsPadded};
 ghost use Rattle.spool_pages.specs.Changes.{SaysSlot, neighbour};
 ghost use Rattle.spool_pages.specs.View.{Stands, slot_bytes};
 
+use common::MOST_METADATA;
 use crate::fields::put;
 use crate::{RECORD, SlotRecord, Version};
 use spool_journal::PAGE;
 
 // The bytes of a slot: zeros if it is free.
 fn bytes_of(version: Version, slot: Option<&SlotRecord<'_>>) -> [u8; RECORD]
-    requires { IfSome slot (λ r. length r.now.metadata ≤ 1536) }
+    requires { IfSome slot (λ r. length r.now.metadata ≤ MOST_METADATA) }
     ensures { IsPadded result (slot_bytes version (option_copied slot.entry)) }
 {
     match slot {
@@ -26,8 +27,8 @@ pub(crate) fn record_page(
     first: Option<&SlotRecord<'_>>,
     second: Option<&SlotRecord<'_>>,
 ) -> [u8; PAGE]
-    requires first { IfSome first (λ r. length r.now.metadata ≤ 1536) }
-    requires second { IfSome second (λ r. length r.now.metadata ≤ 1536) }
+    requires first { IfSome first (λ r. length r.now.metadata ≤ MOST_METADATA) }
+    requires second { IfSome second (λ r. length r.now.metadata ≤ MOST_METADATA) }
     ensures first { Stands (byte_of result) 0 2048 (slot_bytes version (option_copied first.entry)) }
     ensures second { Stands (byte_of result) 2048 2048 (slot_bytes version (option_copied second.entry)) }
 {
@@ -44,8 +45,8 @@ pub(crate) fn page_with(
     kept: Option<&SlotRecord<'_>>,
     beside: Option<&SlotRecord<'_>>,
 ) -> [u8; PAGE]
-    requires kept { IfSome kept (λ r. length r.now.metadata ≤ 1536) }
-    requires beside { IfSome beside (λ r. length r.now.metadata ≤ 1536) }
+    requires kept { IfSome kept (λ r. length r.now.metadata ≤ MOST_METADATA) }
+    requires beside { IfSome beside (λ r. length r.now.metadata ≤ MOST_METADATA) }
     ensures kept { SaysSlot slot result (version, option_copied kept.entry) }
     ensures beside { SaysSlot (neighbour slot) result (version, option_copied beside.entry) }
 {

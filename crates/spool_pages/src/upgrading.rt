@@ -8,14 +8,14 @@ ghost use Rattle.spool_pages.specs.declared.version.Version.TheVariants.{Two};
 use crate::places::{record_number, state_number};
 use crate::slot_pages::record_page;
 use crate::{SlotRecord, Version, state_page};
-use common::SLOTS;
+use common::{MOST_METADATA, SLOTS};
 use spool_journal::{Layout, PAGE, Pages};
 use std::alloc::{AllocError, Global};
 
 // The page of a slot and the next one, in version 2.
 fn pair_page(slots: &[Option<SlotRecord<'_>>], slot: usize) -> [u8; PAGE]
     requires within { slot + 1 < length slots.now }
-    requires metadata { (s : ℕ) → IfSome (get_or slots.now s None) (λ r. length r.metadata ≤ 1536) }
+    requires metadata { (s : ℕ) → IfSome (get_or slots.now s None) (λ r. length r.metadata ≤ MOST_METADATA) }
     ensures first { Stands (byte_of result) 0 2048 (slot_bytes Two (get_or slots.now slot None)) }
     ensures second { Stands (byte_of result) 2048 2048 (slot_bytes Two (get_or slots.now (slot + 1) None)) }
 {
@@ -34,8 +34,8 @@ pub fn pages_of_upgrade(
     next: u64,
     slots: &[Option<SlotRecord<'_>>],
 ) -> Result<Pages, AllocError>
-    requires slots { length slots.now ≡ 512 }
-    requires metadata { (s : ℕ) → IfSome (get_or slots.now s None) (λ r. length r.metadata ≤ 1536) }
+    requires slots { length slots.now ≡ SLOTS }
+    requires metadata { (s : ℕ) → IfSome (get_or slots.now s None) (λ r. length r.metadata ≤ MOST_METADATA) }
     ensures area { IfOk result (λ pages. InArea (journal_pages layout.now) pages) }
     ensures count { IfOk result (λ pages. length pages ≡ 257) }
     ensures changes { (v : View) → v.blocks ≡ layout.now → v.next ≡ next → v.slots ≡ slots.now

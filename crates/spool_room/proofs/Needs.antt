@@ -2,6 +2,7 @@
 use Rattle.std.proofs.Common.{◌≡◌, ℕ, ◌+◌, ◌-◌, ◌/◌, ◌%◌, ◌≤◌, if◌then◌else◌, Bool, length, Option, None, Some, refl}
 use Rattle.std.proofs.Common.{◌∙◌, arith}
 use Rattle.std.proofs.lemmas.Bool.{ne_eqb}
+use Rattle.spool_journal.specs.declared.TheConstants.{PAGE}
 use Rattle.enc_model.specs.Indexes.{IndexSet}
 use Rattle.upload_rules.specs.Store.{text_of}
 use Rattle.upload_rules.specs.World.{Patch, patch_text, is_there}
@@ -16,15 +17,15 @@ wants_is x p done = refl
 needs_none : (t : ℕ) → need_of t 0 ≡ 0
 needs_none t = refl
 
-needs_some : (t a : ℕ) → 1 ≤ a → need_of t a ≡ (t % 4096 + a + 4095) / 4096
+needs_some : (t a : ℕ) → 1 ≤ a → need_of t a ≡ (t % PAGE + a + 4095) / PAGE
 needs_some t a some = rw (ne_eqb a 0 (λ e. absurd (omega (arith, some, e)))) (after t a)
   where
-    after : (t a : ℕ) → (t + a + 4095) / 4096 - t / 4096 ≡ (t % 4096 + a + 4095) / 4096
+    after : (t a : ℕ) → (t + a + 4095) / PAGE - t / PAGE ≡ (t % PAGE + a + 4095) / PAGE
     after t a = omega arith
 
 module _ (x : IndexSet) (p : Patch) (done : Bool) where
   pub wants_some : (patch_text x p done).fault ≡ None → 1 ≤ added x p done
-      → wants x p done ≡ (length (text_of x p.began) % 4096 + added x p done + 4095) / 4096
+      → wants x p done ≡ (length (text_of x p.began) % PAGE + added x p done + 4095) / PAGE
   wants_some fine some = wants_is x p done ∙ rw fine (needs_some (length (text_of x p.began)) (added x p done) some)
 
   pub wants_none : added x p done ≡ 0 → wants x p done ≡ 0

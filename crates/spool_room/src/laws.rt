@@ -10,6 +10,8 @@ ghost use Rattle.upload_rules.specs.Slots.{IsRising};
 ghost use Rattle.upload_rules.specs.Store.{Upload, text_of};
 ghost use Rattle.upload_rules.specs.World.{Patch, World, patch_text};
 
+use common::SLOTS;
+use spool_journal::PAGE;
 use spool_blocks::Blocks;
 
 /// A slot with one block at each ordinal below n owns n blocks.
@@ -39,7 +41,7 @@ pub fn reserved_blocks()
 /// The free, the reserved and the owned blocks are all blocks, and the owned ones are those in the slots' lists.
 pub fn block_counts()
     ensures { (h : Held) → length h.reserved ≡ length h.rows
-        → ((b slot ordinal : ℕ) → Owns h.rows b slot ordinal → slot < 512) → CountLaw h.rows h.reserved }
+        → ((b slot ordinal : ℕ) → Owns h.rows b slot ordinal → slot < SLOTS) → CountLaw h.rows h.reserved }
 {}
 
 /// The rule of room, for an allocation with a flag for each block.
@@ -60,7 +62,7 @@ pub fn room(blocks: &Blocks)
 /// none if nothing is added or a character is unmappable.
 pub fn draft_needs()
     ensures some { (x : IndexSet) (p : Patch) (done : Bool) → (patch_text x p done).fault ≡ None → 1 ≤ added x p done
-        → wants x p done ≡ (length (text_of x p.began) % 4096 + added x p done + 4095) / 4096 }
+        → wants x p done ≡ (length (text_of x p.began) % PAGE + added x p done + 4095) / PAGE }
     ensures none { (x : IndexSet) (p : Patch) (done : Bool) → added x p done ≡ 0 → wants x p done ≡ 0 }
     ensures fault { (x : IndexSet) (p : Patch) (done : Bool) (c : ℕ) → (patch_text x p done).fault ≡ Some c
         → wants x p done ≡ 0 }

@@ -2,6 +2,7 @@
 use Rattle.std.proofs.Common.{◌≡◌, ◌⊎◌, inl, inr, ℕ, zero, suc, ◌+◌, ◌/◌, ◌<◌, ◌≤◌, List, [], ◌∷◌, length, get_or}
 use Rattle.std.proofs.Common.{refl, ◌∙◌, arith, ⊎_elim}
 use Rattle.std.proofs.lemmas.Bool.{cases_eq}
+use Rattle.spool_journal.specs.declared.TheConstants.{PAGE}
 use Rattle.spool_disk.specs.Disk.{IsImage}
 use Rattle.spool_journal.proofs.TextFrames.{aside_there, aside_else, frame_aside}
 use Rattle.spool_texts.specs.Written.{InBlocks, IsImageBut, aside_blocks, FrameBlocks}
@@ -10,7 +11,7 @@ use Rattle.spool_journal.specs.Image.{area_end}
 pub in_more : {first b p : ℕ} {blocks : List ℕ} → InBlocks first blocks p → InBlocks first (b ∷ blocks) p
 in_more within = record { at = suc within.at; below = omega (arith, within.below); here = within.here }
 
-pub in_prefix : {first b p : ℕ} {blocks : List ℕ} → first + b ≡ p / 4096 → InBlocks first (b ∷ blocks) p
+pub in_prefix : {first b p : ℕ} {blocks : List ℕ} → first + b ≡ p / PAGE → InBlocks first (b ∷ blocks) p
 in_prefix e = record { at = 0; below = omega arith; here = e }
 
 pub aside_blocks_else : (first : ℕ) (blocks : List ℕ) (was image : ℕ → ℕ) (p : ℕ) → (InBlocks first blocks p → ⊥)
@@ -23,11 +24,11 @@ aside_blocks_else first (b ∷ blocks) was image p away =
 
 -- a place in one block more
 pub in_cons : {first b p : ℕ} {blocks : List ℕ} → InBlocks first (b ∷ blocks) p
-    → (first + b ≡ p / 4096) ⊎ InBlocks first blocks p
+    → (first + b ≡ p / PAGE) ⊎ InBlocks first blocks p
 in_cons {first = first} {b = b} {p = p} {blocks = blocks} within = by_place within.at within.below within.here
   where
-    by_place : (at : ℕ) → at < length (b ∷ blocks) → first + get_or (b ∷ blocks) at 0 ≡ p / 4096
-        → (first + b ≡ p / 4096) ⊎ InBlocks first blocks p
+    by_place : (at : ℕ) → at < length (b ∷ blocks) → first + get_or (b ∷ blocks) at 0 ≡ p / PAGE
+        → (first + b ≡ p / PAGE) ⊎ InBlocks first blocks p
     by_place zero below here = inl here
     by_place (suc at) below here = inr record { at = at; below = omega (arith, below); here = here }
 
@@ -38,12 +39,12 @@ unfolding aside_blocks
 aside_or_away first [] was image p = inr (λ within. omega (arith, within.below))
 aside_or_away first (b ∷ blocks) was image p =
     ⊎_elim
-    (λ (e : first + b ≡ p / 4096). inl (aside_there (first + b) was (aside_blocks first blocks was image) p e))
-    (λ (e : first + b ≡ p / 4096 → ⊥). ⊎_elim
+    (λ (e : first + b ≡ p / PAGE). inl (aside_there (first + b) was (aside_blocks first blocks was image) p e))
+    (λ (e : first + b ≡ p / PAGE → ⊥). ⊎_elim
     (λ same. inl (aside_else (first + b) was (aside_blocks first blocks was image) p e ∙ same))
     (λ away. inr (λ within. ⊎_elim e away (in_cons within)))
     (aside_or_away first blocks was image p))
-    (cases_eq (first + b) (p / 4096))
+    (cases_eq (first + b) (p / PAGE))
 
 -- with the blocks as they were, it is an image from before
 pub image_aside : (first : ℕ) (blocks : List ℕ) {current image : ℕ → ℕ} {unsynced : ℕ → Type 0}

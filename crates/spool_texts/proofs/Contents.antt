@@ -3,6 +3,7 @@ use Rattle.std.proofs.Common.{◌≡◌, ℕ, ◌+◌, ◌-◌, ◌*◌, ◌≤�
 use Rattle.std.proofs.lemmas.List.{take_all, append-nil, append_assoc, nil_from_length, take-append-le, take_at}
 use Rattle.std.proofs.lemmas.List.{take-take}
 use Rattle.std.proofs.Math.Seq.{take-add}
+use Rattle.spool_journal.specs.declared.TheConstants.{PAGE}
 use Rattle.spool_texts.specs.TextOn.{blocks_on, text_on}
 use Rattle.spool_texts.specs.Drafts.{Draft, full_count, held_count, content_on}
 use Rattle.spool_texts.proofs.Shown.{text_prefix}
@@ -11,7 +12,7 @@ use Rattle.spool_texts.proofs.Shown.{text_prefix}
 pub all_written : (current : ℕ → ℕ) (first : ℕ) (d : Draft) → length d.unfinished ≡ 0
     → text_on current first d.blocks (held_count d) ≡ content_on current first d
 all_written current first d none =
-    let held : held_count d ≡ 4096 * length d.blocks = omega (arith, none) in
+    let held : held_count d ≡ PAGE * length d.blocks = omega (arith, none) in
     let full : length d.blocks ≡ full_count d = omega (arith, none) in
     ap (λ (n : ℕ). text_on current first d.blocks n) held
     ∙ text_prefix current first (length d.blocks) d.blocks (omega arith)
@@ -23,22 +24,22 @@ all_written current first d none =
 -- the last block is full, and written
 pub full_written : (current current' : ℕ → ℕ) (first : ℕ) (old new : Draft) (more page bytes : List ℕ)
     → new.unfinished ≡ []
-    → new.blocks ≡ old.blocks ++ more → length new.blocks ≡ full_count old + 1 → length page ≡ 4096
+    → new.blocks ≡ old.blocks ++ more → length new.blocks ≡ full_count old + 1 → length page ≡ PAGE
     → page ≡ old.unfinished ++ bytes
-    → text_on current' first new.blocks (4096 *
+    → text_on current' first new.blocks (PAGE *
     (length new.blocks - 1) + length page) ≡ text_on current first new.blocks
-    (4096 * (length new.blocks - 1)) ++ page → content_on current' first new ≡ content_on current first old ++ bytes
+    (PAGE * (length new.blocks - 1)) ++ page → content_on current' first new ≡ content_on current first old ++ bytes
 full_written current current' first old new more page bytes none grown ready size is text =
     sym (all_written current' first new (ap length none))
     ∙ ap (λ (n : ℕ). text_on current' first new.blocks n) held
     ∙ text
-    ∙ ap (λ (n : ℕ). text_on current first new.blocks (4096 * n) ++ page) full
+    ∙ ap (λ (n : ℕ). text_on current first new.blocks (PAGE * n) ++ page) full
     ∙ ap (λ (xs : List ℕ). xs ++ page) (text_prefix current first (full_count old) new.blocks (omega (arith, ready)))
     ∙ ap (λ (xs : List ℕ). blocks_on current first xs ++ page) prefix
     ∙ ap (λ (xs : List ℕ). blocks_on current first (take (full_count old) old.blocks) ++ xs) is
     ∙ sym (append_assoc (blocks_on current first (take (full_count old) old.blocks)) old.unfinished bytes)
   where
-    held : held_count new ≡ 4096 * (length new.blocks - 1) + length page
+    held : held_count new ≡ PAGE * (length new.blocks - 1) + length page
     held = omega (arith, ap length none, size, ready)
 
     full : length new.blocks - 1 ≡ full_count old
@@ -50,7 +51,7 @@ full_written current current' first old new more page bytes none grown ready siz
 
 -- the bytes of a page that is full
 pub page_filled : (cap filled n : ℕ) (page rest old bytes result unfinished : List ℕ) → result ≡ take cap (page ++ rest)
-    → cap ≡ 4096 → length page ≡ 4096 → filled + n ≡ 4096 → take (filled + n) page ≡ take filled old ++ bytes
+    → cap ≡ PAGE → length page ≡ PAGE → filled + n ≡ PAGE → take (filled + n) page ≡ take filled old ++ bytes
     → take filled old ≡ unfinished → result ≡ unfinished ++ bytes
 page_filled cap filled n page rest old bytes result unfinished is cap_is size full filled_is prefix =
     is

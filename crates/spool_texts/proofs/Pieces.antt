@@ -4,6 +4,7 @@ use Rattle.std.proofs.Common.{take, drop, sym, ◌∙◌, ap, subst, arith, ⊎_
 use Rattle.std.proofs.Common.{min}
 use Rattle.std.proofs.lemmas.Bool.{cases_lt}
 use Rattle.std.proofs.lemmas.List.{get_or_append_left, get_or-append_right, get_or-drop, get_or-take, ext_get_or}
+use Rattle.spool_journal.specs.declared.TheConstants.{PAGE}
 use borrow.Rule.Slice.PartMut.{put_mid}
 use Rattle.spool_disk.specs.Disk.{span, Keeps, IsImage}
 use Rattle.spool_disk.proofs.Span.{length-span}
@@ -28,35 +29,35 @@ run_below list blocks at count below follow some within =
     omega (arith, last, below (at + (count - 1)) (omega (arith, some, within)), some)
 
 -- a place after `at` on blocks that follow one another
-pub place_on : (list : List ℕ) (at count k : ℕ) → Follow list (at / 4096) count → at % 4096 + k < 4096 * count
-    → 4096 * get_or list (at / 4096) 0 + (at % 4096 + k) ≡ 4096 * get_or list ((at + k) / 4096) 0 + (at + k) % 4096
+pub place_on : (list : List ℕ) (at count k : ℕ) → Follow list (at / PAGE) count → at % PAGE + k < PAGE * count
+    → PAGE * get_or list (at / PAGE) 0 + (at % PAGE + k) ≡ PAGE * get_or list ((at + k) / PAGE) 0 + (at + k) % PAGE
 place_on list at count k follow lt =
-    let e : at / 4096 + (at % 4096 + k) / 4096 ≡ (at + k) / 4096 = omega arith in
-    let rest : (at + k) % 4096 ≡ (at % 4096 + k) % 4096 = omega arith in
-    let there : get_or list ((at + k) / 4096) 0 ≡ get_or list (at / 4096) 0 + (at % 4096 + k) / 4096 =
-    ap (λ (i : ℕ). get_or list i 0) (sym e) ∙ follow ((at % 4096 + k) / 4096) (omega (arith, lt)) in
+    let e : at / PAGE + (at % PAGE + k) / PAGE ≡ (at + k) / PAGE = omega arith in
+    let rest : (at + k) % PAGE ≡ (at % PAGE + k) % PAGE = omega arith in
+    let there : get_or list ((at + k) / PAGE) 0 ≡ get_or list (at / PAGE) 0 + (at % PAGE + k) / PAGE =
+    ap (λ (i : ℕ). get_or list i 0) (sym e) ∙ follow ((at % PAGE + k) / PAGE) (omega (arith, lt)) in
     omega (arith, rest, there)
 
 -- what was read from blocks that follow one another
 pub piece_is : (current : ℕ → ℕ) (first : ℕ) (list : List ℕ) (at count n : ℕ) (buf new : List ℕ) → n ≤ length buf
-    → Follow list (at / 4096) count → at % 4096 + n ≤ 4096 * count
-    → new ≡ span current (4096 * (first + get_or list (at / 4096) 0) + at % 4096) n
+    → Follow list (at / PAGE) count → at % PAGE + n ≤ PAGE * count
+    → new ≡ span current (PAGE * (first + get_or list (at / PAGE) 0) + at % PAGE) n
     → IsPiece current first list at n buf (new ++ drop n buf)
 piece_is current first list at count n buf new fits follow within is = record {
   size = omega (arith, length-append new (drop n buf), length-drop n buf, size, fits);
   bytes = λ k lt. get_or_append_left new (drop n buf) 0 k (omega (arith, lt, size))
       ∙ ap (λ (xs : List ℕ). get_or xs k 0) is ∙ get_or-span current
-      (4096 * (first + get_or list (at / 4096) 0) + at % 4096) n k lt ∙ ap current (same k lt);
+      (PAGE * (first + get_or list (at / PAGE) 0) + at % PAGE) n k lt ∙ ap current (same k lt);
   rest = λ k le. let e : n + (k - n) ≡ k =
       omega (arith, le) in get_or-append_right new (drop n buf) n k 0 size le ∙ get_or-drop n buf (k - n) 0
       ∙ ap (λ (i : ℕ). get_or buf i 0) e;
 }
   where
     size : length new ≡ n
-    size = ap length is ∙ length-span current (4096 * (first + get_or list (at / 4096) 0) + at % 4096) n
+    size = ap length is ∙ length-span current (PAGE * (first + get_or list (at / PAGE) 0) + at % PAGE) n
 
-    same : (k : ℕ) → k < n → 4096 * (first + get_or list (at / 4096) 0) + at % 4096 + k ≡ 4096 * (first + get_or list
-        ((at + k) / 4096) 0) + (at + k) % 4096
+    same : (k : ℕ) → k < n → PAGE * (first + get_or list (at / PAGE) 0) + at % PAGE + k ≡ PAGE * (first + get_or list
+        ((at + k) / PAGE) 0) + (at + k) % PAGE
     same k lt = let e = place_on list at count k follow (omega (arith, lt, within)) in omega (arith, e)
 
 -- a write into a middle of a buffer
@@ -108,7 +109,7 @@ module _ {current mid : ℕ → ℕ} {unsynced unsynced' : ℕ → Type 0} (firs
       (mid_inside buf sub from (to - from) (k - from) (omega (arith, lt, after, piece.size, few))
       (omega (arith, upto, fits))
       ∙ piece.bytes (k - from) (omega (arith, lt, after))
-      ∙ keeps.same (4096 * (first + get_or list ((at + from + (k - from)) / 4096) 0) + (at + from + (k - from)) % 4096)
+      ∙ keeps.same (PAGE * (first + get_or list ((at + from + (k - from)) / PAGE) 0) + (at + from + (k - from)) % PAGE)
       ∙ ap (byte_on current first list) e'))
       (cases_lt k from)
 
@@ -130,33 +131,33 @@ module _ {current mid : ℕ → ℕ} {unsynced unsynced' : ℕ → Type 0} (firs
       (cases_lt k to)
 
 -- a byte of a text
-pub byte_of_text : (current : ℕ → ℕ) (first : ℕ) (list : List ℕ) (at : ℕ) → at < 4096 * length list
+pub byte_of_text : (current : ℕ → ℕ) (first : ℕ) (list : List ℕ) (at : ℕ) → at < PAGE * length list
     → get_or (blocks_on current first list) at 0 ≡ byte_on current first list at
 unfolding blocks_on
 byte_of_text current first [] at lt = absurd (omega (arith, lt))
 byte_of_text current first (b ∷ list) at lt =
     ⊎_elim
-    (λ (here : at < 4096).
-    let quotient : 0 ≡ at / 4096 = omega (arith, here) in
-    let rest : at ≡ at % 4096 = omega (arith, here) in
-    get_or_append_left (span current (4096 * (first + b)) 4096) (blocks_on current first list) 0 at
-    (omega (arith, here, length-span current (4096 * (first + b)) 4096))
-    ∙ get_or-span current (4096 * (first + b)) 4096 at here
-    ∙ ap (λ (i : ℕ). current (4096 * (first + b) + i)) rest
-    ∙ ap (λ (i : ℕ). current (4096 * (first + get_or (b ∷ list) i 0) + at % 4096)) quotient)
-    (λ (after : 4096 ≤ at).
-    let quotient : suc ((at - 4096) / 4096) ≡ at / 4096 = omega (arith, after) in
-    let rest : (at - 4096) % 4096 ≡ at % 4096 = omega (arith, after) in
-    get_or-append_right (span current (4096 * (first + b)) 4096) (blocks_on current first list) 4096 at 0
-    (length-span current (4096 * (first + b)) 4096) after
-    ∙ byte_of_text current first list (at - 4096) (omega (arith, lt, after))
-    ∙ ap (λ (i : ℕ). current (4096 * (first + get_or list ((at - 4096) / 4096) 0) + i)) rest
-    ∙ ap (λ (i : ℕ). current (4096 * (first + get_or (b ∷ list) i 0) + at % 4096)) quotient)
-    (cases_lt at 4096)
+    (λ (here : at < PAGE).
+    let quotient : 0 ≡ at / PAGE = omega (arith, here) in
+    let rest : at ≡ at % PAGE = omega (arith, here) in
+    get_or_append_left (span current (PAGE * (first + b)) PAGE) (blocks_on current first list) 0 at
+    (omega (arith, here, length-span current (PAGE * (first + b)) PAGE))
+    ∙ get_or-span current (PAGE * (first + b)) PAGE at here
+    ∙ ap (λ (i : ℕ). current (PAGE * (first + b) + i)) rest
+    ∙ ap (λ (i : ℕ). current (PAGE * (first + get_or (b ∷ list) i 0) + at % PAGE)) quotient)
+    (λ (after : PAGE ≤ at).
+    let quotient : suc ((at - PAGE) / PAGE) ≡ at / PAGE = omega (arith, after) in
+    let rest : (at - PAGE) % PAGE ≡ at % PAGE = omega (arith, after) in
+    get_or-append_right (span current (PAGE * (first + b)) PAGE) (blocks_on current first list) PAGE at 0
+    (length-span current (PAGE * (first + b)) PAGE) after
+    ∙ byte_of_text current first list (at - PAGE) (omega (arith, lt, after))
+    ∙ ap (λ (i : ℕ). current (PAGE * (first + get_or list ((at - PAGE) / PAGE) 0) + i)) rest
+    ∙ ap (λ (i : ℕ). current (PAGE * (first + get_or (b ∷ list) i 0) + at % PAGE)) quotient)
+    (cases_lt at PAGE)
 
 -- all that there is and fits was read
 pub all_read : (current : ℕ → ℕ) (first : ℕ) (list : List ℕ) (len at n : ℕ) (old buf : List ℕ)
-    → len ≤ 4096 * length list
+    → len ≤ PAGE * length list
     → n ≡ min (len - at) (length old) → length buf ≡ length old
     → ((k : ℕ) → k < n → get_or buf k 0 ≡ byte_on current first list (at + k))
     → ((k : ℕ) → n ≤ k → get_or buf k 0 ≡ get_or old k 0) → IsRead (text_on current first list len) at n old buf

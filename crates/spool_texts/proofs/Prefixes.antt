@@ -2,6 +2,7 @@
 use Rattle.std.proofs.Common.{◌≡◌, ◌≢◌, inl, inr, ℕ, zero, suc, ◌+◌, ◌-◌, ◌*◌, ◌/◌, ◌<◌, ◌≤◌, ◌++◌, List, [], ◌∷◌}
 use Rattle.std.proofs.Common.{length, get_or, take, refl, sym, ◌∙◌, ap, arith, ⊎_elim, length-append, length-take}
 use Rattle.std.proofs.lemmas.List.{take_more, take_all, append-nil, get_or-take, get_or_append_left}
+use Rattle.spool_journal.specs.declared.TheConstants.{PAGE}
 use Rattle.spool_disk.specs.Disk.{span, In, IsImage, Writes}
 use Rattle.spool_disk.proofs.Span.{span_same}
 use Rattle.spool_journal.specs.Phases.{Idle}
@@ -20,22 +21,22 @@ take-span f at zero (suc k) le = absurd (omega (arith, le))
 take-span f at (suc n) (suc k) le = ap (λ (xs : List ℕ). f at ∷ xs) (take-span f (at + 1) n k (omega (arith, le)))
 
 -- the text on one block
-pub text_one : (current : ℕ → ℕ) (first b len : ℕ) → len ≤ 4096 → text_on current first (b ∷ []) len ≡ span current
-    (4096 * (first + b)) len
+pub text_one : (current : ℕ → ℕ) (first b len : ℕ) → len ≤ PAGE → text_on current first (b ∷ []) len ≡ span current
+    (PAGE * (first + b)) len
 unfolding blocks_on
 text_one current first b len le =
-    ap (λ (xs : List ℕ). take len xs) (append-nil (span current (4096 * (first + b)) 4096))
-    ∙ take-span current (4096 * (first + b)) 4096 len le
+    ap (λ (xs : List ℕ). take len xs) (append-nil (span current (PAGE * (first + b)) PAGE))
+    ∙ take-span current (PAGE * (first + b)) PAGE len le
 
 -- where two agree on the blocks
 pub blocks_same : (f g : ℕ → ℕ) (first : ℕ) (list : List ℕ)
-    → ((i p : ℕ) → i < length list → first + get_or list i 0 ≡ p / 4096 → f p ≡ g p)
+    → ((i p : ℕ) → i < length list → first + get_or list i 0 ≡ p / PAGE → f p ≡ g p)
     → blocks_on f first list ≡ blocks_on g first list
 unfolding blocks_on
 blocks_same f g first [] same = refl
 blocks_same f g first (b ∷ list) same =
     both
-    (span_same f g (4096 * (first + b)) 4096
+    (span_same f g (PAGE * (first + b)) PAGE
     (λ p within. same 0 p (omega arith) (omega (arith, within.from, within.below))))
     (blocks_same f g first list (λ i p lt e. same (suc i) p (omega (arith, lt)) e))
   where
@@ -43,10 +44,10 @@ blocks_same f g first (b ∷ list) same =
     both e f = cc
 
 module _ {current current' : ℕ → ℕ} {unsynced unsynced' : ℕ → Type 0} {done : Type 0} (first : ℕ) (list bytes : List ℕ)
-    (some : 1 ≤ length list) (fits : length bytes ≤ 4096)
-    (writes : Writes (4096 * (first + get_or list
+    (some : 1 ≤ length list) (fits : length bytes ≤ PAGE)
+    (writes : Writes (PAGE * (first + get_or list
     (length list - 1) 0) + 0) bytes done current current' unsynced unsynced') where
-  last_block : (p : ℕ) → In (4096 * (first + get_or list (length list - 1) 0) + 0) (length bytes) p
+  last_block : (p : ℕ) → In (PAGE * (first + get_or list (length list - 1) 0) + 0) (length bytes) p
       → InBlocks first list p
   last_block p within = record {
     at = length list - 1;
@@ -61,10 +62,10 @@ module _ {current current' : ℕ → ℕ} {unsynced unsynced' : ℕ → Type 0} 
   }
 
   pub prefix_text : ((i k : ℕ) → i < k → k < length list → get_or list i 0 ≢ get_or list k 0) → done
-      → text_on current' first list (4096 * (length list - 1) + length bytes) ≡ text_on current first list
-      (4096 * (length list - 1)) ++ bytes
+      → text_on current' first list (PAGE * (length list - 1) + length bytes) ≡ text_on current first list
+      (PAGE * (length list - 1)) ++ bytes
   prefix_text distinct ok =
-      ap (λ (xs : List ℕ). text_on current' first xs (4096 * (length list - 1) + length bytes)) whole
+      ap (λ (xs : List ℕ). text_on current' first xs (PAGE * (length list - 1) + length bytes)) whole
       ∙ text_joined current' first (length list - 1) (length bytes) list (get_or list (length list - 1) 0 ∷ [])
       (omega arith)
       ∙ both (text_prefix current' first (length list - 1) list (omega arith) ∙ others
@@ -78,14 +79,14 @@ module _ {current current' : ℕ → ℕ} {unsynced unsynced' : ℕ → Type 0} 
           (length list - 1) list)
       others = blocks_same current' current first (take (length list - 1) list) (λ i p lt e.
           let below : i < length list - 1 = omega (arith, lt, length-take (length list - 1) list) in
-          let e' : first + get_or list i 0 ≡ p / 4096 =
+          let e' : first + get_or list i 0 ≡ p / PAGE =
           ap (λ (b : ℕ). first + b) (sym (get_or-take (length list - 1) list i 0 below)) ∙ e in
           writes.outside p (λ within. let here = last_block p within in distinct i (length list - 1) below
           (omega (arith, some)) (omega (arith, e', here.here))))
 
       here : text_on current' first (get_or list (length list - 1) 0 ∷ []) (length bytes) ≡ bytes
       here =
-          let at : 4096 * (first + get_or list (length list - 1) 0) ≡ 4096 * (first + get_or list (length list - 1)
+          let at : PAGE * (first + get_or list (length list - 1) 0) ≡ PAGE * (first + get_or list (length list - 1)
           0) + 0 = omega arith in
           text_one current' first (get_or list (length list - 1) 0) (length bytes) fits
           ∙ ap (λ (p : ℕ). span current' p (length bytes)) at ∙ writes.inside ok
@@ -102,8 +103,8 @@ pub idle_in : {j : ℕ} {current current' : ℕ → ℕ} {unsynced unsynced' : �
     → Idle j current unsynced
     → WritesIn (area_end j) blocks current current' unsynced unsynced' → Idle j current' unsynced'
 idle_in {j = j} {blocks = blocks} idle writes = record {
-  gate = λ l. ⊎_elim idle.gate (λ within. omega (arith, within.here)) (writes.unsyncs 4096 l);
-  closed = λ e. idle.closed (sym (writes.outside 4096 (λ within. omega (arith, within.here))) ∙ e);
+  gate = λ l. ⊎_elim idle.gate (λ within. omega (arith, within.here)) (writes.unsyncs PAGE l);
+  closed = λ e. idle.closed (sym (writes.outside PAGE (λ within. omega (arith, within.here))) ∙ e);
   area = λ p within l. ⊎_elim (idle.area p within) (λ here. omega (arith, here.here, within.below))
       (writes.unsyncs p l);
 }

@@ -4,6 +4,7 @@ use Rattle.std.proofs.Common.{◌∷◌, Option, None, Some, length, get_or, tak
 use Rattle.std.proofs.Common.{length-append, length-take}
 use Rattle.std.proofs.lemmas.Bool.{eqb-true, eq-eqb, and_from, and_parts}
 use Rattle.std.proofs.lemmas.List.{append_assoc, take-append-le, take_all, take-append-drop}
+use Rattle.spool_journal.specs.declared.TheConstants.{PAGE}
 use Rattle.spool_disk.specs.Disk.{span}
 use Rattle.spool_disk.proofs.Span.{length-span}
 use Rattle.spool_journal.specs.Texts.{owns, block_at, block_bytes, joined, text_shown}
@@ -45,16 +46,16 @@ found slot ordinal (suc k) (row ∷ rows) b here only =
     not_first false e rest = rest
 
 pub length-blocks_on : (current : ℕ → ℕ) (first : ℕ) (list : List ℕ)
-    → length (blocks_on current first list) ≡ 4096 * length
+    → length (blocks_on current first list) ≡ PAGE * length
     list
 unfolding blocks_on
 length-blocks_on current first [] = refl
 length-blocks_on current first (b ∷ list) =
     omega (
       arith,
-      length-append (span current (4096 * (first + b)) 4096) (blocks_on current first list),
+      length-append (span current (PAGE * (first + b)) PAGE) (blocks_on current first list),
       length-span current
-          (4096 * (first + b)) 4096,
+          (PAGE * (first + b)) PAGE,
       length-blocks_on current first list,
     )
 
@@ -64,8 +65,8 @@ pub blocks_on-append : (current : ℕ → ℕ) (first : ℕ) (list more : List �
 unfolding blocks_on
 blocks_on-append current first [] more = refl
 blocks_on-append current first (b ∷ list) more =
-    ap (λ (xs : List ℕ). span current (4096 * (first + b)) 4096 ++ xs) (blocks_on-append current first list more)
-    ∙ sym (append_assoc (span current (4096 * (first + b)) 4096) (blocks_on current first list)
+    ap (λ (xs : List ℕ). span current (PAGE * (first + b)) PAGE ++ xs) (blocks_on-append current first list more)
+    ∙ sym (append_assoc (span current (PAGE * (first + b)) PAGE) (blocks_on current first list)
     (blocks_on current first more))
 
 -- the blocks that are found for the ordinals from one on are the listed ones
@@ -86,7 +87,7 @@ joined_on image first rows slot ordinal (b ∷ list) here =
     both e f = cc
 
 pub shown : (image : ℕ → ℕ) (first : ℕ) (rows : List (Option (ℕ × ℕ))) (slot len : ℕ) (list : List ℕ)
-    → IsListed rows slot list → length list ≡ (len + 4095) / 4096 → text_on image first list len ≡ text_shown image
+    → IsListed rows slot list → length list ≡ (len + 4095) / PAGE → text_on image first list len ≡ text_shown image
     first rows slot len
 shown image first rows slot len list listed size =
     ap (λ (xs : List ℕ). take len xs)
@@ -108,13 +109,13 @@ take_after (suc n) len (x ∷ xs) ys size = ap (λ (zs : List ℕ). x ∷ zs) (t
 
 -- the text on the first n blocks
 pub text_prefix : (image : ℕ → ℕ) (first n : ℕ) (list : List ℕ) → n ≤ length list
-    → text_on image first list (4096 * n) ≡ blocks_on image first (take n list)
+    → text_on image first list (PAGE * n) ≡ blocks_on image first (take n list)
 text_prefix image first n list le =
-    ap (λ (xs : List ℕ). take (4096 * n) xs) whole ∙ take-append-le (4096 * n) (blocks_on image first (take n list))
-    (blocks_on image first (drop n list)) (omega (arith, size)) ∙ take_all (4096 * n)
+    ap (λ (xs : List ℕ). take (PAGE * n) xs) whole ∙ take-append-le (PAGE * n) (blocks_on image first (take n list))
+    (blocks_on image first (drop n list)) (omega (arith, size)) ∙ take_all (PAGE * n)
     (blocks_on image first (take n list)) (omega (arith, size))
   where
-    size : length (blocks_on image first (take n list)) ≡ 4096 * n
+    size : length (blocks_on image first (take n list)) ≡ PAGE * n
     size = omega (arith, length-blocks_on image first (take n list), length-take n list, le)
 
     whole : blocks_on image first list ≡ blocks_on image first (take n list) ++ blocks_on image first (drop n list)
@@ -122,13 +123,13 @@ text_prefix image first n list le =
         (drop n list)
 
 pub text_joined : (image : ℕ → ℕ) (first n len : ℕ) (list more : List ℕ) → n ≤ length list
-    → text_on image first (take n list ++ more) (4096 * n + len) ≡ text_on image first list (4096 * n) ++ text_on image
+    → text_on image first (take n list ++ more) (PAGE * n + len) ≡ text_on image first list (PAGE * n) ++ text_on image
     first more len
 text_joined image first n len list more le =
-    ap (λ (xs : List ℕ). take (4096 * n + len) xs) (blocks_on-append image first (take n list) more)
-    ∙ take_after (4096 * n + len) len (blocks_on image first (take n list)) (blocks_on image first more)
+    ap (λ (xs : List ℕ). take (PAGE * n + len) xs) (blocks_on-append image first (take n list) more)
+    ∙ take_after (PAGE * n + len) len (blocks_on image first (take n list)) (blocks_on image first more)
     (omega (arith, size))
     ∙ ap (λ (xs : List ℕ). xs ++ take len (blocks_on image first more)) (sym (text_prefix image first n list le))
   where
-    size : length (blocks_on image first (take n list)) ≡ 4096 * n
+    size : length (blocks_on image first (take n list)) ≡ PAGE * n
     size = omega (arith, length-blocks_on image first (take n list), length-take n list, le)

@@ -1,6 +1,7 @@
 -- The new text of a draft: its reserved blocks, and the bytes of its unfinished block in memory.
 use Rattle.std.specs.Prelude.{◌≡◌, ◌≢◌, ℕ, ◌+◌, ◌*◌, ◌-◌, ◌/◌, ◌<◌, ◌++◌, List, [], ◌∷◌}
 use Rattle.std.specs.Prelude.{Option, None, Some, true, false, length, get_or, replicate, take}
+use Rattle.spool_journal.specs.declared.TheConstants.{PAGE}
 use Rattle.spool_blocks.specs.Blocks.{Held, IsFree}
 use Rattle.spool_texts.specs.TextOn.{blocks_on, text_on}
 
@@ -13,11 +14,11 @@ pub record Draft : Type 0 where
 
 -- How many of the blocks are full. The last isn't if bytes are unfinished.
 abbrev pub full_count : Draft → ℕ
-full_count d = length d.blocks - (length d.unfinished + 4095) / 4096
+full_count d = length d.blocks - (length d.unfinished + 4095) / PAGE
 
 -- How many bytes the draft has.
 abbrev pub held_count : Draft → ℕ
-held_count d = 4096 * full_count d + length d.unfinished
+held_count d = PAGE * full_count d + length d.unfinished
 
 -- The bytes of the draft. The text blocks begin at page `first`.
 abbrev pub content_on : (ℕ → ℕ) → ℕ → Draft → List ℕ
@@ -36,7 +37,7 @@ prefix_on current first (Some block) n = text_on current first (block ∷ []) n
 -- The bytes on the listed blocks, followed by the last ones, which have yet to be written to the last of these blocks.
 abbrev pub bytes_with : (ℕ → ℕ) → ℕ → List ℕ → List ℕ → List ℕ
 bytes_with current first list last = blocks_on current first (take (length list -
-    (length last + 4095) / 4096) list) ++ last
+    (length last + 4095) / PAGE) list) ++ last
 
 -- The listed blocks are reserved and distinct, and no slot owns one.
 pub record IsReserved (h : Held) (list : List ℕ) : Type 0 where

@@ -1,10 +1,11 @@
 -- Reading a piece of a text.
 use Rattle.std.specs.Prelude.{◌≡◌, ℕ, ◌+◌, ◌-◌, ◌*◌, ◌/◌, ◌%◌, ◌<◌, ◌≤◌, List, ◌++◌, length, get_or, take, drop, min}
+use Rattle.spool_journal.specs.declared.TheConstants.{PAGE}
 pub use Rattle.common.specs.Reading.{IsRead}
 
 -- Byte `at` of the listed blocks.
 abbrev pub byte_on : (ℕ → ℕ) → ℕ → List ℕ → ℕ → ℕ
-byte_on current first list at = current (4096 * (first + get_or list (at / 4096) 0) + at % 4096)
+byte_on current first list at = current (PAGE * (first + get_or list (at / PAGE) 0) + at % PAGE)
 
 -- The first n bytes are those of the listed blocks from `at` on. The rest of the buffer is unchanged.
 pub record IsPiece (current : ℕ → ℕ) (first : ℕ) (list : List ℕ) (at n : ℕ) (old new : List ℕ) : Type 0 where

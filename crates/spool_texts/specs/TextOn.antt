@@ -1,11 +1,12 @@
 -- The text on a list of blocks.
 use Rattle.std.specs.Prelude.{◌≡◌, ℕ, ◌+◌, ◌*◌, ◌<◌, ◌++◌, List, [], ◌∷◌, Option, None, Some, length, get_or, take}
+use Rattle.spool_journal.specs.declared.TheConstants.{PAGE}
 use Rattle.spool_disk.specs.Disk.{span}
 
 -- The bytes of the listed blocks, joined. The text blocks begin at page `first`.
 unfoldable pub blocks_on : (ℕ → ℕ) → ℕ → List ℕ → List ℕ
 blocks_on current first [] = []
-blocks_on current first (b ∷ list) = span current (4096 * (first + b)) 4096 ++ blocks_on current first list
+blocks_on current first (b ∷ list) = span current (PAGE * (first + b)) PAGE ++ blocks_on current first list
 
 -- The text of this length on the listed blocks.
 abbrev pub text_on : (ℕ → ℕ) → ℕ → List ℕ → ℕ → List ℕ

@@ -1,5 +1,6 @@
 -- The effect of writes to listed blocks. The text blocks begin at page `first`.
 use Rattle.std.specs.Prelude.{◌≡◌, ◌≢◌, ◌⊎◌, ℕ, ◌+◌, ◌/◌, ◌<◌, List, [], ◌∷◌, Option, None, length, get_or}
+use Rattle.spool_journal.specs.declared.TheConstants.{PAGE}
 use Rattle.spool_journal.specs.Image.{InForm, count, number, overlaid}
 use Rattle.spool_journal.specs.Texts.{text_shown, aside}
 
@@ -7,7 +8,7 @@ use Rattle.spool_journal.specs.Texts.{text_shown, aside}
 pub record InBlocks (first : ℕ) (blocks : List ℕ) (p : ℕ) : Type 0 where
   pub at : ℕ
   pub below : at < length blocks
-  pub here : first + get_or blocks at 0 ≡ p / 4096
+  pub here : first + get_or blocks at 0 ≡ p / PAGE
 
 -- The two images agree outside these blocks.
 abbrev pub SameOutside : ℕ → List ℕ → (ℕ → ℕ) → (ℕ → ℕ) → Type 0
@@ -38,6 +39,6 @@ pub record FrameBlocks (j first : ℕ) (blocks : List ℕ) (a b : ℕ → ℕ) :
   pub texts : (rows : List (Option (ℕ × ℕ))) (slot len : ℕ)
       → ((i : ℕ) → i < length blocks → get_or rows (get_or blocks i 0) None ≡ None)
       → text_shown a first rows slot len ≡ text_shown b first rows slot len
-  pub form : (b 4096 ≡ 165 → InForm j (count b) (number b)) → a 4096 ≡ 165 → InForm j (count a) (number a)
-  pub others : (b 4096 ≡ 165 → InForm j (count b) (number b)) → (p : ℕ) → (InBlocks first blocks p → ⊥)
+  pub form : (b PAGE ≡ 165 → InForm j (count b) (number b)) → a PAGE ≡ 165 → InForm j (count a) (number a)
+  pub others : (b PAGE ≡ 165 → InForm j (count b) (number b)) → (p : ℕ) → (InBlocks first blocks p → ⊥)
       → overlaid a p ≡ overlaid b p

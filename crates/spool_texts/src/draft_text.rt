@@ -13,7 +13,7 @@ ghost use Rattle.spool_texts.specs.TextOn.{text_on, AllBelow};
 ghost use Rattle.spool_texts.specs.Written.{WritesIn, IsImageBut, aside_blocks};
 
 use crate::{DraftError, read_text};
-use common::Stop;
+use common::{MOST_BLOCKS, Stop};
 use spool_blocks::{BlockNo, Blocks};
 use spool_disk::{Disk, DiskFault};
 use spool_journal::{Layout, PAGE, write_block};
@@ -36,7 +36,7 @@ impl Model for DraftText {
     ghost view = { λ d. record
         { blocks = d.blocks.items; unfinished = take d.filled d.page.items; room = vec_capacity d.blocks } };
 
-    ghost invariant = { λ d. (length d.page.items ≡ 4096) × (d.filled < 4096) × (length d.blocks.items ≤ 65536) };
+    ghost invariant = { λ d. (length d.page.items ≡ PAGE) × (d.filled < PAGE) × (length d.blocks.items ≤ MOST_BLOCKS) };
 }
 
 impl DraftText {
@@ -54,9 +54,9 @@ impl DraftText {
         tail: Option<BlockNo>,
         len: usize,
     ) -> Result<Self, Stop>
-        requires room { 4096 * all_pages layout.now ≤ D.size disk.old }
+        requires room { PAGE * all_pages layout.now ≤ D.size disk.old }
         requires below { AllBelow layout.now (tail_list tail) }
-        requires few { len < 4096 }
+        requires few { len < PAGE }
         ensures size { D.size disk.new ≡ D.size disk.old }
         ensures honest { D.honest disk.old ↔ D.honest disk.new }
         ensures counts { Counts (IsErrOf result Stop.DiskFault) (D.failures disk.old) (D.failures disk.new) }
@@ -82,8 +82,8 @@ impl DraftText {
     /// The reserved blocks. The first has the ordinal of the committed text's unfinished block.
     pub fn list(&self) -> &[BlockNo]
         ensures blocks { result.now ≡ self.now.blocks }
-        ensures few { length self.now.blocks ≤ 65536 }
-        ensures unfinished { length self.now.unfinished < 4096 }
+        ensures few { length self.now.blocks ≤ MOST_BLOCKS }
+        ensures unfinished { length self.now.unfinished < PAGE }
     {
         self.blocks.as_slice()
     }
@@ -120,7 +120,7 @@ impl DraftText {
         blocks: &mut Blocks,
         bytes: &[u8],
     ) -> Result<(), DraftError>
-        requires room { 4096 * all_pages layout.now ≤ D.size disk.old }
+        requires room { PAGE * all_pages layout.now ≤ D.size disk.old }
         requires blocks { length blocks.old.rows ≡ layout.now }
         requires reserved { IsReserved blocks.old self.old.blocks }
         ensures size { D.size disk.new ≡ D.size disk.old }
@@ -140,12 +140,12 @@ impl DraftText {
 
         // It reserves no more blocks than its bytes need, and keeps them when it is refused.
         ensures listed { OnOk result
-            (1 ≤ length bytes.now → length self.new.blocks ≡ (held_count self.new + 4095) / 4096) }
+            (1 ≤ length bytes.now → length self.new.blocks ≡ (held_count self.new + 4095) / PAGE) }
         ensures takes { Takes blocks.old blocks.new self.old.blocks self.new.blocks }
         ensures reserved { IsReserved blocks.new self.new.blocks }
         ensures full { IsErrOf result DraftError.Full → (b : ℕ) → IsFree blocks.new b → ⊥ }
         ensures scarce { IsErrOf result DraftError.Full → length
-            self.new.blocks < (held_count self.old + length bytes.now + 4095) / 4096 }
+            self.new.blocks < (held_count self.old + length bytes.now + 4095) / PAGE }
 
         // It writes only its own blocks; apart from them, every crash image is one of before.
         ensures writes { D.honest disk.old → WritesIn (text_page layout.now) self.new.blocks
@@ -176,7 +176,7 @@ impl DraftText {
         ensures blocks { self.new.blocks ≡ self.old.blocks }
         ensures unfinished { self.new.unfinished ≡ self.old.unfinished }
         ensures same { OnErr result (self.new ≡ self.old) }
-        ensures room { OnOk result (held_count self.old + len ≤ 4096 * self.new.room) }
+        ensures room { OnOk result (held_count self.old + len ≤ PAGE * self.new.room) }
     {
         let more = (self.filled + len).div_ceil(PAGE);
         self.blocks.reserve(more)
@@ -190,11 +190,11 @@ impl DraftText {
         blocks: &mut Blocks,
         bytes: &[u8],
     ) -> Result<usize, DraftError>
-        requires room { 4096 * all_pages layout.now ≤ D.size disk.old }
+        requires room { PAGE * all_pages layout.now ≤ D.size disk.old }
         requires blocks { length blocks.old.rows ≡ layout.now }
         requires reserved { IsReserved blocks.old self.old.blocks }
         requires some { 1 ≤ length bytes.now }
-        requires space { held_count self.old + length bytes.now ≤ 4096 * self.old.room }
+        requires space { held_count self.old + length bytes.now ≤ PAGE * self.old.room }
         ensures size { D.size disk.new ≡ D.size disk.old }
         ensures honest { D.honest disk.old ↔ D.honest disk.new }
         ensures counts { Counts (IsErrOf result (DraftError.Stop Stop.DiskFault)) (D.failures disk.old)
@@ -204,7 +204,7 @@ impl DraftText {
         ensures space { self.old.room ≤ self.new.room }
         ensures no_memory { IsErrOf result (DraftError.Stop Stop.NoMemory) → ⊥ }
         ensures listed { OnOk result (1 ≤ length self.new.blocks) }
-        ensures few { length self.new.unfinished < 4096 }
+        ensures few { length self.new.unfinished < PAGE }
         ensures held { IfOk result (λ n. held_count self.new ≡ held_count self.old + n) }
         ensures content { D.honest disk.old → IfOk result
             (λ n. content_on (D.current disk.new) (text_page layout.now) self.new
@@ -212,7 +212,7 @@ impl DraftText {
         ensures takes { Takes blocks.old blocks.new self.old.blocks self.new.blocks }
         ensures reserved { IsReserved blocks.new self.new.blocks }
         ensures full { IsErrOf result DraftError.Full → (b : ℕ) → IsFree blocks.new b → ⊥ }
-        ensures scarce { IsErrOf result DraftError.Full → 4096 * length self.new.blocks ≤ held_count self.old }
+        ensures scarce { IsErrOf result DraftError.Full → PAGE * length self.new.blocks ≤ held_count self.old }
         ensures writes { D.honest disk.old → WritesIn (text_page layout.now) self.new.blocks
             (D.current disk.old) (D.current disk.new) (D.unsynced disk.old) (D.unsynced disk.new) }
         ensures idle { D.honest disk.old → Idle (journal_pages layout.now) (D.current disk.old) (D.unsynced disk.old)
@@ -255,16 +255,16 @@ impl DraftText {
             (λ last. bytes_with current first self.new.blocks last.items ≡ content_on current first self.old ++
             bytes.now) }
         ensures fits { IfOk result
-            (λ last. 1 ≤ length self.new.blocks → (length last.items + 4095) / 4096 ≤ length self.new.blocks) }
+            (λ last. 1 ≤ length self.new.blocks → (length last.items + 4095) / PAGE ≤ length self.new.blocks) }
 
         // As in `put`, it reserves no more blocks than its bytes need.
         ensures listed { OnOk result
-            (1 ≤ length bytes.now → length self.new.blocks ≡ (held_count self.old + length bytes.now + 4095) / 4096) }
+            (1 ≤ length bytes.now → length self.new.blocks ≡ (held_count self.old + length bytes.now + 4095) / PAGE) }
         ensures takes { Takes blocks.old blocks.new self.old.blocks self.new.blocks }
         ensures reserved { IsReserved blocks.new self.new.blocks }
         ensures full { IsErrOf result DraftError.Full → (b : ℕ) → IsFree blocks.new b → ⊥ }
         ensures scarce { IsErrOf result DraftError.Full → length
-            self.new.blocks < (held_count self.old + length bytes.now + 4095) / 4096 }
+            self.new.blocks < (held_count self.old + length bytes.now + 4095) / PAGE }
     {
         let last = self.unfinished_with(alloc, bytes)?;
         if bytes.is_empty() {
@@ -279,7 +279,7 @@ impl DraftText {
     // The bytes of the unfinished block, and these.
     fn unfinished_with(&self, alloc: Global, bytes: &[u8]) -> Result<Vec<u8>, AllocError>
         ensures bytes { IfOk result (λ last. last.items ≡ self.now.unfinished ++ bytes.now) }
-        ensures few { length self.now.unfinished < 4096 }
+        ensures few { length self.now.unfinished < PAGE }
     {
         let mut last = Vec::new(alloc);
         last.extend_from_slice(&self.page[..self.filled])?;
@@ -306,7 +306,7 @@ impl DraftText {
         ensures reserved { IsReserved blocks.new self.new.blocks }
         ensures unfinished { self.new.unfinished ≡ self.old.unfinished }
         ensures ready { OnOk result (length self.new.blocks ≡ full_count self.old + 1) }
-        ensures few { length self.new.unfinished < 4096 }
+        ensures few { length self.new.unfinished < PAGE }
         ensures space { self.old.room ≤ self.new.room }
         ensures only_full { IsErr result → IsErrOf result DraftError.Full }
         ensures full { IsErr result → (b : ℕ) → IsFree blocks.new b → ⊥ }
@@ -327,10 +327,10 @@ fn read_tail<D: Disk>(
     len: usize,
     page: &mut [u8],
 ) -> Result<(), DiskFault>
-    requires room { 4096 * all_pages layout.now ≤ D.size disk.old }
+    requires room { PAGE * all_pages layout.now ≤ D.size disk.old }
     requires below { AllBelow layout.now (tail_list tail) }
-    requires few { len < 4096 }
-    requires page { length page.old ≡ 4096 }
+    requires few { len < PAGE }
+    requires page { length page.old ≡ PAGE }
     requires zeros { take len page.old ≡ replicate len 0 }
     ensures size { D.size disk.new ≡ D.size disk.old }
     ensures honest { D.honest disk.old ↔ D.honest disk.new }
@@ -357,18 +357,18 @@ fn write_prefix<D: Disk>(
     list: &[BlockNo],
     bytes: &[u8],
 ) -> Result<(), DiskFault>
-    requires room { 4096 * all_pages layout.now ≤ D.size disk.old }
+    requires room { PAGE * all_pages layout.now ≤ D.size disk.old }
     requires blocks { AllBelow layout.now list.now }
     requires distinct { (i k : ℕ) → i < k → k < length list.now → get_or list.now i 0 ≢ get_or list.now k 0 }
     requires some { 1 ≤ length list.now }
-    requires fits { length bytes.now ≤ 4096 }
+    requires fits { length bytes.now ≤ PAGE }
     ensures size { D.size disk.new ≡ D.size disk.old }
     ensures honest { D.honest disk.old ↔ D.honest disk.new }
     ensures counts { Counts (IsErr result) (D.failures disk.old) (D.failures disk.new) }
     ensures text { D.honest disk.old → OnOk result
         (text_on (D.current disk.new) (text_page layout.now) list.now
-        (4096 * (length list.now - 1) + length bytes.now) ≡ text_on (D.current disk.old)
-        (text_page layout.now) list.now (4096 * (length list.now - 1)) ++ bytes.now) }
+        (PAGE * (length list.now - 1) + length bytes.now) ≡ text_on (D.current disk.old)
+        (text_page layout.now) list.now (PAGE * (length list.now - 1)) ++ bytes.now) }
     ensures writes { D.honest disk.old → WritesIn (text_page layout.now) list.now (D.current disk.old)
         (D.current disk.new) (D.unsynced disk.old) (D.unsynced disk.new) }
     ensures idle { D.honest disk.old → Idle (journal_pages layout.now) (D.current disk.old) (D.unsynced disk.old)
@@ -391,13 +391,13 @@ pub fn write_last<D: Disk>(
     list: &[BlockNo],
     last: &[u8],
 ) -> Result<(), DiskFault>
-    requires room { 4096 * all_pages layout.now ≤ D.size disk.old }
+    requires room { PAGE * all_pages layout.now ≤ D.size disk.old }
     requires blocks { AllBelow layout.now list.now }
     requires distinct { (i k : ℕ) → i < k → k < length list.now → get_or list.now i 0 ≢ get_or list.now k 0 }
     ensures size { D.size disk.new ≡ D.size disk.old }
     ensures honest { D.honest disk.old ↔ D.honest disk.new }
     ensures counts { Counts (IsErr result) (D.failures disk.old) (D.failures disk.new) }
-    ensures written { D.honest disk.old → OnOk result ((length last.now + 4095) / 4096 ≤ length list.now
+    ensures written { D.honest disk.old → OnOk result ((length last.now + 4095) / PAGE ≤ length list.now
         → text_on (D.current disk.new) (text_page layout.now) list.now
         (length (bytes_with (D.current disk.old) (text_page layout.now) list.now last.now)) ≡ bytes_with
         (D.current disk.old) (text_page layout.now) list.now last.now) }
@@ -418,9 +418,9 @@ pub fn write_last<D: Disk>(
 // Reserves a block and appends it to the list.
 fn take_block(list: &mut Vec<BlockNo>, blocks: &mut Blocks) -> Result<(), DraftError>
     requires space { vec_len list.old < vec_capacity list.old }
-    requires few { length list.old.items ≤ 65536 }
+    requires few { length list.old.items ≤ MOST_BLOCKS }
     requires reserved { IsReserved blocks.old list.old.items }
-    ensures few { length list.new.items ≤ 65536 }
+    ensures few { length list.new.items ≤ MOST_BLOCKS }
     ensures takes { Takes blocks.old blocks.new list.old.items list.new.items }
     ensures reserved { IsReserved blocks.new list.new.items }
     ensures one { OnOk result (length list.new.items ≡ length list.old.items + 1) }
@@ -440,9 +440,9 @@ fn take_block(list: &mut Vec<BlockNo>, blocks: &mut Blocks) -> Result<(), DraftE
 fn take_blocks(list: &mut Vec<BlockNo>, blocks: &mut Blocks, count: usize) -> Result<(), DraftError>
     requires space { count ≤ vec_capacity list.old }
     requires fewer { length list.old.items ≤ count }
-    requires few { length list.old.items ≤ 65536 }
+    requires few { length list.old.items ≤ MOST_BLOCKS }
     requires reserved { IsReserved blocks.old list.old.items }
-    ensures few { length list.new.items ≤ 65536 }
+    ensures few { length list.new.items ≤ MOST_BLOCKS }
     ensures takes { Takes blocks.old blocks.new list.old.items list.new.items }
     ensures reserved { IsReserved blocks.new list.new.items }
     ensures count { OnOk result (length list.new.items ≡ count) }

@@ -6,16 +6,16 @@ ghost use Rattle.spool_texts.specs.Drafts.{Draft, content_on};
 ghost use Rattle.spool_texts.specs.TextOn.{text_on, IsListed};
 ghost use Rattle.spool_texts.specs.Written.{FrameBlocks, NoneOf, SameOutside, aside_blocks};
 
-use spool_journal::Layout;
+use spool_journal::{Layout, PAGE};
 
 /// The text on a list of a slot's blocks by ordinal is the slot's text by its rows. The text on two lists joined is the
 /// one on the full blocks of the first, followed by the one on the second.
 pub fn shown_texts()
     ensures shown { (image : ℕ → ℕ) (first : ℕ) (rows : List (Option (ℕ × ℕ))) (slot len : ℕ) (list : List ℕ)
-        → IsListed rows slot list → length list ≡ (len + 4095) / 4096 → text_on image first list len ≡ text_shown image
+        → IsListed rows slot list → length list ≡ (len + 4095) / PAGE → text_on image first list len ≡ text_shown image
         first rows slot len }
     ensures joined { (image : ℕ → ℕ) (first n len : ℕ) (list more : List ℕ) → n ≤ length list
-        → text_on image first (take n list ++ more) (4096 * n + len) ≡ text_on image first list (4096 * n) ++ text_on
+        → text_on image first (take n list ++ more) (PAGE * n + len) ≡ text_on image first list (PAGE * n) ++ text_on
         image first more len }
 {}
 

@@ -24,9 +24,9 @@ pub fn read_text<D: Disk>(
     at: u64,
     buf: &mut [u8],
 ) -> Result<usize, DiskFault>
-    requires room { 4096 * all_pages layout.now ≤ D.size disk.old }
+    requires room { PAGE * all_pages layout.now ≤ D.size disk.old }
     requires blocks { AllBelow layout.now list.now }
-    requires long { len ≤ 4096 * length list.now }
+    requires long { len ≤ PAGE * length list.now }
     ensures size { D.size disk.new ≡ D.size disk.old }
     ensures honest { D.honest disk.old ↔ D.honest disk.new }
     ensures counts { Counts (IsErr result) (D.failures disk.old) (D.failures disk.new) }
@@ -56,9 +56,9 @@ fn read_piece<D: Disk>(
     at: u64,
     buf: &mut [u8],
 ) -> Result<usize, DiskFault>
-    requires room { 4096 * all_pages layout.now ≤ D.size disk.old }
+    requires room { PAGE * all_pages layout.now ≤ D.size disk.old }
     requires blocks { AllBelow layout.now list.now }
-    requires long { at + length buf.old ≤ 4096 * length list.now }
+    requires long { at + length buf.old ≤ PAGE * length list.now }
     requires some { 1 ≤ length buf.old }
     ensures size { D.size disk.new ≡ D.size disk.old }
     ensures honest { D.honest disk.old ↔ D.honest disk.new }

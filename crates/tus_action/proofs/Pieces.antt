@@ -5,6 +5,7 @@ use Rattle.std.proofs.Common.{append-nil}
 use Rattle.std.proofs.lemmas.List.{length-take, length-drop, take_all, take-take, drop-drop, drop_all, drop-take}
 use Rattle.std.proofs.lemmas.List.{length-take-le, nil_from_length}
 use Rattle.std.proofs.lemmas.Bool.{leb-true, leb-false}
+use Rattle.tus_action.specs.declared.reads.TheConstants.{PIECE}
 use Rattle.upload_rules.specs.Store.{Store, Upload, upload_of, text_of}
 use Rattle.upload_rules.specs.Reading.{text_at, IsRead}
 use Rattle.upload_rules.specs.World.{World, is_there}
@@ -38,17 +39,17 @@ take_least n k xs c false more e =
     ap (λ x. take x xs) is ∙ sym (take-take n k xs (omega arith))
 
 -- the piece that is read is the next one
-pub piece_is : (text : List ℕ) (l g c n : ℕ) (zeros piece : List ℕ) → g ≤ l → l ≤ length text → c ≡ min (l - g) 65536
+pub piece_is : (text : List ℕ) (l g c n : ℕ) (zeros piece : List ℕ) → g ≤ l → l ≤ length text → c ≡ min (l - g) PIECE
     → length zeros ≡ c
-    → IsRead text g n zeros piece → piece ≡ take 65536 (drop g (take l text))
+    → IsRead text g n zeros piece → piece ≡ take PIECE (drop g (take l text))
 piece_is text l g c n zeros piece some within count size read =
     let ld : length (drop g text) ≡ length text - g = length-drop g text in
     let all : n ≡ c = read.count ∙ (omega arith) in
     let rest : drop n zeros ≡ [] = drop_all n zeros (omega arith) in
     read.bytes ∙ (ap (λ r. take n (drop g text) ++ r) rest
     ∙ (append-nil (take n (drop g text)) ∙ (ap (λ k. take k (drop g text)) all
-    ∙ (take_least 65536 (l - g) (drop g text) c (nat_le (l - g) 65536) refl count
-    ∙ ap (take 65536) (sym (left_is text l g some))))))
+    ∙ (take_least PIECE (l - g) (drop g text) c (nat_le (l - g) PIECE) refl count
+    ∙ ap (take PIECE) (sym (left_is text l g some))))))
 
 text_here : (m : Store) (n k : ℕ) (up : Upload) → n ≡ k → upload_of m k ≡ Some up
     → text_at m (upload_of m n) ≡ text_of m.indexes up
@@ -57,18 +58,18 @@ text_here m n k up is found = ap (λ x. text_at m (upload_of m x)) is ∙ ap (te
 -- what is read is the next piece
 pub given_piece : (m : Store) (g : given.Giving) (h : Giving) (up : Upload) → GivesAs m g h up
     → (c n : ℕ) (zeros piece : List ℕ)
-    → c ≡ min (g.length - g.given) 65536 → length zeros ≡ c → IsRead (text_at m (upload_of m g.number)) g.given n zeros
+    → c ≡ min (g.length - g.given) PIECE → length zeros ≡ c → IsRead (text_at m (upload_of m g.number)) g.given n zeros
     piece → piece ≡ piece_of h
 given_piece m g h up gives c n zeros piece count size read =
     let text : List ℕ = text_of m.indexes up in
     let here : text_at m (upload_of m g.number) ≡ text = text_here m g.number h.number up gives.number gives.found in
     piece_is text g.length g.given c n zeros piece gives.some gives.within count size
     (subst (λ t. IsRead t g.given n zeros piece) here read)
-    ∙ ap (take 65536) (sym gives.left)
+    ∙ ap (take PIECE) (sym gives.left)
 
 -- and has so many bytes
 pub piece_size_is : (m : Store) (g : given.Giving) (h : Giving) (up : Upload) → GivesAs m g h up → (c : ℕ)
-    → c ≡ min (g.length - g.given) 65536 → length (piece_of h) ≡ c
+    → c ≡ min (g.length - g.given) PIECE → length (piece_of h) ≡ c
 piece_size_is m g h up gives c count =
     let text : List ℕ = text_of m.indexes up in
     let some : g.given ≤ g.length = gives.some in
@@ -77,7 +78,7 @@ piece_size_is m g h up gives c count =
     let ld : length (drop g.given (take g.length text)) ≡ length (take g.length text) - g.given =
     length-drop g.given (take g.length text) in
     let ll : length h.left ≡ g.length - g.given = ap length gives.left ∙ (omega arith) in
-    let size : length (take 65536 h.left) ≡ min 65536 (length h.left) = length-take 65536 h.left in
+    let size : length (take PIECE h.left) ≡ min PIECE (length h.left) = length-take PIECE h.left in
     omega (arith, size, ll, count)
 
 -- bytes that end in those of a text, or in none
@@ -112,20 +113,20 @@ pending_some number [] closes b some is = absurd (omega arith)
 pending_some number (x ∷ left) closes b some is = refl
 
 -- after a whole piece the rest of the text is left
-left_after : (m : Store) (g : given.Giving) (h : Giving) (up : Upload) → GivesAs m g h up → g.given + 65536 < g.length
-    → GivesAs m (record g { given = g.given + 65536 }) (record h { left = drop 65536 h.left }) up
+left_after : (m : Store) (g : given.Giving) (h : Giving) (up : Upload) → GivesAs m g h up → g.given + PIECE < g.length
+    → GivesAs m (record g { given = g.given + PIECE }) (record h { left = drop PIECE h.left }) up
 left_after m g h up gives more =
     let text : List ℕ = text_of m.indexes up in record {
       number = gives.number;
       found = gives.found;
       some = omega arith;
       within = gives.within;
-      left = ap (drop 65536) gives.left ∙ drop-drop 65536 g.given (take g.length text);
+      left = ap (drop PIECE) gives.left ∙ drop-drop PIECE g.given (take g.length text);
       closes = gives.closes;
     }
 
 after_case : (m : Store) (g : given.Giving) (h : Giving) (up : Upload) → GivesAs m g h up → IsGiving m g h → (c : ℕ)
-    → c ≡ min (g.length - g.given) 65536 → (b : Bool) → nat_le g.length (g.given + c) ≡ b
+    → c ≡ min (g.length - g.given) PIECE → (b : Bool) → nat_le g.length (g.given + c) ≡ b
     → GivingIs m (if b then None else Some
     (record { number = g.number; length = g.length; given = g.given + c; closes = g.closes })) (pending_after h)
 after_case m g h up gives all c count true over =
@@ -137,22 +138,22 @@ after_case m g h up gives all c count true over =
     let ld : length (drop g.given (take g.length text)) ≡ length (take g.length text) - g.given =
     length-drop g.given (take g.length text) in
     let ll : length h.left ≡ g.length - g.given = ap length gives.left ∙ (omega arith) in
-    let none : drop 65536 h.left ≡ [] = drop_all 65536 h.left (omega arith) in
+    let none : drop PIECE h.left ≡ [] = drop_all PIECE h.left (omega arith) in
     subst (λ x. GivingIs m None (pending_of h.number x h.closes)) (sym none) (tt {0})
 after_case m g h up gives all c count false under =
     let text : List ℕ = text_of m.indexes up in
     let lt : g.given + c < g.length = leb-false g.length (g.given + c) under in
     let some : g.given ≤ g.length = gives.some in
     let within : g.length ≤ length text = gives.within in
-    let c_is : c ≡ 65536 = omega arith in
+    let c_is : c ≡ PIECE = omega arith in
     let ltk : length (take g.length text) ≡ g.length = length-take-le g.length text within in
     let ld : length (drop g.given (take g.length text)) ≡ length (take g.length text) - g.given =
     length-drop g.given (take g.length text) in
     let ll : length h.left ≡ g.length - g.given = ap length gives.left ∙ (omega arith) in
-    let lr : length (drop 65536 h.left) ≡ length h.left - 65536 = length-drop 65536 h.left in
-    let pending = pending_some h.number (drop 65536 h.left) h.closes (g.length - g.given - 65536) (omega arith)
+    let lr : length (drop PIECE h.left) ≡ length h.left - PIECE = length-drop PIECE h.left in
+    let pending = pending_some h.number (drop PIECE h.left) h.closes (g.length - g.given - PIECE) (omega arith)
     (omega arith) in
-    let rest : IsGiving m (record g { given = g.given + 65536 }) (record h { left = drop 65536 h.left }) = record {
+    let rest : IsGiving m (record g { given = g.given + PIECE }) (record h { left = drop PIECE h.left }) = record {
       number = all.number;
       below = all.below;
       closes = all.closes;
@@ -161,11 +162,11 @@ after_case m g h up gives all c count false under =
     subst (λ x. GivingIs m (Some
     (record { number = g.number; length = g.length; given = g.given + c; closes = g.closes })) x) (sym pending)
     (subst (λ k. IsGiving m (record { number = g.number; length = g.length; given = g.given + k; closes = g.closes })
-    (record h { left = drop 65536 h.left })) (sym c_is) rest)
+    (record h { left = drop PIECE h.left })) (sym c_is) rest)
 
 -- what is left after the piece
 pub gives_on : (m : Store) (g : given.Giving) (h : Giving) (up : Upload) → GivesAs m g h up → IsGiving m g h → (c : ℕ)
-    → c ≡ min (g.length - g.given) 65536 → GivingIs m (giving_after g c) (pending_after h)
+    → c ≡ min (g.length - g.given) PIECE → GivingIs m (giving_after g c) (pending_after h)
 gives_on m g h up gives all c count = after_case m g h up gives all c count (nat_le g.length (g.given + c)) refl
 
 -- the upload that a record tells of

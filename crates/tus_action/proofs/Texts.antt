@@ -10,7 +10,8 @@ use Rattle.upload_rules.specs.declared.records.Record.{Record}
 use Rattle.upload_rules.specs.declared.uploads.Uploads.{Ghosts}
 use Rattle.tus_request.specs.Requests.{Request}
 use Rattle.tus_request.specs.Replies.{reply_text}
-use Rattle.tus_action.specs.Acts.{Acted, Giving, piece_size, pending_of, pending_after, is_pending, get}
+use Rattle.tus_action.specs.Acts.{Acted, Giving, pending_of, pending_after, is_pending, get}
+use Rattle.tus_action.specs.declared.reads.TheConstants.{PIECE}
 use Rattle.tus_action.specs.Serves.{Appends, GivesAs, IsGiving, GivingIs, DraftIs, ActedAs, Serves}
 use Rattle.tus_action.specs.Serves.{GivesPiece, replied_giving}
 use Rattle.tus_action.proofs.Pieces.{appends}
@@ -83,9 +84,9 @@ get_acts {B = B} {sure = sure} u store w r n rec left old mid new (Some up) belo
     let text : List ℕ = text_of w.store.indexes up in
     let h : Giving = whole_text n text r.closes in
     let g = gives h up (starts w.store n rec up r.closes (below up e) e tells) e in
-    let pend : pending_after h ≡ pending_of n (if r.bare then [] else drop piece_size text) r.closes =
-    ap (λ b. pending_of n (if b then [] else drop piece_size text) r.closes) (sym bare) in
-    let is : GivingIs w.store left (pending_of n (if r.bare then [] else drop piece_size text) r.closes) =
+    let pend : pending_after h ≡ pending_of n (if r.bare then [] else drop PIECE text) r.closes =
+    ap (λ b. pending_of n (if b then [] else drop PIECE text) r.closes) (sym bare) in
+    let is : GivingIs w.store left (pending_of n (if r.bare then [] else drop PIECE text) r.closes) =
     subst (λ p. GivingIs w.store left p) pend g.1 in
     let reply : reply_text rec.to rec.text_len false r.closes ≡ reply_text up.to (length text) false r.closes =
     ap (λ t. reply_text t rec.text_len false r.closes) tells.to ∙ ap (λ l. reply_text up.to l false r.closes)
@@ -94,9 +95,9 @@ get_acts {B = B} {sure = sure} u store w r n rec left old mid new (Some up) belo
     let bytes : new ≡ old ++ (reply_text up.to (length text) false r.closes ++ piece) =
     g.2.1 ∙ (ap (λ x. x ++ piece) (head ∙ ap (λ x. old ++ x) reply)
     ∙ append_assoc old (reply_text up.to (length text) false r.closes) piece) in
-    let given : Appends sure old new (reply_text up.to (length text) false r.closes ++ take piece_size text)
-    (take piece_size text) =
-    appends old new (reply_text up.to (length text) false r.closes ++ take piece_size text) (take piece_size text)
+    let given : Appends sure old new (reply_text up.to (length text) false r.closes ++ take PIECE text)
+    (take PIECE text) =
+    appends old new (reply_text up.to (length text) false r.closes ++ take PIECE text) (take PIECE text)
     (record {
       reply = reply_text up.to (length text) false r.closes;
       piece = piece;
@@ -110,8 +111,8 @@ get_acts {B = B} {sure = sure} u store w r n rec left old mid new (Some up) belo
       giving = given_is B w.store left _ r.closes is;
       closes = given_closes B w.store left _ r.closes is;
       bytes = subst (λ (b : Bool). Appends sure old new
-          (reply_text up.to (length text) b r.closes ++ (if b then [] else take piece_size text))
-          (if b then [] else take piece_size text)) (sym bare) given;
+          (reply_text up.to (length text) b r.closes ++ (if b then [] else take PIECE text))
+          (if b then [] else take PIECE text)) (sym bare) given;
     }
 
 -- the first piece wasn't given: the head is taken back

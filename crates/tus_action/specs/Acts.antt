@@ -12,6 +12,7 @@ use Rattle.upload_rules.specs.Store.{New, Upload, upload_of, text_of}
 use Rattle.upload_rules.specs.World.{Patch, World, free_number, reached}
 use Rattle.upload_rules.specs.Calls.{create_refusal, created, terminate_refusal, terminated, begin_refusal, begun}
 use Rattle.upload_rules.specs.Calls.{longer, appended, commit_refusal, spent}
+use Rattle.tus_action.specs.declared.reads.TheConstants.{PIECE}
 use Rattle.tus_action.specs.Faults.{fault_of}
 
 -- A text of which more is to be given: its upload, the bytes that are left, and whether the connection then closes.
@@ -64,10 +65,6 @@ abbrev pub head : World → Request → Option Upload → Acted
 head w r None = refused_at w NoSuch r r.closes
 head w r (Some u) = replied w (reply_head (length u.accepted) u.declared u.metadata r.bare r.closes) r.closes
 
--- A piece of a text has at most 65,536 bytes.
-abbrev pub piece_size : ℕ
-piece_size = 65536
-
 -- The text is pending unless no bytes are left.
 abbrev pub pending_of : ℕ → List ℕ → Bool → Option Giving
 pending_of number [] closes = None
@@ -83,8 +80,8 @@ abbrev pub giving : World → Request → ℕ → Upload → List ℕ → List �
 giving w r number u text left = record {
   world = w;
   draft = None;
-  bytes = reply_text u.to (length text) r.bare r.closes ++ (if r.bare then [] else take piece_size text);
-  text = if r.bare then [] else take piece_size text;
+  bytes = reply_text u.to (length text) r.bare r.closes ++ (if r.bare then [] else take PIECE text);
+  text = if r.bare then [] else take PIECE text;
   pending = pending_of number left r.closes;
   closes = if is_pending (pending_of number left r.closes) then false else r.closes;
 }
@@ -93,7 +90,7 @@ giving w r number u text left = record {
 abbrev pub get : World → Request → ℕ → Option Upload → Acted
 get w r number None = refused_at w NoSuch r r.closes
 get w r number (Some u) =
-    let text = text_of w.store.indexes u in giving w r number u text (if r.bare then [] else drop piece_size text)
+    let text = text_of w.store.indexes u in giving w r number u text (if r.bare then [] else drop PIECE text)
 
 -- The result of a PATCH at its head. If it is refused, a client that expects 100 Continue also gets a close.
 abbrev pub patch : World → Request → ℕ → Option ℕ → Option UploadRefusal → Acted
@@ -149,8 +146,8 @@ fed_patch w d p (b ∷ piece) = longer w d p (b ∷ piece)
 
 -- The next piece of a text.
 abbrev pub piece_of : Giving → List ℕ
-piece_of g = take piece_size g.left
+piece_of g = take PIECE g.left
 
 -- What is pending after that piece.
 abbrev pub pending_after : Giving → Option Giving
-pending_after g = pending_of g.number (drop piece_size g.left) g.closes
+pending_after g = pending_of g.number (drop PIECE g.left) g.closes

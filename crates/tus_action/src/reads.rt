@@ -6,7 +6,6 @@ ghost use Rattle.upload_rules.specs.Answers.{Counts, Quiet};
 ghost use Rattle.tus_request.specs.Requests.{Request};
 ghost use Rattle.tus_action.specs.Acts.{head, get, Giving as Pending};
 ghost use Rattle.tus_action.specs.Serves.{Serves, Gives, GivesPiece, IsGiving};
-ghost use Rattle.tus_action.specs.Acts.{piece_size};
 ghost use Rattle.tus_request.specs.Replies.{longest_reply, GrowsBy};
 
 use crate::acts::{Done, Given, Giving};
@@ -75,7 +74,7 @@ fn next_piece<U: Uploads>(
         → GivesPiece U.Uploads sure store.new result out.old.items out.new.items w h }
     ensures crash { Quiet (U.moment store.old) (U.moment store.new) (U.left_only store.old) (U.left_only store.new) }
     ensures counts { Counts (IsErrOf result Stop.DiskFault) (U.failures store.old) (U.failures store.new) }
-    ensures few { GrowsBy piece_size out.old.items out.new.items }
+    ensures few { GrowsBy PIECE out.old.items out.new.items }
 {
     let left = giving.length.saturating_sub(giving.given);
     let count = left.min(PIECE as u64) as usize;
@@ -106,7 +105,7 @@ pub fn give_more<U: Uploads>(
         → Gives U.Uploads sure store.new result out.old.items out.new.items w h }
     ensures crash { Quiet (U.moment store.old) (U.moment store.new) (U.left_only store.old) (U.left_only store.new) }
     ensures counts { Counts (IsErrOf result Stop.DiskFault) (U.failures store.old) (U.failures store.new) }
-    ensures few { GrowsBy piece_size out.old.items out.new.items }
+    ensures few { GrowsBy PIECE out.old.items out.new.items }
 {
     let Some(_there) = store.record(giving.number) else {
         return Ok(Given::Gone);
@@ -134,7 +133,7 @@ pub(crate) fn give_text<U: Uploads>(
         (get w r number (upload_of w.store number)) }
     ensures crash { Quiet (U.moment store.old) (U.moment store.new) (U.left_only store.old) (U.left_only store.new) }
     ensures counts { Counts (IsErrOf result Stop.DiskFault) (U.failures store.old) (U.failures store.new) }
-    ensures few { GrowsBy (longest_reply + piece_size) out.old.items out.new.items }
+    ensures few { GrowsBy (longest_reply + PIECE) out.old.items out.new.items }
 {
     let Some(record) = store.record(number) else {
         let error = UploadError::Refused(UploadRefusal::NoSuch);

@@ -6,11 +6,10 @@ ghost use Rattle.tus_request.specs.Requests.{Asks};
 ghost use Rattle.tus_request.specs.Shown.{request_shown};
 ghost use Rattle.tus_action.specs.Acts.{acted};
 ghost use Rattle.tus_action.specs.Serves.{Serves, CanBeMade, CanBeRead};
-ghost use Rattle.tus_action.specs.Acts.{piece_size};
 ghost use Rattle.tus_request.specs.Replies.{longest_reply, GrowsBy};
 
 use crate::acts::Done;
-use crate::reads::{PieceBuffer, give_text, show};
+use crate::reads::{PIECE, PieceBuffer, give_text, show};
 use crate::writes::{begin, create, delete};
 use common::Stop;
 use std::alloc::Global;
@@ -44,7 +43,7 @@ pub fn act<U: Uploads>(
         → Limits (U.moment store.old) (U.moment store.new) (U.left_only store.old)
         (U.left_only store.new) w.store w.store }
     ensures counts { Counts (IsErrOf result Stop.DiskFault) (U.failures store.old) (U.failures store.new) }
-    ensures few { GrowsBy (longest_reply + piece_size) out.old.items out.new.items }
+    ensures few { GrowsBy (longest_reply + PIECE) out.old.items out.new.items }
 {
     let Request {
         action,

@@ -10,14 +10,15 @@ use Rattle.upload_rules.specs.World.{Patch, World, at_rest}
 use Rattle.upload_rules.specs.Calls.{commit_refusal, spent}
 use Rattle.upload_rules.specs.declared.errors.UploadRefusal.TheVariants.{Full}
 use Rattle.tus_request.specs.Requests.{Request, Asks}
-use Rattle.tus_action.specs.Acts.{Acted, Giving, pending_of, piece_size, fed, fed_patch}
+use Rattle.tus_action.specs.Acts.{Acted, Giving, pending_of, fed, fed_patch}
+use Rattle.tus_action.specs.declared.reads.TheConstants.{PIECE}
 use Rattle.tus_session.specs.Streams.{Asked, Moments, cut, rest_body, taken}
 use Rattle.tus_session.specs.Turns.{Conn, fresh, reader, body_step, turn_of, came_with, came_turn, given_up}
 use Rattle.tus_session.specs.Turns.{give_on, more_on, more_turn, ended_with, ended_world}
 use Rattle.tus_session.specs.Turns.{came_on as came_turn_on}
 use Rattle.tus_session.specs.Turns.{ended_on as ended_world_on}
 use Rattle.tus_session.specs.History.{State, Step, Event, Opened, Came, More, Ended, Marked, Served, Done, put, kept}
-use Rattle.tus_session.specs.History.{most_open}
+use Rattle.tus_session.specs.declared.session.TheConstants.{MOST_OPEN}
 use Rattle.tus_session.specs.History.{turned, opened_at, came_at, more_at, ended_at, conn_in, step, history, beginning}
 use Rattle.tus_session.specs.declared.errors.SessionError.{SessionError}
 use Rattle.tus_session.specs.declared.errors.SessionError.TheVariants.{TooMany, Closed}
@@ -89,7 +90,7 @@ module _ (st : State) (valid : Valid st) (g : ℕ → List ℕ) (r : Rep) (sim :
 
   -- OPENED
   opened_after : (o : Option Conn) → st.conns c ≡ o → After g c r (opened_at st c o)
-  opened_after None none = elim (cases_Bool (nat_lt c most_open)) [
+  opened_after None none = elim (cases_Bool (nat_lt c MOST_OPEN)) [
     | inl t ↦ rw t (patchless_after fresh [] refl (ap draft_at none) (ap still_to_give none))
     | inr f ↦ rw f (refused_after TooMany)
   ]
@@ -120,8 +121,8 @@ module _ (st : State) (valid : Valid st) (g : ℕ → List ℕ) (r : Rep) (sim :
     there_case : (h : Giving) → k.pending ≡ Some h → (u : Upload) → upload_of st.world.store h.number ≡ Some u
         → After g c r (turned st c (give_on st.world k h (upload_of st.world.store h.number)))
     there_case h text u there =
-        rw there (given_conn h.number h.closes (drop piece_size h.left) (take piece_size h.left) (text_no_draft h text)
-        (ap still_to_give here ∙ (ap text_left text ∙ sym (take-append-drop piece_size h.left))))
+        rw there (given_conn h.number h.closes (drop PIECE h.left) (take PIECE h.left) (text_no_draft h text)
+        (ap still_to_give here ∙ (ap text_left text ∙ sym (take-append-drop PIECE h.left))))
 
     more_case : KeepsText st (More c) → (o : Option Giving) → k.pending ≡ o
         → After g c r (turned st c (more_on st.world k o))

@@ -13,6 +13,7 @@ use Rattle.httparse.specs.Grammar.{RequestHead, ReadsRequest, HasNoRequest, prin
 use Rattle.httparse.proofs.GrammarLemmas.{request_unique}
 use Rattle.tus_request.specs.Lines.{Extent, head_extent}
 use Rattle.std.proofs.Math.Nat.{min_comm}
+use Rattle.tus_request.specs.declared.heads.TheConstants.{MOST_HEAD}
 use Rattle.enc_model.specs.declared.Encoding.{Encoding}
 use Rattle.tus_request.specs.Answers.{Answer, More, Judged, answer_with, answer_of}
 use Rattle.tus_request.specs.Grammar.{HeadPrefix, unfinished, too_long, whole, prefix_with, prefix, IsWhole}
@@ -54,7 +55,7 @@ pub shown_by : (o : Option (Bor (List ℕ))) (r : Bor (List ℕ)) (v : List ℕ)
 shown_by o r v e k = let t : option_copied (Some r) ≡ Some v = rw e at k in cc
 
 -- what is read is a whole head within the limits
-pub short_head : (start : List ℕ) (e : Extent) → length start ≤ 8192 → head_extent start ≡ Some e → e.len ≤ length start
+pub short_head : (start : List ℕ) (e : Extent) → length start ≤ MOST_HEAD → head_extent start ≡ Some e → e.len ≤ length start
     → e.texts ≤ 65
     → IsShortHead (take e.len start)
 short_head start e short some within few =
@@ -64,11 +65,11 @@ short_head start e short some within few =
       record { short = omega arith; extent = rw (take-append-drop e.len start) some; all = sym n; few = few },
     )
 
-pub start_is : (bytes : List ℕ) (m : ℕ) → m ≡ min (length bytes) 8192 → take m bytes ≡ take 8192 bytes
-start_is bytes m e = rw (e, min_comm) (take_min 8192 bytes)
+pub start_is : (bytes : List ℕ) (m : ℕ) → m ≡ min (length bytes) MOST_HEAD → take m bytes ≡ take MOST_HEAD bytes
+start_is bytes m e = rw (e, min_comm) (take_min MOST_HEAD bytes)
 
-pub start_short : (bytes : List ℕ) (m : ℕ) → m ≡ min (length bytes) 8192
-    → (length (take m bytes) ≤ 8192) × (length (take m bytes) ≡ min (length bytes) 8192)
+pub start_short : (bytes : List ℕ) (m : ℕ) → m ≡ min (length bytes) MOST_HEAD
+    → (length (take m bytes) ≤ MOST_HEAD) × (length (take m bytes) ≡ min (length bytes) MOST_HEAD)
 start_short bytes m e =
     let l : length (take m bytes) ≡ m = length-take-le m bytes (omega arith) in
     (omega arith, l ∙ e)
@@ -84,7 +85,7 @@ not_read head none = go (request_of head) refl
     go None e = refl
     go (Some h) e = absurd (none h [] (found_reads head h e))
 
-pub whole_prefix : (bytes : List ℕ) (e : Extent) → head_extent (take 8192 bytes) ≡ Some e → e.texts ≤ 65
+pub whole_prefix : (bytes : List ℕ) (e : Extent) → head_extent (take MOST_HEAD bytes) ≡ Some e → e.texts ≤ 65
     → IsWhole (prefix bytes)
 whole_prefix bytes e some few =
     let l : nat_lt 65 e.texts ≡ false = grind (arith, nat_tests) in rw (some, l) tt
@@ -105,28 +106,28 @@ module _ (offers : Encoding → Bool) where
       e ∙ ap (λ x. checked offers x (values_in (map header_parts headers))) l
       ∙ ap (λ x. checked offers (line_of h) (values_in x)) f
 
-  pub no_extent_answer : (bytes : List ℕ) (came : ℕ) (a : Answer) → head_extent (take 8192 bytes) ≡ None
-      → came ≡ min (length bytes) 8192
-      → a ≡ (if nat_lt came 8192 then More else Judged 8192 (no_head HeadTooLong)) → IsAnswer offers bytes a
+  pub no_extent_answer : (bytes : List ℕ) (came : ℕ) (a : Answer) → head_extent (take MOST_HEAD bytes) ≡ None
+      → came ≡ min (length bytes) MOST_HEAD
+      → a ≡ (if nat_lt came MOST_HEAD then More else Judged MOST_HEAD (no_head HeadTooLong)) → IsAnswer offers bytes a
   no_extent_answer bytes came a none is e =
-      let same : nat_lt (length bytes) 8192 ≡ nat_lt came 8192 = grind (arith, nat_tests) in
-      elim (cases_Bool (nat_lt came 8192)) [
+      let same : nat_lt (length bytes) MOST_HEAD ≡ nat_lt came MOST_HEAD = grind (arith, nat_tests) in
+      elim (cases_Bool (nat_lt came MOST_HEAD)) [
         | inl t ↦ rw (none, same, t) (rw t at e)
         | inr f ↦ rw (none, same, f) (rw f at e)
       ]
 
-  pub too_many_answer : (bytes : List ℕ) (e : Extent) → head_extent (take 8192 bytes) ≡ Some e → 65 < e.texts
+  pub too_many_answer : (bytes : List ℕ) (e : Extent) → head_extent (take MOST_HEAD bytes) ≡ Some e → 65 < e.texts
       → IsAnswer offers bytes (Judged e.len (no_head HeadTooLong))
   too_many_answer bytes e some many =
       let l : nat_lt 65 e.texts ≡ true = grind (arith, nat_tests) in rw (some, l) refl
 
-  pub whole_answer : (bytes : List ℕ) (e : Extent) (a : Answer) → head_extent (take 8192 bytes) ≡ Some e
-      → e.len ≤ length (take 8192 bytes) → e.texts ≤ 65
-      → IsHeadAnswer offers (take e.len (take 8192 bytes)) a → IsAnswer offers bytes a
+  pub whole_answer : (bytes : List ℕ) (e : Extent) (a : Answer) → head_extent (take MOST_HEAD bytes) ≡ Some e
+      → e.len ≤ length (take MOST_HEAD bytes) → e.texts ≤ 65
+      → IsHeadAnswer offers (take e.len (take MOST_HEAD bytes)) a → IsAnswer offers bytes a
   whole_answer bytes e a some within texts is =
       let l : nat_lt 65 e.texts ≡ false = grind (arith, nat_tests) in
-      let few : e.len ≤ 8192 = omega (arith, length-take 8192 bytes) in
-      rw (some, l) (rw (take-take e.len 8192 bytes few) at is)
+      let few : e.len ≤ MOST_HEAD = omega (arith, length-take MOST_HEAD bytes) in
+      rw (some, l) (rw (take-take e.len MOST_HEAD bytes few) at is)
 
   head_answer_unique : (head : List ℕ) (x y : Answer) → IsHeadAnswer offers head x → IsHeadAnswer offers head y → x ≡ y
   head_answer_unique head x y (inl a) (inl b) = a.1 ∙ sym b.1
@@ -159,4 +160,4 @@ module _ (offers : Encoding → Bool) where
 
   pub answer_is : (bytes : List ℕ) (a : Answer) → IsAnswer offers bytes a → a ≡ answer_of offers bytes
   unfolding answer_of
-  answer_is bytes a is = answer_with_is bytes a (head_extent (take 8192 bytes)) is
+  answer_is bytes a is = answer_with_is bytes a (head_extent (take MOST_HEAD bytes)) is

@@ -6,6 +6,7 @@ use Rattle.std.proofs.lemmas.List.{length-append, length-take, length-take-le, t
 use Rattle.std.proofs.Math.Seq.{take-append-add, take-append_seam}
 use Rattle.std.proofs.lemmas.Bool.{ltb-false, le-ltb}
 use Rattle.std.proofs.lemmas.Option.{same_Some}
+use Rattle.tus_request.specs.declared.heads.TheConstants.{MOST_HEAD}
 use Rattle.enc_model.specs.declared.Encoding.{Encoding}
 use Rattle.tus_request.specs.Lines.{lines, is_empty_line, up_to_empty, head_lines, bytes_in, Extent}
 use Rattle.tus_request.specs.Lines.{extent_of, head_extent}
@@ -130,29 +131,29 @@ record Stands (offers : Encoding → Bool) (s : List ℕ) (n : ℕ) (v : Verdict
   stay : (t : List ℕ) → answer_of offers (take n s ++ t) ≡ Judged n v
 
 module _ (offers : Encoding → Bool) where
-  stands : (s : List ℕ) (n : ℕ) (v : Verdict) (o : Option Extent) → head_extent (take 8192 s) ≡ o
+  stands : (s : List ℕ) (n : ℕ) (v : Verdict) (o : Option Extent) → head_extent (take MOST_HEAD s) ≡ o
       → answer_with offers s o ≡ Judged n v → Stands offers s n v
   unfolding answer_of
-  stands s n v None h q = elim (true_or_false (nat_lt (length s) 8192)) [
+  stands s n v None h q = elim (true_or_false (nat_lt (length s) MOST_HEAD)) [
     | inl t ↦ absurd (cc (rw t at q))
     | inr t ↦
         let k = rw t at q in
-        let is : 8192 ≡ n = cc in
-        let long : 8192 ≤ length s = ltb-false (length s) 8192 t in
-        let l : length (take 8192 s) ≡ 8192 = length-take-le 8192 s long in
+        let is : MOST_HEAD ≡ n = cc in
+        let long : MOST_HEAD ≤ length s = ltb-false (length s) MOST_HEAD t in
+        let l : length (take MOST_HEAD s) ≡ MOST_HEAD = length-take-le MOST_HEAD s long in
         rw (← is) (record {
           some = omega arith;
           within = long;
           stay = λ t.
-              let g : nat_lt (length (take 8192 s ++ t)) 8192 ≡ false =
-              le-ltb (length (take 8192 s ++ t)) 8192 (omega (arith, length-append (take 8192 s) t)) in
-              rw (own_bytes 8192 s t long, h, g) (rw (← is) at k);
+              let g : nat_lt (length (take MOST_HEAD s ++ t)) MOST_HEAD ≡ false =
+              le-ltb (length (take MOST_HEAD s ++ t)) MOST_HEAD (omega (arith, length-append (take MOST_HEAD s) t)) in
+              rw (own_bytes MOST_HEAD s t long, h, g) (rw (← is) at k);
         })
   ]
   stands s n v (Some e) h q =
-      let f = has_head (take 8192 s) e h in
-      let few : e.len ≤ 8192 = omega (arith, f.bound, length-take 8192 s) in
-      let within : e.len ≤ length s = omega (arith, f.bound, length-take 8192 s) in
+      let f = has_head (take MOST_HEAD s) e h in
+      let few : e.len ≤ MOST_HEAD = omega (arith, f.bound, length-take MOST_HEAD s) in
+      let within : e.len ≤ length s = omega (arith, f.bound, length-take MOST_HEAD s) in
       let l : length (take e.len s) ≡ e.len = length-take-le e.len s within in
       let is : e.len ≡ n = elim (true_or_false (nat_lt 65 e.texts)) [
         | inl t ↦ cc (rw t at q)
@@ -162,13 +163,13 @@ module _ (offers : Encoding → Bool) where
         some = f.some;
         within = within;
         stay = λ t.
-            let k = rw (take-take e.len 8192 s few) at (f.stay (take (8192 - length (take e.len s)) t)) in
-            rw (take_onto 8192 (take e.len s) t (omega arith), k, own_bytes e.len s t within) (rw (← is) at q);
+            let k = rw (take-take e.len MOST_HEAD s few) at (f.stay (take (MOST_HEAD - length (take e.len s)) t)) in
+            rw (take_onto MOST_HEAD (take e.len s) t (omega arith), k, own_bytes e.len s t within) (rw (← is) at q);
       })
 
   judged_stands : (s : List ℕ) (n : ℕ) (v : Verdict) → answer_of offers s ≡ Judged n v → Stands offers s n v
   unfolding answer_of
-  judged_stands s n v q = stands s n v (head_extent (take 8192 s)) refl q
+  judged_stands s n v q = stands s n v (head_extent (take MOST_HEAD s)) refl q
 
   pub steady : IsSteady (answer_of offers)
   steady = record {

@@ -4,6 +4,7 @@ use Rattle.std.proofs.Common.{IfSome, OnErr, OnOk, Result, Ok, Err, arith, codes
 use Rattle.std.proofs.lemmas.List.{length-append, append-nil}
 use Rattle.std.proofs.lemmas.Fmt.{length-decimal-le}
 use Rattle.std.specs.Fmt.{decimal}
+use Rattle.common.specs.declared.limits.TheConstants.{MOST_METADATA}
 use Rattle.enc_model.specs.declared.Encoding.{Encoding}
 use Rattle.enc_labels.specs.Labels.{name_of}
 use Rattle.tus_request.specs.Faults.{fault_number}
@@ -83,12 +84,12 @@ declared_short : (declared : Option ℕ) → IfSome declared (λ k. k < 2 ^ 64) 
 declared_short None small = omega arith
 declared_short (Some n) small = omega (arith, header_length (codes "Upload-Length") (decimal n), digits n small)
 
-metadata_short : (metadata : List ℕ) → length metadata ≤ 1536 → length (metadata_line metadata) ≤ 1560
+metadata_short : (metadata : List ℕ) → length metadata ≤ MOST_METADATA → length (metadata_line metadata) ≤ 1560
 metadata_short [] few = omega arith
 metadata_short (b ∷ bytes) few = omega (arith, few, header_length (codes "Upload-Metadata") (b ∷ bytes))
 
 pub head : (offset : ℕ) (declared : Option ℕ) (metadata : List ℕ) (bare closes : Bool) (first known size : List ℕ)
-    (n : Option ℕ) → offset < 2 ^ 64 → IfSome declared (λ k. k < 2 ^ 64) → length metadata ≤ 1536
+    (n : Option ℕ) → offset < 2 ^ 64 → IfSome declared (λ k. k < 2 ^ 64) → length metadata ≤ MOST_METADATA
     → first ≡ header (codes "Upload-Offset") (decimal offset) → known ≡ declared_line declared → size ≡ length_line n
     → n ≡ unless_bare bare 0
     → IsReply (reply (codes "200 OK") (first ++ (known ++ (metadata_line metadata ++ (size ++ [])))) None closes)

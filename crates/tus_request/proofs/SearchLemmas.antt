@@ -8,6 +8,7 @@ use Rattle.common.proofs.Splits.{none_passes}
 use Rattle.std.proofs.lemmas.List.{take_all}
 use Rattle.std.proofs.lemmas.Bool.{eqb-true, ltb-true, lt-ltb, leb-false, lt-leb, cases_Bool}
 use Rattle.std.proofs.lemmas.Bool.{both_ways, or_parts, or_from}
+use Rattle.tus_request.specs.declared.heads.TheConstants.{MOST_HEAD}
 use Rattle.enc_model.specs.declared.Encoding.{Encoding}
 use Rattle.tus_request.specs.Lines.{lines, onto_first, up_to_empty, head_lines, Extent}
 use Rattle.tus_request.specs.Lines.{head_extent}
@@ -79,17 +80,17 @@ an_end bytes e = let s = sees_all Front bytes in grind arith
 
 module _ (offers : Encoding → Bool) where
   -- a head that isn't whole, and may become so
-  pub unended : (bytes : List ℕ) → length bytes < 8192 → is_over (after_bytes Front bytes) ≡ false
+  pub unended : (bytes : List ℕ) → length bytes < MOST_HEAD → is_over (after_bytes Front bytes) ≡ false
       → answer_of offers bytes ≡ More
   unfolding answer_of
   unended bytes short e =
-      let all : take 8192 bytes ≡ bytes = take_all 8192 bytes (omega arith) in
-      rw (all, no_end bytes e, lt-ltb (length bytes) 8192 short)
+      let all : take MOST_HEAD bytes ≡ bytes = take_all MOST_HEAD bytes (omega arith) in
+      rw (all, no_end bytes e, lt-ltb (length bytes) MOST_HEAD short)
 
   open_case : (bytes : List ℕ) (o : Option Extent) → answer_with offers bytes o ≡ More
-      → (length bytes < 8192) × (o ≡ None)
-  open_case bytes None is = elim (cases_Bool (nat_lt (length bytes) 8192)) [
-    | inl t ↦ (ltb-true (length bytes) 8192 t, refl)
+      → (length bytes < MOST_HEAD) × (o ≡ None)
+  open_case bytes None is = elim (cases_Bool (nat_lt (length bytes) MOST_HEAD)) [
+    | inl t ↦ (ltb-true (length bytes) MOST_HEAD t, refl)
     | inr t ↦ absurd (cc (rw t at is))
   ]
   open_case bytes (Some e) is = elim (cases_Bool (nat_lt 65 e.texts)) [
@@ -99,20 +100,20 @@ module _ (offers : Encoding → Bool) where
 
   -- only such a head isn't judged
   pub open_head : (bytes : List ℕ) → answer_of offers bytes ≡ More
-      → (length bytes < 8192) × (is_over (after_bytes Front bytes) ≡ false)
+      → (length bytes < MOST_HEAD) × (is_over (after_bytes Front bytes) ≡ false)
   unfolding answer_of
   open_head bytes is =
-      let o = open_case bytes (head_extent (take 8192 bytes)) is in
-      (o.0, an_end bytes (rw (take_all 8192 bytes (omega (arith, o.0))) at o.1))
+      let o = open_case bytes (head_extent (take MOST_HEAD bytes)) is in
+      (o.0, an_end bytes (rw (take_all MOST_HEAD bytes (omega (arith, o.0))) at o.1))
 
   pub unjudged : (bytes : List ℕ) → is_judged bytes ≡ false → answer_of offers bytes ≡ More
   unjudged bytes e =
-      let n = or_parts _ _ e in unended bytes (leb-false 8192 (length bytes) n.1) n.0
+      let n = or_parts _ _ e in unended bytes (leb-false MOST_HEAD (length bytes) n.1) n.0
 
   pub judged : (bytes : List ℕ) → is_judged bytes ≡ true → answer_of offers bytes ≡ More → ⊥
   judged bytes e is =
       let o = open_head bytes is in
-      both_ways (is_judged bytes) (or_from _ _ o.1 (lt-leb 8192 (length bytes) o.0)) e
+      both_ways (is_judged bytes) (or_from _ _ o.1 (lt-leb MOST_HEAD (length bytes) o.0)) e
 
 -- THE SEARCH IN PIECES
 over_byte : (b : ℕ) → after_byte Over b ≡ Over

@@ -10,6 +10,8 @@ use Rattle.std.proofs.lemmas.List.Elements.{All-cons}
 use Rattle.std.proofs.lemmas.Str.{digit_value_digit}
 use Rattle.std.proofs.lemmas.Int.Digits.{digits_value-lt}
 use Rattle.std.proofs.Math.Nat.{pow-le-pow_right}
+use Rattle.tus_request.specs.declared.heads.TheConstants.{MOST_HEAD}
+use Rattle.common.specs.declared.limits.TheConstants.{MOST_METADATA}
 use Rattle.httparse.specs.Grammar.{RequestHead}
 use Rattle.httparse.specs.Spans.{name_and_value}
 use Rattle.tus_request.specs.Fields.{values_in}
@@ -64,12 +66,12 @@ all_plain (b ∷ bytes) p =
     All-cons (λ b. (0x20 ≤ b) × (b ≤ 0x7E)) b bytes (leb-true 32 b r.0, leb-true b 126 r.1) (all_plain bytes q.1)
 
 abbrev IsPlainText : List ℕ → Type 0
-IsPlainText m = (length m ≤ 1536) × All (λ b. (0x20 ≤ b) × (b ≤ 0x7E)) m
+IsPlainText m = (length m ≤ MOST_METADATA) × All (λ b. (0x20 ≤ b) × (b ≤ 0x7E)) m
 
 metadata_plain : (m : List ℕ) (pairs : List KeyValue) → metadata_of m ≡ Some pairs → IsPlainText m
 metadata_plain [] pairs q = (omega arith, all_plain [] refl)
 metadata_plain (b ∷ bytes) pairs q = elim (cases_Bool (is_metadata (b ∷ bytes))) [
-  | inl t ↦ let r = and_parts _ _ t in (leb-true (length (b ∷ bytes)) 1536 r.0, all_plain (b ∷ bytes) r.1)
+  | inl t ↦ let r = and_parts _ _ t in (leb-true (length (b ∷ bytes)) MOST_METADATA r.0, all_plain (b ∷ bytes) r.1)
   | inr f ↦ absurd (cc (rw f at q))
 ]
 
@@ -176,7 +178,7 @@ module _ (offers : Encoding → Bool) where
       ]
 
   extent_valid : (bytes : List ℕ) (o : Option Extent) → IsValidAnswer offers (answer_with offers bytes o)
-  extent_valid bytes None = elim (cases_Bool (nat_lt (length bytes) 8192)) [
+  extent_valid bytes None = elim (cases_Bool (nat_lt (length bytes) MOST_HEAD)) [
     | inl t ↦ rw t (tt {0})
     | inr f ↦ rw f (tt {0})
   ]
@@ -187,7 +189,7 @@ module _ (offers : Encoding → Bool) where
 
   pub answer_valid : (bytes : List ℕ) → IsValidAnswer offers (answer_of offers bytes)
   unfolding answer_of
-  answer_valid bytes = extent_valid bytes (head_extent (take 8192 bytes))
+  answer_valid bytes = extent_valid bytes (head_extent (take MOST_HEAD bytes))
 
 -- a request that passed its checks is valid
 pub request_valid : (offers : Encoding → Bool) (bytes : List ℕ) (n : ℕ) (r : Request)

@@ -1,5 +1,6 @@
 -- The head in a buffer.
 use Rattle.std.specs.Prelude.{ℕ, Bool, ◌||◌, List, [], length, nat_le}
+use Rattle.tus_request.specs.declared.heads.TheConstants.{MOST_HEAD}
 use Rattle.tus_request.specs.Answers.{Answer, More, Judged}
 use Rattle.tus_request.specs.Searches.{after_bytes, is_over}
 use Rattle.tus_request.specs.declared.search.Search.TheVariants.{Front}
@@ -16,4 +17,4 @@ unfinished (Judged n v) s = []
 
 -- The head's end has arrived, or as many bytes as a head may have.
 abbrev pub is_judged : List ℕ → Bool
-is_judged bytes = is_over (after_bytes Front bytes) || nat_le 8192 (length bytes)
+is_judged bytes = is_over (after_bytes Front bytes) || nat_le MOST_HEAD (length bytes)

@@ -1,6 +1,7 @@
 -- The answer to a stream's start, by the grammar of request heads.
 use Rattle.std.specs.Prelude.{◌≡◌, ℕ, Bool, ◌≤◌, ◌⊎◌, List, [], ◌++◌, length, take, nat_lt, if◌then◌else◌, Option, Some}
 use Rattle.std.specs.Prelude.{None}
+use Rattle.tus_request.specs.declared.heads.TheConstants.{MOST_HEAD}
 use Rattle.httparse.specs.Grammar.{RequestHead, ReadsRequest, HasNoRequest}
 use Rattle.enc_model.specs.declared.Encoding.{Encoding}
 use Rattle.tus_request.specs.Lines.{Extent, head_extent}
@@ -16,12 +17,12 @@ pub data HeadPrefix : Type 0 where
 
 -- The start of a stream, by the extent of the head in its first 8,192 bytes.
 abbrev pub prefix_with : List ℕ → Option Extent → HeadPrefix
-prefix_with bytes None = if nat_lt (length bytes) 8192 then unfinished else too_long 8192
+prefix_with bytes None = if nat_lt (length bytes) MOST_HEAD then unfinished else too_long MOST_HEAD
 prefix_with bytes (Some e) = if nat_lt 65 e.texts then too_long e.len else whole (take e.len bytes)
 
 -- The start of a stream.
 abbrev pub prefix : List ℕ → HeadPrefix
-prefix bytes = prefix_with bytes (head_extent (take 8192 bytes))
+prefix bytes = prefix_with bytes (head_extent (take MOST_HEAD bytes))
 
 -- It is a finished head within the limits.
 abbrev pub IsWhole : HeadPrefix → Type 0
@@ -47,7 +48,7 @@ IsAnswer offers bytes answer = IsPrefixAnswer offers (prefix bytes) answer
 
 -- The bytes are a finished head within the limits; `more` follows them.
 pub record IsShortHeadOf (head more : List ℕ) (e : Extent) : Type 0 where
-  pub short : length head ≤ 8192
+  pub short : length head ≤ MOST_HEAD
   pub extent : head_extent (head ++ more) ≡ Some e
   pub all : e.len ≡ length head
   pub few : e.texts ≤ 65

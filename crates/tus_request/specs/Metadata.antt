@@ -2,6 +2,7 @@
 use Rattle.std.specs.Prelude.{ℕ, Bool, false, ◌&&◌, ◌||◌, List, [], ◌∷◌, ◌++◌, map, length, codes, bytes_eq, nat_le}
 use Rattle.std.specs.Prelude.{if◌then◌else◌, Option, Some, None, option_map}
 use Rattle.std.specs.List.{list_all}
+use Rattle.common.specs.declared.limits.TheConstants.{MOST_METADATA}
 use Rattle.enc_model.specs.declared.Encoding.{Encoding}
 use Rattle.enc_model.specs.declared.Mode.{Mode}
 use Rattle.enc_model.specs.declared.Mode.TheVariants.{Html, Fatal}
@@ -50,7 +51,7 @@ is_plain b = nat_le 32 b && nat_le b 126
 
 -- At most 1,536 bytes of 20..7E.
 abbrev pub is_metadata : List ℕ → Bool
-is_metadata bytes = nat_le (length bytes) 1536 && list_all is_plain bytes
+is_metadata bytes = nat_le (length bytes) MOST_METADATA && list_all is_plain bytes
 
 -- The pairs of the metadata. Empty metadata has none, and spaces around a pair are ignored.
 abbrev pub metadata_of : List ℕ → Option (List KeyValue)

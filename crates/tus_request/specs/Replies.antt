@@ -1,6 +1,7 @@
 -- The bytes of the replies (RFC 9112, section 4; tus 1.0.0).
 use Rattle.std.specs.Prelude.{ℕ, ◌≤◌, ◌+◌, Bool, List, [], ◌∷◌, ◌++◌, length, if◌then◌else◌, Option, Some, None, codes}
 use Rattle.std.specs.Fmt.{decimal}
+use Rattle.common.specs.declared.limits.TheConstants.{MOST_LENGTH}
 use Rattle.enc_model.specs.declared.Encoding.{Encoding}
 use Rattle.enc_labels.specs.Labels.{name_of}
 use Rattle.tus_request.specs.declared.faults.Fault.{Fault}
@@ -61,7 +62,7 @@ abbrev pub options_lines : List ℕ
 options_lines =
     header (codes "Tus-Version") (codes "1.0.0")
     ++ (header (codes "Tus-Extension") (codes "creation,creation-defer-length,termination")
-    ++ header (codes "Tus-Max-Size") (codes "1073741824"))
+    ++ header (codes "Tus-Max-Size") (decimal MOST_LENGTH))
 
 -- The reply to OPTIONS.
 abbrev pub reply_options : Bool → List ℕ

@@ -1,5 +1,6 @@
 -- The properties of requests that passed the checks.
 use Rattle.std.specs.Prelude.{◌≡◌, ◌<◌, ◌≤◌, ◌^◌, Bool, true, All, length}
+use Rattle.common.specs.declared.limits.TheConstants.{MOST_METADATA}
 use Rattle.enc_model.specs.declared.Encoding.{Encoding}
 use Rattle.enc_model.specs.declared.Encoding.TheVariants.{Utf16Be, Utf16Le}
 use Rattle.tus_request.specs.Requests.{Action, Options, Create, Head, Get, Patch, Delete}
@@ -11,7 +12,7 @@ pub record IsValidCreation (offers : Encoding → Bool) (c : Creation) : Type 0 
   pub from : offers c.from ≡ true
   pub to : offers c.to ≡ true
   pub no_utf16 : (c.to ≡ Utf16Be → ⊥) × (c.to ≡ Utf16Le → ⊥)
-  pub short : length c.metadata ≤ 1536
+  pub short : length c.metadata ≤ MOST_METADATA
   pub plain : All (λ b. (0x20 ≤ b) × (b ≤ 0x7E)) c.metadata
 
 -- The numbers and encodings of an action.

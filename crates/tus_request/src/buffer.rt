@@ -6,7 +6,7 @@ ghost use Rattle.tus_request.specs.Searches.{after_bytes};
 ghost use Rattle.tus_request.specs.declared.search.Search.TheVariants.{Front};
 ghost use Rattle.tus_request.specs.Shown.{answer_shown};
 
-use crate::heads::{MAX_HEAD, parse_by};
+use crate::heads::{MOST_HEAD, parse_by};
 use crate::places::Routes;
 use crate::requests::Parsed;
 use crate::search::Search;
@@ -19,7 +19,7 @@ pub struct HeadBuffer {
     bytes: Vec<u8>,
     // The state of the search for the head's end after these bytes, so that no byte is searched twice.
     search: Search,
-    ghost short: { vec_len bytes ≤ 8192 },
+    ghost short: { vec_len bytes ≤ MOST_HEAD },
     ghost searched: { search ≡ after_bytes Front bytes.items },
 }
 
@@ -111,7 +111,7 @@ impl HeadBuffer {
     fn is_judged(&self) -> bool
         ensures { result ≡ is_judged (bytes_of self.now) }
     {
-        self.search.is_over() || self.bytes.len() >= MAX_HEAD
+        self.search.is_over() || self.bytes.len() >= MOST_HEAD
     }
 
     /// Empties the buffer.
@@ -124,10 +124,10 @@ impl HeadBuffer {
 
     /// Appends those bytes of the piece that may belong to the head.
     fn fill(&mut self, piece: &[u8]) -> Result<(), AllocError>
-        ensures { bytes_of self.new ≡ (if is_ok result then take 8192
+        ensures { bytes_of self.new ≡ (if is_ok result then take MOST_HEAD
             (bytes_of self.old ++ piece.now) else bytes_of self.old) }
     {
-        let room = MAX_HEAD - self.bytes.len();
+        let room = MOST_HEAD - self.bytes.len();
         let prefix = &piece[..piece.len().min(room)];
         self.bytes.extend_from_slice(prefix)?;
         self.search = self.search.after(prefix);

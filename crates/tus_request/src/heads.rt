@@ -18,7 +18,7 @@ use httparse::{Request, Status};
 use std::alloc::{AllocError, Global};
 
 // The most bytes of a head. `MAX_LINES` is the most lines after its request line.
-pub(crate) const MAX_HEAD: usize = 8192;
+pub(crate) const MOST_HEAD: usize = 8192;
 
 const MAX_LINES: usize = 64;
 
@@ -64,7 +64,7 @@ fn parse_head(
     ensures grammar { IfOk result (λ answer. IsAnswer (offers set.now) bytes.now (answer_shown answer)) }
     ensures memory { OnErr result (IsWhole (prefix bytes.now)) }
 {
-    let prefix = &bytes[..bytes.len().min(MAX_HEAD)];
+    let prefix = &bytes[..bytes.len().min(MOST_HEAD)];
     let Some(extent) = measure(prefix) else {
         return Ok(unmeasured(prefix.len()));
     };
@@ -76,12 +76,12 @@ fn parse_head(
 
 /// The answer to an unfinished head of `came` bytes.
 fn unmeasured(came: usize) -> Parsed
-    ensures { answer_shown result ≡ (if nat_lt came 8192 then More else Judged 8192 (no_head HeadTooLong)) }
+    ensures { answer_shown result ≡ (if nat_lt came MOST_HEAD then More else Judged MOST_HEAD (no_head HeadTooLong)) }
 {
-    if came < MAX_HEAD {
+    if came < MOST_HEAD {
         Parsed::More
     } else {
-        no_head(MAX_HEAD, Fault::HeadTooLong)
+        no_head(MOST_HEAD, Fault::HeadTooLong)
     }
 }
 

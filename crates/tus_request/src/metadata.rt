@@ -8,15 +8,12 @@ ghost use Rattle.tus_request.specs.Metadata.{metadata_of, setting, mode_of, choi
 ghost use Rattle.tus_request.specs.Pairs.{pair_shown, choice_shown, bytes_shown, pairs_shown};
 
 use crate::texts::trimmed;
-use common::{after, prefix};
+use common::{MOST_METADATA, after, prefix};
 use base64::DecodeAllocError;
 use base64::engine::general_purpose::STANDARD;
 use enc_labels::{encoding_of, output_of};
 use enc_model::{Encoding, Mode};
 use std::alloc::{AllocError, Global};
-
-// The most bytes of metadata, so that they fit into a record.
-const MAX_METADATA: usize = 1536;
 
 /// A key and its decoded value.
 #[derive(Drop)]
@@ -101,7 +98,7 @@ fn read_pairs<'m>(alloc: Global, text: &'m [u8]) -> Result<Option<Vec<Pair<'m>>>
 fn is_metadata(text: &[u8]) -> bool
     ensures { result ≡ is_metadata text.now }
 {
-    text.len() <= MAX_METADATA && are_plain(text)
+    text.len() <= MOST_METADATA && are_plain(text)
 }
 
 /// Whether the byte is printable ASCII.

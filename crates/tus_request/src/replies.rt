@@ -9,6 +9,7 @@ ghost use Rattle.tus_request.specs.Replies.{reply_options, reply_created, reply_
 ghost use Rattle.tus_request.specs.Replies.{reply_text, reply_refused, reply_continue, unless_bare};
 ghost use Rattle.tus_request.specs.Replies.{longest_reply, GrowsBy};
 
+use common::MOST_METADATA;
 use crate::faults::Fault;
 use enc_model::Encoding;
 use itoa::Buffer;
@@ -81,7 +82,7 @@ pub fn reply_head(
     closes: bool,
     out: &mut Vec<u8>,
 ) -> Result<(), AllocError>
-    requires { length metadata.now ≤ 1536 }
+    requires { length metadata.now ≤ MOST_METADATA }
     ensures ok { OnOk result (out.new.items ≡ out.old.items ++ reply_head offset declared metadata.now bare closes) }
     ensures err { OnErr result (out.new.items ≡ out.old.items) }
     ensures short { GrowsBy longest_reply out.old.items out.new.items }

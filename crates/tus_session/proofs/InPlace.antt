@@ -9,7 +9,8 @@ use Rattle.upload_rules.specs.Store.{find}
 use Rattle.upload_rules.specs.World.{Patch, World}
 use Rattle.upload_rules.specs.declared.uploads.Uploads.{Ghosts}
 use Rattle.tus_session.specs.Turns.{Conn, fresh, reader}
-use Rattle.tus_session.specs.History.{State, with_conn, put, Opened, Served, Done, Refused, step, most_open}
+use Rattle.tus_session.specs.History.{State, with_conn, put, Opened, Served, Done, Refused, step}
+use Rattle.tus_session.specs.declared.session.TheConstants.{MOST_OPEN}
 use Rattle.tus_session.specs.Stands.{PlaceIs, draft_at, SessionStands}
 use Rattle.tus_session.specs.Moves.{Moves}
 use Rattle.tus_session.specs.Places.{IsPut}
@@ -145,13 +146,13 @@ module _ {U B : Type 0} (u : Ghosts U B) (sure : Bool) where
           } in
           let s = in_place places (slice_set places c k) store store st st.world c k (Some fresh) stands put moves
           stands.shown (new_place st.world head e) in
-          rw (none, lt-ltb c most_open (omega (arith, stands.count))) (record { stands = s; outcome = refl })
+          rw (none, lt-ltb c MOST_OPEN (omega (arith, stands.count))) (record { stands = s; outcome = refl })
 
       pub not_below : (c : ℕ) → length places ≤ c
           → Follows u sure places store st (step st (Opened c) Served).outcome (Refused TooMany)
       unfolding step
       not_below c le =
-          rw (beyond c le, le-ltb c most_open (omega (arith, stands.count)))
+          rw (beyond c le, le-ltb c MOST_OPEN (omega (arith, stands.count)))
           (record { stands = stands; outcome = refl })
 
       pub is_open : (c : ℕ) (x : Option (Link B)) → c < length places → x ≡ get_or places c x → is_some x ≡ true

@@ -11,7 +11,7 @@ use Rattle.upload_rules.specs.Lengths.{known_or, is_too_large, longest}
 use Rattle.upload_rules.specs.declared.errors.UploadRefusal.{UploadRefusal}
 use Rattle.upload_rules.specs.declared.errors.UploadRefusal.TheVariants.{Offset, TooLarge}
 use Rattle.tus_action.specs.Acts.{Acted, Giving, acted, acted_on, post, new_of, delete, head, get, giving, patch}
-use Rattle.tus_action.specs.Acts.{piece_size}
+use Rattle.tus_action.specs.declared.reads.TheConstants.{PIECE}
 use Rattle.tus_session.specs.Moves.{Moves}
 use Rattle.tus_session.proofs.Moved.{create_moves, delete_moves, free_none, has_room, or_else_second, still}
 
@@ -87,7 +87,7 @@ module _ (w : World) (r : Request) where
   got number None = Nothing (still w None) refl refl
   got number (Some u) =
       given number u (text_of w.store.indexes u)
-      (if r.bare then [] else drop piece_size (text_of w.store.indexes u))
+      (if r.bare then [] else drop PIECE (text_of w.store.indexes u))
 
   patched : (number offset : ℕ) (declare : Option ℕ) → r.action ≡ Patches number offset declare
       → (o : Option UploadRefusal) → begin_refusal w number offset r.length declare ≡ o

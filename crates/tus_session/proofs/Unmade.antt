@@ -2,7 +2,8 @@
 use Rattle.std.proofs.Common.{◌≡◌, ℕ, Bool, true, false, Option, Some, None, refl, nat_lt}
 use Rattle.upload_rules.specs.World.{World}
 use Rattle.tus_session.specs.Turns.{Conn, left_world}
-use Rattle.tus_session.specs.History.{State, Event, Opened, Came, More, Ended, OutOfMemory, Failed, most_open}
+use Rattle.tus_session.specs.History.{State, Event, Opened, Came, More, Ended, OutOfMemory, Failed}
+use Rattle.tus_session.specs.declared.session.TheConstants.{MOST_OPEN}
 use Rattle.tus_session.specs.History.{opened_if, opened_at, lost_at, failed_at, step}
 
 put_uploads : (st : State) (c : ℕ) (b : Bool)
@@ -11,7 +12,7 @@ put_uploads st c true = refl
 put_uploads st c false = refl
 
 pub opened_uploads : (st : State) (c : ℕ) (o : Option Conn) → (opened_at st c o).state.world.store ≡ st.world.store
-opened_uploads st c None = put_uploads st c (nat_lt c most_open)
+opened_uploads st c None = put_uploads st c (nat_lt c MOST_OPEN)
 opened_uploads st c (Some k) = refl
 
 left_uploads : (w : World) (own : Option ℕ) → (left_world w own).store ≡ w.store

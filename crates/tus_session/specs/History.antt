@@ -1,15 +1,12 @@
 -- The history: what a list of events makes of the uploads and the connections.
 use Rattle.std.specs.Prelude.{ℕ, Bool, true, false, List, [], ◌∷◌, nat_lt, ◌==◌, if◌then◌else◌, Option, Some, None}
+use Rattle.tus_session.specs.declared.session.TheConstants.{MOST_OPEN}
 use Rattle.tus_session.specs.declared.errors.SessionError.{SessionError}
 use Rattle.tus_session.specs.declared.errors.SessionError.TheVariants.{NoMemory, DiskFault, TooMany, Closed}
 use Rattle.upload_rules.specs.Store.{Store}
 use Rattle.upload_rules.specs.World.{World, at_rest}
 use Rattle.tus_action.specs.Acts.{is_pending}
 use Rattle.tus_session.specs.Turns.{Conn, Turn, fresh, came_turn, more_turn, ended_world, left_world}
-
--- How many connections may be open at once.
-abbrev pub most_open : ℕ
-most_open = 16
 
 -- An event of a connection: it opened, bytes came, more of a text was asked for, or it ended.
 pub data Event : Type 0 where
@@ -82,7 +79,7 @@ opened_if st c false = kept st TooMany
 -- Opens connection c unless it is open.
 abbrev pub opened_at : State → ℕ → Option Conn → Step
 opened_at st c (Some k) = kept st TooMany
-opened_at st c None = opened_if st c (nat_lt c most_open)
+opened_at st c None = opened_if st c (nat_lt c MOST_OPEN)
 
 -- Bytes came on connection c.
 abbrev pub came_at : State → ℕ → List ℕ → Option Conn → Step

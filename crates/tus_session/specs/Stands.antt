@@ -15,7 +15,8 @@ use Rattle.tus_action.specs.declared.acts.Giving as given
 use Rattle.tus_session.specs.Streams.{Asked, Rest, InHead, InBody, cut}
 use Rattle.tus_session.specs.Turns.{Conn, reader}
 use Rattle.tus_session.specs.Heads.{InsideHead}
-use Rattle.tus_session.specs.History.{State, most_open}
+use Rattle.tus_session.specs.History.{State}
+use Rattle.tus_session.specs.declared.session.TheConstants.{MOST_OPEN}
 use Rattle.tus_action.specs.declared.bodies.OpenPatch.{OpenPatch}
 use Rattle.tus_session.specs.declared.conns.Awaiting.{Awaiting}
 use Rattle.tus_session.specs.declared.conns.Awaiting.TheVariants as awaits
@@ -95,7 +96,7 @@ draft_at (Some conn) = conn.draft
 -- The store stands for the history's world and each place for its connection. No two connections share a draft.
 pub record SessionStands {U B : Type 0} (u : Ghosts U B) (sure : Bool) (places : List (Option (Link B))) (store : U)
     (st : State) : Type 0 where
-  pub count : length places ≡ most_open
+  pub count : length places ≡ MOST_OPEN
   pub shown : u.stands store sure st.world
   pub each : (c : ℕ) → PlaceIs u st.world (get_or places c None) (st.conns c)
   pub apart : (c e d : ℕ) → draft_at (st.conns c) ≡ Some d → draft_at (st.conns e) ≡ Some d → c ≡ e

@@ -7,7 +7,8 @@ use Rattle.enc_model.specs.Indexes.{offers}
 use Rattle.upload_rules.specs.Store.{Upload, find, upload_of}
 use Rattle.upload_rules.specs.World.{Patch, World}
 use Rattle.upload_rules.specs.Calls.{commit_refusal, spent, dropped}
-use Rattle.tus_action.specs.Acts.{Giving, Acted, acted, is_pending, pending_after, piece_of, piece_size, fed}
+use Rattle.tus_action.specs.Acts.{Giving, Acted, acted, is_pending, pending_after, piece_of, fed}
+use Rattle.tus_action.specs.declared.reads.TheConstants.{PIECE}
 use Rattle.tus_action.specs.Acts.{commit_with}
 use Rattle.tus_session.specs.Streams.{Asked, Reader, Moments, moments, taken}
 
@@ -139,7 +140,7 @@ left_world w (Some d) = dropped w d
 
 -- The most bytes that a call gives: a reply, a piece of a text, and the reply to the body's end right after it.
 abbrev pub most_given : ℕ
-most_given = 2 * longest_reply + piece_size
+most_given = 2 * longest_reply + PIECE
 
 -- The output grew by at most that.
 abbrev pub GivesFew : List ℕ → List ℕ → Type 0

@@ -1,6 +1,7 @@
 -- A table's `create` and `begin`.
 use Rattle.std.proofs.Common.{◌≡◌, ℕ, ◌<◌, ◌≤◌, ◌^◌, false, length, Option, Some, None, Ok, ◌∙◌, ap, arith, Vec, Global}
 use Rattle.std.proofs.lemmas.Bool.Decides.{nat_tests}
+use Rattle.common.specs.declared.limits.TheConstants.{SLOTS}
 use Rattle.upload_rules.specs.declared.errors.UploadRefusal.TheVariants as refusals
 use Rattle.upload_rules.specs.declared.appends.OpenAppend.{OpenAppend}
 use Rattle.upload_rules.specs.declared.slot.Slot.{Slot}
@@ -20,15 +21,15 @@ module _ (t : Table) (w : World) (stands : TableStands t w) where
   as_many : length w.store.uploads ≡ length t.slots.items
   as_many = counts w.store.indexes w.store.uploads t.slots.items stands.slots
 
-  pub many : (new : New) → is_too_large new.declared ≡ false → 512 ≤ length t.slots.items
+  pub many : (new : New) → is_too_large new.declared ≡ false → SLOTS ≤ length t.slots.items
       → create_refusal w new ≡ Some refusals.Slots
   many new small full = grind (arith, nat_tests, as_many)
 
-  pub spent_numbers : (new : New) → is_too_large new.declared ≡ false → length t.slots.items < 512 → 10 ^ 18 ≤ t.next
+  pub spent_numbers : (new : New) → is_too_large new.declared ≡ false → length t.slots.items < SLOTS → 10 ^ 18 ≤ t.next
       → create_refusal w new ≡ Some refusals.Slots
   spent_numbers new small room last = grind (arith, nat_tests, as_many, stands.next)
 
-  pub creatable : (new : New) → is_too_large new.declared ≡ false → length t.slots.items < 512 → t.next < 10 ^ 18
+  pub creatable : (new : New) → is_too_large new.declared ≡ false → length t.slots.items < SLOTS → t.next < 10 ^ 18
       → create_refusal w new ≡ None
   creatable new small room next = grind (arith, nat_tests, as_many, stands.next)
 

@@ -1,6 +1,7 @@
 -- The calls on a world: when they are refused, and what they make of it.
 use Rattle.std.specs.Prelude.{ℕ, ◌+◌, ◌^◌, Bool, true, false, List, [], ◌∷◌, ◌++◌, length, nat_lt, nat_le, ◌==◌}
 use Rattle.std.specs.Prelude.{◌&&◌, if◌then◌else◌, Option, Some, None}
+use Rattle.common.specs.declared.limits.TheConstants.{SLOTS}
 use Rattle.upload_rules.specs.declared.errors.UploadRefusal.{UploadRefusal}
 use Rattle.upload_rules.specs.declared.errors.UploadRefusal.TheVariants.{TooLarge, Slots, NoSuch, Offset, TooLong}
 use Rattle.upload_rules.specs.declared.errors.UploadRefusal.TheVariants.{LengthSet}
@@ -34,7 +35,7 @@ length_refusal known declare end =
 abbrev pub create_refusal : World → New → Option UploadRefusal
 create_refusal w new =
     if is_too_large new.declared then Some TooLarge
-    else if nat_le 512 (length w.store.uploads) then Some Slots
+    else if nat_le SLOTS (length w.store.uploads) then Some Slots
     else refuse_if (nat_le (10 ^ 18) w.store.next) Slots
 
 -- The world with a new upload.

@@ -1,5 +1,6 @@
 -- Lengths of uploads, which may be unknown.
 use Rattle.std.specs.Prelude.{ℕ, Bool, true, false, nat_lt, ◌==◌, if◌then◌else◌, Option, Some, None}
+use Rattle.common.specs.declared.limits.TheConstants.{MOST_LENGTH}
 
 -- The length is known and equals the count.
 abbrev pub is_length : Option ℕ → ℕ → Bool
@@ -24,9 +25,9 @@ differ _ _ = false
 -- The length is known and above the limit.
 abbrev pub is_too_large : Option ℕ → Bool
 is_too_large None = false
-is_too_large (Some length) = nat_lt 1073741824 length
+is_too_large (Some length) = nat_lt MOST_LENGTH length
 
 -- How many bytes there may be: the length if it is known, else the limit.
 abbrev pub longest : Option ℕ → ℕ
-longest None = 1073741824
+longest None = MOST_LENGTH
 longest (Some length) = length

@@ -1,5 +1,6 @@
 -- Records of uploads, and the fields of new ones.
 use Rattle.std.specs.Prelude.{◌≡◌, ◌≤◌, ℕ, true, List, [], ◌∷◌, All, length, nat_lt, if◌then◌else◌, Option, Some, None}
+use Rattle.common.specs.declared.limits.TheConstants.{MOST_METADATA}
 use Rattle.enc_model.specs.Indexes.{IndexSet, offers}
 use Rattle.enc_model.specs.declared.Encoding.TheVariants.{Utf16Be, Utf16Le}
 use Rattle.upload_rules.specs.declared.records.Record.{Record}
@@ -21,7 +22,7 @@ pub record Tells (x : IndexSet) (number : ℕ) (r : Record) (u : Upload) : Type 
 
 -- The metadata fits a record of a spool.
 abbrev pub IsShort : Record → Type 0
-IsShort r = length r.metadata.bytes.items ≤ 1536
+IsShort r = length r.metadata.bytes.items ≤ MOST_METADATA
 
 -- The record represents the upload, its text has no unmappable character, and its state bytes can be unpacked.
 pub record Keeps (x : IndexSet) (number : ℕ) (r : Record) (u : Upload) : Type 0 where
@@ -48,7 +49,7 @@ above n (entry ∷ entries) = if nat_lt n entry.0 then Some entry else above n e
 -- The fields of a new upload are valid, whatever the index set.
 pub record IsWellFormed (new : New) : Type 0 where
   pub no_utf16 : (new.to ≡ Utf16Be → ⊥) × (new.to ≡ Utf16Le → ⊥)
-  pub short : length new.metadata ≤ 1536
+  pub short : length new.metadata ≤ MOST_METADATA
   pub printable : All (λ b. (0x20 ≤ b) × (b ≤ 0x7E)) new.metadata
 
 -- The index set offers both encodings.

@@ -2,6 +2,7 @@
 
 ghost use Rattle.upload_rules.specs.Records.{IsShort};
 
+use common::MOST_METADATA;
 use crate::{New, Record};
 use std::alloc::{AllocError, Global};
 
@@ -25,7 +26,7 @@ impl Slot {
     /// An upload without bytes.
     pub(crate) fn new(alloc: Global, number: u64, fields: New) -> Self
         requires output { IsOutput fields.to }
-        requires short { length fields.metadata ≤ 1536 }
+        requires short { length fields.metadata ≤ MOST_METADATA }
         ensures { (x : Indexes) → SlotStands x number (new_upload fields) result }
     {
         Slot {

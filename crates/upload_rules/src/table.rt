@@ -7,11 +7,9 @@ use crate::new_text::NewText;
 use crate::slot::Slot;
 use crate::slots::{place_of, places_to, read_from};
 use crate::{New, Record, UploadError, UploadRefusal, Uploads};
+use common::SLOTS;
 use enc_index::IndexSet;
 use std::alloc::Global;
-
-/// The most uploads at a time.
-const SLOT_COUNT: usize = 512;
 
 /// The end of the numbers: 10^18.
 pub const NUMBERS_END: u64 = 1_000_000_000_000_000_000;
@@ -132,7 +130,7 @@ impl Uploads for Table {
         if is_too_large(new.declared) {
             return Err(UploadError::Refused(UploadRefusal::TooLarge));
         }
-        if self.slots.len() >= SLOT_COUNT || self.next >= NUMBERS_END {
+        if self.slots.len() >= SLOTS as usize || self.next >= NUMBERS_END {
             return Err(UploadError::Refused(UploadRefusal::Slots));
         }
         let number = self.next;

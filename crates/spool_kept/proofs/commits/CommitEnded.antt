@@ -2,6 +2,7 @@
 use Rattle.std.proofs.lemmas.Grind.{common_steps}
 use Rattle.std.proofs.Common.{Result, Err, IfOk, ◌≡◌, inl, inr, ℕ, ◌≤◌, ◌+◌, ◌-◌, ◌/◌, ◌^◌, Bool, true, false, List}
 use Rattle.std.proofs.Common.{Option, None, Some, length, get_or, set, min, refl, sym, ◌∙◌, ap, subst, arith}
+use Rattle.spool_journal.specs.declared.TheConstants.{PAGE}
 use Rattle.spool_blocks.specs.Blocks.{Held}
 use Rattle.spool_disk.specs.declared.disk.Disk.{Ghosts}
 use Rattle.spool_disk.specs.Views.{Lasts}
@@ -219,7 +220,7 @@ module _ {D : Type 0} {sure : Bool} {disk : Ghosts D} {d d' : D} {h h' : Holding
       pub pending : (longer : Longer) → longer.slot ≡ found.slot → longer.declared ≡ found.declared
           → longer.accepted ≡ reached p → longer.text_len ≡ end.text_len → longer.state ≡ end.state
           → Stored sure disk d' h' w.store
-          → (1 ≤ length (list_of o') → (length end.last.items + 4095) / 4096 ≤ length (list_of o'))
+          → (1 ≤ length (list_of o') → (length end.last.items + 4095) / PAGE ≤ length (list_of o'))
           → (sure ≡ true → 1 ≤ length (list_of o') → bytes_with (disk.current d') (text_page h.layout) (list_of o')
           end.last.items ≡ open_text w.store.indexes p (completes w.store p))
           → IsPending sure disk d' h' w.store p.number p.declare p.body longer (list_of o') end.last.items

@@ -2,6 +2,7 @@
 use Rattle.std.proofs.lemmas.Grind.{common_steps}
 use Rattle.std.proofs.Common.{Result, Ok, Err, IfOk, ◌≡◌, ◌≢◌, ◌⊎◌, Bool, true, false, ℕ, ◌*◌, ◌<◌, ◌≤◌, List, []}
 use Rattle.std.proofs.Common.{Option, None, Some, length, get_or, set, refl, sym, ◌∙◌, ap, subst, arith}
+use Rattle.spool_journal.specs.declared.TheConstants.{PAGE}
 use Rattle.spool_blocks.specs.Blocks.{Held}
 use Rattle.spool_disk.specs.declared.disk.Disk.{Ghosts}
 use Rattle.spool_disk.specs.Views.{Lasts}
@@ -124,7 +125,7 @@ module _ {D : Type 0} {sure : Bool} {disk : Ghosts D} {d d' : D} {h h' : Holding
   module _ {longer : Longer} (append : IsAppend sure disk d' h' w.store p.number p.declare p.body longer (list_of o'))
       {used : SlotRecord} {d'' : D} {h'' : Holding} (is_longer : IsLonger h' used longer (list_of o') h'')
       (hands : HandsOn h'.blocks.reserved h''.blocks.reserved (list_of o'))
-      (texts : sure ≡ true → (q : ℕ) → 4096 * text_page h'.layout ≤ q → disk.current d'' q ≡ disk.current d' q)
+      (texts : sure ≡ true → (q : ℕ) → PAGE * text_page h'.layout ≤ q → disk.current d'' q ≡ disk.current d' q)
       (stored : Stored sure disk d'' h'' (patched_store w.store p.number p.declare p.body)) where
     abbrev after : Store
     after = record w.store
@@ -151,7 +152,7 @@ module _ {D : Type 0} {sure : Bool} {disk : Ghosts D} {d d' : D} {h h' : Holding
         let mid = others e other r a there s in
         let other_number = other_upload w is.stands.stands.grown p.number (with_length p.began is.still.0) is.still.1
         p.declare p.body brings e r found in
-        let same : sure ≡ true → (q : ℕ) → 4096 * text_page h.layout ≤ q → disk.current d'' q ≡ disk.current d' q =
+        let same : sure ≡ true → (q : ℕ) → PAGE * text_page h.layout ≤ q → disk.current d'' q ≡ disk.current d' q =
         λ known q from. texts known q (rw (← (ap (λ (k : Holding). k.layout) only.same)) at from) in
         record {
           holds = mid.holds;
@@ -188,7 +189,7 @@ module _ {D : Type 0} {sure : Bool} {disk : Ghosts D} {d d' d'' : D} {h h' : Hol
     {used : SlotRecord} {n : ℕ} (there : get_or h.slots longer.slot None ≡ Some used) {declare : Option ℕ}
     (append : IsAppend sure disk d' h w.store n declare [] longer []) (unknown : append.upload.declared ≡ None)
     (is_longer : IsLonger h used longer [] h') (only : sure ≡ true → OnlyWrites disk (journal_pages h.layout) [] d d')
-    (texts : sure ≡ true → (q : ℕ) → 4096 * text_page h.layout ≤ q → disk.current d'' q ≡ disk.current d' q)
+    (texts : sure ≡ true → (q : ℕ) → PAGE * text_page h.layout ≤ q → disk.current d'' q ≡ disk.current d' q)
     (stored : Stored sure disk d'' h' (patched_store w.store n declare [])) where
   abbrev named : Store
   named = record w.store { uploads = replaced n (patched append.upload declare []) w.store.uploads }
@@ -196,7 +197,7 @@ module _ {D : Type 0} {sure : Bool} {disk : Ghosts D} {d d' d'' : D} {h h' : Hol
   named_is : patched_store w.store n declare [] ≡ named
   named_is = ap (patched_at w.store n declare []) append.there
 
-  current_same : sure ≡ true → (q : ℕ) → 4096 * text_page h.layout ≤ q → disk.current d'' q ≡ disk.current d q
+  current_same : sure ≡ true → (q : ℕ) → PAGE * text_page h.layout ≤ q → disk.current d'' q ≡ disk.current d q
   current_same known q from = texts known q from ∙ (only known).writes.outside q (λ i. absurd (omega arith))
 
   each_named : (e : ℕ) → DraftOf

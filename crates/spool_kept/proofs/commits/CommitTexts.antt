@@ -4,6 +4,7 @@ use Rattle.std.proofs.Common.{◌≡◌, ℕ, ◌≤◌, ◌+◌, ◌-◌, ◌*�
 use Rattle.std.proofs.Common.{length, drop, refl, sym, ◌∙◌, ap, subst, arith, length-append}
 use Rattle.std.proofs.lemmas.Bool.{cases_lt}
 use Rattle.std.proofs.lemmas.List.{drop-append-le, nil_from_length}
+use Rattle.spool_journal.specs.declared.TheConstants.{PAGE}
 use Rattle.enc_model.specs.Indexes.{IndexSet}
 use Rattle.enc_stream.specs.StateBytes.{IsValid}
 use Rattle.upload_rules.specs.Lengths.{is_too_large, known_or, longest}
@@ -97,10 +98,10 @@ module _ (x : IndexSet) (p : Patch) (since : Option ℕ) (o : SpoolDraft) (end :
         content = λ known listed.
             subst (λ (xs : List ℕ). text_on current first (list_of o) (longer.text_len - full_bytes (length xs)) ≡ drop
             (full_bytes (length xs)) xs ++ more) (sym same_text) (
-            let prefix : 4096 * (t / 4096) ≡ full_bytes t = omega arith in
+            let prefix : PAGE * (t / PAGE) ≡ full_bytes t = omega arith in
             let size : longer.text_len - full_bytes t ≡ length (open_text x p done) = search (arith, common_steps) in
             let bytes : open_text x p done ≡ drop (full_bytes t) (text_of x p.began) ++ more =
-            ap (λ (xs : List ℕ). drop (4096 * (t / 4096)) xs) all_is ∙ drop-append-le (4096 * (t / 4096))
+            ap (λ (xs : List ℕ). drop (PAGE * (t / PAGE)) xs) all_is ∙ drop-append-le (PAGE * (t / PAGE))
             (text_of x p.began) more (omega arith) ∙ ap (λ (n : ℕ). drop n (text_of x p.began) ++ more) prefix in
             ap (λ (n : ℕ). text_on current first (list_of o) n) size ∙ content known (omega (arith, listed)) ∙ bytes);
       }

@@ -5,6 +5,7 @@ use Rattle.std.proofs.Common.{length, get_or, set, refl, sym, ◌∙◌, ap, sub
 use Rattle.std.proofs.lemmas.Bool.{both_ways, cases_eq, cases_lt}
 use Rattle.std.proofs.lemmas.List.{set-set}
 use Rattle.std.proofs.lemmas.Option.{same_Some}
+use Rattle.spool_journal.specs.declared.TheConstants.{PAGE}
 use Rattle.enc_model.specs.Indexes.{IndexSet}
 use Rattle.spool_blocks.specs.Blocks.{Row, Held}
 use Rattle.spool_drafts.specs.Drafts.{IsPlaced, list_of}
@@ -164,7 +165,7 @@ pub others_longer : {h new : Holding} {used : SlotRecord} {longer : Longer} {mor
     → SameOthers longer.slot h.blocks.rows new.blocks.rows
 others_longer {h = h} {new = new} {used = used} {longer = longer} {more = more} is no_owner =
     elim (cases_lt 0 (length more)) [
-      | inl some ↦ others_same h.blocks.rows longer.slot (used.text_len / 4096) more new.blocks.rows (is.rows some)
+      | inl some ↦ others_same h.blocks.rows longer.slot (used.text_len / PAGE) more new.blocks.rows (is.rows some)
           no_owner
       | inr none ↦ same_others longer.slot h.blocks.rows new.blocks.rows (cc (is.same (omega (arith, none))))
     ]

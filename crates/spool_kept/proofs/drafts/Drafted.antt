@@ -4,6 +4,7 @@ use Rattle.std.proofs.Common.{◌≡◌, ◌≢◌, Result, Ok, Err, IfOk, ◌�
 use Rattle.std.proofs.Common.{length, get_or, set, refl, sym, ◌∙◌, ap, subst, arith, Bool, true}
 use Rattle.std.proofs.lemmas.Bool.{cases_eq}
 use Rattle.std.proofs.lemmas.Option.{same_Some}
+use Rattle.common.specs.declared.limits.TheConstants.{MOST_BLOCKS, SLOTS}
 use Rattle.spool_blocks.specs.Blocks.{Row, Held}
 use Rattle.spool_blocks.specs.Chains.{Owns}
 use Rattle.spool_disk.specs.declared.disk.Disk.{Ghosts}
@@ -154,11 +155,11 @@ few_owned rows s list owned =
     ordinal : (s i k : ℕ) → ◌≡◌ {A = Row} (Some (s, i)) (Some (s, k)) → i ≡ k
     ordinal s i k e = ap (λ (o : Row). elim o as (λ _. ℕ) [ None ↦ i | Some p ↦ p.1 ]) e
 
-pub few_listed : (h : Holding) → FitsTogether h → (s : ℕ) → s < 512 → h.layout ≤ 65536 → (list : List ℕ)
-    → list ≡ get_or h.lists s [] → length list ≤ 65536
+pub few_listed : (h : Holding) → FitsTogether h → (s : ℕ) → s < SLOTS → h.layout ≤ MOST_BLOCKS → (list : List ℕ)
+    → list ≡ get_or h.lists s [] → length list ≤ MOST_BLOCKS
 few_listed h fits s lt few list is = of_slot (get_or h.slots s None) (fits.listed s lt)
   where
-    of_slot : (o : Option SlotRecord) → IsListOf h.blocks.rows s o (get_or h.lists s []) → length list ≤ 65536
+    of_slot : (o : Option SlotRecord) → IsListOf h.blocks.rows s o (get_or h.lists s []) → length list ≤ MOST_BLOCKS
     of_slot None none = omega (arith, ap length (is ∙ none))
     of_slot (Some r) has = omega
         (arith, ap length is, few_owned h.blocks.rows s (get_or h.lists s []) has.owned, fits.row_count, few)
@@ -185,7 +186,7 @@ tail_owned slots rows number k list (Ok o) is all = owned_in slots rows number k
 tail_owned slots rows number k list (Err e) is all = tt
 
 -- a slot's list holds its upload's blocks
-pub list_owned : (h : Holding) → FitsTogether h → (s : ℕ) → s < 512 → (number : ℕ) → IsUsedBy h.slots s number
+pub list_owned : (h : Holding) → FitsTogether h → (s : ℕ) → s < SLOTS → (number : ℕ) → IsUsedBy h.slots s number
     → (list : List ℕ) → list ≡ get_or h.lists s [] → IsOwnedBy h.slots h.blocks.rows number list
 list_owned h fits s lt number used list is =
     let has = rw used.there at (fits.listed s lt) in

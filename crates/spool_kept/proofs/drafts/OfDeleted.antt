@@ -2,6 +2,7 @@
 use Rattle.std.proofs.lemmas.Grind.{common_steps}
 use Rattle.std.proofs.Common.{◌≡◌, ◌≢◌, ℕ, ◌*◌, ◌≤◌, List, Option, None, Some, refl, ◌∙◌, subst, arith, Bool, true}
 use Rattle.std.proofs.lemmas.Bool.{cases_eq}
+use Rattle.spool_journal.specs.declared.TheConstants.{PAGE}
 use Rattle.spool_blocks.specs.Blocks.{Held}
 use Rattle.spool_disk.specs.declared.disk.Disk.{Ghosts}
 use Rattle.spool_drafts.specs.declared.draft.SpoolDraft.{SpoolDraft}
@@ -51,7 +52,7 @@ still_grown w number grown = record {
 
 module _ {h h' : Holding} {number slot : ℕ} (used : IsUsedBy h.slots slot number) (out : IsTakenOut h slot h') where
   module _ {sure : Type 0} (w : World) (current current' : ℕ → ℕ) (first : ℕ)
-      (same : sure → (p : ℕ) → 4096 * first ≤ p → current' p ≡ current p) where
+      (same : sure → (p : ℕ) → PAGE * first ≤ p → current' p ≡ current p) where
     stands_still : (p : Patch) (o : SpoolDraft) → DraftStands sure w.store.indexes current first h.slots h.blocks.rows
         w.store p o → DraftStands sure w.store.indexes current' first h'.slots h'.blocks.rows
         (deleted_store w.store number) p o
@@ -72,7 +73,7 @@ module _ {h h' : Holding} {number slot : ℕ} (used : IsUsedBy h.slots slot numb
 
   pub stands_after : {D : Type 0} {sure : Bool} {disk : Ghosts D} {d d' : D} {drafts : List (Option SpoolDraft)}
       {w : World} → StandsFor sure disk d h drafts w → Stored sure disk d' h' (deleted_store w.store number)
-      → (sure ≡ true → (p : ℕ) → 4096 * text_page h.layout ≤ p → disk.current d' p ≡ disk.current d p)
+      → (sure ≡ true → (p : ℕ) → PAGE * text_page h.layout ≤ p → disk.current d' p ≡ disk.current d p)
       → StandsFor sure disk d' h' drafts (terminated w number)
   stands_after {sure = sure} {disk = disk} {d = d} {d' = d'} {drafts = drafts} {w = w} stands stored same = record {
     stored = stored;

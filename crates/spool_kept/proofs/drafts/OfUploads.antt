@@ -3,6 +3,7 @@ use Rattle.std.proofs.lemmas.Grind.{common_steps}
 use Rattle.std.proofs.Common.{◌≡◌, inl, inr, ℕ, ◌<◌, ◌≤◌, false, List, [], Option, None, Some, IfOk, IfSome}
 use Rattle.std.proofs.Common.{MatchOption, Result, Ok, Err, get_or, length, set, refl, sym, ◌∙◌, ap, subst, arith}
 use Rattle.std.proofs.lemmas.Bool.{both_ways}
+use Rattle.common.specs.declared.limits.TheConstants.{SLOTS}
 use Rattle.spool_drafts.specs.Drafts.{IsAfter, declare_of, number_of, offset_of, list_of}
 use Rattle.spool_drafts.specs.declared.draft.SpoolDraft.{SpoolDraft}
 use Rattle.spool_blocks.specs.Blocks.{Held}
@@ -26,7 +27,7 @@ use Rattle.spool_kept.proofs.numbers.Ordered.{one_slot as ordered_slot}
 
 one_slot : (h : Holding) → FitsTogether h → (n s : ℕ) → Lists h.order n s → (t : ℕ) → IsUsedBy h.slots t n → t ≡ s
 one_slot h fits n s l t used =
-    let lt : t < 512 = (let inside = in_use h.slots t used.used used.there in omega (arith, inside, fits.slot_count)) in
+    let lt : t < SLOTS = (let inside = in_use h.slots t used.used used.there in omega (arith, inside, fits.slot_count)) in
     let k = subst (λ (m : ℕ). Lists h.order m t) used.is (fits.ordered.all t used.used lt used.there) in
     ordered_slot h.slots h.order fits.slot_count fits.ordered n t s k l
 

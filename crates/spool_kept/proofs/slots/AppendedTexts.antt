@@ -3,6 +3,7 @@ use Rattle.std.proofs.lemmas.Grind.{common_steps}
 use Rattle.std.proofs.Common.{◌≡◌, ℕ, zero, suc, ◌+◌, ◌-◌, ◌*◌, ◌/◌, ◌%◌, ◌<◌, ◌≤◌, List, ◌++◌, Some, length, take}
 use Rattle.std.proofs.Common.{drop, refl, sym, ◌∙◌, ap, arith}
 use Rattle.std.proofs.lemmas.List.{append_assoc, take-append-drop, take-take}
+use Rattle.spool_journal.specs.declared.TheConstants.{PAGE}
 use Rattle.upload_rules.specs.Room.{blocks_of}
 use Rattle.spool_blocks.specs.Blocks.{Row}
 use Rattle.spool_blocks.specs.Chains.{Owns, OwnsOneEach}
@@ -48,26 +49,26 @@ module _ (current : ℕ → ℕ) (first : ℕ) (old new : List Row) (slot len : 
   was : List ℕ
   was = text_shown current first old slot len
 
-  prefix : text_on current first list (4096 * (len / 4096)) ≡ take (4096 * (len / 4096)) was
+  prefix : text_on current first list (PAGE * (len / PAGE)) ≡ take (PAGE * (len / PAGE)) was
   unfolding was
   prefix =
-      let low : 4096 * (len / 4096) ≤ len = omega arith in
-      sym (take-take (4096 * (len / 4096)) len (blocks_on current first list) low)
-      ∙ ap (λ (xs : List ℕ). take (4096 * (len / 4096)) xs) (shown current first old slot len list listed size)
+      let low : PAGE * (len / PAGE) ≤ len = omega arith in
+      sym (take-take (PAGE * (len / PAGE)) len (blocks_on current first list) low)
+      ∙ ap (λ (xs : List ℕ). take (PAGE * (len / PAGE)) xs) (shown current first old slot len list listed size)
 
-  pub text_longer : (more_len len' : ℕ) (more added : List ℕ) → IsListed new slot (take (len / 4096) list ++ more)
+  pub text_longer : (more_len len' : ℕ) (more added : List ℕ) → IsListed new slot (take (len / PAGE) list ++ more)
       → length more ≡ blocks_of more_len
-      → text_on current first more more_len ≡ drop (len - len % 4096) (text_shown current first old slot len) ++ added
-      → len' ≡ len - len % 4096 + more_len
+      → text_on current first more more_len ≡ drop (len - len % PAGE) (text_shown current first old slot len) ++ added
+      → len' ≡ len - len % PAGE + more_len
       → text_shown current first new slot len' ≡ text_shown current first old slot len ++ added
   unfolding was
   text_longer more_len len' more added listed' more_size on total =
-      let whole : len - len % 4096 ≡ 4096 * (len / 4096) = omega arith in
-      let long : len' ≡ 4096 * (len / 4096) + more_len = omega (arith, total, whole) in
-      let low : len / 4096 ≤ length list = omega (arith, size) in
-      let all : length (take (len / 4096) list ++ more) ≡ (len' + 4095) / 4096 = search (arith, common_steps) in
-      sym (shown current first new slot len' (take (len / 4096) list ++ more) listed' all) ∙ ap (text_on current first
-      (take (len / 4096) list ++ more)) long ∙ text_joined current first (len / 4096) more_len list more low ∙ ap (λ (xs
-      : List ℕ). xs ++ text_on current first more more_len) prefix ∙ ap (λ (xs : List ℕ). take (4096 * (len / 4096)) was
-      ++ xs) (cc) ∙ sym (append_assoc (take (4096 * (len / 4096)) was) (drop (4096 * (len / 4096)) was) added) ∙ ap (λ
-      (xs : List ℕ). xs ++ added) (take-append-drop (4096 * (len / 4096)) was)
+      let whole : len - len % PAGE ≡ PAGE * (len / PAGE) = omega arith in
+      let long : len' ≡ PAGE * (len / PAGE) + more_len = omega (arith, total, whole) in
+      let low : len / PAGE ≤ length list = omega (arith, size) in
+      let all : length (take (len / PAGE) list ++ more) ≡ (len' + 4095) / PAGE = search (arith, common_steps) in
+      sym (shown current first new slot len' (take (len / PAGE) list ++ more) listed' all) ∙ ap (text_on current first
+      (take (len / PAGE) list ++ more)) long ∙ text_joined current first (len / PAGE) more_len list more low ∙ ap (λ (xs
+      : List ℕ). xs ++ text_on current first more more_len) prefix ∙ ap (λ (xs : List ℕ). take (PAGE * (len / PAGE)) was
+      ++ xs) (cc) ∙ sym (append_assoc (take (PAGE * (len / PAGE)) was) (drop (PAGE * (len / PAGE)) was) added) ∙ ap (λ
+      (xs : List ℕ). xs ++ added) (take-append-drop (PAGE * (len / PAGE)) was)

@@ -1,6 +1,7 @@
 -- A view with a new record shows the store with the new upload.
 use Rattle.std.proofs.lemmas.Grind.{common_steps}
 use Rattle.std.proofs.Common.{◌≡◌, ℕ, ◌+◌, ◌^◌, ◌<◌, ◌≤◌, [], Option, None, Some, length, refl, ◌∙◌, ap, arith}
+use Rattle.common.specs.declared.limits.TheConstants.{SLOTS}
 use Rattle.upload_rules.specs.Store.{New, Upload, Store, find, new_upload, created_store}
 use Rattle.upload_rules.proofs.Finds.{find_push_other}
 use Rattle.upload_rules.proofs.NewUploads.{new_text}
@@ -27,7 +28,7 @@ next_unused v m shows = by_answer (find m.next m.uploads) refl
     by_answer None e = e
     by_answer (Some u) e = absurd (omega (arith, number_below v m shows m.next u e))
 
-module _ (v : View) (m : Store) (new : New) (s : ℕ) (r : SlotRecord) (shows : Shows v m) (within : s < 512)
+module _ (v : View) (m : Store) (new : New) (s : ℕ) (r : SlotRecord) (shows : Shows v m) (within : s < SLOTS)
     (free : slot_at v s ≡ None) (number : r.number ≡ m.next) (is : IsRecordOf m.indexes r [] (new_upload new))
     (valid : IsValidRecord (m.next + 1) r) (most : m.next + 1 ≤ 10 ^ 18) where
   unowned : (b i : ℕ) → Owns v.rows b s i → ⊥

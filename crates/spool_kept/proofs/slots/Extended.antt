@@ -4,6 +4,8 @@ use Rattle.std.proofs.Common.{◌≡◌, inl, inr, ◌⊎◌, ℕ, ◌+◌, ◌-
 use Rattle.std.proofs.Common.{length, length-append, get_or, drop, refl, sym, ◌∙◌, ap, subst, arith, Bool, true}
 use Rattle.std.proofs.lemmas.Bool.{cases_lt, both_ways, lt-ltb}
 use Rattle.std.proofs.lemmas.Option.{same_Some}
+use Rattle.spool_journal.specs.declared.TheConstants.{PAGE}
+use Rattle.common.specs.declared.limits.TheConstants.{MOST_BLOCKS, MOST_LENGTH}
 use Rattle.enc_model.specs.Transcode.{Transcoder}
 use Rattle.enc_stream.specs.StateBytes.{state_bytes}
 use Rattle.upload_rules.proofs.Finds.{find_replaced_same, find_replaced_other}
@@ -40,16 +42,16 @@ use Rattle.spool_kept.proofs.Valid.{in_use}
 use Rattle.spool_blocks.specs.Chains.{OwnsOneEach}
 
 -- a length that isn't too large
-pub small_is : (declare : Option ℕ) → is_too_large declare ≡ false → longest declare ≤ 1073741824
+pub small_is : (declare : Option ℕ) → is_too_large declare ≡ false → longest declare ≤ MOST_LENGTH
 small_is None small = omega arith
-small_is (Some n) small = elim (cases_lt 1073741824 n) [
-  | inl lt ↦ absurd (both_ways (is_too_large (Some n)) small (lt-ltb 1073741824 n lt))
+small_is (Some n) small = elim (cases_lt MOST_LENGTH n) [
+  | inl lt ↦ absurd (both_ways (is_too_large (Some n)) small (lt-ltb MOST_LENGTH n lt))
   | inr le ↦ le
 ]
 
 -- the length that is known, else a declared one that isn't too large
-known_small : (known declare : Option ℕ) → longest known ≤ 1073741824 → is_too_large declare ≡ false
-    → longest (known_or known declare) ≤ 1073741824
+known_small : (known declare : Option ℕ) → longest known ≤ MOST_LENGTH → is_too_large declare ≡ false
+    → longest (known_or known declare) ≤ MOST_LENGTH
 known_small None declare old small = small_is declare small
 known_small (Some n) declare old small = old
 
@@ -100,16 +102,16 @@ module _ {D : Type 0} {sure : Bool} {disk : Ghosts D} {d : D} {h new : Holding} 
   no_owner : Unowned before.rows more
   no_owner = subst (λ (old : List Row). Unowned old more) s.keeps.rows reserved.no_owner
 
-  hands : 0 < length more → HandsOver before.rows longer.slot (used.text_len / 4096) more rows
+  hands : 0 < length more → HandsOver before.rows longer.slot (used.text_len / PAGE) more rows
   hands some = rw s.keeps.rows at (is.rows some)
 
   same_rows : length more ≡ 0 → rows ≡ before.rows
   same_rows none = ap (λ (b : Held). b.rows) (is.same none) ∙ s.keeps.rows
 
-  room : used.text_len / 4096 + length more ≤ 65536
+  room : used.text_len / PAGE + length more ≤ MOST_BLOCKS
   room =
       let below = rw s.keeps.rows at reserved.below in
-      let all = room_for before.rows longer.slot (used.text_len / 4096) (get_or h.lists longer.slot []) more
+      let all = room_for before.rows longer.slot (used.text_len / PAGE) (get_or h.lists longer.slot []) more
       (s.keeps.listed longer.slot used there).owned (omega (arith, s.keeps.sizes longer.slot used there))
       no_owner below reserved.distinct in
       omega (arith, all, s.shows.valid.row_count, s.shows.valid.most)
@@ -117,11 +119,11 @@ module _ {D : Type 0} {sure : Bool} {disk : Ghosts D} {d : D} {h new : Holding} 
   rows_now : HasRows before longer.slot (Some now) rows
   rows_now = elim (cases_lt 0 (length more)) [
     | inl some ↦
-        let one = owns_one_each before.rows longer.slot (used.text_len / 4096) more rows (hands some) no_owner
+        let one = owns_one_each before.rows longer.slot (used.text_len / PAGE) more rows (hands some) no_owner
         (blocks_of used.text_len) (omega arith) (s.shows.valid.lists longer.slot used there) in
         record {
           size = (hands some).size;
-          others = others_same before.rows longer.slot (used.text_len / 4096) more rows (hands some) no_owner;
+          others = others_same before.rows longer.slot (used.text_len / PAGE) more rows (hands some) no_owner;
           blocks = subst (OwnsOneEach rows longer.slot) (sym (may.blocks some)) one;
           owners = λ b i owns. (now, refl, omega (arith, one.only b i owns, room));
         }
@@ -152,7 +154,7 @@ module _ {D : Type 0} {sure : Bool} {disk : Ghosts D} {d : D} {h new : Holding} 
         below = old.below;
         accepted = omega (arith, ext.accepted, ext.few, ap longest ext.declared);
         declared = rw ext.declared (known_small append.upload.declared declare
-            (subst (λ (k : Option ℕ). longest k ≤ 1073741824) told.declared old.declared) ext.small);
+            (subst (λ (k : Option ℕ). longest k ≤ MOST_LENGTH) told.declared old.declared) ext.small);
         text_fits = elim (cases_lt 0 (length more)) [
           | inl some ↦ omega (arith, may.blocks some, room)
           | inr none ↦ omega (arith, may.same (omega (arith, none)), old.text_fits)
@@ -181,7 +183,7 @@ module _ {D : Type 0} {sure : Bool} {disk : Ghosts D} {d : D} {h new : Holding} 
         ap (λ (xs : List ℕ). xs ++ append.added) was ∙ sym (text_longer (disk.current d) (text_page before.blocks)
         before.rows rows longer.slot used.text_len list (s.keeps.listed longer.slot used there) size (longer.text_len -
         full_bytes used.text_len) longer.text_len more append.added (listed_now before.rows longer.slot (used.text_len /
-        4096) more rows (hands some) no_owner list (omega (arith, size)) (s.keeps.listed longer.slot used there)) (omega
+        PAGE) more rows (hands some) no_owner list (omega (arith, size)) (s.keeps.listed longer.slot used there)) (omega
         (arith, grown, may.blocks some)) (cc) (omega (arith, grown)))
     | inr over ↦ search (arith, common_steps)
   ]
@@ -240,14 +242,14 @@ module _ {D : Type 0} {sure : Bool} {disk : Ghosts D} {d : D} {h new : Holding} 
   pub after_changes : (blank filled : List (ℕ × List ℕ))
       → ((v : View) → v.blocks ≡ h.layout → v.version ≡ h.version → v.slots ≡ h.slots → (r : SlotRecord)
       → get_or h.slots longer.slot None ≡ Some r → (rows : List Row) → (length more ≡ 0 → SameRowsBut [] v.rows rows)
-      → (0 < length more → SameRowsBut (more ++ drop (r.text_len / 4096) (get_or h.lists longer.slot [])) v.rows rows)
+      → (0 < length more → SameRowsBut (more ++ drop (r.text_len / PAGE) (get_or h.lists longer.slot [])) v.rows rows)
       → ChangesButRows blank v (record (with_record v longer.slot (longer_record r longer)) { rows = rows }))
       → ((v v' : View) → v.blocks ≡ new.layout → ChangesButRows blank v v' → v'.rows ≡ new.blocks.rows
       → Changes filled v v') → Changes filled before after
   after_changes blank filled but fill =
       let pages = but before (sym s.keeps.blocks) (sym s.keeps.version) (sym s.keeps.slots) used may.there rows
       (λ none b not. ap (λ (xs : List Row). get_or xs b None) (same_rows none))
-      (λ some. rows_but_last before.rows longer.slot (used.text_len / 4096) more rows (hands some) no_owner
+      (λ some. rows_but_last before.rows longer.slot (used.text_len / PAGE) more rows (hands some) no_owner
       (blocks_of used.text_len) (get_or h.lists longer.slot []) (s.shows.valid.lists longer.slot used there)
       (s.keeps.listed longer.slot used there) (s.keeps.sizes longer.slot used there)) in
       fill before after (sym s.keeps.blocks ∙ sym is.layout) (assumption pages) refl

@@ -1,6 +1,7 @@
 -- Rows after a slot's blocks became free.
 use Rattle.std.proofs.lemmas.Grind.{common_steps}
 use Rattle.std.proofs.Common.{◌≡◌, ℕ, ◌<◌, List, None, length, get_or, arith, []}
+use Rattle.common.specs.declared.limits.TheConstants.{SLOTS}
 use Rattle.spool_blocks.specs.Blocks.{Row}
 use Rattle.spool_blocks.specs.Chains.{Owns, OwnsOneEach}
 use Rattle.spool_texts.specs.TextOn.{IsListed}
@@ -32,7 +33,7 @@ module _ (slot : ℕ) (old new : List Row) (frees : FreesRows slot old new) wher
   others_stay = others_same old slot 0 [] new hands nobody
 
   -- rows that fit their bytes still do
-  pub rows_still_fit : slot < 512 → ((b : ℕ) → FitsRow (get_or old b None)) → (b : ℕ) → FitsRow (get_or new b None)
+  pub rows_still_fit : slot < SLOTS → ((b : ℕ) → FitsRow (get_or old b None)) → (b : ℕ) → FitsRow (get_or new b None)
   rows_still_fit few = fit_now old slot 0 [] new hands nobody few (omega arith)
 
   -- the rows differ only where the slot's blocks are

@@ -4,6 +4,7 @@ use Rattle.std.proofs.Common.{◌≡◌, ◌≢◌, inl, inr, ◌⊎◌, ℕ, �
 use Rattle.std.proofs.Common.{take, drop, refl, sym, ◌∙◌, ap, subst, arith, length-append, length-take, length-drop}
 use Rattle.std.proofs.lemmas.Bool.{cases_eq, cases_lt}
 use Rattle.std.proofs.lemmas.List.{get_or_append_left, get_or-append_right, get_or-append-add, get_or-drop}
+use Rattle.common.specs.declared.limits.TheConstants.{MOST_BLOCKS, SLOTS}
 use Rattle.spool_blocks.specs.Blocks.{Row}
 use Rattle.spool_blocks.specs.Chains.{Owns, OwnsOneEach}
 use Rattle.spool_texts.specs.TextOn.{IsListed}
@@ -120,7 +121,7 @@ module _ (old : List Row) (slot first : ℕ) (more : List ℕ) (new : List Row) 
   listed_now list low listed = search (arith, common_steps, owned_now, once_still)
 
   -- rows that fit their bytes still do
-  pub fit_now : slot < 512 → first + length more ≤ 65536 → ((b : ℕ) → FitsRow (get_or old b None)) → (b : ℕ)
+  pub fit_now : slot < SLOTS → first + length more ≤ MOST_BLOCKS → ((b : ℕ) → FitsRow (get_or old b None)) → (b : ℕ)
       → FitsRow (get_or new b None)
   fit_now few room fit b = by_row (get_or new b None) refl
     where

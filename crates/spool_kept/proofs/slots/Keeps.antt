@@ -2,6 +2,7 @@
 use Rattle.std.proofs.lemmas.Grind.{common_steps}
 use Rattle.std.proofs.Common.{◌≡◌, ℕ, List, [], Option, None, Some, false, get_or, replicate, sym, subst}
 use Rattle.std.proofs.Common.{arith, length, refl}
+use Rattle.common.specs.declared.limits.TheConstants.{SLOTS}
 use Rattle.spool_blocks.specs.Chains.{OwnsOneEach}
 use Rattle.spool_pages.specs.View.{SlotRecord, View, slot_at}
 use Rattle.spool_pages.specs.Fits.{FitsRow}
@@ -10,7 +11,7 @@ use Rattle.spool_kept.specs.Kept.{KeepsView, KeepsAlone}
 use Rattle.spool_kept.specs.Shows.{IsValid}
 use Rattle.upload_rules.specs.Room.{blocks_of}
 
-module _ (h : Holding) (v : View) (fits : FitsTogether h) (count : length v.slots ≡ 512)
+module _ (h : Holding) (v : View) (fits : FitsTogether h) (count : length v.slots ≡ SLOTS)
     (lists : (s : ℕ) (r : SlotRecord) → slot_at v s ≡ Some r → OwnsOneEach v.rows s (blocks_of r.text_len))
     (blocks : v.blocks ≡ h.layout)
     (version : h.version ≡ v.version) (next : h.next ≡ v.next) (indexes : h.indexes ≡ v.indexes)
@@ -26,7 +27,7 @@ module _ (h : Holding) (v : View) (fits : FitsTogether h) (count : length v.slot
     indexes = indexes;
     slots = slots;
     rows = rows;
-    ordered = subst (λ (xs : List (Option SlotRecord)). Orders xs h.order 512) slots fits.ordered;
+    ordered = subst (λ (xs : List (Option SlotRecord)). Orders xs h.order SLOTS) slots fits.ordered;
     listed = λ s r e. record { owned = λ i lt. rw rows at ((has s r e).owned i lt); once = (lists s r e).once };
     sizes = λ s r e. (has s r e).size;
   }
@@ -43,9 +44,9 @@ module _ (h : Holding) (v : View) (fits : FitsTogether h) (valid : IsValid v) (b
 
 -- the parts fit one another, by what was found of slots that are the same
 pub fits_with : (h : Holding) (first second : List (Option SlotRecord)) → first ≡ h.slots → second ≡ h.slots
-    → length h.slots ≡ 512 → length h.lists ≡ 512 → length h.blocks.rows ≡ h.layout
-    → ((b : ℕ) → FitsRow (get_or h.blocks.rows b None)) → AreBelow h.next h.slots → Orders first h.order 512
-    → AreListsTo h.blocks.rows second h.lists 512 → FitsTogether h
+    → length h.slots ≡ SLOTS → length h.lists ≡ SLOTS → length h.blocks.rows ≡ h.layout
+    → ((b : ℕ) → FitsRow (get_or h.blocks.rows b None)) → AreBelow h.next h.slots → Orders first h.order SLOTS
+    → AreListsTo h.blocks.rows second h.lists SLOTS → FitsTogether h
 fits_with h first second same same' slots lists rows fit below orders listed = search (arith, common_steps)
 
 -- what is kept is what a view says, whatever was read

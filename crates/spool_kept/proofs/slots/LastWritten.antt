@@ -1,5 +1,6 @@
 -- The last bytes of a longer upload's text come onto its blocks.
 use Rattle.std.proofs.Common.{◌≡◌, ℕ, ◌+◌, ◌/◌, ◌≤◌, List, Option, length, refl, sym, subst, Bool, true}
+use Rattle.spool_journal.specs.declared.TheConstants.{PAGE}
 use Rattle.spool_blocks.specs.Blocks.{Row}
 use Rattle.spool_disk.specs.declared.disk.Disk.{Ghosts}
 use Rattle.spool_disk.specs.Views.{Lasts}
@@ -36,7 +37,7 @@ module _ {D : Type 0} {sure : Bool} {disk : Ghosts D} {d : D} (mid : D) {h : Hol
     shows = s.shows;
   })
 
-  pub appended : (disk.honest d → disk.honest mid) → (sure ≡ true → (length last + 4095) / 4096 ≤ length more
+  pub appended : (disk.honest d → disk.honest mid) → (sure ≡ true → (length last + 4095) / PAGE ≤ length more
       → text_on (disk.current mid) (text_page h.layout) more
       (length (bytes_with (disk.current d) (text_page h.layout) more last)) ≡ bytes_with (disk.current d)
       (text_page h.layout) more last) → IsAppend sure disk mid h m n declare bytes longer more

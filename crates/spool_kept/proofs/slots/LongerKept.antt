@@ -3,6 +3,8 @@ use Rattle.std.proofs.lemmas.Grind.{common_steps}
 use Rattle.std.proofs.Common.{◌≡◌, ℕ, ◌+◌, ◌/◌, ◌<◌, ◌≤◌, List, [], ◌++◌, None, Some, length, get_or, set, take, drop}
 use Rattle.std.proofs.Common.{refl, ◌∙◌, arith}
 use Rattle.std.proofs.lemmas.List.{get_or-set_other, get_or-set_same, get_or-drop, length-set}
+use Rattle.spool_journal.specs.declared.TheConstants.{PAGE}
+use Rattle.common.specs.declared.limits.TheConstants.{MOST_BLOCKS, SLOTS}
 use Rattle.upload_rules.specs.Room.{blocks_of}
 use Rattle.spool_blocks.specs.Blocks.{Held}
 use Rattle.spool_blocks.proofs.Counts.{within}
@@ -22,21 +24,21 @@ module _ (h : Holding) (fits : FitsTogether h) (slot : ℕ) (r : SlotRecord)
   inside : slot < length h.slots
   inside = in_use h.slots slot r there
 
-  pub slot_few : slot < 512
+  pub slot_few : slot < SLOTS
   slot_few = omega (arith, inside, fits.slot_count)
 
   pub has : HasBlocks h.blocks.rows slot r.text_len (get_or h.lists slot [])
   has = rw there at (fits.listed slot slot_few)
 
-  pub low : r.text_len / 4096 ≤ length (get_or h.lists slot [])
+  pub low : r.text_len / PAGE ≤ length (get_or h.lists slot [])
   low = omega (arith, has.size)
 
   -- there are ordinals for reserved blocks after the full ones
-  pub room_of : {more : List ℕ} → IsReserved h.blocks more → r.text_len / 4096 + length more ≤ length h.blocks.rows
-  room_of {more = more} held = room_for h.blocks.rows slot (r.text_len / 4096) (get_or h.lists slot []) more has.owned
+  pub room_of : {more : List ℕ} → IsReserved h.blocks more → r.text_len / PAGE + length more ≤ length h.blocks.rows
+  room_of {more = more} held = room_for h.blocks.rows slot (r.text_len / PAGE) (get_or h.lists slot []) more has.owned
       low held.no_owner held.below held.distinct
 
-  pub full_few : length h.blocks.rows ≤ 65536 → r.text_len / 4096 ≤ 65536
+  pub full_few : length h.blocks.rows ≤ MOST_BLOCKS → r.text_len / PAGE ≤ MOST_BLOCKS
   full_few few = omega (arith, room_of (nothing_reserved h.blocks [] refl), few)
 
   module _ (r' : SlotRecord) (number : r'.number ≡ r.number) where
@@ -54,26 +56,26 @@ module _ (h : Holding) (fits : FitsTogether h) (slot : ℕ) (r : SlotRecord)
         (λ s other. refl) (rw len has)
 
     -- blocks are handed over
-    module _ (more : List ℕ) (blocks : Held) (hands : HandsOver h.blocks.rows slot (r.text_len / 4096) more blocks.rows)
-        (held : IsReserved h.blocks more) (size : blocks_of r'.text_len ≡ r.text_len / 4096 + length more)
-        (few : length h.blocks.rows ≤ 65536) where
-      has_now : HasBlocks blocks.rows slot r'.text_len (take (r.text_len / 4096) (get_or h.lists slot []) ++ more)
+    module _ (more : List ℕ) (blocks : Held) (hands : HandsOver h.blocks.rows slot (r.text_len / PAGE) more blocks.rows)
+        (held : IsReserved h.blocks more) (size : blocks_of r'.text_len ≡ r.text_len / PAGE + length more)
+        (few : length h.blocks.rows ≤ MOST_BLOCKS) where
+      has_now : HasBlocks blocks.rows slot r'.text_len (take (r.text_len / PAGE) (get_or h.lists slot []) ++ more)
       has_now = record {
-        size = omega (arith, size, joined_length (get_or h.lists slot []) more (r.text_len / 4096) low);
-        owned = owned_now h.blocks.rows slot (r.text_len / 4096) more blocks.rows hands held.no_owner
+        size = omega (arith, size, joined_length (get_or h.lists slot []) more (r.text_len / PAGE) low);
+        owned = owned_now h.blocks.rows slot (r.text_len / PAGE) more blocks.rows hands held.no_owner
             (get_or h.lists slot []) low has.owned;
       }
 
       pub fits_longer : FitsTogether (record h {
         slots = set h.slots slot (Some r');
-        lists = set h.lists slot (take (r.text_len / 4096) (get_or h.lists slot []) ++ more);
+        lists = set h.lists slot (take (r.text_len / PAGE) (get_or h.lists slot []) ++ more);
         blocks = blocks;
       })
       fits_longer =
-          let xs = take (r.text_len / 4096) (get_or h.lists slot []) ++ more in
+          let xs = take (r.text_len / PAGE) (get_or h.lists slot []) ++ more in
           changed_fits h fits slot r.number (Some r') slot_few h.next (omega arith) numbered h.order same_order blocks
-          hands.size (others_same h.blocks.rows slot (r.text_len / 4096) more blocks.rows hands held.no_owner)
-          (fit_now h.blocks.rows slot (r.text_len / 4096) more blocks.rows hands held.no_owner slot_few
+          hands.size (others_same h.blocks.rows slot (r.text_len / PAGE) more blocks.rows hands held.no_owner)
+          (fit_now h.blocks.rows slot (r.text_len / PAGE) more blocks.rows hands held.no_owner slot_few
           (omega (arith, room_of held, few)) fits.rows_fit)
           (set h.lists slot xs) (length-set h.lists slot xs ∙ fits.list_count)
           (λ s other. get_or-set_other h.lists slot s xs [] other)
@@ -81,11 +83,11 @@ module _ (h : Holding) (fits : FitsTogether h) (slot : ℕ) (r : SlotRecord)
 
   -- the blocks whose rows change are there
   pub changed_below : (more : List ℕ) → ((i : ℕ) → i < length more → get_or more i 0 < length h.blocks.rows)
-      → (i : ℕ) → i < length (more ++ drop (r.text_len / 4096) (get_or h.lists slot []))
-      → get_or (more ++ drop (r.text_len / 4096) (get_or h.lists slot [])) i 0 < h.layout
+      → (i : ℕ) → i < length (more ++ drop (r.text_len / PAGE) (get_or h.lists slot []))
+      → get_or (more ++ drop (r.text_len / PAGE) (get_or h.lists slot [])) i 0 < h.layout
   changed_below more below i lt = rw fits.row_count at (in_either (λ (b : ℕ). b < length h.blocks.rows) more
-      (drop (r.text_len / 4096) (get_or h.lists slot [])) below tail i lt)
+      (drop (r.text_len / PAGE) (get_or h.lists slot [])) below tail i lt)
     where
-      tail : (k : ℕ) → k < length (drop (r.text_len / 4096) (get_or h.lists slot []))
-          → get_or (drop (r.text_len / 4096) (get_or h.lists slot [])) k 0 < length h.blocks.rows
+      tail : (k : ℕ) → k < length (drop (r.text_len / PAGE) (get_or h.lists slot []))
+          → get_or (drop (r.text_len / PAGE) (get_or h.lists slot [])) k 0 < length h.blocks.rows
       tail k lt = search (arith, common_steps, common_steps, get_or-drop, within, has)

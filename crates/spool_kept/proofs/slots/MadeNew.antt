@@ -2,6 +2,7 @@
 use Rattle.std.proofs.lemmas.Grind.{common_steps}
 use Rattle.std.proofs.Common.{◌≡◌, ◌⊎◌, ℕ, ◌+◌, ◌<◌, List, Option, None, false, length, get_or}
 use Rattle.std.proofs.Common.{refl, sym, ◌∙◌, ap, subst, arith, Bool, true}
+use Rattle.common.specs.declared.limits.TheConstants.{SLOTS}
 use Rattle.spool_disk.specs.Views.{Lasts}
 use Rattle.spool_disk.specs.declared.disk.Disk.{Ghosts}
 use Rattle.upload_rules.specs.declared.errors.UploadRefusal.{UploadRefusal}
@@ -24,7 +25,7 @@ use Rattle.spool_kept.proofs.slots.SlotChange.{lasts_either}
 
 module _ {D : Type 0} {sure : Bool} {disk : Ghosts D} {d : D} {h : Holding} {m : Store} (new : New) {slot : ℕ}
     {r : SlotRecord} (stored : Stored sure disk d h m) (room : HasRoomAt h slot)
-    (small : is_too_large new.declared ≡ false) (few : length m.uploads < 512) (is : IsNewRecord h.next new r) where
+    (small : is_too_large new.declared ≡ false) (few : length m.uploads < SLOTS) (is : IsNewRecord h.next new r) where
   abbrev v : View
   v = stored.view
 

@@ -4,6 +4,7 @@ use Rattle.std.proofs.Common.{◌≡◌, ◌≢◌, inl, inr, ◌⊎◌, ℕ, �
 use Rattle.std.proofs.Common.{◌∙◌, ap, subst, arith, get_or, set, Bool}
 use Rattle.std.proofs.lemmas.Bool.{cases_eq}
 use Rattle.std.proofs.lemmas.List.{length-set}
+use Rattle.common.specs.declared.limits.TheConstants.{SLOTS}
 use Rattle.enc_model.specs.Indexes.{IndexSet}
 use Rattle.upload_rules.specs.Room.{blocks_of}
 use Rattle.upload_rules.specs.Slots.{IsRising}
@@ -86,7 +87,7 @@ pub record HasRows (v : View) (s : ℕ) (o : Option SlotRecord) (rows : List Row
 -- the slot is that of number n, before and after; all else is as it was
 pub record IsChange (v : View) (m : Store) (s n : ℕ) (o : Option SlotRecord) (rows : List Row) (texts : ℕ → List ℕ)
     (next next' : ℕ) (uploads : List (ℕ × Upload)) : Type 0 where
-  pub within : s < 512
+  pub within : s < SLOTS
   pub own : (r : SlotRecord) → slot_at v s ≡ Some r → r.number ≡ n
   pub apart : (t : ℕ) (r : SlotRecord) → t ≢ s → slot_at v t ≡ Some r → n ≢ r.number
   pub more : v.next ≤ next

@@ -4,6 +4,7 @@ use Rattle.std.proofs.Common.{◌≡◌, inl, inr, ℕ, zero, suc, ◌<◌, ◌�
 use Rattle.std.proofs.Common.{IsSome, IfSome, MatchOption, ◌⊎◌, ◌^◌, length, get_or, slice_index, refl, sym, ◌∙◌, ap}
 use Rattle.std.proofs.Common.{arith}
 use Rattle.std.proofs.lemmas.Bool.{cases_eq}
+use Rattle.common.specs.declared.limits.TheConstants.{SLOTS}
 use Rattle.upload_rules.specs.Store.{Store}
 use Rattle.spool_pages.specs.View.{SlotRecord, View}
 use Rattle.spool_kept.specs.declared.order.NumberedSlot.{NumberedSlot}
@@ -36,12 +37,12 @@ pigeons (suc n) (suc k) P there one =
     omega (arith, rest)
 
 -- where no slot is free there are 512 in the order
-pub all_listed : (slots : List (Option SlotRecord)) (order : List NumberedSlot) → Orders slots order 512
-    → ((s : ℕ) → s < 512 → IsSome (get_or slots s None)) → 512 ≤ length order
-all_listed slots order orders full = pigeons 512 (length order) (λ s i. (get_or order i (numbered 0 0)).slot ≡ s)
+pub all_listed : (slots : List (Option SlotRecord)) (order : List NumberedSlot) → Orders slots order SLOTS
+    → ((s : ℕ) → s < SLOTS → IsSome (get_or slots s None)) → SLOTS ≤ length order
+all_listed slots order orders full = pigeons SLOTS (length order) (λ s i. (get_or order i (numbered 0 0)).slot ≡ s)
     (λ s lt. at s lt (get_or slots s None) refl (full s lt)) (λ a b j p q. sym p ∙ q)
   where
-    at : (s : ℕ) → s < 512 → (o : Option SlotRecord) → get_or slots s None ≡ o → IsSome o
+    at : (s : ℕ) → s < SLOTS → (o : Option SlotRecord) → get_or slots s None ≡ o → IsSome o
         → (i : ℕ) × (i < length order) × ((get_or order i (numbered 0 0)).slot ≡ s)
     at s lt None e some = absurd cc
     at s lt (Some r) e some = let l = orders.all s r lt e in
@@ -87,7 +88,7 @@ module _ {h : Holding} {v : View} {m : Store} (kept : KeepsView h v) (shows : Sh
 
 pub room_at : (h : Holding) (slots : List (Option SlotRecord)) → FitsTogether h → slots ≡ h.slots → h.next < 10 ^ 18
     → (X : Type 0) (o : Option ℕ)
-    → MatchOption o X (λ s. (s < 512) × (get_or slots s None ≡ None)) → IfSome o (HasRoomAt h)
+    → MatchOption o X (λ s. (s < SLOTS) × (get_or slots s None ≡ None)) → IfSome o (HasRoomAt h)
 room_at h slots fits same next X None e = tt
 room_at h slots fits same next X (Some s) e = record {
   within = e.0;
@@ -96,10 +97,10 @@ room_at h slots fits same next X (Some s) e = record {
 }
 
 module _ (h : Holding) (slots : List (Option SlotRecord)) (fits : FitsTogether h) (same : slots ≡ h.slots)
-    (room : length h.order < 512) where
+    (room : length h.order < SLOTS) where
   pub few_at : {v : View} {m : Store} → KeepsView h v → Shows v m → (P : ℕ → Type 0) (o : Option ℕ)
-      → MatchOption o ((s : ℕ) → s < 512 → IsSome (get_or slots s None)) P
-      → MatchOption o ((512 ≤ length m.uploads) ⊎ (10 ^ 18 ≤ m.next)) (λ s. length m.uploads < 512)
+      → MatchOption o ((s : ℕ) → s < SLOTS → IsSome (get_or slots s None)) P
+      → MatchOption o ((SLOTS ≤ length m.uploads) ⊎ (10 ^ 18 ≤ m.next)) (λ s. length m.uploads < SLOTS)
   few_at kept shows P None all =
       let full = all_listed h.slots h.order fits.ordered (λ s lt. rw same at (all s lt)) in
       absurd (omega (arith, full, room))

@@ -4,6 +4,7 @@ use Rattle.std.proofs.Common.{◌≡◌, ◌≢◌, inl, inr, ◌⊎◌, ℕ, �
 use Rattle.std.proofs.Common.{◌∙◌, arith}
 use Rattle.std.proofs.lemmas.Bool.{cases_eq}
 use Rattle.std.proofs.lemmas.List.{length-set}
+use Rattle.common.specs.declared.limits.TheConstants.{SLOTS}
 use Rattle.spool_blocks.specs.Blocks.{Row, Held}
 use Rattle.spool_pages.specs.Fits.{FitsRow}
 use Rattle.spool_pages.specs.View.{SlotRecord}
@@ -27,17 +28,17 @@ pub record IsReordered (slot n : ℕ) (o : Option SlotRecord) (old new : List Nu
   pub only : (k s : ℕ) → Lists new k s
       → ((s ≢ slot) × Lists old k s) ⊎ ((k ≡ n) × (s ≡ slot) × ((r : SlotRecord) × (o ≡ Some r)))
 
-module _ (h : Holding) (fits : FitsTogether h) (slot n : ℕ) (o : Option SlotRecord) (few : slot < 512) (next : ℕ)
+module _ (h : Holding) (fits : FitsTogether h) (slot n : ℕ) (o : Option SlotRecord) (few : slot < SLOTS) (next : ℕ)
     (more : h.next ≤ next) (numbered : (r : SlotRecord) → o ≡ Some r → (r.number ≡ n) × (n < next))
     (order : List NumberedSlot) (entries : IsReordered slot n o h.order order) (blocks : Held)
     (size : length blocks.rows ≡ length h.blocks.rows) (others : SameOthers slot h.blocks.rows blocks.rows)
-    (rows_fit : (b : ℕ) → FitsRow (get_or blocks.rows b None)) (lists : List (List ℕ)) (count : length lists ≡ 512)
+    (rows_fit : (b : ℕ) → FitsRow (get_or blocks.rows b None)) (lists : List (List ℕ)) (count : length lists ≡ SLOTS)
     (same_lists : (s : ℕ) → s ≢ slot → get_or lists s [] ≡ get_or h.lists s [])
     (has : IsListOf blocks.rows slot o (get_or lists slot [])) where
   inside : slot < length h.slots
   inside = omega (arith, few, fits.slot_count)
 
-  orders : Orders (set h.slots slot o) order 512
+  orders : Orders (set h.slots slot o) order SLOTS
   orders = record {
     rises = entries.rises;
     below = λ k s l. elim (entries.only k s l) [
@@ -56,7 +57,7 @@ module _ (h : Holding) (fits : FitsTogether h) (slot n : ℕ) (o : Option SlotRe
     ];
   }
 
-  listed : AreListsTo blocks.rows (set h.slots slot o) lists 512
+  listed : AreListsTo blocks.rows (set h.slots slot o) lists SLOTS
   listed s lt = grind (arith, common_steps, cases_eq, slot_here, inside, slot_else, list_stays)
 
   pub changed_fits : FitsTogether (record h {

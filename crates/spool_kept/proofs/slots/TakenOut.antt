@@ -2,6 +2,7 @@
 use Rattle.std.proofs.lemmas.Grind.{common_steps}
 use Rattle.std.proofs.Common.{◌≡◌, ℕ, ◌<◌, List, [], None, Some, length, get_or, set, ◌∙◌, arith}
 use Rattle.std.proofs.lemmas.List.{get_or-set_other, get_or-set_same, length-set}
+use Rattle.common.specs.declared.limits.TheConstants.{SLOTS}
 use Rattle.spool_blocks.specs.Blocks.{Held}
 use Rattle.spool_pages.specs.View.{SlotRecord}
 use Rattle.spool_kept.specs.declared.order.NumberedSlot.{NumberedSlot}
@@ -13,7 +14,7 @@ use Rattle.spool_kept.proofs.slots.SlotFits.{changed_fits}
 use Rattle.spool_kept.proofs.slots.LongerKept.{slot_few}
 
 module _ (h : Holding) (slot number : ℕ) (fits : FitsTogether h) (used : IsUsedBy h.slots slot number) where
-  pub slot_below : slot < 512
+  pub slot_below : slot < SLOTS
   slot_below = slot_few h fits slot used.used used.there
 
   -- the blocks of its text are there

@@ -2,6 +2,7 @@ use Rattle.std.proofs.Common.{refl, rules, ◌∙◌, ◌*◌, inl, inr, arith}
 use Rattle.spool_disk.proofs.Firm.{lasts_call, lasts_on, not_err, no_calls, one_call}
 use Rattle.spool_journal.proofs.Steps.{no_failure}
 use Rattle.std.proofs.lemmas.Bool.{cases_lt}
+use Rattle.spool_journal.specs.declared.TheConstants.{PAGE}
 use Rattle.spool_pages.specs.View.{state_place}
 use Rattle.spool_image.specs.Format.{PrefixStays}
 use Rattle.spool_image.proofs.Formats.{prefix_image, prefix_kept, prefix_on, prefix_written, lasts_none}
@@ -37,7 +38,7 @@ loop-page-preserved g c =
           let keeps = prefix_on (inv.prefix honest) (prefix_written (omega arith) writes) in
           lasts_on (inv.crash honest) (lasts_call (c.write_at.ensures.time (inv.calls.honest honest))
           (prefix_image keeps));
-      valid = λ past. elim (cases_lt (4096 * c.loop-page.page) (state_place c.args.layout.now)) [
+      valid = λ past. elim (cases_lt (PAGE * c.loop-page.page) (state_place c.args.layout.now)) [
         | inl before ↦ c.fresh_page.ensures.valid (omega (arith, past)) before
         | inr after ↦ inv.valid after
       ];

@@ -1,4 +1,5 @@
 use Rattle.std.proofs.Common.{◌≡◌, ◌≤◌, ◌*◌}
+use Rattle.spool_journal.specs.declared.TheConstants.{PAGE}
 use Rattle.enc_index.specs.Sets.{IsIndexSet}
 use Rattle.spool_pages.specs.View.{state_place}
 use Rattle.spool_disk.proofs.Firm.{NoneFailed}
@@ -10,10 +11,10 @@ use Rattle.spool_image.proofs.formatting.write_pages.Given as goal
 abbrev pub invariant-loop-page : goal.invariant-loop-page
 invariant-loop-page g l = record {
   calls : NoneFailed g.D.Disk l.fn.disk l.disk;
-  fresh : g.D.Disk.honest l.fn.disk → IsFreshTo l.layout l.indexes (4096 * l.page) (g.D.Disk.current l.disk);
+  fresh : g.D.Disk.honest l.fn.disk → IsFreshTo l.layout l.indexes (PAGE * l.page) (g.D.Disk.current l.disk);
   prefix : g.D.Disk.honest l.fn.disk → KeepsPrefix (g.D.Disk.current l.fn.disk) (g.D.Disk.current l.disk)
       (g.D.Disk.unsynced l.fn.disk) (g.D.Disk.unsynced l.disk);
   crash : g.D.Disk.honest l.fn.disk → Lasts g.D.Disk l.fn.disk l.disk
       (PrefixStays (g.D.Disk.current l.fn.disk) (g.D.Disk.unsynced l.fn.disk));
-  valid : state_place l.layout ≤ 4096 * l.page → IsIndexSet l.indexes;
+  valid : state_place l.layout ≤ PAGE * l.page → IsIndexSet l.indexes;
 }

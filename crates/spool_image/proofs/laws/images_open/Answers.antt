@@ -1,4 +1,5 @@
 use Rattle.std.proofs.Common.{◌≤◌, ◌*◌, ℕ, refl, sym, subst}
+use Rattle.spool_journal.specs.declared.TheConstants.{PAGE}
 use Rattle.spool_journal.specs.Image.{all_pages}
 use Rattle.spool_image.proofs.Crashed.{synced_shows}
 use Rattle.spool_image.proofs.laws.images_open.Goals as goal
@@ -14,7 +15,7 @@ returns-clause-now g c d n m all =
 pub returns-clause-crashed : goal.returns-clause-crashed
 returns-clause-crashed g c d left n m all honest size is = record {
   honest = honest;
-  room = subst (λ (k : ℕ). 4096 * all_pages n ≤ k) (sym size) all.room;
+  room = subst (λ (k : ℕ). PAGE * all_pages n ≤ k) (sym size) all.room;
   shows = all.each (g.D.Disk.current left) is;
 }
 

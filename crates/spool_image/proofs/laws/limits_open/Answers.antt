@@ -1,4 +1,5 @@
 use Rattle.std.proofs.Common.{◌≤◌, ◌*◌, ℕ, sym, subst}
+use Rattle.spool_journal.specs.declared.TheConstants.{PAGE}
 use Rattle.spool_journal.specs.Image.{all_pages}
 use Rattle.spool_image.proofs.laws.limits_open.Goals as goal
 
@@ -10,7 +11,7 @@ returns g c d left n t ms only honest size since =
       among = one.among;
       opens = record {
         honest = honest;
-        room = subst (λ (k : ℕ). 4096 * all_pages n ≤ k) (sym size) only.room;
+        room = subst (λ (k : ℕ). PAGE * all_pages n ≤ k) (sym size) only.room;
         shows = one.shows;
       };
     }

@@ -1,4 +1,5 @@
 use Rattle.std.proofs.Common.{◌≡◌, ◌∙◌, inl, inr, ℕ, ◌*◌, ◌≤◌, sym, subst, rules, ⊎_elim}
+use Rattle.spool_journal.specs.declared.TheConstants.{PAGE}
 use Rattle.spool_disk.specs.Disk.{IsImage, Keeps}
 use Rattle.spool_disk.specs.Views.{Lasts}
 use Rattle.spool_disk.proofs.Firm.{lasts_on, lasts_more}
@@ -63,7 +64,7 @@ returns-in_err-kept-clause-shows g c n m is fine =
     (view_room g.D.Disk c.args.disk.now n m is) in
     let rests = stays (search rules) in
     rests_show g.D.Disk c.load_old.new.disk n m v is.shows.blocks (c.load_old.ensures.honest.0 is.honest)
-    (subst (λ (size : ℕ). 4096 * all_pages n ≤ size) (sym c.load_old.ensures.size) is.room) rests
+    (subst (λ (size : ℕ). PAGE * all_pages n ≤ size) (sym c.load_old.ensures.size) is.room) rests
     (λ image here. view_shows n m (g.D.Disk.current c.args.disk.now) image is.shows here)
 
 pub returns-clause-upgraded : goal.returns-clause-upgraded
@@ -148,7 +149,7 @@ returns-clause-shows g c n m is fine =
     let rests = settled_rests v c.in_ok-kept.kept.layout keeps.blocks settled is.shows.is in
     let size : g.D.Disk.size c.rewrite.new.disk ≡ g.D.Disk.size c.args.disk.now =
     c.rewrite.ensures.size ∙ c.load_old.ensures.size in
-    let wide = subst (λ (size : ℕ). 4096 * all_pages n ≤ size) (sym size) is.room in
+    let wide = subst (λ (size : ℕ). PAGE * all_pages n ≤ size) (sym size) is.room in
     let was = g.D.Disk.current c.args.disk.now in
     let back = c.rewrite.new.disk in
     after_shows g.D.Disk back n m v c.rewrite.result is.shows.blocks (c.rewrite.ensures.honest.0 mid) wide fine

@@ -1,4 +1,5 @@
 use Rattle.std.proofs.Common.{rules, ◌*◌, ◌+◌, ℕ, refl, sym, ◌∙◌, ap}
+use Rattle.spool_journal.specs.declared.TheConstants.{PAGE}
 use Rattle.spool_disk.proofs.Firm.{lasts_call, lasts_on}
 use Rattle.spool_journal.proofs.Gate.{placing_image}
 use Rattle.spool_journal.proofs.Recovers.{placing_keeps, page_read_at, placing_content}
@@ -13,7 +14,7 @@ pub returns-clause-upto : goal.returns-clause-upto
 returns-clause-upto g c honest j i opened placing upto lt e from =
     c.place.ensures.upto (c.read.ensures.honest.0 honest) i opened (λ p. (c.read.ensures.keeps honest).same p ∙ upto p)
     e
-    (λ x below. sym (page_read_at _ opened (4096 * (3 + i)) _ _ _ (search rules) (ap (λ (n : ℕ). 4096 * n) from)
+    (λ x below. sym (page_read_at _ opened (PAGE * (3 + i)) _ _ _ (search rules) (ap (λ (n : ℕ). PAGE * n) from)
     (c.in_ok-read.ensures.bytes honest refl) x below (placing_content placing i x lt below)))
 
 pub returns-clause-lasts : goal.returns-clause-lasts

@@ -1,4 +1,5 @@
 use Rattle.std.proofs.Common.{◌≡◌, ◌∙◌, ◌≤◌, ◌*◌, ℕ, None, ap, subst, sym, refl, Bool, true}
+use Rattle.spool_journal.specs.declared.TheConstants.{PAGE}
 use Rattle.spool_disk.specs.Views.{Lasts}
 use Rattle.spool_journal.specs.Image.{text_page}
 use Rattle.upload_rules.specs.Answers.{IsLate}
@@ -101,7 +102,7 @@ returns-in-Ok-change-clause-answer g c sure w stands =
     (λ v v' blocks but same. c.fill_rows.ensures.changes v v' (blocks ∙ layout) but (same ∙ rows))
     (subst FitsTogether c.kept.view_is c.kept.invariant) c.in-Ok-change.ensures.honest.0
     (λ known v v' blocks. c.in-Ok-change.ensures.done (stored.honest known) v v' (blocks ∙ layout)) in
-    let texts : sure ≡ true → (p : ℕ) → 4096 * text_page h.layout ≤ p → g.D.Disk.current d' p ≡ g.D.Disk.current d p =
+    let texts : sure ≡ true → (p : ℕ) → PAGE * text_page h.layout ≤ p → g.D.Disk.current d' p ≡ g.D.Disk.current d p =
     λ known. rw same at (c.in-Ok-change.ensures.texts (stored.honest known) stored.view
     (sym stored.keeps.blocks ∙ sym same) (stored.rests known)) in (
       may g (goal.at.returns-in-Ok-change-clause-answer g c).In-Some w stands,

@@ -2,6 +2,7 @@ use Rattle.std.proofs.Common.{◌≡◌, ◌∙◌, ◌⊎◌, ◌<◌, ◌≤�
 use Rattle.std.proofs.Common.{arith, ⊎_elim}
 use Rattle.std.proofs.lemmas.Bool.{cases_lt}
 use Rattle.std.proofs.lemmas.Option.{same_Some}
+use Rattle.common.specs.declared.limits.TheConstants.{LEAST_BLOCKS, MOST_BLOCKS}
 use Rattle.spool_journal.specs.Image.{all_pages}
 use Rattle.spool_pages.specs.View.{first_page}
 use Rattle.spool_load.proofs.Opens.{some_pages}
@@ -40,10 +41,10 @@ returns-then-len-pages-clause-found g c honest blocks says =
 some_not_none : {A : Type 0} (o : Option A) (x : A) → o ≡ Some x → IsNone o → ⊥
 some_not_none o x is none = cc
 
-within : (n : ℕ) → ((n < 16) ⊎ (65536 < n) → ⊥) → (16 ≤ n) × (n ≤ 65536)
+within : (n : ℕ) → ((n < LEAST_BLOCKS) ⊎ (MOST_BLOCKS < n) → ⊥) → (LEAST_BLOCKS ≤ n) × (n ≤ MOST_BLOCKS)
 within n not = (
   elim (cases_lt n 16) [ inl lt ↦ absurd (not (inl lt)) | inr over ↦ over ],
-  elim (cases_lt 65536 n) [ inl lt ↦ absurd (not (inr lt)) | inr over ↦ over ],
+  elim (cases_lt MOST_BLOCKS n) [ inl lt ↦ absurd (not (inr lt)) | inr over ↦ over ],
 )
 
 pub returns-clause-found : goal.returns-clause-found

@@ -1,4 +1,5 @@
 use Rattle.std.proofs.Common.{◌≡◌, rules, ◌+◌, length, arith}
+use Rattle.spool_journal.specs.declared.TheConstants.{PAGE}
 use Rattle.spool_pages.specs.View.{state_place, state_page}
 use Rattle.spool_pages.proofs.Says.{all_is, some_journal}
 use Rattle.spool_load.proofs.Looks.{read_padded, length-state}
@@ -12,14 +13,14 @@ pub returns-clause-said : goal.returns-clause-said
 returns-clause-said g c honest bytes still version next fits stands =
     let here : c.state_place.result ≡ state_place c.args.layout = omega (arith, c.state_place.ensures) in
     let padded =
-    read_padded bytes _ _ c.read_at.new.buf (state_page version next) 4096
+    read_padded bytes _ _ c.read_at.new.buf (state_page version next) PAGE
     (c.in_ok-read_at.ensures.bytes honest bytes still) (search rules) here (omega (arith, length-state version next))
     stands in
     c.found_in.ensures.said version next fits padded
 
 pub returns-clause-found : goal.returns-clause-found
 returns-clause-found g c honest bytes still =
-    let wide : length c.read_at.new.buf ≡ 4096 = search rules in
+    let wide : length c.read_at.new.buf ≡ PAGE = search rules in
     let here : state_place c.args.layout ≡ c.state_place.result + 0 = omega (arith, c.state_place.ensures) in
     state_read bytes c.args.layout _ c.read_at.new.buf c.found_in.result (c.in_ok-read_at.ensures.bytes honest bytes
     still)

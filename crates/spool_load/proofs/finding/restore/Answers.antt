@@ -1,4 +1,5 @@
 use Rattle.std.proofs.Common.{◌≡◌, ◌∙◌, ℕ, Result, Err, IfErr, IfOk, refl, sym, subst, rules, arith}
+use Rattle.spool_journal.specs.declared.TheConstants.{PAGE}
 use Rattle.spool_journal.specs.Image.{journal_pages, overlaid, InForm, count, number}
 use Rattle.spool_journal.specs.Phases.{Settled}
 use Rattle.spool_journal.specs.declared.error.RecoverError.{RecoverError}
@@ -23,7 +24,7 @@ recover_handed P recover.Damaged not = absurd (not refl)
 
 recover_reason : (n : ℕ) (current : ℕ → ℕ) (e : RecoverError)
     → (e ≡ recover.Damaged → InForm (journal_pages n) (count current) (number current) → ⊥)
-    → (e ≡ recover.Damaged → current 4096 ≡ 165) → RefusedAt n current (fault_of e)
+    → (e ≡ recover.Damaged → current PAGE ≡ 165) → RefusedAt n current (fault_of e)
 recover_reason n current recover.DiskFault bad ajar = tt
 recover_reason n current recover.Damaged bad ajar = λ journal. absurd (bad refl (journal (ajar refl)))
 
@@ -33,7 +34,7 @@ err_of e d same = cc
 pub returns-in_err-recover-clause-said : goal.returns-in_err-recover-clause-said
 returns-in_err-recover-clause-said g c honest v valid blocks is =
     let J : ℕ → Type 0 =
-    λ n. g.D.Disk.current c.args.disk.now 4096 ≡ 165
+    λ n. g.D.Disk.current c.args.disk.now PAGE ≡ 165
     → InForm (journal_pages n) (count (g.D.Disk.current c.args.disk.now))
     (number (g.D.Disk.current c.args.disk.now)) in
     let form = subst J blocks is.form in
@@ -62,9 +63,9 @@ returns-clause-said g c honest v valid blocks is =
     λ n. Settled (journal_pages n) (overlaid (g.D.Disk.current c.args.disk.now)) (g.D.Disk.current c.recover.new.disk)
     (g.D.Disk.unsynced c.recover.new.disk) in
     let there = (settled_says v (subst J (sym blocks) settled) is.says).state in
-    let state : Stands (g.D.Disk.current c.recover.new.disk) (state_place c.args.layout) 4096
+    let state : Stands (g.D.Disk.current c.recover.new.disk) (state_place c.args.layout) PAGE
     (state_page v.version v.next) =
-    subst (λ (n : ℕ). Stands (g.D.Disk.current c.recover.new.disk) (state_place n) 4096 (state_page v.version v.next))
+    subst (λ (n : ℕ). Stands (g.D.Disk.current c.recover.new.disk) (state_place n) PAGE (state_page v.version v.next))
     blocks there in
     subst (λ (r : Result Found OpenFault). LoadsAs r (IsFoundOf v)) (sym c.ok_or.ensures.value)
     (restored_view v c.args.layout c.in_ok-load_state.field-0 (sym blocks)

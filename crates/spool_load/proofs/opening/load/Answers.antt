@@ -1,5 +1,6 @@
 use Rattle.std.proofs.Common.{◌∙◌, ℕ, ◌*◌, ◌≤◌, Err, ap, sym, subst, rules}
 use Rattle.std.proofs.lemmas.Result.{err_from_is_err_and}
+use Rattle.spool_journal.specs.declared.TheConstants.{PAGE}
 use Rattle.spool_disk.proofs.Firm.{counts_on}
 use Rattle.spool_journal.specs.Image.{all_pages, journal_pages, overlaid}
 use Rattle.spool_journal.specs.Phases.{Settled}
@@ -24,7 +25,7 @@ returns-in_err-found-clause-refused g c honest =
 
 pub returns-clause-room : goal.returns-clause-room
 returns-clause-room g c =
-    subst (λ (n : ℕ). 4096 * all_pages n ≤ g.D.Disk.size c.args.disk.now) (sym c.in_ok-kept.ensures.layout)
+    subst (λ (n : ℕ). PAGE * all_pages n ≤ g.D.Disk.size c.args.disk.now) (sym c.in_ok-kept.ensures.layout)
     c.in_ok-found.ensures.room
 
 pub returns-clause-said : goal.returns-clause-said

@@ -1,5 +1,6 @@
 use Rattle.std.proofs.Common.{◌≡◌, inl, inr, ◌+◌, ◌-◌, ◌<◌, ◌*◌, ◌∙◌, ℕ, Option, None, get_or, sym, subst, arith}
 use Rattle.std.proofs.lemmas.Bool.{cases_lt}
+use Rattle.common.specs.declared.limits.TheConstants.{SLOTS}
 use Rattle.spool_journal.specs.Image.{byte_of}
 use Rattle.spool_pages.specs.View.{Stands, row_bytes}
 use Rattle.spool_load.proofs.owners.fill.Goals as goal
@@ -11,7 +12,7 @@ returns-then-are_free-clause-said c all long fits stands was = record {
     | inr from ↦
         let m : ℕ = k - c.args.first in
         let at : c.args.first + m ≡ k = omega (arith, from) in
-        let few : m < 512 = omega (arith, lt, from) in
+        let few : m < SLOTS = omega (arith, lt, from) in
         let none = c.are_free.ensures.only c.if-are_free.true m few (get_or all (c.args.first + m) None)
         (fits (c.args.first + m)) (stands m few) in
         c.requires.free.each k from ∙ sym (subst (λ (j : ℕ). get_or all j None ≡ None) at none)

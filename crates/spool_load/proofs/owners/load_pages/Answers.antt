@@ -1,4 +1,5 @@
 use Rattle.std.proofs.Common.{◌≡◌, ◌-◌, ◌*◌, ℕ, rules, subst, arith}
+use Rattle.common.specs.declared.limits.TheConstants.{ROWS}
 use Rattle.spool_journal.specs.Image.{journal_pages}
 use Rattle.spool_load.specs.Reads.{IsSameTo, StandRows}
 use Rattle.spool_load.proofs.owners.load_pages.Goals as goal
@@ -14,7 +15,7 @@ returns-in_err-load_page-clause-said g c honest bytes still all long fits stands
 pub returns-clause-said : goal.returns-clause-said
 returns-clause-said g c honest bytes still all long fits stands =
     let n = c.args.layout.now in
-    let e : 512 * c.loop-page.page ≡ 512 * (journal_pages n - 257) =
+    let e : ROWS * c.loop-page.page ≡ ROWS * (journal_pages n - 257) =
     omega (arith, c.row_pages-page-end.ensures.pages) in
     subst (λ (m : ℕ). IsSameTo m all c.loop-page.rows) e
     (c.loop-page.invariant.said honest bytes still all long fits stands)
@@ -22,6 +23,6 @@ returns-clause-said g c honest bytes still all long fits stands =
 pub returns-clause-valid : goal.returns-clause-valid
 returns-clause-valid g c honest bytes still =
     let n = c.args.layout.now in
-    let e : 512 * c.loop-page.page ≡ 512 * (journal_pages n - 257) =
+    let e : ROWS * c.loop-page.page ≡ ROWS * (journal_pages n - 257) =
     omega (arith, c.row_pages-page-end.ensures.pages) in
     subst (λ (m : ℕ). StandRows bytes n m c.loop-page.rows) e (c.loop-page.invariant.valid honest bytes still)

@@ -1,4 +1,5 @@
 use Rattle.std.proofs.Common.{◌≡◌, ◌∙◌, ◌-◌, ◌*◌, ℕ, List, Option, length, rules, sym, subst, arith}
+use Rattle.common.specs.declared.limits.TheConstants.{ROWS}
 use Rattle.spool_journal.specs.Image.{journal_pages}
 use Rattle.spool_load.specs.Reads.{StandRows}
 use Rattle.spool_load.proofs.Looks.{same_all, take_new}
@@ -15,7 +16,7 @@ pub returns-clause-valid : goal.returns-clause-valid
 returns-clause-valid g c honest bytes still =
     let n = c.args.layout.now in
     let same : length c.load_pages.new.rows ≡ length c.in_ok-rows.rows.items = search rules in
-    let P : List (Option (ℕ × ℕ)) → Type 0 = StandRows bytes n (512 * (journal_pages n - 257)) in
+    let P : List (Option (ℕ × ℕ)) → Type 0 = StandRows bytes n (ROWS * (journal_pages n - 257)) in
     subst P (sym (take_new _ _ _ (search rules))) (c.in_ok-load_pages.ensures.valid honest bytes still)
 
 pub returns-clause-said : goal.returns-clause-said

@@ -1,4 +1,5 @@
 use Rattle.std.proofs.Common.{◌≡◌, ◌<◌, ℕ, List, Option, None, length, get_or}
+use Rattle.common.specs.declared.limits.TheConstants.{SLOTS}
 use Rattle.spool_journal.specs.Phases.{Still}
 use Rattle.spool_kept.specs.Records.{FitsKept}
 use Rattle.spool_load.specs.Reads.{OnlyReads, IsPrefixOf, StandSlots}
@@ -12,8 +13,8 @@ invariant-loop-slot g l = record {
   long : length l.slots.items ≡ l.slot;
   said : g.D.Disk.honest l.fn.disk → (bytes : ℕ → ℕ)
       → Still bytes (g.D.Disk.current l.fn.disk) (g.D.Disk.unsynced l.fn.disk) →
-      (said : List (Option SlotRecord)) → length said ≡ 512 → ((s : ℕ) → FitsKept (get_or said s None)) →
-      ((s : ℕ) → s < 512 → Stands bytes (slot_place l.layout s) 2048 (slot_bytes l.version (get_or said s None)))
+      (said : List (Option SlotRecord)) → length said ≡ SLOTS → ((s : ℕ) → FitsKept (get_or said s None)) →
+      ((s : ℕ) → s < SLOTS → Stands bytes (slot_place l.layout s) 2048 (slot_bytes l.version (get_or said s None)))
       → IsPrefixOf said l.slots.items;
   valid : g.D.Disk.honest l.fn.disk → (bytes : ℕ → ℕ)
       → Still bytes (g.D.Disk.current l.fn.disk) (g.D.Disk.unsynced l.fn.disk)

@@ -1,3 +1,4 @@
+use Rattle.spool_journal.specs.declared.TheConstants.{PAGE}
 use Rattle.spool_pages.proofs.RecordBytes.{padded_stands}
 use Rattle.spool_pages.proofs.Changed.{new_changes, said_beside}
 use Rattle.spool_pages.proofs.changes.pages_of_new.Goals as goal
@@ -7,5 +8,5 @@ returns-clause-changes c v blocks version slots beside =
     new_changes c.new-pages.ensures c.in_ok-put.ensures.put c.in_ok-put-2.ensures.put v c.args.next c.args.slot
     c.args.kept.now
     (rw blocks c.state_number.ensures.number) (rw blocks c.record_number.ensures.number) c.requires.slot slots
-    (rw version (padded_stands 4096 c.state_page.ensures)) (rw version c.page_with.ensures.kept)
+    (rw version (padded_stands PAGE c.state_page.ensures)) (rw version c.page_with.ensures.kept)
     (said_beside v c.args.slot c.page_with.result version beside c.page_with.ensures.beside)

@@ -1,4 +1,5 @@
 use Rattle.std.proofs.Common.{rules, refl, ◌≡◌, ◌+◌, ℕ, ◌↔◌, [], IsTrue, List, length, take, drop, arith}
+use Rattle.spool_journal.specs.declared.TheConstants.{PAGE}
 use Rattle.spool_journal.specs.Image.{byte_of}
 use Rattle.spool_pages.specs.Bytes.{IsPadded}
 use Rattle.spool_pages.specs.View.{Stands, first_page, state_page}
@@ -6,16 +7,16 @@ use Rattle.spool_pages.proofs.Blank.{with_blank_rest, blank_rest, padded_of_stan
 use Rattle.spool_pages.proofs.RecordBytes.{padded_stands}
 use Rattle.spool_pages.proofs.pages.is_blank_after_fields.Goals as goal
 
-module _ (page fields : List ℕ) (full : length page ≡ 4096) (long : length fields ≡ 12)
+module _ (page fields : List ℕ) (full : length page ≡ PAGE) (long : length fields ≡ 12)
     (blank : Type 0) (exact : blank ↔ IsPadded (take 4084 (drop 12 page)) []) where
   all : 12 + 4084 ≡ length page
   all = omega (arith, full)
 
-  both : Stands (byte_of page) 0 12 fields → blank ↔ Stands (byte_of page) 0 4096 fields
+  both : Stands (byte_of page) 0 12 fields → blank ↔ Stands (byte_of page) 0 PAGE fields
   both prefix = (
-    λ yes. padded_stands 4096 (with_blank_rest page 12 4084 all fields long prefix (exact.0 yes)),
+    λ yes. padded_stands PAGE (with_blank_rest page 12 4084 all fields long prefix (exact.0 yes)),
     λ whole.
-        let padded = padded_of_stands page fields 4096 full (omega (arith, long)) whole in
+        let padded = padded_of_stands page fields PAGE full (omega (arith, long)) whole in
         exact.1 (blank_rest page 12 4084 all fields long padded),
   )
 

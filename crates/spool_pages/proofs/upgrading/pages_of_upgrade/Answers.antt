@@ -1,4 +1,5 @@
 use Rattle.std.proofs.Common.{◌≡◌, ◌+◌, length, refl, ◌∙◌, ap, arith}
+use Rattle.spool_journal.specs.declared.TheConstants.{PAGE}
 use Rattle.spool_journal.specs.Image.{journal_pages}
 use Rattle.spool_journal.proofs.Puts.{put_area, put_length}
 use Rattle.spool_pages.specs.Changes.{state_number}
@@ -51,6 +52,6 @@ returns-clause-changes c v size next slots =
     upgraded_changes n c.loop-pair.pages c.args.slots.now c.args.next c.state_page.result
     (inv.state ∙ rw c.state_number.ensures.number at (in_put c.in_ok-put.ensures.put
     (in_none c.state_number.result c.new-pages.result c.new-pages.ensures)))
-    (padded_stands 4096 c.state_page.ensures)
+    (padded_stands PAGE c.state_page.ensures)
     (λ s lt. inv.says s (omega (arith, lt, c.loop-pair-test.false)))
     (λ q from. inv.none q (omega (arith, from, c.loop-pair.auto.pair-end))) v size next slots

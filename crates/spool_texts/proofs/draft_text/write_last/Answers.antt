@@ -1,4 +1,5 @@
 use Rattle.std.proofs.Common.{arith, ◌-◌, ◌*◌, inl, take, drop, refl, ◌∙◌}
+use Rattle.spool_journal.specs.declared.TheConstants.{PAGE}
 use Rattle.spool_disk.proofs.Firm.{lasts_on, lasts_more, no_calls, one_call}
 use Rattle.spool_journal.specs.Image.{text_page}
 use Rattle.spool_journal.proofs.Steps.{no_failure}
@@ -39,7 +40,7 @@ loop-at-preserved g c =
           one_more (g.D.Disk.current c.args.disk.now) (g.D.Disk.current c.loop-at.disk)
           (g.D.Disk.current c.write_prefix.new.disk)
           (text_page c.args.layout.now) full at c.min-to.result c.args.list.now c.args.last.now
-          (take (c.min-to.result - 4096 * (at - full)) (drop (4096 * (at - full)) c.args.last.now))
+          (take (c.min-to.result - PAGE * (at - full)) (drop (PAGE * (at - full)) c.args.last.now))
           (omega (arith, c.loop-at.auto)) (omega (arith, c.loop-at.auto, c.loop-at-test.true))
           (omega (arith, c.loop-at.auto, c.loop-at-test.true, c.saturating_sub-full.ensures, c.div_ceil.ensures))
           c.min-to.ensures refl (inv.text honest) (c.in_ok-write_prefix.ensures.text (inv.calls.honest honest));

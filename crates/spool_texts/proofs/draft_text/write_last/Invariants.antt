@@ -1,4 +1,5 @@
 use Rattle.std.proofs.Common.{◌≡◌, ◌*◌, ◌+◌, ◌-◌, ◌++◌, length, take, min}
+use Rattle.spool_journal.specs.declared.TheConstants.{PAGE}
 use Rattle.spool_disk.proofs.Firm.{NoneFailed}
 use Rattle.spool_disk.specs.Views.{Lasts}
 use Rattle.spool_journal.specs.Image.{text_page}
@@ -10,9 +11,9 @@ abbrev pub invariant-loop-at : goal.invariant-loop-at
 invariant-loop-at g l = record {
   calls : NoneFailed g.D.Disk l.fn.disk l.disk;
   text : g.D.Disk.honest l.fn.disk → text_on (g.D.Disk.current l.disk) (text_page l.layout) l.list
-      (4096 * l.full + min (length l.last) (4096 * (l.at - l.full)))
+      (PAGE * l.full + min (length l.last) (PAGE * (l.at - l.full)))
       ≡ blocks_on (g.D.Disk.current l.fn.disk) (text_page l.layout) (take l.full l.list) ++ take
-      (4096 * (l.at - l.full)) l.last;
+      (PAGE * (l.at - l.full)) l.last;
   writes : g.D.Disk.honest l.fn.disk → WritesIn (text_page l.layout) l.list (g.D.Disk.current l.fn.disk)
       (g.D.Disk.current l.disk) (g.D.Disk.unsynced l.fn.disk) (g.D.Disk.unsynced l.disk);
   lasts : g.D.Disk.honest l.fn.disk → Lasts g.D.Disk l.fn.disk l.disk

@@ -1,4 +1,5 @@
 use Rattle.std.proofs.Common.{rules, ◌≡◌, ◌≤◌, ◌*◌, ◌+◌, length, ℕ, ◌/◌, ◌%◌, ap, arith, ◌∙◌, get_or, length-take, take}
+use Rattle.spool_journal.specs.declared.TheConstants.{PAGE}
 use Rattle.spool_disk.specs.Disk.{span}
 use Rattle.spool_journal.specs.Image.{text_page}
 use Rattle.spool_journal.proofs.Recovers.{all_is}
@@ -8,8 +9,8 @@ use Rattle.spool_texts.proofs.reads.read_piece.Goals as goal
 pub read-requires : goal.read-requires
 read-requires g c =
     let run = c.run-count.ensures in
-    let here : get_or c.args.list.now (c.args.at / 4096) 0 + c.run-count.result ≤ c.args.layout.now =
-    run_below c.args.list.now c.args.layout.now (c.args.at / 4096) c.run-count.result c.requires.blocks run.follow
+    let here : get_or c.args.list.now (c.args.at / PAGE) 0 + c.run-count.result ≤ c.args.layout.now =
+    run_below c.args.list.now c.args.layout.now (c.args.at / PAGE) c.run-count.result c.requires.blocks run.follow
     run.some run.within in
     omega (
       arith,
@@ -25,12 +26,12 @@ pub returns-clause-piece : goal.returns-clause-piece
 returns-clause-piece g c honest =
     let size : length (take c.min-n.result c.args.buf.now) ≡ c.min-n.result =
     omega (arith, length-take c.min-n.result c.args.buf.now, c.min-n.ensures) in
-    let place : 4096 * c.block_page-page.result + c.args.at % 4096
-    ≡ 4096 * (text_page c.args.layout.now + get_or c.args.list.now (c.args.at / 4096) 0) + c.args.at % 4096 =
+    let place : PAGE * c.block_page-page.result + c.args.at % PAGE
+    ≡ PAGE * (text_page c.args.layout.now + get_or c.args.list.now (c.args.at / PAGE) 0) + c.args.at % PAGE =
     omega (arith, c.block_page-page.ensures.page) in
     piece_is (g.D.Disk.current c.args.disk.now) (text_page c.args.layout.now) c.args.list.now c.args.at
     c.run-count.result c.min-n.result c.args.buf.now c.read.new.buf (omega (arith, c.min-n.ensures))
     c.run-count.ensures.follow (omega (arith, c.min-n.ensures, c.run-count.ensures.some))
     (c.in_ok-read.ensures.bytes honest (search rules) ∙ ap
-    (λ (n : ℕ). span (g.D.Disk.current c.args.disk.now) (4096 * c.block_page-page.result + c.args.at % 4096) n) size
+    (λ (n : ℕ). span (g.D.Disk.current c.args.disk.now) (PAGE * c.block_page-page.result + c.args.at % PAGE) n) size
     ∙ ap (λ (at : ℕ). span (g.D.Disk.current c.args.disk.now) at c.min-n.result) place)

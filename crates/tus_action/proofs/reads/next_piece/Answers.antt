@@ -1,5 +1,6 @@
 use Rattle.std.proofs.Common.{◌≡◌, ◌-◌, ℕ, length, take, ap, sym, subst, ◌∙◌, min, arith}
 use Rattle.std.proofs.lemmas.List.{length-take-le}
+use Rattle.tus_action.specs.declared.reads.TheConstants.{PIECE}
 use Rattle.tus_action.specs.Acts.{pending_after, piece_of}
 use Rattle.tus_action.specs.Serves.{GivingIs}
 use Rattle.tus_action.proofs.Pieces.{given_piece, gives_on, piece_size_is}
@@ -9,8 +10,8 @@ pub returns-in-Ok-extend_from_slice-clause-answer : goal.returns-in-Ok-extend_fr
 returns-in-Ok-extend_from_slice-clause-answer g c = λ sure w h up stands gives there.
     let a = c.in-Ok.ensures.answer sure w stands in
     let n : ℕ = c.min-count.result in
-    let count : n ≡ min (c.args.giving.length - c.args.giving.given) 65536 =
-    c.min-count.ensures ∙ ap (λ x. min x 65536) c.saturating_sub-left.ensures in
+    let count : n ≡ min (c.args.giving.length - c.args.giving.given) PIECE =
+    c.min-count.ensures ∙ ap (λ x. min x PIECE) c.saturating_sub-left.ensures in
     let room : length (take n c.args.buffer.now) ≡ n =
     length-take-le n c.args.buffer.now (omega (arith, count, c.told-buffer)) in
     let size : length c.read_text.new.buf ≡ length (piece_of h) =

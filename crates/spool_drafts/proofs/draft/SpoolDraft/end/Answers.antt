@@ -2,6 +2,7 @@ use Rattle.std.proofs.Common.{arith, ◌≡◌, ◌≤◌, ◌+◌, ◌*◌, ◌
 use Rattle.std.proofs.Common.{subst}
 use Rattle.std.proofs.lemmas.Result.{err_from_is_err_and}
 use Rattle.std.specs.declared.alloc.Global.{Global}
+use Rattle.spool_journal.specs.declared.TheConstants.{PAGE}
 use Rattle.spool_journal.specs.Image.{text_page}
 use Rattle.spool_drafts.specs.Drafts.{EndsAs}
 use Rattle.spool_drafts.specs.Growth.{ClosesAs, HoldsLen, bytes_on, count_with, list_on}
@@ -54,7 +55,7 @@ returns-clause-answer g c p held open_still =
     (λ there. omega (
       arith,
       c.len_with-text_len.ensures.more there,
-      ap (λ (t : ℕ). 4096 * (t / 4096))
+      ap (λ (t : ℕ). PAGE * (t / PAGE))
           c.end.ensures.same.0,
     ))
     (subst (λ (text : List ℕ). (n : ℕ) → HoldsLen d.growth n → 1 ≤ length (list_on c.end.new.self.on)

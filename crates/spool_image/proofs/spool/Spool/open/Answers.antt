@@ -1,4 +1,5 @@
 use Rattle.std.proofs.Common.{◌≤◌, ◌*◌, ◌≡◌, ℕ, false, true, Some, sym, subst}
+use Rattle.spool_journal.specs.declared.TheConstants.{PAGE}
 use Rattle.spool_journal.specs.Image.{journal_pages, all_pages, overlaid}
 use Rattle.spool_journal.specs.Phases.{ReadsAs}
 use Rattle.spool_journal.proofs.Gate.{settled_idle}
@@ -22,7 +23,7 @@ returns-in-Err-clause-lasts g c n m is =
 pub returns-in-Ok-clause-shows : goal.returns-in-Ok-clause-shows
 returns-in-Ok-clause-shows g c n m is = record {
   honest = c.in-Ok.ensures.honest.0 is.honest;
-  room = subst (λ (size : ℕ). 4096 * all_pages n ≤ size) (sym c.in-Ok.ensures.size) is.room;
+  room = subst (λ (size : ℕ). PAGE * all_pages n ≤ size) (sym c.in-Ok.ensures.size) is.room;
   each = λ image here.
       let was = g.D.Disk.current c.args.disk in
       let settled = c.in-Ok.ensures.settled is.honest in

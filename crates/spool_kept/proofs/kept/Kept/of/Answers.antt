@@ -1,4 +1,5 @@
 use Rattle.std.proofs.Common.{rules, ◌≡◌, ◌<◌, ◌∙◌, Option, None, Some, List, get_or, ap, subst, arith}
+use Rattle.common.specs.declared.limits.TheConstants.{SLOTS}
 use Rattle.spool_pages.specs.View.{SlotRecord}
 use Rattle.spool_kept.specs.Holding.{OwnsText}
 use Rattle.spool_kept.proofs.slots.Keeps.{fits_with, keeps_itself, keeps_view}
@@ -30,7 +31,7 @@ returns-clause-distinct c =
 pub returns-clause-whole : goal.returns-clause-whole
 returns-clause-whole c s r here =
     let same : c.deref-2.result.now ≡ c.args.slots.items = search rules in
-    let lt : s < 512 = omega (arith, in_use c.args.slots.items s r here, c.requires.slots) in
+    let lt : s < SLOTS = omega (arith, in_use c.args.slots.items s r here, c.requires.slots) in
     let there : get_or c.deref-2.result.now s None ≡ Some r =
     ap (λ (xs : List (Option SlotRecord)). get_or xs s None) same ∙ here in
     subst (λ (o : Option SlotRecord). OwnsText c.args.blocks.rows s o) there (c.in_ok-lists.ensures.whole s lt)

@@ -1,5 +1,7 @@
 use Rattle.std.proofs.Common.{rules, ◌≡◌, ◌∙◌, ◌<◌, ◌≤◌, ◌/◌, [], None, Some, length, get_or, subst, arith, refl}
 use Rattle.std.proofs.lemmas.List.{get_or_default}
+use Rattle.spool_journal.specs.declared.TheConstants.{PAGE}
+use Rattle.common.specs.declared.limits.TheConstants.{MOST_BLOCKS}
 use Rattle.spool_kept.specs.Changed.{HandsOver}
 use Rattle.spool_kept.specs.Extending.{longer_record}
 use Rattle.spool_kept.specs.Holding.{FitsTogether}
@@ -27,14 +29,14 @@ invariant_of-self-2 c =
     let h = the_view c.self.inside in
     let may = c.requires.may in
     let slot = c.args.longer.now.slot in
-    let first = may.used.text_len / 4096 in
+    let first = may.used.text_len / PAGE in
     let there : get_or h.slots slot None ≡ Some may.used = rw (← c.self.view_is) at may.there in
     let full : c.full_blocks-full.result ≡ first = c.full_blocks-full.ensures.full may.used may.there in
     let here : c.index_mut.result.now ≡ get_or h.lists slot [] =
     c.index_mut.ensures.value ∙ get_or_default h.lists slot c.index_mut.result.now []
     (omega (arith, slot_few h c.self.invariant slot may.used there, c.self.invariant.list_count)) in
     let held = rw (← c.self.view_is) at c.requires.reserved in
-    let few : length h.blocks.rows ≤ 65536 = rw (← c.self.view_is) at c.full_blocks-full.ensures.few in
+    let few : length h.blocks.rows ≤ MOST_BLOCKS = rw (← c.self.view_is) at c.full_blocks-full.ensures.few in
     let hands : HandsOver h.blocks.rows slot first c.args.more.now c.own.new.self.rows =
     rw (← full) (assumption c.own.ensures) in
     rw (c.set_record-2.ensures may.used there, c.in_ok-replace_from.ensures.done, here, full)

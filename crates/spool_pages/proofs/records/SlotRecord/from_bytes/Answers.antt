@@ -1,5 +1,6 @@
 use Rattle.std.proofs.Common.{rules, sym, ◌≤◌, ◌≡◌, ◌+◌, ◌-◌, ℕ, [], length, Ok, Some, List, IsTrue, ◌∙◌, ap, arith}
 use Rattle.std.specs.List.{slice_range}
+use Rattle.common.specs.declared.limits.TheConstants.{MOST_METADATA}
 use Rattle.spool_journal.specs.Image.{byte_of}
 use Rattle.spool_pages.specs.Bytes.{IsPadded}
 use Rattle.spool_pages.specs.Fits.{FitsSlot}
@@ -33,7 +34,7 @@ module _ (bytes : List ℕ) (version : Version) (r : SlotRecord) (fits : FitsSlo
   -- zeros in the rest of the metadata's room, and after the tag
   room_blank : (end : ℕ) → end ≡ 66 + length r.metadata → IsPadded (slice_range bytes end 1602) []
   room_blank end is =
-      let size : 1602 - end ≡ 1536 - length r.metadata = omega (arith, is) in
+      let size : 1602 - end ≡ MOST_METADATA - length r.metadata = omega (arith, is) in
       range_blank bytes end 1602 (rw (size, is) parts.room)
 
   rest_blank : length bytes ≡ 2048 → IsPadded (slice_range bytes 1603 2048) []
@@ -107,14 +108,14 @@ returns-clause-valid c =
     let bytes = c.args.bytes.now in
     let len = c.get_u16.result in
     let long : length bytes ≡ 2048 = search rules in
-    let few : len ≤ 1536 = omega (arith, c.if-metadata_end-gt-TAG.false) in
+    let few : len ≤ MOST_METADATA = omega (arith, c.if-metadata_end-gt-TAG.false) in
     let state : c.copy_from_slice.new.self ≡ slice_range bytes 32 64 = c.copy_from_slice.ensures.after in
     let size : length c.copy_from_slice.new.self ≡ 32 =
     ap length state ∙ length-range bytes 32 64 (omega (arith, long)) in
     let metadata_size : length (slice_range bytes 66 (66 + len)) ≡ len =
     omega (arith, length-range bytes 66 (66 + len) (omega (arith, long, few))) in
     let room = blank_range bytes (66 + len) 1602 (c.is_blank-else-metadata_end-gt-TAG.ensures.0 (search rules)) in
-    let room_len : 1536 - len ≡ 1602 - (66 + len) = omega arith in
+    let room_len : MOST_METADATA - len ≡ 1602 - (66 + len) = omega arith in
     let said = c.in_ok-declared.ensures in
     let prefix =
     of_parts (byte_of bytes) c.args.version _ size (omega (arith, metadata_size, few)) record {

@@ -1,5 +1,6 @@
 use Rattle.std.proofs.Common.{rules, ◌≡◌, ◌≤◌, ◌-◌, [], ◌∷◌, ℕ, length, ◌++◌, refl, ap}
 use Rattle.std.specs.Int.{to_be_bytes, w64}
+use Rattle.common.specs.declared.limits.TheConstants.{MOST_METADATA}
 use Rattle.spool_pages.specs.Bytes.{IsPadded}
 use Rattle.spool_pages.specs.View.{SlotRecord, length_number, length_tag}
 use Rattle.spool_pages.proofs.Bytes.{padded_zeros, padded_room}
@@ -20,7 +21,7 @@ returns c =
     } in
     let v = c.args.version in
     let size : length i.state ≡ 32 = search rules in
-    let few : length r.metadata ≤ 1536 = search rules in
+    let few : length r.metadata ≤ MOST_METADATA = search rules in
     let one : IsPadded c.put.new.page (to_be_bytes w64 r.number) =
     pad [] _ c.to_be_bytes.ensures (c.put.ensures.padded [] refl (padded_zeros 2048)) in
     let length_is : c.to_be_bytes-2.result ≡ to_be_bytes w64 (length_number v r.declared) =
@@ -38,7 +39,7 @@ returns c =
     let seven : IsPadded c.put-7.new.page (metadata_end v r) =
     c.put-7.ensures.padded (head_of v r) (length-head v r size) six in
     let room : IsPadded c.put-7.new.page (room_end v r) =
-    padded_room c.put-7.new.page (metadata_end v r) (1536 - length r.metadata) seven in
+    padded_room c.put-7.new.page (metadata_end v r) (MOST_METADATA - length r.metadata) seven in
     let eight : IsPadded c.put-8.new.page (room_end v r ++ length_tag v r.declared ∷ []) =
     pad (room_end v r) _ (ap (λ (fields : ℕ × ℕ). fields.1 ∷ []) c.length_fields-length.ensures)
     (c.put-8.ensures.padded (room_end v r) (length-room_end v r size few) room) in

@@ -1,4 +1,5 @@
 use Rattle.std.proofs.Common.{length, ◌-◌, ◌≡◌, ◌≤◌, ◌<◌, ◌*◌, ◌+◌, ◌++◌, take}
+use Rattle.spool_journal.specs.declared.TheConstants.{PAGE}
 use Rattle.spool_disk.proofs.Firm.{NoneFailed}
 use Rattle.spool_disk.specs.Views.{Lasts}
 use Rattle.spool_journal.specs.Image.{text_page}
@@ -10,8 +11,8 @@ abbrev pub invariant-loop-done : goal.invariant-loop-done
 invariant-loop-done g l = record {
   calls : NoneFailed g.D.Disk l.fn.disk l.disk;
   within : l.done ≤ length l.bytes;
-  space : held_count l.fn.self + length l.bytes ≤ 4096 * l.self.room;
-  few : 1 ≤ l.done → length l.self.unfinished < 4096;
+  space : held_count l.fn.self + length l.bytes ≤ PAGE * l.self.room;
+  few : 1 ≤ l.done → length l.self.unfinished < PAGE;
   some : 1 ≤ l.done → 1 ≤ length l.self.blocks;
   held : held_count l.self ≡ held_count l.fn.self + l.done;
   content : g.D.Disk.honest l.fn.disk → content_on (g.D.Disk.current l.disk) (text_page l.layout)

@@ -1,4 +1,5 @@
 use Rattle.std.proofs.Common.{arith, rules, ℕ, List, ◌≡◌, ◌+◌, ◌++◌, [], length, take, ap, refl, ◌∙◌}
+use Rattle.spool_journal.specs.declared.TheConstants.{PAGE}
 use Rattle.spool_journal.specs.Image.{text_page}
 use Rattle.spool_texts.specs.Drafts.{Draft}
 use Rattle.spool_texts.proofs.Contents.{full_written, page_filled}
@@ -14,12 +15,12 @@ returns-clause-content g c honest =
     ap (λ (d : Draft). d.blocks) c.self.view_is in
     let unfinished_is : take c.self.inside.filled c.self.inside.page.items ≡ c.args.self.now.unfinished =
     ap (λ (d : Draft). d.unfinished) c.self.view_is ∙ c.open_block.ensures.unfinished in
-    let cap : c.self.inside.page.len ≡ 4096 = search rules in
-    let new_size : length c.fill-n.new.page ≡ 4096 = search rules in
-    let old_size : length c.deref_mut.result.now ≡ 4096 = search rules in
-    let full : c.self.inside.filled + c.fill-n.result ≡ 4096 =
+    let cap : c.self.inside.page.len ≡ PAGE = search rules in
+    let new_size : length c.fill-n.new.page ≡ PAGE = search rules in
+    let old_size : length c.deref_mut.result.now ≡ PAGE = search rules in
+    let full : c.self.inside.filled + c.fill-n.result ≡ PAGE =
     omega (arith, c.fill-n.ensures.count, c.if-self-n-lt-PAGE.false, old_size) in
-    let page_size : length c.deref-2.result.now ≡ 4096 = search rules in
+    let page_size : length c.deref-2.result.now ≡ PAGE = search rules in
     let page_is : c.deref-2.result.now ≡ c.args.self.now.unfinished ++ bytes =
     page_filled c.self.inside.page.len c.self.inside.filled c.fill-n.result c.fill-n.new.page _ c.deref_mut.result.now
     bytes c.deref-2.result.now c.args.self.now.unfinished c.deref-2.ensures.value cap new_size full

@@ -1,4 +1,5 @@
 use Rattle.std.proofs.Common.{◌-◌, List, ℕ, min, length, take, sym, ◌∙◌, ap, arith}
+use Rattle.tus_request.specs.declared.heads.TheConstants.{MOST_HEAD}
 use Rattle.tus_request.specs.Searches.{after_bytes}
 use Rattle.tus_request.specs.declared.search.Search.TheVariants.{Front}
 use Rattle.tus_request.proofs.Limits.{filled}
@@ -16,7 +17,7 @@ invariant_of-self-2-clause-searched c =
 pub returns : goal.returns
 returns c =
     c.in_ok-extend_from_slice.ensures.items
-    ∙ filled 8192 c.args.self.now.bytes.items c.args.piece.now c.min.result
+    ∙ filled MOST_HEAD c.args.self.now.bytes.items c.args.piece.now c.min.result
     (omega (arith, c.args.self.now.short, c.args.self.now.bytes.ok.0))
-    (c.min.ensures ∙ ap (λ k. min (length c.args.piece.now) (8192 - k))
+    (c.min.ensures ∙ ap (λ k. min (length c.args.piece.now) (MOST_HEAD - k))
     (omega (arith, c.len-room.ensures, c.args.self.now.bytes.ok.0)))

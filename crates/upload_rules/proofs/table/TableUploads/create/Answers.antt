@@ -1,5 +1,6 @@
 use Rattle.std.proofs.Common.{◌≡◌, ◌<◌, ◌∙◌, false, [], ◌∷◌, ◌++◌, not, ap, refl, sym, arith, length}
 use Rattle.std.proofs.Common.{if◌then◌else◌}
+use Rattle.common.specs.declared.limits.TheConstants.{SLOTS}
 use Rattle.upload_rules.specs.Lengths.{is_too_large}
 use Rattle.upload_rules.proofs.Makes.{many, spent_numbers, creatable, not_created}
 use Rattle.upload_rules.proofs.Worlds.{creates}
@@ -28,7 +29,7 @@ returns-then-is_err-clause-answer c = λ sure w stands.
     let t = c.args.self.now in
     let small : is_too_large c.args.new.declared ≡ false =
     rw (sym c.new.view_is, sym c.is_too_large.ensures) c.if-is_too_large.false in
-    let room : length t.slots.items < 512 = omega (arith, c.if-len-ge-SLOT_COUNT.false, c.len.ensures) in
+    let room : length t.slots.items < SLOTS = omega (arith, c.if-len-ge-SLOT_COUNT.false, c.len.ensures) in
     let more = t.slots.items ++ c.new-2.result ∷ [] in (
       rw (creatable t w stands c.args.new small room c.if-self-ge-NUMBERS_END.false) tt,
       not_created t w stands c.push.new.self
@@ -41,7 +42,7 @@ returns-clause-answer c = λ sure w stands.
     let t = c.args.self.now in
     let small : is_too_large c.args.new.declared ≡ false =
     rw (sym c.new.view_is, sym c.is_too_large.ensures) c.if-is_too_large.false in
-    let room : length t.slots.items < 512 = omega (arith, c.if-len-ge-SLOT_COUNT.false, c.len.ensures) in
+    let room : length t.slots.items < SLOTS = omega (arith, c.if-len-ge-SLOT_COUNT.false, c.len.ensures) in
     let more = t.slots.items ++ c.new-2.result ∷ [] in (
       creatable t w stands c.args.new small room c.if-self-ge-NUMBERS_END.false,
       (
