@@ -1,6 +1,7 @@
 //! The store of uploads on a disk.
 ghost use Rattle.std.specs.Prelude.{◌≡◌, ◌≤◌, ◌*◌, ◌↔◌, ℕ, false, true, Some, IfOk, IfErr};
 ghost use Rattle.spool_disk.specs.Disk.{Counts};
+ghost use Rattle.spool_journal.specs.declared.TheConstants.{PAGE};
 ghost use Rattle.spool_disk.specs.Views.{Lasts};
 ghost use Rattle.spool_journal.specs.Image.{journal_pages, all_pages};
 ghost use Rattle.spool_journal.specs.Phases.{Idle};

@@ -2,6 +2,8 @@
 ghost use Rattle.std.specs.Prelude.{◌≡◌, ◌≤◌, ◌<◌, ◌≢◌, ◌*◌, ◌+◌, ◌-◌, ◌/◌, ◌%◌, ◌++◌, ◌^◌, ◌↔◌, ℕ, [], length};
 ghost use Rattle.std.specs.Prelude.{take, drop, replicate, min, get_or, IsOk, IsErr, IsErrOf, IfOk, OnOk, OnErr};
 ghost use Rattle.std.specs.Prelude.{vec_len, vec_capacity};
+ghost use Rattle.common.specs.declared.limits.TheConstants.{MOST_BLOCKS};
+ghost use Rattle.spool_journal.specs.declared.TheConstants.{PAGE};
 ghost use Rattle.spool_blocks.specs.Blocks.{IsFree};
 ghost use Rattle.spool_disk.specs.Disk.{Counts, IsImage, Keeps};
 ghost use Rattle.spool_disk.specs.Views.{Lasts};

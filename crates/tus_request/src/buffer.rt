@@ -1,5 +1,6 @@
 //! A request head that arrives in pieces.
 ghost use Rattle.std.specs.Prelude.{◌≡◌, ◌++◌, ◌≤◌, [], length, take, vec_len, is_ok, IfOk, if◌then◌else◌};
+ghost use Rattle.tus_request.specs.declared.heads.TheConstants.{MOST_HEAD};
 ghost use Rattle.enc_model.specs.Indexes.{offers};
 ghost use Rattle.tus_request.specs.Answers.{answer_of};
 ghost use Rattle.tus_request.specs.Searches.{after_bytes};
