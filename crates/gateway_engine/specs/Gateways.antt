@@ -2,7 +2,7 @@
 use Rattle.std.specs.Prelude.{◌≡◌, ℕ, Bool, false, Result, Ok, Err}
 use Rattle.spool_disk.specs.declared.disk.Disk as disks
 use Rattle.spool_image.specs.Spool.{disk_of, size_of}
-use Rattle.spool_kept.specs.declared.error.OpenFault.{OpenFault}
+use Rattle.spool_catalog.specs.declared.error.OpenFault.{OpenFault}
 use Rattle.spool_image.specs.declared.spool.Spool.{Spool}
 use Rattle.upload_rules.specs.declared.uploads.Uploads.{Ghosts}
 use Rattle.tus_session.specs.History.{State}

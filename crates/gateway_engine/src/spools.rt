@@ -5,7 +5,7 @@ ghost use Rattle.spool_disk.specs.Views.{Lasts};
 ghost use Rattle.spool_image.specs.LeftOnly.{AllShow, IsSpool, LeftOrShows, SpoolLeft};
 ghost use Rattle.spool_image.specs.Opening.{OpensExactly, ReadsSame, Unwritten, refusal_of};
 ghost use Rattle.spool_image.specs.Spool.{IsFault, Keeps, OpensAs, SpoolStands, disk_of};
-ghost use Rattle.spool_kept.specs.Shows.{Shows};
+ghost use Rattle.spool_catalog.specs.Shows.{Shows};
 ghost use Rattle.spool_pages.specs.View.{View};
 ghost use Rattle.upload_rules.specs.Store.{Store};
 ghost use Rattle.upload_rules.specs.World.{at_rest};

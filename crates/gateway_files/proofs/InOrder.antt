@@ -2,7 +2,7 @@
 use Rattle.std.proofs.Common.{ℕ, arith}
 use Rattle.spool_disk.specs.declared.disk.Disk.{Ghosts}
 use Rattle.spool_image.specs.LeftOnly.{IsSpool}
-use Rattle.spool_kept.specs.Shows.{Shows}
+use Rattle.spool_catalog.specs.Shows.{Shows}
 use Rattle.spool_pages.specs.View.{View}
 use Rattle.upload_rules.specs.Store.{Store}
 use Rattle.gateway_files.specs.Lines.{IsInOrder}

@@ -1,9 +1,9 @@
 -- A refusal to open a spool, as `list` answers it.
 use Rattle.std.proofs.Common.{◌≡◌, ◌∙◌, ◌⊎◌, inl, inr, ap, Err}
-use Rattle.spool_kept.specs.Loads.{LoadsAs}
+use Rattle.spool_catalog.specs.Loads.{LoadsAs}
 use Rattle.gateway_files.specs.Listing.{Lists}
-use Rattle.spool_kept.specs.declared.error.OpenFault.{OpenFault}
-use Rattle.spool_kept.specs.declared.error.OpenFault.TheVariants as opens
+use Rattle.spool_catalog.specs.declared.error.OpenFault.{OpenFault}
+use Rattle.spool_catalog.specs.declared.error.OpenFault.TheVariants as opens
 use Rattle.gateway_files.specs.declared.faults.Fault.{Fault}
 use Rattle.gateway_files.specs.declared.faults.Fault.TheVariants.{Damaged, DiskFault, NoMemory, Version}
 use Rattle.gateway_files.specs.Faults.{open_fault}

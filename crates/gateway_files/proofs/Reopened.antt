@@ -7,9 +7,9 @@ use Rattle.spool_disk.proofs.Firm.{lasts_more, lasts_on}
 use Rattle.spool_journal.specs.Image.{journal_pages, overlaid}
 use Rattle.spool_journal.specs.Phases.{Settled}
 use Rattle.spool_journal.proofs.Gate.{shut_view}
-use Rattle.spool_kept.specs.Holding.{Holding}
-use Rattle.spool_kept.specs.declared.error.OpenFault.{OpenFault}
-use Rattle.spool_kept.specs.declared.error.OpenFault.TheVariants.{NotASpool, DiskFault, Damaged, Version, NoMemory}
+use Rattle.spool_catalog.specs.Holding.{Holding}
+use Rattle.spool_catalog.specs.declared.error.OpenFault.{OpenFault}
+use Rattle.spool_catalog.specs.declared.error.OpenFault.TheVariants.{NotASpool, DiskFault, Damaged, Version, NoMemory}
 use Rattle.spool_load.specs.Loaded.{FoundOn, OpenedFrom}
 use Rattle.spool_load.specs.Reads.{NeedsReplay, SaysBlocks}
 use Rattle.spool_load.specs.Refusals.{HasKnownVersion, RefusedFor}

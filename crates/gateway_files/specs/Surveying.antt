@@ -3,7 +3,7 @@ use Rattle.std.specs.Prelude.{Result, Ok, Err}
 use Rattle.spool_disk.specs.declared.disk.Disk.{Ghosts}
 use Rattle.spool_image.specs.Spool.{disk_of}
 use Rattle.spool_image.specs.declared.spool.Spool.{Spool}
-use Rattle.spool_kept.specs.declared.error.OpenFault.{OpenFault}
+use Rattle.spool_catalog.specs.declared.error.OpenFault.{OpenFault}
 use Rattle.gateway_files.specs.declared.surveying.Survey.{Survey}
 
 -- the disk, opened or handed back

@@ -3,14 +3,14 @@ use Rattle.std.specs.Prelude.{◌≡◌, ◌⊎◌, ◌↔◌, ◌≤◌, ◌*�
 use Rattle.spool_disk.specs.Disk.{Counts, IsImage, Keeps}
 use Rattle.spool_disk.specs.Views.{Lasts}
 use Rattle.spool_disk.specs.declared.disk.Disk.{Ghosts}
-use Rattle.spool_kept.specs.declared.error.OpenFault.TheVariants.{DiskFault, Damaged, NotASpool, Version}
+use Rattle.spool_catalog.specs.declared.error.OpenFault.TheVariants.{DiskFault, Damaged, NotASpool, Version}
 use Rattle.spool_load.specs.Reads.{NeedsReplay}
 use Rattle.spool_load.specs.Refusals.{HasOtherVersion, IsNoSpool}
 use Rattle.spool_image.specs.LeftOnly.{AllShow, IsSpool, LeftOrShows}
 use Rattle.spool_image.specs.Upgrade.{IsAlreadyNew, IsOldDamaged, RefusesUpgradeAs, UpgradedFrom, UpgradeRefusedFor}
 use Rattle.spool_image.specs.Upgrade.{UpgradesOf}
 use Rattle.spool_journal.specs.Image.{all_pages}
-use Rattle.spool_kept.specs.Shows.{IsValid}
+use Rattle.spool_catalog.specs.Shows.{IsValid}
 use Rattle.spool_pages.specs.Changes.{upgraded as of_version_2}
 use Rattle.spool_pages.specs.Rests.{Rests}
 use Rattle.spool_pages.specs.View.{View, IsViewOf}

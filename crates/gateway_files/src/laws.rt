@@ -1,5 +1,5 @@
 //! A law about what a view shows. The function does nothing; its contract is the law.
-ghost use Rattle.spool_kept.specs.Shows.{Shows};
+ghost use Rattle.spool_catalog.specs.Shows.{Shows};
 ghost use Rattle.spool_pages.specs.View.{View};
 ghost use Rattle.upload_rules.specs.Store.{Store};
 ghost use Rattle.gateway_files.specs.Lines.{IsInOrder};

@@ -4,7 +4,7 @@ ghost use Rattle.spool_disk.specs.Disk.{Counts, IsImage, Keeps as KeepsAll};
 ghost use Rattle.spool_disk.specs.Views.{Lasts};
 ghost use Rattle.spool_journal.specs.Image.{journal_pages, overlaid};
 ghost use Rattle.spool_journal.specs.Phases.{Settled};
-ghost use Rattle.spool_kept.specs.Loads.{LoadsAs};
+ghost use Rattle.spool_catalog.specs.Loads.{LoadsAs};
 ghost use Rattle.spool_load.specs.Loaded.{FoundOn};
 ghost use Rattle.spool_load.specs.Reads.{NeedsReplay};
 ghost use Rattle.spool_load.specs.Refusals.{HasOtherVersion, IsDamaged, IsNoSpool, NotFoundFor, RefusedFor};
@@ -13,7 +13,7 @@ ghost use Rattle.upload_rules.specs.World.{at_rest};
 ghost use Rattle.spool_image.specs.LeftOnly.{AllShow, IsSpool, LeftOrShows};
 ghost use Rattle.spool_image.specs.Opening.{ReadsSame, Unwritten};
 ghost use Rattle.spool_image.specs.Spool.{IsFault, Keeps, OpensAs, OpensFrom, RefusesAs, SpoolStands, disk_of};
-ghost use Rattle.spool_kept.specs.Shows.{Shows};
+ghost use Rattle.spool_catalog.specs.Shows.{Shows};
 ghost use Rattle.spool_pages.specs.View.{View};
 ghost use Rattle.gateway_files.specs.Surveying.{disk_left};
 

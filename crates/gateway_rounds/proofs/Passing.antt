@@ -15,11 +15,11 @@ use Rattle.spool_image.specs.declared.error.FormatError.TheVariants as formats
 use Rattle.spool_image.specs.declared.error.UpgradeError.TheVariants as upgrades
 use Rattle.spool_image.specs.declared.error.UpgradeError.{UpgradeError}
 use Rattle.spool_image.proofs.Crashed.{synced_shows}
-use Rattle.spool_kept.proofs.Upgraded.{upgraded_valid}
-use Rattle.spool_kept.specs.Shows.{IsValid}
-use Rattle.spool_kept.specs.Loads.{LoadsAs}
-use Rattle.spool_kept.specs.declared.error.OpenFault.{OpenFault}
-use Rattle.spool_kept.specs.declared.error.OpenFault.TheVariants as opens
+use Rattle.spool_catalog.proofs.Upgraded.{upgraded_valid}
+use Rattle.spool_catalog.specs.Shows.{IsValid}
+use Rattle.spool_catalog.specs.Loads.{LoadsAs}
+use Rattle.spool_catalog.specs.declared.error.OpenFault.{OpenFault}
+use Rattle.spool_catalog.specs.declared.error.OpenFault.TheVariants as opens
 use Rattle.spool_pages.proofs.Resting.{rests_image}
 use Rattle.spool_pages.specs.Changes.{upgraded}
 use Rattle.spool_pages.specs.Rests.{Rests}

@@ -8,8 +8,8 @@ use Rattle.spool_image.specs.LeftOnly.{AllShow}
 use Rattle.spool_image.specs.Texts.{HasText}
 use Rattle.spool_image.specs.declared.error.UpgradeError.{UpgradeError}
 use Rattle.spool_image.specs.declared.error.UpgradeError.TheVariants as upgrades
-use Rattle.spool_kept.specs.Shows.{ImageShows}
-use Rattle.spool_kept.specs.declared.error.OpenFault.TheVariants as opens
+use Rattle.spool_catalog.specs.Shows.{ImageShows}
+use Rattle.spool_catalog.specs.declared.error.OpenFault.TheVariants as opens
 use Rattle.upload_rules.specs.Answers.{Among}
 use Rattle.upload_rules.specs.Store.{Store, Upload, upload_of}
 use Rattle.tus_session.specs.History.{State, Mark, Marked, beginning, history}

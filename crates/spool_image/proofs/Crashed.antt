@@ -4,7 +4,7 @@ use Rattle.spool_disk.specs.declared.disk.Disk.{Ghosts}
 use Rattle.spool_load.proofs.Opens.{same_function}
 use Rattle.spool_image.specs.LeftOnly.{AllShow, IsSpool}
 use Rattle.spool_image.specs.Texts.{HasText}
-use Rattle.spool_kept.specs.Shows.{ImageShows, IsRecordOf}
+use Rattle.spool_catalog.specs.Shows.{ImageShows, IsRecordOf}
 use Rattle.upload_rules.specs.Store.{Store, Upload, upload_of}
 
 -- where all of a disk is synced, each image shows what a read does

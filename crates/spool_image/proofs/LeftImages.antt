@@ -8,7 +8,7 @@ use Rattle.spool_journal.specs.Image.{all_pages}
 use Rattle.upload_rules.specs.Answers.{Limits, Quiet}
 use Rattle.upload_rules.specs.Store.{Store}
 use Rattle.spool_image.specs.LeftOnly.{LeftOnly, ShowsOne, SpoolLeft}
-use Rattle.spool_kept.specs.Shows.{ImageShows}
+use Rattle.spool_catalog.specs.Shows.{ImageShows}
 use Rattle.spool_kept.specs.Stored.{ShowsEither}
 
 -- of a spool that has n blocks, and as many after the call

@@ -16,7 +16,7 @@ use Rattle.spool_pages.specs.View.{SlotRecord, View, IsViewOf, Says, Stands, slo
 use Rattle.spool_pages.specs.View.{state_place}
 use Rattle.spool_pages.specs.declared.version.Version.TheVariants.{Two}
 use Rattle.spool_pages.specs.View.{slot_place, row_place, state_page, first_page}
-use Rattle.spool_kept.specs.Shows.{IsValid, ImageShows}
+use Rattle.spool_catalog.specs.Shows.{IsValid, ImageShows}
 use Rattle.spool_image.specs.Format.{IsNewest}
 use Rattle.spool_image.specs.Fresh.{IsFresh}
 use Rattle.spool_image.proofs.Fresh.{fresh_prefix, fresh_area, fresh_state, fresh_zeros}

@@ -1,8 +1,8 @@
 -- From the answer of an opening to that of what opens.
 use Rattle.std.proofs.Common.{ℕ, None, Some}
-use Rattle.spool_kept.specs.Holding.{Holding}
-use Rattle.spool_kept.specs.declared.error.OpenFault.{OpenFault}
-use Rattle.spool_kept.specs.declared.error.OpenFault.TheVariants.{NotASpool, Damaged, Version, NoMemory}
+use Rattle.spool_catalog.specs.Holding.{Holding}
+use Rattle.spool_catalog.specs.declared.error.OpenFault.{OpenFault}
+use Rattle.spool_catalog.specs.declared.error.OpenFault.TheVariants.{NotASpool, Damaged, Version, NoMemory}
 use Rattle.spool_load.specs.Loaded.{OpenedFrom}
 use Rattle.spool_load.specs.Refusals.{IsNoSpool, HasOtherVersion, IsDamaged, RefusedFor}
 use Rattle.spool_image.specs.Opening.{IsRefusedAs, OpensExactly}

@@ -10,7 +10,7 @@ use Rattle.spool_journal.specs.Phases.{ReadsAs}
 use Rattle.upload_rules.specs.Store.{Store}
 use Rattle.spool_pages.specs.View.{View, IsViewOf}
 use Rattle.spool_pages.proofs.Says.{says_same}
-use Rattle.spool_kept.specs.Shows.{ImageShows, IsValid}
+use Rattle.spool_catalog.specs.Shows.{ImageShows, IsValid}
 use Rattle.spool_image.specs.LeftOnly.{IsSpool, LeftOrShows}
 
 -- what reads the same shows the same

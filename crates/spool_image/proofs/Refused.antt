@@ -3,9 +3,9 @@ use Rattle.std.proofs.Common.{◌≡◌, ◌⊎◌, inl, inr, ℕ, refl, subst, 
 use Rattle.spool_journal.specs.declared.TheConstants.{PAGE}
 use Rattle.spool_journal.specs.Image.{overlaid}
 use Rattle.spool_pages.specs.View.{state_place, version_number}
-use Rattle.spool_kept.specs.declared.error.OpenFault.{OpenFault}
-use Rattle.spool_kept.specs.declared.error.OpenFault.TheVariants.{NotASpool, DiskFault, Damaged, Version, NoMemory}
-use Rattle.spool_kept.specs.Holding.{Holding}
+use Rattle.spool_catalog.specs.declared.error.OpenFault.{OpenFault}
+use Rattle.spool_catalog.specs.declared.error.OpenFault.TheVariants.{NotASpool, DiskFault, Damaged, Version, NoMemory}
+use Rattle.spool_catalog.specs.Holding.{Holding}
 use Rattle.spool_load.specs.Loaded.{OpenedFrom}
 use Rattle.spool_load.specs.Reads.{SaysBlocks}
 use Rattle.spool_load.specs.Refusals.{HasJournal, HasKnownVersion, IsNoSpool, HasOtherVersion, IsDamaged, RefusedFor}

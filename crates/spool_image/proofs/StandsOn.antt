@@ -29,10 +29,11 @@ use Rattle.upload_rules.specs.declared.errors.UploadError.{UploadError}
 use Rattle.upload_rules.specs.declared.errors.UploadError.TheVariants.{NoMemory, DiskFault, Refused}
 use Rattle.upload_rules.specs.declared.errors.UploadRefusal.{UploadRefusal}
 use Rattle.spool_load.proofs.Opens.{same_function}
-use Rattle.spool_kept.specs.Drafting.{DraftsStand, DraftStands, IsOwnedBy, IsStillOpen, StandsFor}
-use Rattle.spool_kept.specs.Holding.{Holding, IsUsedBy}
-use Rattle.spool_kept.specs.Kept.{KeepsAlone}
-use Rattle.spool_kept.specs.Shows.{Shows}
+use Rattle.spool_kept.specs.Drafting.{DraftsStand, DraftStands, IsStillOpen, StandsFor}
+use Rattle.spool_catalog.specs.Holding.{IsOwnedBy}
+use Rattle.spool_catalog.specs.Holding.{Holding, IsUsedBy}
+use Rattle.spool_catalog.specs.Kept.{KeepsAlone}
+use Rattle.spool_catalog.specs.Shows.{Shows}
 use Rattle.spool_kept.specs.Stored.{Stored}
 
 -- a draft of any upload

@@ -19,12 +19,12 @@ use Rattle.spool_pages.specs.View.{View, IsViewOf, Stands, state_page, state_pla
 use Rattle.spool_pages.specs.declared.version.Version.{Version}
 use Rattle.spool_pages.specs.declared.version.Version.TheVariants.{One, Two}
 use Rattle.spool_pages.proofs.Resting.{rests_image, shut_is}
-use Rattle.spool_kept.specs.Shows.{ImageShows, IsValid}
-use Rattle.spool_kept.specs.declared.error.OpenFault.{OpenFault}
-use Rattle.spool_kept.specs.declared.error.OpenFault.TheVariants.{NotASpool, DiskFault, Damaged, NoMemory}
-use Rattle.spool_kept.specs.declared.error.OpenFault.TheVariants as faults
-use Rattle.spool_kept.specs.Loads.{LoadsAs}
-use Rattle.spool_kept.proofs.Upgraded.{upgraded_shows}
+use Rattle.spool_catalog.specs.Shows.{ImageShows, IsValid}
+use Rattle.spool_catalog.specs.declared.error.OpenFault.{OpenFault}
+use Rattle.spool_catalog.specs.declared.error.OpenFault.TheVariants.{NotASpool, DiskFault, Damaged, NoMemory}
+use Rattle.spool_catalog.specs.declared.error.OpenFault.TheVariants as faults
+use Rattle.spool_catalog.specs.Loads.{LoadsAs}
+use Rattle.spool_catalog.proofs.Upgraded.{upgraded_shows}
 use Rattle.spool_load.specs.Loaded.{FoundOn}
 use Rattle.spool_load.specs.declared.finding.Found.{Found}
 use Rattle.spool_load.specs.Refusals.{HasJournal, NamesVersion, NotFoundFor, RefusedFor}

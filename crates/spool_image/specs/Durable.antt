@@ -11,9 +11,9 @@ use Rattle.upload_rules.specs.Answers.{Among}
 use Rattle.upload_rules.specs.Store.{Store}
 use Rattle.upload_rules.specs.World.{World}
 use Rattle.spool_kept.specs.Drafting.{StandsFor}
-use Rattle.spool_kept.specs.Holding.{Holding}
+use Rattle.spool_catalog.specs.Holding.{Holding}
 use Rattle.spool_image.specs.LeftOnly.{SpoolLeft}
-use Rattle.spool_kept.specs.Shows.{ImageShows}
+use Rattle.spool_catalog.specs.Shows.{ImageShows}
 use Rattle.spool_kept.specs.Stored.{Stored}
 
 -- Every crash image of a spool that is known to stand for a store shows it.

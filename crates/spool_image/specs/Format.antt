@@ -6,7 +6,7 @@ use Rattle.enc_model.specs.Indexes.{IndexSet}
 use Rattle.spool_disk.specs.Disk.{span}
 use Rattle.spool_journal.specs.Image.{all_pages, byte_of}
 use Rattle.upload_rules.specs.Store.{no_uploads}
-use Rattle.spool_kept.specs.Shows.{ImageShows, IsValid}
+use Rattle.spool_catalog.specs.Shows.{ImageShows, IsValid}
 use Rattle.spool_pages.specs.View.{View, IsViewOf, first_page, magic}
 use Rattle.spool_pages.specs.declared.version.Version.TheVariants.{Two}
 use Rattle.spool_image.specs.declared.error.FormatError.{FormatError}

@@ -6,7 +6,7 @@ use Rattle.spool_disk.specs.declared.disk.Disk.{Ghosts}
 use Rattle.spool_journal.specs.Image.{all_pages}
 use Rattle.upload_rules.specs.Answers.{Among}
 use Rattle.upload_rules.specs.Store.{Store}
-use Rattle.spool_kept.specs.Shows.{ImageShows}
+use Rattle.spool_catalog.specs.Shows.{ImageShows}
 
 -- Now.
 

@@ -4,7 +4,7 @@ use Rattle.std.proofs.Common.{arith}
 use Rattle.spool_disk.specs.declared.disk.Disk.{Ghosts}
 use Rattle.spool_drafts.specs.declared.draft.SpoolDraft.{SpoolDraft}
 use Rattle.spool_kept.specs.Drafting.{StandsFor}
-use Rattle.spool_kept.specs.Holding.{Holding}
+use Rattle.spool_catalog.specs.Holding.{Holding}
 use Rattle.upload_rules.specs.Store.{Upload, upload_of}
 use Rattle.upload_rules.specs.World.{World}
 

@@ -1,13 +1,13 @@
 -- An opened spool, and what it stands for.
 use Rattle.std.specs.Prelude.{◌≡◌, ◌⊎◌, ℕ, Bool, Result, Ok, Err}
 use Rattle.spool_disk.specs.declared.disk.Disk.{Ghosts}
-use Rattle.spool_kept.specs.declared.error.OpenFault.{OpenFault}
-use Rattle.spool_kept.specs.declared.error.OpenFault.TheVariants.{DiskFault, NoMemory}
+use Rattle.spool_catalog.specs.declared.error.OpenFault.{OpenFault}
+use Rattle.spool_catalog.specs.declared.error.OpenFault.TheVariants.{DiskFault, NoMemory}
 use Rattle.spool_image.specs.declared.spool.Spool.{Spool}
 use Rattle.spool_load.specs.Loaded.{OpenedFrom}
 use Rattle.spool_pages.specs.View.{View}
-use Rattle.spool_kept.specs.Kept.{KeepsAlone}
-use Rattle.spool_kept.specs.Loads.{LoadsAs}
+use Rattle.spool_catalog.specs.Kept.{KeepsAlone}
+use Rattle.spool_catalog.specs.Loads.{LoadsAs}
 use Rattle.spool_kept.specs.Drafting.{StandsFor}
 use Rattle.upload_rules.specs.World.{World}
 

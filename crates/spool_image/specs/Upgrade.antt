@@ -3,8 +3,8 @@ use Rattle.std.specs.Prelude.{◌≡◌, ◌⊎◌, ℕ, ◌*◌, ◌≤◌, Lis
 use Rattle.spool_journal.specs.declared.TheConstants.{PAGE}
 use Rattle.spool_journal.specs.Image.{all_pages, journal_pages, laid, overlaid, InArea}
 use Rattle.spool_journal.specs.Phases.{Settled}
-use Rattle.spool_kept.specs.Shows.{IsValid}
-use Rattle.spool_kept.specs.declared.error.OpenFault.TheVariants.{DiskFault, Damaged, NoMemory}
+use Rattle.spool_catalog.specs.Shows.{IsValid}
+use Rattle.spool_catalog.specs.declared.error.OpenFault.TheVariants.{DiskFault, Damaged, NoMemory}
 use Rattle.spool_load.specs.Reads.{SaysBlocks}
 use Rattle.spool_load.specs.Refusals.{HasJournal, IsDamaged, NamesVersion, RefusedFor}
 use Rattle.spool_pages.specs.Changes.{Changes, upgraded}

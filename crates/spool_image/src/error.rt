@@ -2,7 +2,7 @@
 ghost use Rattle.std.specs.Prelude.{◌≡◌};
 
 use spool_disk::DiskFault;
-use spool_kept::OpenFault;
+use spool_catalog::OpenFault;
 use spool_load::LoadError;
 use std::alloc::AllocError;
 use thiserror::Error;
@@ -65,7 +65,7 @@ impl From<LoadError> for UpgradeError {
 
 impl From<DiskFault> for UpgradeError {
     ghost use Rattle.spool_image.specs.declared.error.UpgradeError.{UpgradeError};
-    ghost use Rattle.spool_kept.specs.declared.error.OpenFault.{OpenFault};
+    ghost use Rattle.spool_catalog.specs.declared.error.OpenFault.{OpenFault};
 
     ghost from_gives = { λ _ error. error ≡ UpgradeError.Open OpenFault.DiskFault };
 
@@ -76,7 +76,7 @@ impl From<DiskFault> for UpgradeError {
 
 impl From<AllocError> for UpgradeError {
     ghost use Rattle.spool_image.specs.declared.error.UpgradeError.{UpgradeError};
-    ghost use Rattle.spool_kept.specs.declared.error.OpenFault.{OpenFault};
+    ghost use Rattle.spool_catalog.specs.declared.error.OpenFault.{OpenFault};
 
     ghost from_gives = { λ _ error. error ≡ UpgradeError.Open OpenFault.NoMemory };
 

@@ -4,7 +4,7 @@ ghost use Rattle.std.specs.Prelude.{◌≡◌, ℕ, List, Some};
 ghost use Rattle.spool_disk.specs.Disk.{IsImage};
 ghost use Rattle.spool_disk.specs.Views.{Lasts};
 ghost use Rattle.upload_rules.specs.Store.{Store, Upload, upload_of};
-ghost use Rattle.spool_kept.specs.Shows.{ImageShows};
+ghost use Rattle.spool_catalog.specs.Shows.{ImageShows};
 ghost use Rattle.spool_image.specs.LeftOnly.{AllShow, IsSpool, LeftOnly, LeftOrShows, OpensOne};
 ghost use Rattle.spool_image.specs.Texts.{HasText};
 

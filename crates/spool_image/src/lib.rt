@@ -13,5 +13,5 @@ pub use formatting::{format, is_spool};
 pub use laws::{cut_openings, images_open, limits_open, shown_texts};
 pub use layout::pages_of;
 pub use spool::{Spool, SpoolAppend};
-pub use spool_kept::OpenFault;
+pub use spool_catalog::OpenFault;
 pub use upgrading::upgrade;

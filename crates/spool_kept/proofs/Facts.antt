@@ -12,8 +12,8 @@ use Rattle.spool_drafts.specs.Fresh.{GoesOn}
 use Rattle.spool_drafts.specs.declared.fresh.Fresh.{Fresh}
 use Rattle.spool_drafts.specs.declared.fresh.Fresh.TheVariants.{Growing, Unencodable, Complete}
 use Rattle.spool_kept.specs.Drafting.{DraftsFit}
-use Rattle.spool_kept.specs.Holding.{Holding}
-use Rattle.spool_kept.proofs.Told.{back, encoding_at}
+use Rattle.spool_catalog.specs.Holding.{Holding}
+use Rattle.spool_catalog.proofs.Told.{back, encoding_at}
 
 encodings_set : IsSet Encoding
 encodings_set = retract_set encoding_number encoding_at back ℕ_set

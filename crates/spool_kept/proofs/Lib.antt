@@ -1,11 +1,5 @@
-pub mod Valid
-pub mod Told
-pub mod Answered
-pub mod NewRecords
 pub mod SameView
 pub mod Facts
-pub mod Upgraded
 pub mod commits
 pub mod drafts
-pub mod numbers
 pub mod slots

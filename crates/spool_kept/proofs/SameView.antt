@@ -1,11 +1,10 @@
 -- Two views of one image have the same blocks and the same rows, and so what one leaves free the other does.
 use Rattle.std.proofs.lemmas.Grind.{common_steps}
-use Rattle.std.proofs.Common.{◌≡◌, ℕ, ◌+◌, ◌-◌, ◌*◌, ◌^◌, ◌<◌, ◌≤◌, List, Option, None, Some, get_or, refl}
+use Rattle.std.proofs.Common.{◌≡◌, ℕ, ◌+◌, ◌-◌, ◌^◌, ◌<◌, List, Option, None, Some, get_or, refl}
 use Rattle.std.proofs.Common.{sym, ◌∙◌, arith}
 use Rattle.std.specs.Int.{to_be_bytes, w32}
 use Rattle.std.proofs.Math.ListN.{get_or-eq_default}
 use Rattle.std.proofs.lemmas.Bool.{cases_lt}
-use Rattle.common.specs.declared.limits.TheConstants.{ROWS}
 use Rattle.spool_journal.specs.declared.TheConstants.{PAGE}
 use Rattle.spool_disk.specs.Disk.{IsImage}
 use Rattle.spool_disk.specs.Views.{Lasts}
@@ -21,8 +20,8 @@ use Rattle.spool_pages.proofs.RecordBytes.{stands_beyond}
 use Rattle.spool_pages.proofs.Resting.{rests_aside}
 use Rattle.spool_pages.proofs.RowBytes.{slot_at, ordinal_at, free_at}
 use Rattle.upload_rules.specs.Store.{Store}
-use Rattle.spool_kept.specs.Shows.{IsValid, ImageShows}
-use Rattle.spool_kept.proofs.Valid.{rows_fit, said_row}
+use Rattle.spool_catalog.specs.Shows.{IsValid, ImageShows}
+use Rattle.spool_catalog.proofs.Valid.{rows_fit, said_row}
 
 module _ (f : ℕ → ℕ) (at : ℕ) where
   one_number : (m n : ℕ) → m < 2 ^ 32 → n < 2 ^ 32 → Stands f at 4 (to_be_bytes w32 m)
@@ -47,11 +46,6 @@ module _ (f : ℕ → ℕ) (at : ℕ) where
       (slot_at f at p.0 p.1 s') in
       pairs o p (omega (arith, slot))
       (one_number f (at + 4) o.1 p.1 fits.1 fits'.1 (ordinal_at f at o.0 o.1 s) (ordinal_at f at p.0 p.1 s'))
-
--- the pages of rows hold a row for each block
-pub rows_cover : (n : ℕ) → n ≤ ROWS * (journal_pages n - 257)
-unfolding journal_pages
-rows_cover n = omega arith
 
 module _ (f : ℕ → ℕ) (v v' : View) (valid : IsValid v) (valid' : IsValid v') (says : Says f v) (says' : Says f v') where
   number_at : (n : ℕ) → Stands f 0 PAGE (first_page n) → Stands f 8 4 (to_be_bytes w32 n)

@@ -1,14 +1,14 @@
 -- What a new upload and an append make of a view, and which slot an upload has.
-use Rattle.std.specs.Prelude.{◌≡◌, ◌≢◌, ℕ, suc, ◌+◌, ◌<◌, ◌≤◌, ◌==◌, if◌then◌else◌, List, [], ◌∷◌, Option, None, Some}
-use Rattle.std.specs.Prelude.{length, get_or}
+use Rattle.std.specs.Prelude.{◌≡◌, ℕ, suc, ◌+◌, ◌==◌, if◌then◌else◌, List, [], ◌∷◌, Option, None, Some}
+use Rattle.std.specs.Prelude.{length}
 use Rattle.enc_model.specs.Indexes.{IndexSet}
 use Rattle.upload_rules.specs.Store.{Upload, text_of}
 use Rattle.upload_rules.specs.Room.{blocks_of}
 use Rattle.spool_blocks.specs.Blocks.{Row}
-use Rattle.spool_blocks.specs.Chains.{Owns, OwnsOneEach}
+use Rattle.spool_blocks.specs.Chains.{OwnsOneEach}
 use Rattle.spool_pages.specs.View.{SlotRecord, View, slot_at}
 use Rattle.spool_pages.specs.Changes.{with_record}
-use Rattle.spool_kept.specs.Shows.{IsRecordOf}
+use Rattle.spool_catalog.specs.Shows.{IsRecordOf}
 
 -- another text for a slot
 abbrev pub texts_with : View → ℕ → List ℕ → ℕ → List ℕ
@@ -21,21 +21,6 @@ created_view v slot r = record (with_record v slot r) { next = v.next + 1; texts
 -- `append`: another record in a slot, and its text on other rows
 abbrev pub appended_view : View → ℕ → SlotRecord → List Row → List ℕ → View
 appended_view v slot r rows text = record (with_record v slot r) { rows = rows; texts = texts_with v slot text }
-
--- every other slot owns the same blocks, at the same ordinals
-pub record SameOthers (slot : ℕ) (old new : List Row) : Type 0 where
-  pub still : (b s i : ℕ) → s ≢ slot → Owns old b s i → Owns new b s i
-  pub before : (b s i : ℕ) → s ≢ slot → Owns new b s i → Owns old b s i
-
--- the slot's blocks at ordinals from `first` on are nobody's, and the listed blocks are the slot's at the ordinals
--- `first`, `first + 1` and so on
-pub record HandsOver (old : List Row) (slot first : ℕ) (list : List ℕ) (new : List Row) : Type 0 where
-  pub size : length new ≡ length old
-  pub listed : (i : ℕ) → i < length list → Owns new (get_or list i 0) slot (first + i)
-  pub freed : (b k : ℕ) → ((i : ℕ) → i < length list → get_or list i 0 ≢ b) → first ≤ k → Owns old b slot k
-      → get_or new b None ≡ None
-  pub kept : (b : ℕ) → ((i : ℕ) → i < length list → get_or list i 0 ≢ b) → ((k : ℕ) → first ≤ k → Owns old b slot k → ⊥)
-      → get_or new b None ≡ get_or old b None
 
 -- the first slot with a record of this number
 unfoldable pub slot_of : ℕ → List (Option SlotRecord) → ℕ

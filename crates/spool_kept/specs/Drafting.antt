@@ -4,7 +4,6 @@ use Rattle.std.specs.Prelude.{Err, length, get_or}
 use Rattle.std.specs.Prelude.{Bool}
 use Rattle.enc_model.specs.Indexes.{IndexSet}
 use Rattle.spool_blocks.specs.Blocks.{Row, Held}
-use Rattle.spool_blocks.specs.Chains.{Owns}
 use Rattle.spool_disk.specs.declared.disk.Disk.{Ghosts}
 use Rattle.spool_journal.specs.Image.{text_page}
 use Rattle.spool_texts.specs.Drafts.{IsReserved}
@@ -20,12 +19,10 @@ use Rattle.upload_rules.specs.Grown.{IsGrown}
 use Rattle.upload_rules.specs.Lengths.{is_length}
 use Rattle.upload_rules.specs.Store.{Upload, Store, find, is_complete, upload_of, with_length}
 use Rattle.upload_rules.specs.World.{Patch, World}
-use Rattle.upload_rules.specs.declared.records.Record.{Record}
 use Rattle.upload_rules.specs.declared.errors.UploadRefusal.{UploadRefusal}
 use Rattle.upload_rules.specs.declared.errors.UploadRefusal.TheVariants.{NoSuch}
 use Rattle.spool_pages.specs.View.{SlotRecord}
-use Rattle.spool_kept.specs.Holding.{Holding, IsUsedBy}
-use Rattle.spool_kept.specs.Records.{said_of}
+use Rattle.spool_catalog.specs.Holding.{Holding}
 use Rattle.spool_kept.specs.Stored.{Stored}
 
 -- WHAT HOLDS ALWAYS
@@ -43,12 +40,6 @@ pub record DraftsHold (n : ℕ) (h : Held) (drafts : List (Option SpoolDraft)) :
   pub reserved : (d : ℕ) → IsReserved h (lists_at drafts d)
   pub placed : (d : ℕ) (o : SpoolDraft) → draft_at drafts d ≡ Some o → IsPlaced n o
   pub distinct : (d e : ℕ) → d ≢ e → NoneOf (lists_at drafts d) (lists_at drafts e)
-
--- the record is that of a slot, and of each slot with its number
-pub record IsKept (slots : List (Option SlotRecord)) (r : Record) : Type 0 where
-  pub slot : ℕ
-  pub there : get_or slots slot None ≡ Some (said_of r)
-  pub only : (s : ℕ) (q : SlotRecord) → get_or slots s None ≡ Some q → q.number ≡ r.number → q ≡ said_of r
 
 -- Where the draft's upload is in a slot, it has as many bytes as when the draft began, or more. With as many, and while
 -- it isn't complete, the draft is after its text.
@@ -75,12 +66,6 @@ pub record OnlyReserves (old new : Holding) : Type 0 where
   pub rows : new.blocks.rows ≡ old.blocks.rows
 
 -- WHAT THE DRAFTS STAND FOR
-
--- the listed blocks are owned by the slot that the upload of this number is in
-pub record IsOwnedBy (slots : List (Option SlotRecord)) (rows : List Row) (number : ℕ) (list : List ℕ) : Type 0 where
-  pub slot : ℕ
-  pub used : IsUsedBy slots slot number
-  pub owned : (i : ℕ) → i < length list → (k : ℕ) × Owns rows (get_or list i 0) slot k
 
 -- The patch's upload is what it was when the patch began, but for a length that another one may have declared since,
 -- and isn't complete.

@@ -1,6 +1,6 @@
 -- What a patch makes of what is kept in memory.
-use Rattle.std.specs.Prelude.{◌≡◌, ◌≢◌, ◌⊎◌, ℕ, ◌*◌, ◌+◌, ◌-◌, ◌/◌, ◌%◌, ◌<◌, ◌≤◌, ◌++◌, List, [], Some, None, Bool}
-use Rattle.std.specs.Prelude.{true, false, Option, length, get_or, drop, slice_set}
+use Rattle.std.specs.Prelude.{◌≡◌, ◌⊎◌, ℕ, ◌*◌, ◌+◌, ◌-◌, ◌/◌, ◌%◌, ◌<◌, ◌≤◌, ◌++◌, List, [], Some, None, Bool}
+use Rattle.std.specs.Prelude.{true, false, Option, length, drop}
 use Rattle.spool_journal.specs.declared.TheConstants.{PAGE}
 use Rattle.enc_model.specs.Indexes.{IndexSet}
 use Rattle.enc_stream.specs.StateBytes.{IsValid}
@@ -10,23 +10,12 @@ use Rattle.spool_journal.specs.Image.{journal_pages, text_page}
 use Rattle.spool_texts.specs.Drafts.{bytes_with}
 use Rattle.spool_texts.specs.TextOn.{text_on}
 use Rattle.upload_rules.specs.Lengths.{is_length, is_too_large, known_or, longest}
-use Rattle.upload_rules.specs.Room.{blocks_of}
 use Rattle.upload_rules.specs.Store.{Upload, Store, upload_of, is_complete, text_of, text_with, patched}
-use Rattle.upload_rules.specs.States.{SameEncodings, state_of, transcoder_with}
+use Rattle.upload_rules.specs.States.{state_of, transcoder_with}
 use Rattle.spool_pages.specs.View.{SlotRecord}
-use Rattle.spool_kept.specs.Changed.{HandsOver}
-use Rattle.spool_kept.specs.Holding.{Holding, IsUsedBy}
+use Rattle.spool_catalog.specs.Holding.{Holding, IsUsedBy}
 use Rattle.spool_kept.specs.Stored.{Stored}
-use Rattle.spool_kept.specs.declared.extending.Longer.{Longer}
-
--- the record with the new length, counts and state
-abbrev pub longer_record : SlotRecord → Longer → SlotRecord
-longer_record r longer = record r {
-  declared = longer.declared;
-  accepted = longer.accepted;
-  text_len = longer.text_len;
-  state = longer.state;
-}
+use Rattle.spool_catalog.specs.declared.longer.Longer.{Longer}
 
 -- more bytes are accepted, or as many and these are all
 abbrev pub Advances : SlotRecord → Longer → Type 0
@@ -44,29 +33,6 @@ pub record OnlyDeclares (r : SlotRecord) (longer : Longer) : Type 0 where
 -- how many bytes of a text are on full blocks
 abbrev pub full_bytes : ℕ → ℕ
 full_bytes len = len - len % PAGE
-
--- the slot's upload may become this with these blocks, or with none where its text stays
-pub record MayExtend (h : Holding) (longer : Longer) (more : List ℕ) : Type 0 where
-  pub used : SlotRecord
-  pub there : get_or h.slots longer.slot None ≡ Some used
-  pub state : SameEncodings used.state longer.state
-  pub same : length more ≡ 0 → longer.text_len ≡ used.text_len
-  pub blocks : 0 < length more → blocks_of longer.text_len ≡ used.text_len / PAGE + length more
-
--- the listed blocks are reserved no more; the others are as they were
-pub record HandsOn (old new : List Bool) (list : List ℕ) : Type 0 where
-  pub handed : (i : ℕ) → i < length list → get_or new (get_or list i 0) false ≡ false
-  pub others : (b : ℕ) → ((i : ℕ) → i < length list → get_or list i 0 ≢ b) → get_or new b false ≡ get_or old b false
-
--- what is kept has the longer upload, of which `used` was the record
-pub record IsLonger (h : Holding) (used : SlotRecord) (longer : Longer) (more : List ℕ) (new : Holding) : Type 0 where
-  pub layout : new.layout ≡ h.layout
-  pub version : new.version ≡ h.version
-  pub next : new.next ≡ h.next
-  pub indexes : new.indexes ≡ h.indexes
-  pub slots : new.slots ≡ slice_set h.slots longer.slot (Some (longer_record used longer))
-  pub same : length more ≡ 0 → new.blocks ≡ h.blocks
-  pub rows : 0 < length more → HandsOver h.blocks.rows longer.slot (used.text_len / PAGE) more new.blocks.rows
 
 -- with this length, where none was known, and these bytes the upload's text has these after it, and where the disk is
 -- sure to hold what was written, the blocks hold what is not on the old full ones

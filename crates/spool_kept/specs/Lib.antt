@@ -1,13 +1,6 @@
-pub mod Shows
-pub mod Loads
-pub mod Faults
-pub mod Holding
-pub mod Kept
-pub mod Records
 pub mod Changed
 pub mod Extending
 pub mod Stored
 pub mod Terminating
-pub mod Creating
 pub mod Drafting
 pub mod Committing

@@ -5,9 +5,9 @@ use Rattle.spool_disk.specs.declared.disk.Disk.{Ghosts}
 use Rattle.spool_pages.specs.Rests.{Rests}
 use Rattle.spool_pages.specs.View.{View}
 use Rattle.upload_rules.specs.Store.{Store}
-use Rattle.spool_kept.specs.Holding.{Holding}
-use Rattle.spool_kept.specs.Kept.{KeepsView}
-use Rattle.spool_kept.specs.Shows.{Shows, ImageShows}
+use Rattle.spool_catalog.specs.Holding.{Holding}
+use Rattle.spool_catalog.specs.Kept.{KeepsView}
+use Rattle.spool_catalog.specs.Shows.{Shows, ImageShows}
 
 -- This is kept of a view that shows the uploads. Where that is sure, the disk is honest, and at rest with the view;
 -- where

@@ -19,15 +19,16 @@ ghost use Rattle.upload_rules.specs.declared.errors.UploadRefusal.{UploadRefusal
 ghost use Rattle.spool_kept.specs.Committing.{Finds, HasOtherCount, IsAfterSlot, IsCommit, IsFound, MayDeclare};
 ghost use Rattle.spool_kept.specs.Committing.{OnlyRead, with_length_at};
 ghost use Rattle.spool_kept.specs.Drafting.{DraftsFit, OnlyReserves, StandsFor};
-ghost use Rattle.spool_kept.specs.Extending.{Advances, IsPending, MayExtend};
-ghost use Rattle.spool_kept.specs.Holding.{IsUsedBy};
-ghost use Rattle.spool_kept.specs.Shows.{ImageShows};
+ghost use Rattle.spool_kept.specs.Extending.{Advances, IsPending};
+ghost use Rattle.spool_catalog.specs.Longer.{MayExtend};
+ghost use Rattle.spool_catalog.specs.Holding.{IsUsedBy};
+ghost use Rattle.spool_catalog.specs.Shows.{ImageShows};
 ghost use Rattle.spool_kept.specs.Stored.{ShowsEither, Stored};
 
 use spool_journal::PAGE;
-use crate::extending::{Longer, extend};
-use crate::kept::Kept;
+use crate::extending::extend;
 use common::Stop;
+use spool_catalog::{Kept, Longer};
 use spool_disk::Disk;
 use spool_drafts::{DraftEnd, SpoolDraft};
 use std::alloc::Global;

@@ -1,128 +1,26 @@
 //! A new upload is made.
-ghost use Rattle.std.specs.Prelude.{◌≡◌, ◌↔◌, ◌⊎◌, ◌≤◌, ◌<◌, ◌+◌, ◌*◌, ◌^◌, ℕ, List, Option, Some, None, length};
-ghost use Rattle.std.specs.Prelude.{get_or, IsErr, IsErrOf, IsSome, IfOk, OnOk, IfSome, MatchOption};
+ghost use Rattle.std.specs.Prelude.{◌≡◌, ◌↔◌, ◌≤◌, ◌<◌, ◌*◌, ℕ, List, Option, Some, None};
+ghost use Rattle.std.specs.Prelude.{get_or, IsErrOf, OnOk};
 ghost use Rattle.std.specs.Prelude.{Bool, true};
 ghost use Rattle.spool_disk.specs.Disk.{Counts};
 ghost use Rattle.spool_disk.specs.Views.{Lasts};
-ghost use Rattle.spool_journal.specs.Image.{journal_pages, all_pages, InArea, text_page};
-ghost use Rattle.spool_pages.specs.Changes.{Changes, with_record};
+ghost use Rattle.spool_journal.specs.Image.{all_pages, text_page};
 ghost use Rattle.spool_drafts.specs.declared.draft.SpoolDraft.{SpoolDraft as Draft};
-ghost use Rattle.spool_pages.specs.View.{SlotRecord as Said, View};
+ghost use Rattle.spool_pages.specs.View.{SlotRecord as Said};
 ghost use Rattle.upload_rules.specs.Answers.{Answers};
 ghost use Rattle.upload_rules.specs.Calls.{create_refusal, outcome};
 ghost use Rattle.upload_rules.specs.Records.{IsWellFormed};
 ghost use Rattle.upload_rules.specs.Store.{Store, created_store};
 ghost use Rattle.upload_rules.specs.World.{at_rest};
-ghost use Rattle.spool_kept.specs.Creating.{HasRoomAt, IsTakenIn, IsNewRecord};
 ghost use Rattle.spool_kept.specs.Drafting.{DraftsFit};
-ghost use Rattle.spool_kept.specs.Kept.{KeepsView};
-ghost use Rattle.spool_kept.specs.Shows.{Shows};
 ghost use Rattle.spool_kept.specs.Stored.{Stored, ShowsEither};
 
-use crate::kept::Kept;
-use crate::order::put;
-use crate::records::{KeptRecord, record_at};
-use common::SLOTS;
+use spool_catalog::Kept;
 use spool_disk::Disk;
-use spool_journal::{PAGE, Pages};
-use spool_pages::{change, pages_of_new};
-use std::alloc::{AllocError, Global};
-use upload_rules::{NUMBERS_END, New, Record, UploadError, UploadRefusal, is_too_large};
-
-// The first free slot.
-fn free_slot(slots: &[Option<KeptRecord>]) -> Option<u32>
-    ensures { MatchOption result ((s : ℕ) → s < SLOTS → IsSome (get_or slots.now s None))
-        (λ s. (s < SLOTS) × (get_or slots.now s None ≡ None)) }
-{
-    for slot in 0..SLOTS {
-        if record_at(slots, slot as usize).is_none() {
-            return Some(slot);
-        }
-    }
-    None
-}
-
-impl Kept {
-    // A slot for a new upload: none where 512 are in use, or the next number is the last one.
-    fn slot_for_new(&self) -> Option<u32>
-        ensures room { IfSome result (HasRoomAt self.now) }
-        ensures few { (v : View) (m : Store) → KeepsView self.now v → Shows v m
-            → MatchOption result ((SLOTS ≤ length m.uploads) ⊎ (10 ^ 18 ≤ m.next)) (λ s. length m.uploads < SLOTS) }
-    {
-        if self.order.len() >= SLOTS as usize || self.next >= NUMBERS_END {
-            return None;
-        }
-        free_slot(&self.slots)
-    }
-
-    // The record of a new upload, without bytes, under the next number.
-    fn new_record(&self, new: New) -> KeptRecord
-        requires { IsWellFormed new }
-        ensures { IsNewRecord self.now.next new result }
-    {
-        KeptRecord::new(Record::first(self.next, new))
-    }
-
-    // The pages that a new record in a slot makes.
-    fn pages_with(&self, alloc: Global, slot: u32, record: &KeptRecord) -> Result<Pages, AllocError>
-        requires { HasRoomAt self.now slot }
-        ensures area { IfOk result (λ pages. InArea (journal_pages self.now.layout) pages) }
-        ensures some { IfOk result (λ pages. 1 ≤ length pages) }
-        ensures changes { (v : View) → v.blocks ≡ self.now.layout → v.version ≡ self.now.version
-            → v.slots ≡ self.now.slots → IfOk result (λ pages. Changes pages v (record (with_record v slot «record».now)
-            { next = self.now.next + 1 })) }
-    {
-        let kept = record.slot_record();
-        let beside = self.beside(slot);
-        let next = self.next + 1;
-        pages_of_new(
-            alloc,
-            &self.layout,
-            self.version,
-            next,
-            slot,
-            &kept,
-            beside.as_ref(),
-        )
-    }
-
-    // Takes a new upload's record in. When out of memory all is as it was.
-    fn take_in(&mut self, slot: u32, record: KeptRecord) -> Result<(), AllocError>
-        requires room { HasRoomAt self.old slot }
-        requires number { «record».number ≡ self.old.next }
-        requires no_text { «record».text_len ≡ 0 }
-        ensures taken { OnOk result (IsTakenIn self.old slot «record» self.new) }
-        ensures unmade { IsErr result → self.new ≡ self.old }
-    {
-        put(&mut self.order, self.next, slot)?;
-        self.slots[slot as usize] = Some(record);
-        self.next += 1;
-        Ok(())
-    }
-
-    // Takes a new upload's record in, and answers the pages that it makes. When out of memory all is as it was.
-    fn prepare_new(
-        &mut self,
-        alloc: Global,
-        slot: u32,
-        record: KeptRecord,
-    ) -> Result<Pages, AllocError>
-        requires room { HasRoomAt self.old slot }
-        requires number { «record».number ≡ self.old.next }
-        requires no_text { «record».text_len ≡ 0 }
-        ensures taken { IfOk result (λ pages. IsTakenIn self.old slot «record» self.new) }
-        ensures area { IfOk result (λ pages. InArea (journal_pages self.old.layout) pages) }
-        ensures some { IfOk result (λ pages. 1 ≤ length pages) }
-        ensures changes { (v : View) → v.blocks ≡ self.old.layout → v.version ≡ self.old.version
-            → v.slots ≡ self.old.slots → IfOk result (λ pages. Changes pages v (record (with_record v slot «record»)
-            { next = self.old.next + 1 })) }
-        ensures unmade { IsErr result → self.new ≡ self.old }
-    {
-        let pages = self.pages_with(alloc, slot, &record)?;
-        self.take_in(slot, record)?;
-        Ok(pages)
-    }
-}
+use spool_journal::PAGE;
+use spool_pages::change;
+use std::alloc::Global;
+use upload_rules::{New, UploadError, UploadRefusal, is_too_large};
 
 /// Makes an upload without bytes, and answers its number: refused with `TooLarge`, `Slots`, `NoMemory`, `DiskFault`.
 /// Every growth comes before the first write. After a disk fault what is kept is ahead of the disk: the spool
@@ -163,7 +61,7 @@ pub fn create<D: Disk>(
     let Some(slot) = kept.slot_for_new() else {
         return Err(UploadError::Refused(UploadRefusal::Slots));
     };
-    let number = kept.next;
+    let number = kept.next_number();
     let record = kept.new_record(new);
     let Ok(pages) = kept.prepare_new(alloc, slot, record) else {
         return Err(UploadError::NoMemory);

@@ -1,40 +1,27 @@
 //! An upload is taken away: its record and its blocks, in memory and on the disk.
-ghost use Rattle.std.specs.Prelude.{◌≡◌, ◌↔◌, ◌≤◌, ◌<◌, ◌*◌, ℕ, List, [], Option, None, length, get_or, IfOk, OnOk};
+ghost use Rattle.std.specs.Prelude.{◌≡◌, ◌↔◌, ◌≤◌, ◌<◌, ◌*◌, ℕ, Option, OnOk};
 ghost use Rattle.std.specs.Prelude.{IsErrOf};
 ghost use Rattle.std.specs.Prelude.{Bool, true};
-ghost use Rattle.spool_blocks.specs.Blocks.{Row as HeldRow};
 ghost use Rattle.spool_disk.specs.Disk.{Counts};
 ghost use Rattle.spool_disk.specs.Views.{Lasts};
-ghost use Rattle.spool_journal.specs.Image.{journal_pages, all_pages, InArea, text_page};
-ghost use Rattle.spool_pages.specs.Changes.{ChangesButRows, with_slot, SameRowsBut};
-ghost use Rattle.spool_pages.specs.View.{View};
+ghost use Rattle.spool_journal.specs.Image.{all_pages, text_page};
 ghost use Rattle.upload_rules.specs.Answers.{Answers};
 ghost use Rattle.upload_rules.specs.Calls.{terminate_refusal, terminated, terminate_outcome};
 ghost use Rattle.upload_rules.specs.World.{World};
 ghost use Rattle.upload_rules.specs.declared.errors.UploadRefusal.{UploadRefusal as Refusal};
 ghost use Rattle.spool_kept.specs.Drafting.{DraftsFit, StandsFor};
-ghost use Rattle.spool_kept.specs.Holding.{IsUsedBy, Lists, Rises};
+ghost use Rattle.spool_catalog.specs.Holding.{IsUsedBy};
 ghost use Rattle.spool_kept.specs.Stored.{ShowsEither};
-ghost use Rattle.spool_kept.specs.Terminating.{EachForgets, ForgetsOf, IsTakenOut, IsWithout};
+ghost use Rattle.spool_kept.specs.Terminating.{EachForgets, ForgetsOf};
+ghost use Rattle.spool_catalog.specs.TakenOut.{IsTakenOut};
 
-use crate::kept::Kept;
-use crate::order::{NumberedSlot, places_to};
+use spool_catalog::Kept;
 use spool_disk::Disk;
 use spool_drafts::SpoolDraft;
-use spool_journal::{PAGE, Pages};
-use spool_pages::{change, fill_rows, pages_of_change};
-use std::alloc::{AllocError, Global};
+use spool_journal::PAGE;
+use spool_pages::{change, fill_rows};
+use std::alloc::Global;
 use upload_rules::{UploadError, UploadRefusal};
-
-// Takes a number that is listed out of the order.
-fn take_number(order: &mut Vec<NumberedSlot>, number: u64)
-    requires rises { Rises order.old.items }
-    requires listed { (s : ℕ) × Lists order.old.items number s }
-    ensures { IsWithout order.old.items number order.new.items }
-{
-    let place = places_to(order, number) - 1;
-    order.remove(place);
-}
 
 // A draft of this number forgets its upload's last block. Another is as it was.
 fn forget_tail(draft: &mut Option<SpoolDraft>, number: u64)
@@ -53,41 +40,6 @@ fn forget_tails(drafts: &mut Vec<Option<SpoolDraft>>, number: u64)
 {
     for place in 0..drafts.len() {
         forget_tail(&mut drafts[place], number);
-    }
-}
-
-impl Kept {
-    // The pages that change where a slot becomes free. Those with rows are blank.
-    fn pages_without(&self, alloc: Global, slot: u32) -> Result<Pages, AllocError>
-        requires used { (n : ℕ) × IsUsedBy self.now.slots slot n }
-        ensures area { IfOk result (λ pages. InArea (journal_pages self.now.layout) pages) }
-        ensures some { IfOk result (λ pages. 1 ≤ length pages) }
-        ensures changes { (v : View) → v.blocks ≡ self.now.layout → v.version ≡ self.now.version
-            → v.slots ≡ self.now.slots → (rows : List HeldRow) → SameRowsBut (get_or self.now.lists slot []) v.rows rows
-            → IfOk result (λ pages. ChangesButRows pages v (record (with_slot v slot None) { rows = rows })) }
-    {
-        let list = self.list(slot);
-        let beside = self.beside(slot);
-        pages_of_change(
-            alloc,
-            &self.layout,
-            self.version,
-            slot,
-            None,
-            beside.as_ref(),
-            list,
-        )
-    }
-
-    // Takes an upload out of its slot. It takes no memory.
-    fn take_out(&mut self, number: u64, slot: u32)
-        requires used { IsUsedBy self.old.slots slot number }
-        ensures { IsTakenOut self.old slot self.new }
-    {
-        take_number(&mut self.order, number);
-        self.lists[slot as usize].clear();
-        self.blocks.disown(slot);
-        self.slots[slot as usize] = None;
     }
 }
 

@@ -2,10 +2,10 @@
 use Rattle.std.proofs.Common.{◌≡◌, ℕ, Err, ap, refl}
 use Rattle.std.specs.Prelude.{IsErrOf}
 use Rattle.spool_disk.specs.Disk.{Counts}
-use Rattle.spool_kept.specs.Loads.{LoadsAs}
-use Rattle.spool_kept.specs.declared.error.CheckError.TheVariants.{Damaged, NoMemory}
-use Rattle.spool_kept.specs.declared.error.OpenFault.{OpenFault}
-use Rattle.spool_kept.specs.declared.error.OpenFault.TheVariants as opens
+use Rattle.spool_catalog.specs.Loads.{LoadsAs}
+use Rattle.spool_catalog.specs.declared.error.CheckError.TheVariants.{Damaged, NoMemory}
+use Rattle.spool_catalog.specs.declared.error.OpenFault.{OpenFault}
+use Rattle.spool_catalog.specs.declared.error.OpenFault.TheVariants as opens
 use Rattle.spool_load.specs.Faults.{TellsNothing, load_fault}
 use Rattle.spool_load.specs.declared.error.LoadError.{LoadError}
 use Rattle.spool_load.specs.declared.error.LoadError.TheVariants.{DiskFault, Check}

@@ -12,7 +12,7 @@ use Rattle.spool_journal.specs.Phases.{Settled, ReadsAs, Still}
 use Rattle.spool_journal.proofs.Over.{over_none}
 use Rattle.spool_journal.proofs.Gate.{open_view, shut_view}
 use Rattle.spool_pages.specs.View.{View, Says, IsViewOf, first_page}
-use Rattle.spool_kept.specs.Shows.{IsValid}
+use Rattle.spool_catalog.specs.Shows.{IsValid}
 use Rattle.spool_load.specs.Reads.{NeedsReplay, OnlyReads, SaysBlocks}
 use Rattle.spool_pages.proofs.Says.{says_same}
 

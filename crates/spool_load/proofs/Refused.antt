@@ -14,12 +14,12 @@ use Rattle.spool_pages.specs.declared.version.Version.TheVariants.{One, Two}
 use Rattle.spool_pages.proofs.Numbers.{four_at}
 use Rattle.spool_pages.proofs.RecordBytes.{stands_prefix, stands_beyond}
 use Rattle.spool_pages.proofs.Says.{says_same, some_journal}
-use Rattle.spool_kept.specs.declared.error.CheckError.TheVariants as checks
-use Rattle.spool_kept.specs.declared.error.OpenFault.{OpenFault}
-use Rattle.spool_kept.specs.declared.error.OpenFault.TheVariants.{NotASpool, DiskFault, Damaged, Version, NoMemory}
-use Rattle.spool_kept.specs.Holding.{Holding}
-use Rattle.spool_kept.specs.Loads.{LoadsAs}
-use Rattle.spool_kept.specs.Shows.{IsValid}
+use Rattle.spool_catalog.specs.declared.error.CheckError.TheVariants as checks
+use Rattle.spool_catalog.specs.declared.error.OpenFault.{OpenFault}
+use Rattle.spool_catalog.specs.declared.error.OpenFault.TheVariants.{NotASpool, DiskFault, Damaged, Version, NoMemory}
+use Rattle.spool_catalog.specs.Holding.{Holding}
+use Rattle.spool_catalog.specs.Loads.{LoadsAs}
+use Rattle.spool_catalog.specs.Shows.{IsValid}
 use Rattle.spool_load.specs.Faults.{TellsNothing, load_fault}
 use Rattle.spool_load.specs.declared.error.LoadError.{LoadError}
 use Rattle.spool_load.specs.declared.error.LoadError.TheVariants as loads

@@ -14,13 +14,13 @@ use Rattle.spool_pages.specs.Fits.{FitsSlotOf, FitsRow}
 use Rattle.spool_pages.specs.View.{SlotRecord, View, Says, Stands, state_page, slot_bytes, row_bytes}
 use Rattle.spool_pages.specs.View.{index_place, state_place, slot_place, row_place}
 use Rattle.spool_pages.specs.declared.version.Version.{Version}
-use Rattle.spool_kept.proofs.Valid.{said_area, said_slot, said_row, slots_fit, rows_fit}
-use Rattle.spool_kept.specs.Records.{FitsKept}
-use Rattle.spool_kept.specs.Holding.{AreDistinct}
-use Rattle.spool_kept.specs.Shows.{IsValid, IsValidRecord, IsOwned}
-use Rattle.spool_load.specs.Checks.{RecordsPass, RowPasses, RowsPass}
-use Rattle.spool_kept.specs.Holding.{Holding}
-use Rattle.spool_kept.specs.Kept.{KeepsAlone}
+use Rattle.spool_catalog.proofs.Valid.{said_area, said_slot, said_row, slots_fit, rows_fit}
+use Rattle.spool_catalog.specs.Records.{FitsKept}
+use Rattle.spool_catalog.specs.Holding.{AreDistinct}
+use Rattle.spool_catalog.specs.Shows.{IsValid, IsValidRecord, IsOwned}
+use Rattle.spool_catalog.specs.Checks.{RecordsPass, RowPasses, RowsPass}
+use Rattle.spool_catalog.specs.Holding.{Holding}
+use Rattle.spool_catalog.specs.Kept.{KeepsAlone}
 use Rattle.spool_load.specs.Loaded.{LoadedFrom}
 use Rattle.spool_load.specs.Reads.{StandFields, StandSlots, StandRows}
 

@@ -1,8 +1,8 @@
 -- The errors of reading a spool.
 use Rattle.std.specs.Prelude.{◌≡◌, Result, Ok, Err}
-use Rattle.spool_kept.specs.declared.error.CheckError.TheVariants.{Damaged, NoMemory}
-use Rattle.spool_kept.specs.declared.error.OpenFault.{OpenFault}
-use Rattle.spool_kept.specs.declared.error.OpenFault.TheVariants as opens
+use Rattle.spool_catalog.specs.declared.error.CheckError.TheVariants.{Damaged, NoMemory}
+use Rattle.spool_catalog.specs.declared.error.OpenFault.{OpenFault}
+use Rattle.spool_catalog.specs.declared.error.OpenFault.TheVariants as opens
 use Rattle.spool_load.specs.declared.error.LoadError.{LoadError}
 use Rattle.spool_load.specs.declared.error.LoadError.TheVariants.{DiskFault, Check}
 

@@ -1,6 +1,5 @@
 pub mod Faults
 pub mod Reads
-pub mod Checks
 pub mod Refusals
 pub mod Loaded
 pub mod Recovered

@@ -2,9 +2,9 @@
 use Rattle.std.specs.Prelude.{◌≡◌, ◌↔◌, ℕ, ◌*◌, ◌≤◌, IsTrue}
 use Rattle.spool_journal.specs.declared.TheConstants.{PAGE}
 use Rattle.spool_journal.specs.Image.{all_pages, overlaid}
-use Rattle.spool_kept.specs.Holding.{Holding}
-use Rattle.spool_kept.specs.Kept.{KeepsAlone}
-use Rattle.spool_kept.specs.Shows.{IsValid}
+use Rattle.spool_catalog.specs.Holding.{Holding}
+use Rattle.spool_catalog.specs.Kept.{KeepsAlone}
+use Rattle.spool_catalog.specs.Shows.{IsValid}
 use Rattle.spool_pages.specs.View.{View, Stands, Says, IsViewOf, state_place, state_page}
 use Rattle.spool_pages.specs.declared.version.Version.{Version}
 use Rattle.spool_load.specs.Reads.{SaysBlocks}

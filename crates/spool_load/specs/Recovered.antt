@@ -6,7 +6,7 @@ use Rattle.spool_disk.specs.Views.{Lasts}
 use Rattle.spool_disk.specs.declared.disk.Disk.{Ghosts}
 use Rattle.spool_journal.specs.Image.{all_pages, journal_pages, overlaid}
 use Rattle.spool_journal.specs.Phases.{ReadsAs, Settled}
-use Rattle.spool_kept.specs.Shows.{IsValid}
+use Rattle.spool_catalog.specs.Shows.{IsValid}
 use Rattle.spool_load.specs.Reads.{NeedsReplay}
 use Rattle.spool_pages.specs.View.{View, IsViewOf}
 

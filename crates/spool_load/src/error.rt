@@ -2,7 +2,7 @@
 ghost use Rattle.std.specs.Prelude.{◌≡◌};
 
 use spool_disk::DiskFault;
-use spool_kept::{CheckError, OpenFault};
+use spool_catalog::{CheckError, OpenFault};
 use spool_pages::Damaged;
 use std::alloc::AllocError;
 use thiserror::Error;
@@ -39,7 +39,7 @@ impl From<CheckError> for LoadError {
 }
 
 impl From<Damaged> for LoadError {
-    ghost use Rattle.spool_kept.specs.declared.error.CheckError.{CheckError};
+    ghost use Rattle.spool_catalog.specs.declared.error.CheckError.{CheckError};
     ghost use Rattle.spool_load.specs.declared.error.LoadError.{LoadError};
 
     ghost from_gives = { λ _ error. error ≡ LoadError.Check CheckError.Damaged };
@@ -50,7 +50,7 @@ impl From<Damaged> for LoadError {
 }
 
 impl From<AllocError> for LoadError {
-    ghost use Rattle.spool_kept.specs.declared.error.CheckError.{CheckError};
+    ghost use Rattle.spool_catalog.specs.declared.error.CheckError.{CheckError};
     ghost use Rattle.spool_load.specs.declared.error.LoadError.{LoadError};
 
     ghost from_gives = { λ _ error. error ≡ LoadError.Check CheckError.NoMemory };

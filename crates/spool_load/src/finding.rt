@@ -5,8 +5,8 @@ ghost use Rattle.spool_disk.specs.Disk.{IsImage, Counts, Keeps};
 ghost use Rattle.spool_disk.specs.Views.{Lasts};
 ghost use Rattle.spool_journal.specs.Image.{journal_pages, all_pages, byte_of, overlaid};
 ghost use Rattle.spool_journal.specs.Phases.{Settled, ReadsAs, Still};
-ghost use Rattle.spool_kept.specs.Loads.{LoadsAs};
-ghost use Rattle.spool_kept.specs.Shows.{IsValid};
+ghost use Rattle.spool_catalog.specs.Loads.{LoadsAs};
+ghost use Rattle.spool_catalog.specs.Shows.{IsValid};
 ghost use Rattle.spool_load.specs.Loaded.{FoundOn, IsFoundOf, SaysState, StandsFound};
 ghost use Rattle.spool_load.specs.Reads.{OnlyReads, SaysBlocks};
 ghost use Rattle.spool_load.specs.Recovered.{LeavesRead, OfView, ReadsSame, Recovered, Unwritten};
@@ -18,7 +18,7 @@ ghost use Rattle.spool_pages.specs.declared.version.Version.{Version as Known};
 use crate::reading::read_at;
 use spool_disk::{Disk, DiskFault};
 use spool_journal::{Layout, PAGE, recover};
-use spool_kept::OpenFault;
+use spool_catalog::OpenFault;
 use spool_pages::{Version, blocks_said, is_blank_after_fields, state_place, version_and_next};
 
 /// A spool that was found on a disk and recovered.

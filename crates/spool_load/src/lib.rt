@@ -1,7 +1,6 @@
 //! Opening a spool: it is found on a disk, recovered, read and checked. Only valid spools pass.
 #![tactic(auto)]
 
-mod checks;
 mod error;
 mod finding;
 mod loading;

@@ -4,17 +4,16 @@ ghost use Rattle.std.specs.Prelude.{ℕ, None, false, replicate, length, get_or,
 ghost use Rattle.spool_disk.specs.Disk.{Counts};
 ghost use Rattle.spool_journal.specs.Image.{all_pages, journal_pages};
 ghost use Rattle.spool_journal.specs.Phases.{Still};
-ghost use Rattle.spool_load.specs.Checks.{RowsPass};
+ghost use Rattle.spool_catalog.specs.Checks.{RowsPass};
 ghost use Rattle.spool_load.specs.Faults.{Loads};
 ghost use Rattle.spool_load.specs.Loaded.{IsFoundOf, LoadedFrom, StandsFound};
 ghost use Rattle.spool_load.specs.Reads.{OnlyReads, SaysBlocks, StandFields, StandRows};
-ghost use Rattle.spool_kept.specs.Kept.{KeepsAlone};
-ghost use Rattle.spool_kept.specs.Shows.{IsValid};
+ghost use Rattle.spool_catalog.specs.Kept.{KeepsAlone};
+ghost use Rattle.spool_catalog.specs.Shows.{IsValid};
 ghost use Rattle.spool_pages.specs.Fits.{FitsRow};
 ghost use Rattle.spool_pages.specs.View.{View, Says, first_page};
 
 use common::{ROWS, SLOTS};
-use crate::checks::{are_rows_valid, are_valid};
 use crate::owners::load_rows;
 use crate::reading::{check_prefix, load_indexes};
 use crate::slots::load_slots;
@@ -23,7 +22,7 @@ use enc_index::IndexSet;
 use spool_blocks::Blocks;
 use spool_disk::Disk;
 use spool_journal::{Layout, PAGE};
-use spool_kept::{Kept, KeptRecord};
+use spool_catalog::{Kept, KeptRecord, are_rows_valid, are_valid};
 use spool_pages::Damaged;
 use std::alloc::Global;
 

@@ -5,9 +5,9 @@ ghost use Rattle.spool_disk.specs.Disk.{IsImage, Counts, Keeps};
 ghost use Rattle.spool_disk.specs.Views.{Lasts};
 ghost use Rattle.spool_journal.specs.Image.{journal_pages, all_pages, overlaid};
 ghost use Rattle.spool_journal.specs.Phases.{Settled, ReadsAs};
-ghost use Rattle.spool_kept.specs.Kept.{KeepsAlone};
-ghost use Rattle.spool_kept.specs.Loads.{LoadsAs};
-ghost use Rattle.spool_kept.specs.Shows.{IsValid};
+ghost use Rattle.spool_catalog.specs.Kept.{KeepsAlone};
+ghost use Rattle.spool_catalog.specs.Loads.{LoadsAs};
+ghost use Rattle.spool_catalog.specs.Shows.{IsValid};
 ghost use Rattle.spool_load.specs.Loaded.{OpenedFrom};
 ghost use Rattle.spool_load.specs.Recovered.{LeavesRead, OfView, ReadsSame, Recovered, Unwritten};
 ghost use Rattle.spool_load.specs.Refusals.{RefusedFor};
@@ -17,7 +17,7 @@ use spool_journal::PAGE;
 use crate::finding::find;
 use crate::loading::read;
 use spool_disk::Disk;
-use spool_kept::{Kept, OpenFault};
+use spool_catalog::{Kept, OpenFault};
 use std::alloc::Global;
 
 /// Finds a spool, recovers it and reads it. A crash during it does no harm: it may be called again.

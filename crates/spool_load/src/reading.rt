@@ -15,7 +15,7 @@ use crate::LoadError;
 use enc_index::{AreaError, IndexSet};
 use spool_disk::{Disk, DiskFault};
 use spool_journal::{Layout, PAGE};
-use spool_kept::CheckError;
+use spool_catalog::CheckError;
 use spool_pages::{Damaged, index_place, is_blank_after_fields};
 use std::alloc::Global;
 

@@ -6,7 +6,7 @@ ghost use Rattle.spool_journal.specs.Image.{all_pages};
 ghost use Rattle.spool_journal.specs.Phases.{Still};
 ghost use Rattle.spool_pages.specs.Bytes.{IsPadded};
 ghost use Rattle.spool_pages.specs.Fits.{FitsSlotOf};
-ghost use Rattle.spool_kept.specs.Records.{FitsKept};
+ghost use Rattle.spool_catalog.specs.Records.{FitsKept};
 ghost use Rattle.spool_load.specs.Faults.{Loads};
 ghost use Rattle.spool_load.specs.Reads.{OnlyReads, IsPrefixOf, StandSlots};
 ghost use Rattle.spool_pages.specs.View.{SlotRecord as Said, Stands, slot_bytes, slot_place};
@@ -16,7 +16,7 @@ use crate::reading::read_at;
 use common::SLOTS;
 use spool_disk::Disk;
 use spool_journal::{Layout, PAGE};
-use spool_kept::{CheckError, KeptRecord};
+use spool_catalog::{CheckError, KeptRecord};
 use spool_pages::{RECORD, SlotRecord, Version, slot_place};
 use std::alloc::Global;
 

@@ -29,12 +29,13 @@ use Rattle.upload_rules.specs.declared.errors.UploadError.TheVariants.{NoMemory,
 use Rattle.upload_rules.specs.declared.errors.UploadRefusal.TheVariants as refusals
 use Rattle.spool_kept.specs.Committing.{HasSameCount, IsCommit, IsFound}
 use Rattle.spool_kept.specs.Drafting.{DraftsHold, DraftStands, OnlyReserves}
-use Rattle.spool_kept.specs.Extending.{IsPending, MayExtend}
-use Rattle.spool_kept.specs.Holding.{Holding}
-use Rattle.spool_kept.specs.Shows.{ImageShows, IsRecordOf}
+use Rattle.spool_kept.specs.Extending.{IsPending}
+use Rattle.spool_catalog.specs.Longer.{MayExtend}
+use Rattle.spool_catalog.specs.Holding.{Holding}
+use Rattle.spool_catalog.specs.Shows.{ImageShows, IsRecordOf}
 use Rattle.spool_kept.specs.Stored.{Stored}
 use Rattle.spool_kept.specs.declared.committing.Found.{Found}
-use Rattle.spool_kept.specs.declared.extending.Longer.{Longer}
+use Rattle.spool_catalog.specs.declared.longer.Longer.{Longer}
 use Rattle.spool_kept.proofs.slots.SlotChange.{told_upload}
 use Rattle.spool_kept.proofs.commits.CommitRefusals as rules
 use Rattle.spool_kept.proofs.commits.CommitTexts as texts

@@ -6,9 +6,10 @@ use Rattle.spool_drafts.specs.declared.draft.SpoolDraft.{SpoolDraft}
 use Rattle.spool_pages.specs.View.{SlotRecord}
 use Rattle.spool_texts.specs.Drafts.{GivesBack, IsReserved}
 use Rattle.spool_kept.specs.Drafting.{DraftsFit, OnlyReserves}
-use Rattle.spool_kept.specs.Extending.{Advances, HandsOn, IsLonger}
-use Rattle.spool_kept.specs.Holding.{Holding}
-use Rattle.spool_kept.specs.declared.extending.Longer.{Longer}
+use Rattle.spool_kept.specs.Extending.{Advances}
+use Rattle.spool_catalog.specs.Longer.{HandsOn, IsLonger}
+use Rattle.spool_catalog.specs.Holding.{Holding}
+use Rattle.spool_catalog.specs.declared.longer.Longer.{Longer}
 use Rattle.spool_kept.proofs.drafts.DraftSpent.{fit_given, fit_handed, rows_handed}
 use Rattle.spool_kept.proofs.drafts.OfUploads.{fits_put, fits_spent}
 use Rattle.spool_kept.proofs.drafts.DraftLonger.{WentOn}

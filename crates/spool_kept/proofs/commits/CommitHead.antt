@@ -23,10 +23,10 @@ use Rattle.upload_rules.proofs.Refusals.{no_such_upload, other_offset}
 use Rattle.upload_rules.proofs.Same.{same_upload}
 use Rattle.spool_kept.specs.Committing.{Finds, HasOtherCount, HasSameCount, IsCommit, IsFound, with_length_at}
 use Rattle.spool_kept.specs.Drafting.{DraftStands, DraftsHold, IsStillOpen, StandsFor}
-use Rattle.spool_kept.specs.Holding.{Holding, IsUsedBy}
-use Rattle.spool_kept.specs.Shows.{IsTold}
+use Rattle.spool_catalog.specs.Holding.{Holding, IsUsedBy}
+use Rattle.spool_catalog.specs.Shows.{IsTold}
 use Rattle.spool_kept.specs.declared.committing.Found.{Found}
-use Rattle.spool_kept.proofs.Answered.{no_upload}
+use Rattle.spool_catalog.proofs.Answered.{no_upload}
 use Rattle.spool_kept.proofs.commits.CommitRefusals.{by_length, nothing_committed, nothing_refused, refused_by_length}
 use Rattle.spool_kept.proofs.commits.CommitRefusals.{store_declared}
 use Rattle.std.proofs.lemmas.Option.{same_Some}

@@ -26,11 +26,12 @@ use Rattle.upload_rules.specs.declared.errors.UploadRefusal.{UploadRefusal}
 use Rattle.upload_rules.proofs.Growing.{grown_dropped, grown_put}
 use Rattle.spool_kept.specs.Committing.{IsCommit, with_length_at}
 use Rattle.spool_kept.specs.Drafting.{DraftStands, DraftsStand, OnlyReserves, StandsFor}
-use Rattle.spool_kept.specs.Extending.{HandsOn, IsAppend, IsLonger, longer_record}
-use Rattle.spool_kept.specs.Holding.{Holding}
-use Rattle.spool_kept.specs.Shows.{ImageShows}
+use Rattle.spool_catalog.specs.Longer.{HandsOn, IsLonger, longer_record}
+use Rattle.spool_kept.specs.Extending.{IsAppend}
+use Rattle.spool_catalog.specs.Holding.{Holding}
+use Rattle.spool_catalog.specs.Shows.{ImageShows}
 use Rattle.spool_kept.specs.Stored.{ShowsEither, Stored}
-use Rattle.spool_kept.specs.declared.extending.Longer.{Longer}
+use Rattle.spool_catalog.specs.declared.longer.Longer.{Longer}
 use Rattle.spool_kept.proofs.commits.CommitRefusals as rules
 use Rattle.spool_kept.proofs.drafts.DraftLonger.{WentOn, held_both, other_stands, put_on}
 use Rattle.spool_kept.proofs.drafts.DraftSpent.{all_given, all_handed, open_before, other_upload, owned_declared}

@@ -21,7 +21,7 @@ use Rattle.spool_room.specs.Holdings.{added}
 use Rattle.spool_room.proofs.Needs.{wants_some}
 use Rattle.spool_texts.specs.TextOn.{text_on}
 use Rattle.spool_kept.specs.Extending.{IsExtension, full_bytes}
-use Rattle.spool_kept.specs.declared.extending.Longer.{Longer}
+use Rattle.spool_catalog.specs.declared.longer.Longer.{Longer}
 
 patch_text_is : (x : IndexSet) (p : Patch) (done : Bool) → patch_text x p done ≡ text_with x p.began p.body done
 unfolding patch_text

@@ -13,11 +13,11 @@ use Rattle.upload_rules.specs.Store.{Store, Upload, find, is_complete, patched, 
 use Rattle.upload_rules.proofs.Commits.{state_patched, text_of_is, text_patched, transcoder_patched}
 use Rattle.spool_kept.specs.Committing.{MayDeclare}
 use Rattle.spool_kept.specs.Extending.{IsExtension, IsPending, OnlyDeclares}
-use Rattle.spool_kept.specs.Holding.{Holding, IsUsedBy}
-use Rattle.spool_kept.specs.Shows.{IsTold}
+use Rattle.spool_catalog.specs.Holding.{Holding, IsUsedBy}
+use Rattle.spool_catalog.specs.Shows.{IsTold}
 use Rattle.spool_kept.specs.Stored.{Stored}
-use Rattle.spool_kept.specs.declared.extending.Longer.{Longer}
-use Rattle.spool_kept.proofs.slots.ChangedSlots.{one_value}
+use Rattle.spool_catalog.specs.declared.longer.Longer.{Longer}
+use Rattle.spool_catalog.proofs.slots.ChangedSlots.{one_value}
 
 -- the upload as its record says it, with a length
 abbrev pub named : SlotRecord → ℕ → Option ℕ → Longer

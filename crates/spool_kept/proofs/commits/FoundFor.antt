@@ -10,9 +10,9 @@ use Rattle.upload_rules.specs.Lengths.{is_length, is_new, known_or, longest}
 use Rattle.upload_rules.specs.declared.errors.UploadRefusal.{UploadRefusal}
 use Rattle.upload_rules.specs.declared.records.Record.{Record}
 use Rattle.spool_kept.specs.Committing.{Finds, HasSameCount, IsFound, HasOtherLength}
-use Rattle.spool_kept.specs.Holding.{IsUsedBy}
-use Rattle.spool_kept.specs.Records.{IsUnpacked, said_of}
-use Rattle.spool_kept.proofs.slots.ChangedSlots.{one_value}
+use Rattle.spool_catalog.specs.Holding.{IsUsedBy}
+use Rattle.spool_catalog.specs.Records.{IsUnpacked, said_of}
+use Rattle.spool_catalog.proofs.slots.ChangedSlots.{one_value}
 use Rattle.spool_kept.proofs.commits.CommitRefusals.{length_refused}
 
 -- the count of a slot that has the draft's

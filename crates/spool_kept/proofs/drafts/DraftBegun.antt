@@ -16,8 +16,9 @@ use Rattle.upload_rules.specs.World.{Patch, World, free_number}
 use Rattle.upload_rules.proofs.FreeNumbers.{is_free}
 use Rattle.upload_rules.proofs.Growing.{grown_begun}
 use Rattle.upload_rules.proofs.Patches.{patch_there, begun_stand}
-use Rattle.spool_kept.specs.Holding.{Holding}
-use Rattle.spool_kept.specs.Drafting.{DraftsHold, DraftStands, DraftsStand, IsOwnedBy, StandsFor, CarriesFor, OpensFor}
+use Rattle.spool_catalog.specs.Holding.{Holding}
+use Rattle.spool_kept.specs.Drafting.{DraftsHold, DraftStands, DraftsStand, StandsFor, CarriesFor, OpensFor}
+use Rattle.spool_catalog.specs.Holding.{IsOwnedBy}
 use Rattle.spool_kept.proofs.drafts.Drafted.{IsChanged}
 use Rattle.spool_kept.proofs.slots.Created.{number_below}
 

@@ -1,6 +1,6 @@
 -- Lists of reserved blocks, one for each draft number, where one of them changes.
 use Rattle.std.proofs.lemmas.Grind.{common_steps}
-use Rattle.std.proofs.Common.{◌≡◌, ◌≢◌, ◌⊎◌, inl, inr, ℕ, zero, suc, ◌<◌, ◌+◌, ◌++◌, List, [], ◌∷◌, true, false}
+use Rattle.std.proofs.Common.{◌≡◌, ◌≢◌, ◌⊎◌, inl, inr, ℕ, ◌+◌, ◌++◌, List, [], true, false}
 use Rattle.std.proofs.Common.{length, get_or, sym, ◌∙◌, ap, subst, arith}
 use Rattle.std.proofs.lemmas.Bool.{cases_eq, both_ways}
 use Rattle.std.proofs.lemmas.List.{get_or_append_left, get_or-append-add, length-append}
@@ -9,26 +9,15 @@ use Rattle.spool_texts.specs.Drafts.{IsReserved, Takes, GivesBack}
 use Rattle.spool_texts.specs.Written.{NoneOf}
 use Rattle.spool_room.specs.Holdings.{IsInSome}
 use Rattle.spool_drafts.specs.Growth.{IsIn}
+use Rattle.spool_catalog.proofs.slots.Members.{IsOut, cases_in as place_or_out}
 
 -- MEMBERS
 
-abbrev pub IsOut : List ℕ → ℕ → Type 0
-IsOut list b = (i : ℕ) → i < length list → get_or list i 0 ≢ b
-
 pub cases_in : (list : List ℕ) (b : ℕ) → IsIn list b ⊎ IsOut list b
-cases_in [] b = inr (λ i lt e. omega (arith, lt))
-cases_in (x ∷ list) b =
-    elim (cases_eq x b) [
-      | inl here ↦ inl (record { at = 0; below = omega arith; here = here })
-      | inr other ↦ elim (cases_in list b) [
-        | inl there ↦ inl (record { at = suc there.at; below = omega (arith, there.below); here = there.here })
-        | inr out ↦ inr (λ i lt e. away i lt e other out)
-      ]
-    ]
-  where
-    away : (i : ℕ) → i < length (x ∷ list) → get_or (x ∷ list) i 0 ≡ b → (x ≡ b → ⊥) → IsOut list b → ⊥
-    away zero lt e other out = other e
-    away (suc i) lt e other out = out i (omega (arith, lt)) e
+cases_in list b = elim (place_or_out list b) [
+  | inl is ↦ inl (record { at = is.at; below = is.below; here = is.here })
+  | inr out ↦ inr out
+]
 
 pub out_of_more : (list more : List ℕ) (b : ℕ) → IsOut (list ++ more) b → IsOut list b
 out_of_more list more b out i lt e =
@@ -66,9 +55,6 @@ given_keeps other gives is apart = search (arith, common_steps)
 pub kept_out : {old new : Held} {list : List ℕ} (b : ℕ) → GivesBack old new list → get_or new.reserved b false ≡ true
     → IsOut list b
 kept_out {new = new} b gives is i lt e = both_ways (get_or new.reserved b false) (rw e at (gives.given i lt)) is
-
-pub nothing_reserved : (h : Held) (list : List ℕ) → list ≡ [] → IsReserved h list
-nothing_reserved h list none = search (arith, common_steps)
 
 -- ANOTHER LIST AT ONE NUMBER
 

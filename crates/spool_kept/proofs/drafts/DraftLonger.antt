@@ -33,19 +33,21 @@ use Rattle.common.specs.declared.stop.Stop.{Stop}
 use Rattle.common.specs.declared.stop.Stop.TheVariants as Stops
 use Rattle.upload_rules.specs.Errors.{unrefused}
 use Rattle.upload_rules.specs.declared.errors.UploadError.TheVariants.{DiskFault}
-use Rattle.spool_kept.specs.Holding.{Holding}
+use Rattle.spool_catalog.specs.Holding.{Holding}
 use Rattle.spool_kept.specs.Stored.{Stored}
 use Rattle.spool_kept.specs.Changed.{slot_of}
-use Rattle.spool_kept.specs.Shows.{Shows}
-use Rattle.spool_kept.specs.Drafting.{list_in, lists_at, DraftsHold, DraftStands, DraftsStand, IsOwnedBy, OnlyReserves}
+use Rattle.spool_catalog.specs.Shows.{Shows}
+use Rattle.spool_kept.specs.Drafting.{list_in, lists_at, DraftsHold, DraftStands, DraftsStand, OnlyReserves}
+use Rattle.spool_catalog.specs.Holding.{IsOwnedBy}
 use Rattle.spool_kept.specs.Drafting.{StandsFor}
-use Rattle.spool_kept.proofs.drafts.DraftLists.{IsOut, IsSwapped, all_reserved, all_apart, cases_in, in_other, in_own}
+use Rattle.spool_catalog.proofs.slots.Members.{IsOut}
+use Rattle.spool_kept.proofs.drafts.DraftLists.{IsSwapped, all_reserved, all_apart, cases_in, in_other, in_own}
 use Rattle.spool_kept.proofs.drafts.DraftLists.{kept_out, given_keeps, none_in_nothing, none_sym, out_of_more}
 use Rattle.spool_kept.proofs.drafts.DraftLists.{reserved_before, taken_apart, taken_keeps}
 use Rattle.spool_kept.proofs.drafts.Drafted.{IsChanged, changed_lists, fit_changed, keeps_on, changed_in}
 use Rattle.spool_kept.proofs.slots.SlotsOf.{upload_slot, slots_apart, owner_upload}
 use Rattle.std.proofs.lemmas.Option.{same_Some}
-use Rattle.spool_kept.proofs.Valid.{in_use}
+use Rattle.spool_catalog.proofs.Valid.{in_use}
 
 -- A DRAFT THAT WENT ON: it took blocks, and has them beside its own, or gave all back
 

@@ -23,18 +23,20 @@ use Rattle.upload_rules.specs.World.{Patch, World}
 use Rattle.upload_rules.proofs.Finds.{find_replaced_other, find_replaced_same, find_without_other, find_without_same}
 use Rattle.upload_rules.proofs.Patches.{apart_without}
 use Rattle.upload_rules.proofs.Same.{same_upload}
-use Rattle.spool_kept.specs.Drafting.{DraftStands, DraftsHold, DraftsStand, IsOwnedBy, IsStillOpen, list_in, lists_at}
-use Rattle.spool_kept.specs.Extending.{HandsOn, IsLonger, longer_record}
-use Rattle.spool_kept.specs.Holding.{Holding, IsUsedBy}
-use Rattle.spool_kept.specs.declared.extending.Longer.{Longer}
-use Rattle.spool_kept.proofs.slots.ChangedSlots.{one_value, slot_here}
-use Rattle.spool_kept.proofs.drafts.DraftLists.{IsOut, in_other, kept_out, none_in_nothing, nothing_reserved}
+use Rattle.spool_kept.specs.Drafting.{DraftStands, DraftsHold, DraftsStand, IsStillOpen, list_in, lists_at}
+use Rattle.spool_catalog.specs.Holding.{IsOwnedBy}
+use Rattle.spool_catalog.specs.Longer.{HandsOn, IsLonger, longer_record}
+use Rattle.spool_catalog.specs.Holding.{Holding, IsUsedBy}
+use Rattle.spool_catalog.specs.declared.longer.Longer.{Longer}
+use Rattle.spool_catalog.proofs.slots.ChangedSlots.{one_value, slot_here}
+use Rattle.spool_catalog.proofs.slots.Members.{IsOut, nothing_reserved}
+use Rattle.spool_kept.proofs.drafts.DraftLists.{in_other, kept_out, none_in_nothing}
 use Rattle.spool_kept.proofs.drafts.DraftLonger.{WentOn, all_longer, each_other, fit_longer}
 use Rattle.spool_kept.proofs.drafts.Drafted.{IsChanged, changed_lists, changed_out, fit_changed, fit_dropped}
-use Rattle.spool_kept.proofs.slots.HandedOver.{others_same}
-use Rattle.spool_kept.proofs.Valid.{in_use}
-use Rattle.spool_kept.proofs.slots.SlotChange.{same_others}
-use Rattle.spool_kept.specs.Changed.{SameOthers}
+use Rattle.spool_catalog.proofs.slots.HandedOver.{others_same}
+use Rattle.spool_catalog.proofs.Valid.{in_use}
+use Rattle.spool_catalog.proofs.slots.SlotFits.{same_others}
+use Rattle.spool_catalog.specs.Rows.{SameOthers}
 
 -- BLOCKS
 

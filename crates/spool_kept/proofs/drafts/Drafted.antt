@@ -1,16 +1,14 @@
 -- Open drafts, where one of them changes.
 use Rattle.std.proofs.lemmas.Grind.{common_steps}
-use Rattle.std.proofs.Common.{◌≡◌, ◌≢◌, Result, Ok, Err, IfOk, ◌≤◌, inl, inr, ℕ, ◌<◌, List, [], Option, None, Some}
+use Rattle.std.proofs.Common.{◌≡◌, ◌≢◌, Result, Ok, Err, IfOk, inl, inr, ℕ, ◌<◌, List, [], Option, None, Some}
 use Rattle.std.proofs.Common.{length, get_or, set, refl, sym, ◌∙◌, ap, subst, arith, Bool, true}
 use Rattle.std.proofs.lemmas.Bool.{cases_eq}
 use Rattle.std.proofs.lemmas.Option.{same_Some}
-use Rattle.common.specs.declared.limits.TheConstants.{MOST_BLOCKS, SLOTS}
 use Rattle.spool_blocks.specs.Blocks.{Row, Held}
 use Rattle.spool_blocks.specs.Chains.{Owns}
 use Rattle.spool_disk.specs.declared.disk.Disk.{Ghosts}
 use Rattle.spool_journal.specs.Image.{text_page}
 use Rattle.spool_texts.specs.Drafts.{IsReserved, GivesBack}
-use Rattle.spool_texts.proofs.Reserves.{few_distinct}
 use Rattle.spool_texts.specs.Written.{NoneOf}
 use Rattle.spool_drafts.specs.Drafts.{IsPlaced, list_of, tail_of, Carries}
 use Rattle.spool_drafts.specs.declared.draft.SpoolDraft.{SpoolDraft}
@@ -23,13 +21,13 @@ use Rattle.upload_rules.specs.declared.errors.UploadRefusal.{UploadRefusal}
 use Rattle.upload_rules.specs.World.{World}
 use Rattle.upload_rules.proofs.Patches.{apart_without, dropped_stand}
 use Rattle.upload_rules.proofs.Growing.{grown_dropped}
-use Rattle.spool_kept.specs.Holding.{Holding, FitsTogether, IsListOf, IsUsedBy}
-use Rattle.spool_kept.specs.Kept.{KeepsView}
+use Rattle.spool_catalog.specs.Holding.{Holding}
+use Rattle.spool_catalog.specs.Kept.{KeepsView}
 use Rattle.spool_kept.specs.Stored.{Stored}
-use Rattle.spool_kept.specs.Drafting.{list_in, lists_at, DraftsHold, OnlyReserves, DraftStands, DraftsStand, IsOwnedBy}
+use Rattle.spool_kept.specs.Drafting.{list_in, lists_at, DraftsHold, OnlyReserves, DraftStands, DraftsStand}
+use Rattle.spool_catalog.specs.Holding.{IsOwnedBy}
 use Rattle.spool_kept.specs.Drafting.{CarriesFor, StandsFor}
 use Rattle.spool_kept.proofs.drafts.DraftLists.{IsSwapped, all_reserved, all_apart, in_other, kept_out}
-use Rattle.spool_kept.proofs.Valid.{in_use}
 
 -- ANOTHER DRAFT AT ONE NUMBER
 
@@ -145,25 +143,6 @@ dropped_out {old =
 
 -- A DRAFT MORE
 
-few_owned : (rows : List Row) (s : ℕ) (list : List ℕ)
-    → ((i : ℕ) → i < length list → get_or rows (get_or list i 0) None ≡ Some (s, i)) → length list ≤ length rows
-few_owned rows s list owned =
-    few_distinct (length rows) list (λ i lt. in_use rows (get_or list i 0) (s, i) (owned i lt))
-    (λ i k lt lt' e. let same : ◌≡◌ {A = Row} (Some (s, i)) (Some (s, k)) = sym (owned i (omega (arith, lt, lt')))
-    ∙ ap (λ (b : ℕ). get_or rows b None) e ∙ owned k lt' in omega (arith, lt, ordinal s i k same))
-  where
-    ordinal : (s i k : ℕ) → ◌≡◌ {A = Row} (Some (s, i)) (Some (s, k)) → i ≡ k
-    ordinal s i k e = ap (λ (o : Row). elim o as (λ _. ℕ) [ None ↦ i | Some p ↦ p.1 ]) e
-
-pub few_listed : (h : Holding) → FitsTogether h → (s : ℕ) → s < SLOTS → h.layout ≤ MOST_BLOCKS → (list : List ℕ)
-    → list ≡ get_or h.lists s [] → length list ≤ MOST_BLOCKS
-few_listed h fits s lt few list is = of_slot (get_or h.slots s None) (fits.listed s lt)
-  where
-    of_slot : (o : Option SlotRecord) → IsListOf h.blocks.rows s o (get_or h.lists s []) → length list ≤ MOST_BLOCKS
-    of_slot None none = omega (arith, ap length (is ∙ none))
-    of_slot (Some r) has = omega
-        (arith, ap length is, few_owned h.blocks.rows s (get_or h.lists s []) has.owned, fits.row_count, few)
-
 -- the block at one place of the list is the upload's too
 abbrev pub AllAt : List ℕ → ℕ → List ℕ → Type 0
 AllAt list k some = (i : ℕ) → i < length some → (k < length list) × (get_or some i 0 ≡ get_or list k 0)
@@ -184,21 +163,6 @@ pub tail_owned : (slots : List (Option SlotRecord)) (rows : List Row) (number k 
     → IfOk r (λ o. AllAt list k (tail_of o)) → IfOk r (λ o. IsOwnedBy slots rows number (tail_of o))
 tail_owned slots rows number k list (Ok o) is all = owned_in slots rows number k list (tail_of o) is all
 tail_owned slots rows number k list (Err e) is all = tt
-
--- a slot's list holds its upload's blocks
-pub list_owned : (h : Holding) → FitsTogether h → (s : ℕ) → s < SLOTS → (number : ℕ) → IsUsedBy h.slots s number
-    → (list : List ℕ) → list ≡ get_or h.lists s [] → IsOwnedBy h.slots h.blocks.rows number list
-list_owned h fits s lt number used list is =
-    let has = rw used.there at (fits.listed s lt) in
-    record {
-      slot = s;
-      used = used;
-      owned = λ i lt. (
-        i,
-        ap (λ (xs : List ℕ). get_or h.blocks.rows (get_or xs i 0) None) is
-            ∙ has.owned i (omega (arith, lt, ap length is)),
-      );
-    }
 
 pub carries_for : (m : Store) (number count : ℕ) (declare : Option ℕ) (current : ℕ → ℕ) (first : ℕ) (u : Upload)
     (r : Result SpoolDraft UploadRefusal) → upload_of m number ≡ Some u

@@ -14,9 +14,10 @@ use Rattle.upload_rules.specs.Store.{find, upload_of}
 use Rattle.upload_rules.specs.World.{Patch, World}
 use Rattle.spool_kept.specs.Drafting.{DraftStands, DraftsFit, DraftsHold, DraftsStand, IsOfUpload, StandsFor, list_in}
 use Rattle.spool_kept.specs.Drafting.{lists_at}
-use Rattle.spool_kept.specs.Holding.{Holding, IsUsedBy}
-use Rattle.spool_kept.specs.Terminating.{EachForgets, ForgetsOf, ForgetsTail, IsTakenOut}
-use Rattle.spool_kept.proofs.slots.ChangedSlots.{clash}
+use Rattle.spool_catalog.specs.Holding.{Holding, IsUsedBy}
+use Rattle.spool_kept.specs.Terminating.{EachForgets, ForgetsOf, ForgetsTail}
+use Rattle.spool_catalog.specs.TakenOut.{IsTakenOut}
+use Rattle.spool_catalog.proofs.slots.ChangedSlots.{clash}
 use Rattle.spool_kept.proofs.drafts.OfDeleted.{hold_still}
 
 -- each draft comes of one that was there

@@ -13,13 +13,14 @@ use Rattle.upload_rules.specs.Store.{Upload, deleted_store, upload_of}
 use Rattle.upload_rules.specs.World.{Patch, World}
 use Rattle.upload_rules.proofs.Deleted.{find_in_others, none_in_others}
 use Rattle.spool_kept.specs.Drafting.{DraftStands, DraftsHold, DraftsStand, IsStillOpen, StandsFor}
-use Rattle.spool_kept.specs.Holding.{Holding, IsUsedBy}
+use Rattle.spool_catalog.specs.Holding.{Holding, IsUsedBy}
 use Rattle.spool_kept.specs.Stored.{Stored}
-use Rattle.spool_kept.specs.Terminating.{FreesRows, IsTakenOut}
-use Rattle.spool_kept.proofs.slots.ChangedSlots.{clash}
+use Rattle.spool_catalog.specs.Rows.{FreesRows}
+use Rattle.spool_catalog.specs.TakenOut.{IsTakenOut}
+use Rattle.spool_catalog.proofs.slots.ChangedSlots.{clash}
 use Rattle.spool_kept.proofs.drafts.DraftLonger.{held_both}
 use Rattle.spool_drafts.proofs.Stays.{bytes_same}
-use Rattle.spool_kept.proofs.slots.Freed.{others_stay}
+use Rattle.spool_catalog.proofs.slots.Freed.{others_stay}
 use Rattle.spool_kept.proofs.slots.SlotChange.{owned_still}
 
 -- WHATEVER THE DISK SAID

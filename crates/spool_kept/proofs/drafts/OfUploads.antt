@@ -1,9 +1,8 @@
 -- The drafts' uploads, whatever the disk said: what is in their slots, and what becomes of it.
 use Rattle.std.proofs.lemmas.Grind.{common_steps}
-use Rattle.std.proofs.Common.{◌≡◌, inl, inr, ℕ, ◌<◌, ◌≤◌, false, List, [], Option, None, Some, IfOk, IfSome}
-use Rattle.std.proofs.Common.{MatchOption, Result, Ok, Err, get_or, length, set, refl, sym, ◌∙◌, ap, subst, arith}
+use Rattle.std.proofs.Common.{◌≡◌, inl, inr, ℕ, ◌<◌, ◌≤◌, false, List, [], Option, None, Some, IfOk}
+use Rattle.std.proofs.Common.{Result, Ok, Err, get_or, length, set, refl, sym, ◌∙◌, ap, subst, arith}
 use Rattle.std.proofs.lemmas.Bool.{both_ways}
-use Rattle.common.specs.declared.limits.TheConstants.{SLOTS}
 use Rattle.spool_drafts.specs.Drafts.{IsAfter, declare_of, number_of, offset_of, list_of}
 use Rattle.spool_drafts.specs.declared.draft.SpoolDraft.{SpoolDraft}
 use Rattle.spool_blocks.specs.Blocks.{Held}
@@ -14,28 +13,15 @@ use Rattle.upload_rules.specs.Lengths.{is_length}
 use Rattle.upload_rules.specs.declared.errors.UploadRefusal.{UploadRefusal}
 use Rattle.upload_rules.specs.declared.records.Record.{Record}
 use Rattle.spool_kept.specs.Committing.{HasSameCount, IsAfterSlot}
-use Rattle.spool_kept.specs.Creating.{HasRoomAt, IsTakenIn}
-use Rattle.spool_kept.specs.Drafting.{DraftsFit, DraftsHold, EachDraft, IsKept, IsOfUpload, lists_at, list_in}
-use Rattle.spool_kept.specs.Extending.{Advances, IsLonger, OnlyDeclares, longer_record}
-use Rattle.spool_kept.specs.Holding.{FitsTogether, Holding, IsUsedBy, Lists}
-use Rattle.spool_kept.specs.declared.extending.Longer.{Longer}
+use Rattle.spool_catalog.specs.TakenIn.{HasRoomAt, IsTakenIn}
+use Rattle.spool_kept.specs.Drafting.{DraftsFit, DraftsHold, EachDraft, IsOfUpload, lists_at, list_in}
+use Rattle.spool_catalog.specs.Records.{IsKept}
+use Rattle.spool_kept.specs.Extending.{Advances, OnlyDeclares}
+use Rattle.spool_catalog.specs.Longer.{IsLonger, longer_record}
+use Rattle.spool_catalog.specs.Holding.{Holding}
+use Rattle.spool_catalog.specs.declared.longer.Longer.{Longer}
 use Rattle.spool_kept.proofs.drafts.Drafted.{IsChanged, changed_out, fit_dropped}
-use Rattle.spool_kept.proofs.Valid.{in_use}
-use Rattle.spool_kept.proofs.numbers.Ordered.{one_slot as ordered_slot}
-
--- ONE SLOT FOR A NUMBER
-
-one_slot : (h : Holding) → FitsTogether h → (n s : ℕ) → Lists h.order n s → (t : ℕ) → IsUsedBy h.slots t n → t ≡ s
-one_slot h fits n s l t used =
-    let lt : t < SLOTS = (let inside = in_use h.slots t used.used used.there in omega (arith, inside, fits.slot_count)) in
-    let k = subst (λ (m : ℕ). Lists h.order m t) used.is (fits.ordered.all t used.used lt used.there) in
-    ordered_slot h.slots h.order fits.slot_count fits.ordered n t s k l
-
-pub only_of : (h : Holding) → FitsTogether h → (n : ℕ) (found : Option ℕ)
-    → MatchOption found ((s : ℕ) → Lists h.order n s → ⊥) (Lists h.order n)
-    → IfSome found (λ s. (t : ℕ) → IsUsedBy h.slots t n → t ≡ s)
-only_of h fits n None l = tt
-only_of h fits n (Some s) l = one_slot h fits n s l
+use Rattle.spool_catalog.proofs.Valid.{in_use}
 
 -- A DRAFT'S UPLOAD
 

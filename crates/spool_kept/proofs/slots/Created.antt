@@ -8,11 +8,13 @@ use Rattle.upload_rules.proofs.NewUploads.{new_text}
 use Rattle.spool_blocks.specs.Chains.{Owns}
 use Rattle.spool_pages.specs.View.{SlotRecord, View, slot_at}
 use Rattle.spool_pages.specs.Rests.{HasTexts}
-use Rattle.spool_kept.specs.Shows.{IsValidRecord, IsRecordOf, Shows}
+use Rattle.spool_catalog.specs.Shows.{IsValidRecord, IsRecordOf, Shows}
 use Rattle.spool_kept.specs.Changed.{texts_with, created_view}
-use Rattle.spool_kept.proofs.slots.ChangedSlots.{clash, text_else, valid_more}
-use Rattle.spool_kept.proofs.numbers.Entries.{find_push_same, rising_more}
-use Rattle.spool_kept.proofs.slots.SlotChange.{IsChange, changed_shows, same_others}
+use Rattle.spool_catalog.proofs.slots.ChangedSlots.{clash, valid_more}
+use Rattle.spool_kept.proofs.slots.SlotChange.{text_else}
+use Rattle.spool_catalog.proofs.numbers.Entries.{find_push_same, rising_more}
+use Rattle.spool_kept.proofs.slots.SlotChange.{IsChange, changed_shows}
+use Rattle.spool_catalog.proofs.slots.SlotFits.{same_others}
 
 -- an upload's number is below the next one
 pub number_below : (v : View) (m : Store) → Shows v m → (n : ℕ) (u : Upload) → find n m.uploads ≡ Some u → n < m.next

@@ -5,13 +5,14 @@ use Rattle.upload_rules.proofs.Deleted.{find_in_others, none_in_others}
 use Rattle.spool_blocks.specs.Blocks.{Row}
 use Rattle.spool_pages.specs.Rests.{HasTexts}
 use Rattle.spool_pages.specs.View.{SlotRecord, View, slot_at}
-use Rattle.spool_kept.specs.Shows.{Shows}
-use Rattle.spool_kept.specs.Terminating.{FreesRows, deleted_view}
-use Rattle.spool_kept.proofs.slots.ChangedSlots.{clash, one_value}
-use Rattle.spool_kept.proofs.slots.Freed.{none_owned, others_stay}
-use Rattle.spool_kept.proofs.numbers.Others.{others_rise}
+use Rattle.spool_catalog.specs.Shows.{Shows}
+use Rattle.spool_catalog.specs.Rows.{FreesRows}
+use Rattle.spool_kept.specs.Terminating.{deleted_view}
+use Rattle.spool_catalog.proofs.slots.ChangedSlots.{clash, one_value}
+use Rattle.spool_catalog.proofs.slots.Freed.{none_owned, others_stay}
+use Rattle.spool_kept.proofs.slots.Others.{others_rise}
 use Rattle.spool_kept.proofs.slots.SlotChange.{IsChange, changed_shows, changed_texts}
-use Rattle.spool_kept.proofs.Valid.{in_use}
+use Rattle.spool_catalog.proofs.Valid.{in_use}
 
 module _ (v : View) (m : Store) (shows : Shows v m) (s : ℕ) (r : SlotRecord) (there : slot_at v s ≡ Some r)
     (rows : List Row) (frees : FreesRows s v.rows rows) where

@@ -2,12 +2,10 @@
 use Rattle.std.proofs.lemmas.Grind.{common_steps}
 use Rattle.std.proofs.Common.{◌≡◌, inl, inr, ◌⊎◌, ℕ, ◌+◌, ◌-◌, ◌/◌, ◌<◌, ◌≤◌, List, [], ◌++◌, Option, None, Some, false}
 use Rattle.std.proofs.Common.{length, length-append, get_or, drop, refl, sym, ◌∙◌, ap, subst, arith, Bool, true}
-use Rattle.std.proofs.lemmas.Bool.{cases_lt, both_ways, lt-ltb}
+use Rattle.std.proofs.lemmas.Bool.{cases_lt}
 use Rattle.std.proofs.lemmas.Option.{same_Some}
 use Rattle.spool_journal.specs.declared.TheConstants.{PAGE}
 use Rattle.common.specs.declared.limits.TheConstants.{MOST_BLOCKS, MOST_LENGTH}
-use Rattle.enc_model.specs.Transcode.{Transcoder}
-use Rattle.enc_stream.specs.StateBytes.{state_bytes}
 use Rattle.upload_rules.proofs.Finds.{find_replaced_same, find_replaced_other}
 use Rattle.upload_rules.specs.Lengths.{is_too_large, known_or, longest}
 use Rattle.upload_rules.specs.Room.{blocks_of}
@@ -24,39 +22,32 @@ use Rattle.spool_pages.specs.Rests.{Rests, Unowned, HasTexts}
 use Rattle.spool_pages.specs.View.{SlotRecord, View, slot_at, IsViewOf}
 use Rattle.spool_texts.specs.Drafts.{IsReserved}
 use Rattle.spool_texts.specs.TextOn.{text_on}
-use Rattle.spool_kept.specs.Changed.{HandsOver, appended_view, texts_with}
-use Rattle.spool_kept.specs.Extending.{MayExtend, IsAppend, IsLonger, full_bytes, longer_record}
-use Rattle.spool_kept.specs.declared.extending.Longer.{Longer}
-use Rattle.spool_kept.specs.Holding.{Holding, FitsTogether}
-use Rattle.spool_kept.specs.Shows.{IsRecordOf, IsValidRecord, Shows}
+use Rattle.spool_catalog.specs.Rows.{HandsOver}
+use Rattle.spool_kept.specs.Changed.{appended_view, texts_with}
+use Rattle.spool_catalog.specs.Longer.{MayExtend, IsLonger, longer_record}
+use Rattle.spool_kept.specs.Extending.{IsAppend, full_bytes}
+use Rattle.spool_catalog.specs.declared.longer.Longer.{Longer}
+use Rattle.spool_catalog.specs.Holding.{Holding, FitsTogether}
+use Rattle.spool_catalog.specs.Shows.{IsRecordOf, IsValidRecord, Shows}
 use Rattle.spool_kept.specs.Stored.{Stored, ShowsEither}
 use Rattle.spool_kept.proofs.slots.AppendedTexts.{text_longer}
-use Rattle.spool_kept.proofs.slots.ChangedSlots.{one_value, text_else, text_here}
-use Rattle.spool_kept.proofs.numbers.Entries.{numbers_replaced}
-use Rattle.spool_kept.proofs.slots.HandedOver.{listed_now, others_same, owns_one_each, room_for, rows_but_last}
-use Rattle.spool_kept.proofs.slots.Keeps.{keeps_said}
+use Rattle.spool_catalog.proofs.slots.ChangedSlots.{one_value}
+use Rattle.spool_kept.proofs.slots.SlotChange.{text_else, text_here}
+use Rattle.spool_catalog.proofs.numbers.Entries.{numbers_replaced}
+use Rattle.spool_catalog.proofs.slots.HandedOver.{listed_now, others_same, owns_one_each, room_for, rows_but_last}
+use Rattle.spool_catalog.proofs.slots.Keeps.{keeps_said}
 use Rattle.spool_kept.proofs.slots.SlotChange.{HasRows, IsChange, changed_shows, changed_texts, lasts_either}
-use Rattle.spool_kept.proofs.slots.SlotChange.{same_others, told_upload}
-use Rattle.spool_kept.proofs.Told.{told_state}
-use Rattle.spool_kept.proofs.Valid.{in_use}
+use Rattle.spool_catalog.proofs.slots.SlotFits.{same_others}
+use Rattle.spool_kept.proofs.slots.SlotChange.{told_upload}
+use Rattle.spool_catalog.proofs.Told.{told_state}
+use Rattle.spool_catalog.proofs.Valid.{in_use}
 use Rattle.spool_blocks.specs.Chains.{OwnsOneEach}
-
--- a length that isn't too large
-pub small_is : (declare : Option ℕ) → is_too_large declare ≡ false → longest declare ≤ MOST_LENGTH
-small_is None small = omega arith
-small_is (Some n) small = elim (cases_lt MOST_LENGTH n) [
-  | inl lt ↦ absurd (both_ways (is_too_large (Some n)) small (lt-ltb MOST_LENGTH n lt))
-  | inr le ↦ le
-]
 
 -- the length that is known, else a declared one that isn't too large
 known_small : (known declare : Option ℕ) → longest known ≤ MOST_LENGTH → is_too_large declare ≡ false
     → longest (known_or known declare) ≤ MOST_LENGTH
 known_small None declare old small = small_is declare small
 known_small (Some n) declare old small = old
-
-pub state_length : (t : Transcoder) → length (state_bytes t) ≡ 32
-state_length t = search (arith, common_steps)
 
 module _ {D : Type 0} {sure : Bool} {disk : Ghosts D} {d : D} {h new : Holding} {longer : Longer} {more : List ℕ}
     (may : MayExtend h longer more) (reserved : IsReserved h.blocks more) (is : IsLonger h may.used longer more new)

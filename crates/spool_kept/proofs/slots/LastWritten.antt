@@ -13,10 +13,10 @@ use Rattle.spool_texts.specs.Drafts.{IsReserved, bytes_with}
 use Rattle.spool_texts.specs.TextOn.{text_on}
 use Rattle.upload_rules.specs.Store.{Store}
 use Rattle.spool_kept.specs.Extending.{IsAppend, IsPending}
-use Rattle.spool_kept.specs.Holding.{Holding}
-use Rattle.spool_kept.specs.Shows.{ImageShows}
+use Rattle.spool_catalog.specs.Holding.{Holding}
+use Rattle.spool_catalog.specs.Shows.{ImageShows}
 use Rattle.spool_kept.specs.Stored.{Stored}
-use Rattle.spool_kept.specs.declared.extending.Longer.{Longer}
+use Rattle.spool_catalog.specs.declared.longer.Longer.{Longer}
 use Rattle.spool_kept.proofs.drafts.DraftLonger.{moved}
 
 module _ {D : Type 0} {sure : Bool} {disk : Ghosts D} {d : D} (mid : D) {h : Holding} {m : Store} {n : ℕ}

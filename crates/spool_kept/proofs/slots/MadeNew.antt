@@ -15,12 +15,12 @@ use Rattle.spool_pages.specs.Rests.{Rests, HasTexts}
 use Rattle.spool_pages.specs.View.{SlotRecord, View, IsViewOf, slot_at}
 use Rattle.spool_pages.proofs.Resting.{rests_says}
 use Rattle.spool_kept.specs.Changed.{created_view}
-use Rattle.spool_kept.specs.Creating.{HasRoomAt, IsTakenIn, IsNewRecord}
-use Rattle.spool_kept.specs.Holding.{Holding}
-use Rattle.spool_kept.specs.Shows.{IsValidRecord, Shows}
+use Rattle.spool_catalog.specs.TakenIn.{HasRoomAt, IsTakenIn, IsNewRecord}
+use Rattle.spool_catalog.specs.Holding.{Holding}
+use Rattle.spool_catalog.specs.Shows.{IsValidRecord, Shows}
 use Rattle.spool_kept.specs.Stored.{Stored, ShowsEither}
 use Rattle.spool_kept.proofs.slots.Created.{created_shows, created_texts}
-use Rattle.spool_kept.proofs.slots.Keeps.{keeps_said}
+use Rattle.spool_catalog.proofs.slots.Keeps.{keeps_said}
 use Rattle.spool_kept.proofs.slots.SlotChange.{lasts_either}
 
 module _ {D : Type 0} {sure : Bool} {disk : Ghosts D} {d : D} {h : Holding} {m : Store} (new : New) {slot : ℕ}

@@ -18,13 +18,23 @@ use Rattle.spool_journal.specs.Texts.{text_shown}
 use Rattle.spool_pages.specs.Changes.{with_slot}
 use Rattle.spool_pages.specs.Rests.{HasTexts}
 use Rattle.spool_pages.specs.View.{IsViewOf, SlotRecord, View, slot_at}
-use Rattle.spool_kept.specs.Changed.{SameOthers}
-use Rattle.spool_kept.specs.Holding.{Holding, OwnsText, IsUsedBy}
-use Rattle.spool_kept.specs.Shows.{IsRecordOf, IsValid, IsValidRecord, Shows}
+use Rattle.spool_catalog.specs.Rows.{SameOthers}
+use Rattle.spool_catalog.specs.Holding.{Holding, OwnsText, IsUsedBy}
+use Rattle.spool_catalog.specs.Shows.{IsRecordOf, IsValid, IsValidRecord, Shows}
 use Rattle.spool_kept.specs.Stored.{ShowsEither, Stored}
 use Rattle.spool_kept.proofs.slots.AppendedTexts.{text_still}
-use Rattle.spool_kept.proofs.slots.ChangedSlots.{one_value, slot_else, slot_here, slot_is, valid_more}
-use Rattle.spool_kept.specs.Drafting.{IsOwnedBy}
+use Rattle.spool_catalog.proofs.slots.ChangedSlots.{one_value, slot_else, slot_here, slot_is, valid_more}
+use Rattle.spool_catalog.specs.Holding.{IsOwnedBy}
+use Rattle.std.proofs.Common.{refl, eq-eqb}
+use Rattle.std.proofs.lemmas.Bool.{ne_eqb}
+use Rattle.spool_kept.specs.Changed.{texts_with}
+
+-- another text for a slot
+pub text_here : (v : View) (slot : ℕ) (text : List ℕ) (s : ℕ) → s ≡ slot → texts_with v slot text s ≡ text
+text_here v slot text s same = rw (eq-eqb s slot same) refl
+
+pub text_else : (v : View) (slot : ℕ) (text : List ℕ) (s : ℕ) → s ≢ slot → texts_with v slot text s ≡ v.texts s
+text_else v slot text s other = rw (ne_eqb s slot other) refl
 
 -- a record tells of the upload that has its number
 pub told_upload : (v : View) (m : Store) → Shows v m → (s : ℕ) (r : SlotRecord) → slot_at v s ≡ Some r → (u : Upload)
@@ -41,10 +51,6 @@ others_listed old new slot t n others other one = record {
   once = λ a b i owns more. one.once a b i (others.before a t i other owns) (others.before b t i other more);
   only = λ b i owns. one.only b i (others.before b t i other owns);
 }
-
--- rows that stay are the other slots'
-pub same_others : (slot : ℕ) (old new : List Row) → new ≡ old → SameOthers slot old new
-same_others slot old new same = search (arith, common_steps)
 
 -- another upload's blocks stay its own
 pub owned_still : {slots now : List (Option SlotRecord)} {slot : ℕ} (o : Option SlotRecord) {rows new : List Row}

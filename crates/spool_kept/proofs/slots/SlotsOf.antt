@@ -6,9 +6,9 @@ use Rattle.upload_rules.specs.Store.{Upload, Store, find, text_of}
 use Rattle.upload_rules.specs.Room.{blocks_of}
 use Rattle.spool_blocks.specs.Chains.{Owns, OwnsOneEach}
 use Rattle.spool_pages.specs.View.{SlotRecord, View, slot_at}
-use Rattle.spool_kept.specs.Shows.{IsRecordOf, Shows}
+use Rattle.spool_catalog.specs.Shows.{IsRecordOf, Shows}
 use Rattle.spool_kept.specs.Changed.{slot_of, HasUpload}
-use Rattle.spool_kept.proofs.slots.ChangedSlots.{clash, one_value}
+use Rattle.spool_catalog.proofs.slots.ChangedSlots.{clash, one_value}
 use Rattle.spool_kept.proofs.slots.SlotChange.{told_upload}
 
 -- the first record of a number is in its slot

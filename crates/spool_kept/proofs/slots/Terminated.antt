@@ -13,14 +13,16 @@ use Rattle.spool_pages.specs.Changes.{Changes, ChangesButRows, SameRowsBut, with
 use Rattle.spool_pages.specs.Rests.{Rests, HasTexts}
 use Rattle.spool_pages.specs.View.{SlotRecord, View, IsViewOf, slot_at}
 use Rattle.spool_pages.proofs.Resting.{rests_says}
-use Rattle.spool_kept.specs.Holding.{Holding, FitsTogether, IsUsedBy}
-use Rattle.spool_kept.specs.Shows.{Shows}
+use Rattle.spool_catalog.specs.Holding.{Holding, FitsTogether, IsUsedBy}
+use Rattle.spool_catalog.specs.Shows.{Shows}
 use Rattle.spool_kept.specs.Stored.{Stored, ShowsEither}
-use Rattle.spool_kept.specs.Terminating.{FreesRows, IsTakenOut, deleted_view}
-use Rattle.spool_kept.proofs.Answered.{no_upload}
+use Rattle.spool_catalog.specs.Rows.{FreesRows}
+use Rattle.spool_catalog.specs.TakenOut.{IsTakenOut}
+use Rattle.spool_kept.specs.Terminating.{deleted_view}
+use Rattle.spool_catalog.proofs.Answered.{no_upload}
 use Rattle.spool_kept.proofs.slots.Deleted.{deleted_shows, deleted_texts}
-use Rattle.spool_kept.proofs.slots.Freed.{rows_but_own}
-use Rattle.spool_kept.proofs.slots.Keeps.{keeps_said}
+use Rattle.spool_catalog.proofs.slots.Freed.{rows_but_own}
+use Rattle.spool_catalog.proofs.slots.Keeps.{keeps_said}
 use Rattle.spool_kept.proofs.slots.SlotChange.{lasts_either}
 
 module _ {D : Type 0} {sure : Bool} {disk : Ghosts D} {d : D} {h : Holding} {m : Store} (number : ℕ)

@@ -2,7 +2,7 @@ use Rattle.std.proofs.Common.{[], ◌∷◌, ◌*◌, ◌≤◌, ℕ, refl, sym,
 use Rattle.spool_image.proofs.Opens.{view_room}
 use Rattle.spool_image.specs.declared.error.UpgradeError.TheVariants.{Open}
 use Rattle.spool_journal.specs.Image.{all_pages}
-use Rattle.spool_kept.specs.declared.error.OpenFault.TheVariants.{DiskFault}
+use Rattle.spool_catalog.specs.declared.error.OpenFault.TheVariants.{DiskFault}
 use Rattle.gateway_rounds.proofs.Passing.{all_one, counts_done, counts_told, done_leaves, err_same, is_spool, left_told}
 use Rattle.gateway_rounds.proofs.Passing.{read_opens, refused_leaves, still_shown, upgrade_ends}
 use Rattle.gateway_rounds.proofs.round.live_upgrade.Goals as goal

@@ -3,8 +3,8 @@ use Rattle.std.proofs.lemmas.Result.{err_from_is_err_and}
 use Rattle.spool_disk.proofs.Firm.{counts_on}
 use Rattle.spool_journal.specs.Image.{journal_pages, overlaid}
 use Rattle.spool_journal.specs.Phases.{Settled}
-use Rattle.spool_kept.specs.Kept.{KeepsAlone}
-use Rattle.spool_kept.specs.declared.kept.Kept.{Kept}
+use Rattle.spool_catalog.specs.Kept.{KeepsAlone}
+use Rattle.spool_catalog.specs.declared.kept.Kept.{Kept}
 use Rattle.spool_pages.specs.declared.version.Version.TheVariants.{Two}
 use Rattle.spool_load.specs.Faults.{load_fault}
 use Rattle.spool_load.specs.Loaded.{IsFoundOf}

@@ -4,7 +4,7 @@ use Rattle.spool_disk.specs.Disk.{IsImage, Keeps}
 use Rattle.spool_disk.specs.Views.{Lasts}
 use Rattle.spool_disk.proofs.Firm.{lasts_on, lasts_more}
 use Rattle.spool_journal.specs.Image.{all_pages, journal_pages, overlaid, Outside}
-use Rattle.spool_kept.specs.declared.error.OpenFault.TheVariants.{DiskFault}
+use Rattle.spool_catalog.specs.declared.error.OpenFault.TheVariants.{DiskFault}
 use Rattle.spool_pages.specs.Rests.{Rests}
 use Rattle.spool_load.proofs.Looks.{ok_no_fault}
 use Rattle.spool_image.specs.declared.error.UpgradeError.TheVariants.{Open}

@@ -10,9 +10,9 @@ use Rattle.spool_disk.specs.declared.disk.Disk.{Ghosts}
 use Rattle.upload_rules.specs.Calls.{commit_refusal, dropped}
 use Rattle.upload_rules.specs.Store.{Store}
 use Rattle.spool_kept.specs.Extending.{IsPending}
-use Rattle.spool_kept.specs.Holding.{Holding}
+use Rattle.spool_catalog.specs.Holding.{Holding}
 use Rattle.common.specs.declared.stop.Stop.{Stop}
-use Rattle.spool_kept.specs.declared.extending.Longer.{Longer}
+use Rattle.spool_catalog.specs.declared.longer.Longer.{Longer}
 use Rattle.spool_kept.proofs.commits.CommitFits.{fits_given, fits_handed}
 use Rattle.spool_kept.proofs.commits.CommitRefusals.{late}
 use Rattle.spool_kept.proofs.commits.CommitSpent as spent

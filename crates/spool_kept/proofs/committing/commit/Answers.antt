@@ -5,7 +5,7 @@ use Rattle.upload_rules.specs.Store.{find, patched_store}
 use Rattle.upload_rules.specs.World.{Patch, World, reached}
 use Rattle.spool_kept.specs.Committing.{IsCommit}
 use Rattle.spool_kept.specs.Drafting.{StandsFor}
-use Rattle.spool_kept.specs.Holding.{Holding}
+use Rattle.spool_catalog.specs.Holding.{Holding}
 use Rattle.spool_kept.proofs.commits.CommitHead as head
 use Rattle.spool_kept.proofs.commits.CommitSpent as spent
 use Rattle.spool_kept.proofs.drafts.Drafted.{dropped_out}

@@ -8,14 +8,14 @@ use Rattle.spool_journal.specs.Image.{text_page}
 use Rattle.upload_rules.specs.declared.errors.UploadError.{UploadError}
 use Rattle.upload_rules.specs.World.{completes, World, Patch}
 use Rattle.spool_kept.specs.Committing.{IsFound, IsCommit}
-use Rattle.spool_kept.specs.Holding.{Holding}
-use Rattle.spool_kept.specs.Shows.{ImageShows}
+use Rattle.spool_catalog.specs.Holding.{Holding}
+use Rattle.spool_catalog.specs.Shows.{ImageShows}
 use Rattle.spool_kept.proofs.commits.CommitEnded as lemmas
 use Rattle.spool_kept.proofs.committing.ended.Given.{Over}
 use Rattle.spool_kept.proofs.committing.ended.Goals as goal
 use Rattle.spool_kept.proofs.committing.ended.Goals.{After-end}
 use Rattle.spool_drafts.specs.declared.draft.SpoolDraft.{SpoolDraft}
-use Rattle.spool_kept.specs.contracts.kept.Kept.{the_view}
+use Rattle.spool_catalog.specs.contracts.kept.Kept.{the_view}
 use Rattle.spool_kept.specs.Drafting.{OnlyReserves}
 use Rattle.spool_kept.specs.Stored.{Stored}
 

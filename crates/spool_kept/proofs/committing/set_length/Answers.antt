@@ -1,6 +1,6 @@
 use Rattle.std.proofs.Common.{◌≡◌, ◌∙◌, [], refl, rules}
 use Rattle.spool_kept.specs.Committing.{MayDeclare}
-use Rattle.spool_kept.specs.Records.{said_of}
+use Rattle.spool_catalog.specs.Records.{said_of}
 use Rattle.spool_kept.proofs.commits.CommitSpent.{stands_declared}
 use Rattle.spool_kept.proofs.commits.Declared as declared
 use Rattle.spool_kept.proofs.drafts.OfUploads.{fits_declared}

@@ -5,7 +5,7 @@ use Rattle.upload_rules.specs.Lengths.{is_too_large}
 use Rattle.upload_rules.specs.Store.{New, Store, created_store}
 use Rattle.upload_rules.specs.World.{at_rest}
 use Rattle.spool_disk.specs.Views.{Lasts}
-use Rattle.spool_kept.specs.Holding.{Holding}
+use Rattle.spool_catalog.specs.Holding.{Holding}
 use Rattle.spool_kept.specs.Stored.{ShowsEither, Stored}
 use Rattle.spool_kept.proofs.slots.MadeNew.{next_is, allowed, stored_new, crash_new}
 use Rattle.spool_kept.proofs.drafts.OfUploads.{fits_created}

@@ -7,10 +7,11 @@ use Rattle.upload_rules.proofs.Growing.{grown_longer}
 use Rattle.spool_blocks.specs.Blocks.{Row}
 use Rattle.spool_drafts.specs.Drafts.{Holds, Carries, IsLonger, number_of, with_piece, tail_of}
 use Rattle.spool_drafts.specs.declared.draft.SpoolDraft.{SpoolDraft}
-use Rattle.spool_kept.specs.Drafting.{DraftsFit, IsOfUpload, DraftsStand, IsOwnedBy, IsStillOpen, StandsFor}
+use Rattle.spool_kept.specs.Drafting.{DraftsFit, IsOfUpload, DraftsStand, IsStillOpen, StandsFor}
+use Rattle.spool_catalog.specs.Holding.{IsOwnedBy}
 use Rattle.spool_kept.proofs.drafts.Drafted.{reserves_only}
 use Rattle.spool_kept.proofs.SameView.{shows_still}
-use Rattle.spool_kept.specs.Holding.{Holding}
+use Rattle.spool_catalog.specs.Holding.{Holding}
 use Rattle.spool_kept.proofs.drafts.DraftLonger.{answered, fit_longer, is_told, was_told, longer_carries}
 use Rattle.spool_kept.proofs.drafts.DraftLonger.{longer_holds, longer_world}
 use Rattle.spool_kept.proofs.drafts.DraftLonger.{moved, ok_more, stand_longer, went_back}

@@ -6,8 +6,9 @@ use Rattle.spool_drafts.specs.Effect.{OnlyWrites}
 use Rattle.spool_journal.specs.Image.{journal_pages}
 use Rattle.spool_pages.specs.Changes.{Changes}
 use Rattle.upload_rules.specs.Store.{Store, patched_store}
-use Rattle.spool_kept.specs.Extending.{IsAppend, IsLonger, IsPending}
-use Rattle.spool_kept.specs.Holding.{Holding, FitsTogether}
+use Rattle.spool_kept.specs.Extending.{IsAppend, IsPending}
+use Rattle.spool_catalog.specs.Longer.{IsLonger}
+use Rattle.spool_catalog.specs.Holding.{Holding, FitsTogether}
 use Rattle.spool_kept.specs.Stored.{ShowsEither}
 use Rattle.spool_kept.proofs.slots.Extended.{before, after, after_stored, after_lasts, after_changes, after_texts}
 use Rattle.spool_kept.proofs.slots.LastWritten.{shown, appended}

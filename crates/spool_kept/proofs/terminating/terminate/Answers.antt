@@ -7,9 +7,9 @@ use Rattle.upload_rules.specs.Calls.{terminate_outcome, terminate_refusal}
 use Rattle.upload_rules.specs.World.{World}
 use Rattle.upload_rules.proofs.Deleted.{none_in_others}
 use Rattle.spool_kept.specs.Drafting.{DraftsFit, StandsFor}
-use Rattle.spool_kept.specs.Holding.{Holding, FitsTogether, IsUsedBy}
+use Rattle.spool_catalog.specs.Holding.{Holding, FitsTogether, IsUsedBy}
 use Rattle.spool_kept.specs.Stored.{ShowsEither}
-use Rattle.spool_kept.specs.Terminating.{IsTakenOut}
+use Rattle.spool_catalog.specs.TakenOut.{IsTakenOut}
 use Rattle.spool_kept.proofs.drafts.Forgotten.{fits_after, stands_forgotten}
 use Rattle.spool_kept.proofs.drafts.OfDeleted.{stands_after}
 use Rattle.spool_kept.proofs.slots.Terminated.{allowed, crash_after, refused, stored_after}

@@ -4,9 +4,9 @@ use Rattle.spool_journal.specs.Image.{journal_pages, overlaid, InForm, count, nu
 use Rattle.spool_journal.specs.Phases.{Settled}
 use Rattle.spool_journal.specs.declared.error.RecoverError.{RecoverError}
 use Rattle.spool_journal.specs.declared.error.RecoverError.TheVariants as recover
-use Rattle.spool_kept.specs.Faults.{fault_of}
-use Rattle.spool_kept.specs.Loads.{LoadsAs}
-use Rattle.spool_kept.specs.declared.error.OpenFault.{OpenFault}
+use Rattle.spool_catalog.specs.Faults.{fault_of}
+use Rattle.spool_catalog.specs.Loads.{LoadsAs}
+use Rattle.spool_catalog.specs.declared.error.OpenFault.{OpenFault}
 use Rattle.spool_load.proofs.Opens.{if_ok, read_lasts, read_same, read_settled, read_unwritten, settled_still}
 use Rattle.spool_load.proofs.Opens.{settled_says}
 use Rattle.spool_load.proofs.Opens.{still_as}

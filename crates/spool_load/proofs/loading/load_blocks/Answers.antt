@@ -1,7 +1,7 @@
 use Rattle.std.proofs.Common.{◌≡◌, ◌∙◌, ℕ, List, Option, length, replicate, false, rules, sym, ap, subst}
 use Rattle.std.proofs.lemmas.Bool.{false≢true}
 use Rattle.spool_pages.specs.View.{SlotRecord}
-use Rattle.spool_load.specs.Checks.{RowsPass}
+use Rattle.spool_catalog.specs.Checks.{RowsPass}
 use Rattle.spool_load.proofs.ValidViews.{rows_said, valid_rows}
 use Rattle.spool_load.proofs.loading.load_blocks.Goals as goal
 

@@ -2,7 +2,7 @@ use Rattle.std.proofs.Common.{◌≡◌, ◌∙◌, ℕ, List, Option, rules, sy
 use Rattle.std.proofs.lemmas.Bool.{false≢true}
 use Rattle.spool_disk.proofs.Firm.{counts_on}
 use Rattle.spool_pages.specs.View.{SlotRecord}
-use Rattle.spool_load.specs.Checks.{RecordsPass}
+use Rattle.spool_catalog.specs.Checks.{RecordsPass}
 use Rattle.spool_load.proofs.ValidViews.{slots_said, valid_passes, read_loaded}
 use Rattle.spool_load.proofs.Looks.{reads_on, ok_no_fault}
 use Rattle.spool_journal.proofs.Steps.{no_failure}

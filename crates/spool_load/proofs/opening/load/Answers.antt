@@ -4,8 +4,8 @@ use Rattle.spool_journal.specs.declared.TheConstants.{PAGE}
 use Rattle.spool_disk.proofs.Firm.{counts_on}
 use Rattle.spool_journal.specs.Image.{all_pages, journal_pages, overlaid}
 use Rattle.spool_journal.specs.Phases.{Settled}
-use Rattle.spool_kept.specs.Kept.{KeepsAlone}
-use Rattle.spool_kept.specs.declared.kept.Kept.{Kept}
+use Rattle.spool_catalog.specs.Kept.{KeepsAlone}
+use Rattle.spool_catalog.specs.declared.kept.Kept.{Kept}
 use Rattle.spool_load.proofs.Faults.{counts_told, loads_err, tells_nothing}
 use Rattle.spool_load.proofs.Looks.{ok_no_fault}
 use Rattle.spool_load.proofs.Opens.{read_lasts, read_same, read_settled, read_unwritten, recovered_says, settled_still}

@@ -3,7 +3,7 @@ use Rattle.common.specs.declared.limits.TheConstants.{ROWS}
 use Rattle.spool_journal.specs.Image.{journal_pages}
 use Rattle.spool_load.specs.Reads.{StandRows}
 use Rattle.spool_load.proofs.Looks.{same_all, take_new}
-use Rattle.spool_kept.proofs.SameView.{rows_cover}
+use Rattle.spool_catalog.proofs.Valid.{rows_cover}
 use Rattle.spool_load.proofs.owners.load_rows.Goals as goal
 
 pub returns-in_err-load_pages-clause-said : goal.returns-in_err-load_pages-clause-said

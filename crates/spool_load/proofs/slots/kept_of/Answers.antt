@@ -1,7 +1,7 @@
 use Rattle.std.proofs.Common.{rules, ◌≡◌, Option, None, Some, IfSome, sym, subst}
 use Rattle.spool_pages.specs.Bytes.{IsPadded}
 use Rattle.spool_pages.specs.Fits.{FitsSlot, FitsSlotOf}
-use Rattle.spool_kept.specs.Records.{FitsKept}
+use Rattle.spool_catalog.specs.Records.{FitsKept}
 use Rattle.spool_pages.specs.View.{SlotRecord, record_bytes, slot_bytes}
 use Rattle.spool_load.proofs.slots.kept_of.Goals as goal
 

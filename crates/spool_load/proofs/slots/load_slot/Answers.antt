@@ -2,7 +2,7 @@ use Rattle.std.proofs.Common.{◌≡◌, rules, arith}
 use Rattle.spool_pages.specs.View.{slot_place, slot_bytes}
 use Rattle.spool_pages.proofs.Says.{some_journal}
 use Rattle.spool_load.proofs.Looks.{before_texts, read_padded, padded_back}
-use Rattle.spool_kept.proofs.Valid.{fits_slot}
+use Rattle.spool_catalog.proofs.Valid.{fits_slot}
 use Rattle.spool_pages.proofs.RecordBytes.{slot_few}
 use Rattle.spool_load.proofs.slots.load_slot.Goals as goal
 

@@ -1,7 +1,7 @@
 use Rattle.std.proofs.Common.{◌≡◌, ◌<◌, ℕ, List, Option, None, length, get_or}
 use Rattle.common.specs.declared.limits.TheConstants.{SLOTS}
 use Rattle.spool_journal.specs.Phases.{Still}
-use Rattle.spool_kept.specs.Records.{FitsKept}
+use Rattle.spool_catalog.specs.Records.{FitsKept}
 use Rattle.spool_load.specs.Reads.{OnlyReads, IsPrefixOf, StandSlots}
 use Rattle.spool_pages.specs.View.{SlotRecord, Stands, slot_bytes, slot_place}
 use Rattle.spool_load.proofs.slots.load_slots.Given as goal

@@ -1,5 +1,5 @@
 use Rattle.std.proofs.Common.{None, ap}
-use Rattle.spool_kept.specs.Holding.{Holding}
+use Rattle.spool_catalog.specs.Holding.{Holding}
 use Rattle.spool_image.proofs.AnswersMore.{answers_more}
 use Rattle.spool_image.proofs.LeftImages.{quiet_shown}
 use Rattle.spool_image.proofs.spool.SpoolUploads.append.Goals as goal

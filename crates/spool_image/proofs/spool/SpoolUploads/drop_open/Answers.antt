@@ -1,5 +1,5 @@
 use Rattle.std.proofs.Common.{ap}
-use Rattle.spool_kept.specs.Holding.{Holding}
+use Rattle.spool_catalog.specs.Holding.{Holding}
 use Rattle.spool_image.proofs.LeftImages.{quiet_still}
 use Rattle.spool_image.proofs.spool.SpoolUploads.drop_open.Goals as goal
 

@@ -1,0 +1,7 @@
+pub mod Valid
+pub mod Told
+pub mod Answered
+pub mod NewRecords
+pub mod Upgraded
+pub mod numbers
+pub mod slots

@@ -1,0 +1,4 @@
+pub mod Entries
+pub mod Numbered
+pub mod Ordered
+pub mod Unlisted

@@ -1,0 +1,11 @@
+pub mod ChangedSlots
+pub mod Freed
+pub mod HandedOver
+pub mod Keeps
+pub mod LongerKept
+pub mod Members
+pub mod OwnedOnce
+pub mod SlotCounts
+pub mod SlotFits
+pub mod TakenIn
+pub mod TakenOut

@@ -1,0 +1,11 @@
+pub mod Shows
+pub mod Loads
+pub mod Faults
+pub mod Checks
+pub mod Holding
+pub mod Kept
+pub mod Records
+pub mod Rows
+pub mod TakenIn
+pub mod Longer
+pub mod TakenOut

@@ -1,0 +1,154 @@
+//! The record of an upload, kept in memory.
+ghost use Rattle.std.specs.Prelude.{◌≡◌, ◌≤◌, All, None, Some, length, get_or, option_copied, IfOk, OnOk, IfSome};
+ghost use Rattle.std.specs.Prelude.{IsOkUnless, IsTrue, ◌↔◌};
+ghost use Rattle.upload_rules.specs.Records.{IsShort};
+ghost use Rattle.upload_rules.specs.States.{SameEncodings};
+ghost use Rattle.spool_catalog.specs.Longer.{longer_record};
+ghost use Rattle.spool_catalog.specs.Records.{FitsKept, FitsMemory, IsReadable, IsUnpacked, said_of};
+ghost use Rattle.spool_pages.specs.View.{SlotRecord as Said};
+
+use common::MOST_METADATA;
+use crate::CheckError;
+use crate::longer::Longer;
+use enc_stream::Transcoder;
+use spool_pages::SlotRecord;
+use std::alloc::Global;
+use std::marker::Model;
+use upload_rules::Record;
+
+/// The record of an upload, with the encodings and the mode that its state says.
+#[derive(Drop)]
+pub struct KeptRecord {
+    record: Record,
+}
+
+impl Model for KeptRecord {
+    ghost use Rattle.spool_pages.specs.View.{SlotRecord as Said};
+
+    ghost Value = { Said };
+
+    ghost use Rattle.spool_catalog.specs.Records.{FitsMemory, said_of};
+
+    ghost view = { λ k. said_of k.record };
+
+    ghost invariant = { λ k. FitsMemory k.record };
+}
+
+impl KeptRecord {
+    /// The record, with metadata of its own.
+    ///
+    /// # Errors
+    ///
+    /// `Damaged` where the state is none of a transcoder, or the metadata isn't printable ASCII; `NoMemory` where an
+    /// allocation was refused.
+    pub fn of(alloc: Global, record: &SlotRecord<'_>) -> Result<KeptRecord, CheckError>
+        requires { length «record».now.metadata ≤ MOST_METADATA }
+        ensures passes { FitsKept (Some «record».now) → IsOkUnless result CheckError.NoMemory }
+        ensures same { IfOk result (λ kept. kept ≡ «record».now) }
+        ensures valid { OnOk result (IsReadable «record».now) }
+    {
+        let Some(transcoder) = Transcoder::unpack(&record.state) else {
+            return Err(CheckError::Damaged);
+        };
+        let metadata = text_of(alloc, record.metadata)?;
+        Ok(KeptRecord {
+            record: Record {
+                number: record.number,
+                declared: record.declared,
+                accepted: record.accepted,
+                text_len: record.text_len,
+                from: transcoder.from(),
+                to: transcoder.to(),
+                mode: transcoder.mode(),
+                state: record.state,
+                metadata,
+            },
+        })
+    }
+
+    /// What is told of the upload.
+    pub fn record(&self) -> &Record
+        ensures said { said_of result.now ≡ self.now }
+        ensures unpacked { IsUnpacked result.now }
+        ensures short { IsShort result.now }
+    {
+        &self.record
+    }
+
+    /// A record that is kept.
+    pub(crate) fn new(upload: Record) -> KeptRecord
+        requires { FitsMemory upload }
+        ensures { result ≡ said_of upload }
+    {
+        KeptRecord { record: upload }
+    }
+
+    /// The upload gets longer, or its length.
+    pub(crate) fn extend(&mut self, longer: &Longer)
+        requires { SameEncodings self.old.state longer.now.state }
+        ensures { self.new ≡ longer_record self.old longer.now }
+    {
+        self.record.declared = longer.declared;
+        self.record.accepted = longer.accepted;
+        self.record.text_len = longer.text_len;
+        self.record.state = longer.state;
+    }
+
+    /// The record as its slot's bytes say it.
+    pub fn slot_record(&self) -> SlotRecord<'_>
+        ensures said { result ≡ self.now }
+        ensures short { length result.metadata ≤ MOST_METADATA }
+    {
+        SlotRecord {
+            number: self.record.number,
+            declared: self.record.declared,
+            accepted: self.record.accepted,
+            text_len: self.record.text_len,
+            state: self.record.state,
+            metadata: self.record.metadata.as_bytes(),
+        }
+    }
+}
+
+/// The record of a slot, none where the slot is free or isn't there.
+pub fn record_at(slots: &[Option<KeptRecord>], slot: usize) -> Option<&KeptRecord>
+    ensures { option_copied result ≡ get_or slots.now slot None }
+{
+    match slots.get(slot) {
+        Some(record) => record.as_ref(),
+        None => None,
+    }
+}
+
+/// The record of a slot as its bytes say it, none where the slot is free or isn't there.
+pub(crate) fn slot_record_at(slots: &[Option<KeptRecord>], slot: usize) -> Option<SlotRecord<'_>>
+    ensures said { result ≡ get_or slots.now slot None }
+    ensures short { IfSome result (λ r. length r.metadata ≤ MOST_METADATA) }
+{
+    Some(record_at(slots, slot)?.slot_record())
+}
+
+// Whether all bytes are printable ASCII.
+fn are_printable(bytes: &[u8]) -> bool
+    ensures { IsTrue result ↔ All (λ b. (0x20 ≤ b) × (b ≤ 0x7E)) bytes.now }
+{
+    bytes.iter().all(|byte| *byte >= b' ' && *byte <= b'~')
+}
+
+// The bytes as text. `Damaged` where one isn't printable ASCII.
+fn text_of(alloc: Global, bytes: &[u8]) -> Result<String, CheckError>
+    ensures passes { All (λ b. (0x20 ≤ b) × (b ≤ 0x7E)) bytes.now → IsOkUnless result CheckError.NoMemory }
+    ensures same { IfOk result (λ text. text.bytes.items ≡ bytes.now) }
+    ensures printable { OnOk result (All (λ b. (0x20 ≤ b) × (b ≤ 0x7E)) bytes.now) }
+{
+    // Memory is asked for before the check: of both faults, its lack is the one that is answered.
+    let mut copy = Vec::with_capacity(alloc, bytes.len())?;
+    if !are_printable(bytes) {
+        return Err(CheckError::Damaged);
+    }
+    copy.extend_from_slice(bytes)?;
+    match String::from_utf8(copy) {
+        Ok(text) => Ok(text),
+        Err(_) => Err(CheckError::Damaged),
+    }
+}

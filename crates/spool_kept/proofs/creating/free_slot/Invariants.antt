@@ -1,5 +1,0 @@
-use Rattle.std.proofs.Common.{ℕ, ◌<◌, IsSome, None, get_or}
-use Rattle.spool_kept.proofs.creating.free_slot.Given as goal
-
-abbrev pub invariant-loop-slot : goal.invariant-loop-slot
-invariant-loop-slot l = (s : ℕ) → s < l.slot → IsSome (get_or l.slots s None)

@@ -1,9 +1,0 @@
--- A recovery's refusal as one of opening.
-use Rattle.spool_journal.specs.declared.error.RecoverError.{RecoverError}
-use Rattle.spool_journal.specs.declared.error.RecoverError.TheVariants as recover
-use Rattle.spool_kept.specs.declared.error.OpenFault.{OpenFault}
-use Rattle.spool_kept.specs.declared.error.OpenFault.TheVariants.{DiskFault, Damaged}
-
-abbrev pub fault_of : RecoverError → OpenFault
-fault_of recover.DiskFault = DiskFault
-fault_of recover.Damaged = Damaged
