@@ -25,13 +25,13 @@ returns-in-Ok-change-clause-answer g c sure m stored =
     let few = c.in-Some.ensures.few stored.view m stored.keeps stored.shows in
     let is = c.new_record-record.ensures in
     let taken = c.in-Ok.ensures.taken in
-    let layout : stored.view.blocks ≡ c.kept-2.inside.layout =
-    sym (ap (λ (k : Holding). k.layout) c.kept-2.view_is ∙ taken.layout ∙ stored.keeps.blocks) in
+    let layout : stored.view.blocks ≡ c.kept.inside.layout =
+    sym (ap (λ (k : Holding). k.layout) c.kept.view_is ∙ taken.layout ∙ stored.keeps.blocks) in
     let changes = c.in-Ok.ensures.changes stored.view (sym stored.keeps.blocks) (sym stored.keeps.version)
     (sym stored.keeps.slots) in (
       allowed c.args.new stored room known_small few is,
       (
-        ap (λ (k : Holding). k.next) c.kept.view_is ∙ next_is c.args.new stored room known_small few is,
+        c.next_number-number.ensures.same ∙ next_is c.args.new stored room known_small few is,
         stored_new c.args.new stored room known_small few is changes taken c.in-Ok-change.ensures.honest.0
             (λ known v' made texts.
             c.in-Ok-change.ensures.done (stored.honest known) stored.view v' layout (stored.rests known) made texts),
@@ -48,8 +48,8 @@ crash : (g : Over) (c : After-change g) (m : Store) → Stored true g.D.Disk c.a
     → Lasts g.D.Disk c.args.disk.now c.change.new.disk (ShowsEither c.args.kept.now.layout m
     (outcome (create_refusal (at_rest m None) c.args.new) m (created_store m c.args.new)))
 crash g c m stored =
-    let layout : stored.view.blocks ≡ c.kept-2.inside.layout =
-    sym (ap (λ (k : Holding). k.layout) c.kept-2.view_is ∙ c.in-Ok.ensures.taken.layout ∙ stored.keeps.blocks) in
+    let layout : stored.view.blocks ≡ c.kept.inside.layout =
+    sym (ap (λ (k : Holding). k.layout) c.kept.view_is ∙ c.in-Ok.ensures.taken.layout ∙ stored.keeps.blocks) in
     crash_new c.args.new stored c.in-Some.ensures.room (small g c)
     (c.in-Some.ensures.few stored.view m stored.keeps stored.shows) c.new_record-record.ensures
     (c.in-Ok.ensures.changes stored.view (sym stored.keeps.blocks) (sym stored.keeps.version) (sym stored.keeps.slots))
