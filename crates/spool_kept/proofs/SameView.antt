@@ -21,7 +21,7 @@ use Rattle.spool_pages.proofs.Resting.{rests_aside}
 use Rattle.spool_pages.proofs.RowBytes.{slot_at, ordinal_at, free_at}
 use Rattle.upload_rules.specs.Store.{Store}
 use Rattle.spool_catalog.specs.Shows.{IsValid, ImageShows}
-use Rattle.spool_catalog.proofs.Valid.{rows_fit, said_row}
+use Rattle.spool_catalog.proofs.Valid.{rows_cover, rows_fit, said_row}
 
 module _ (f : ℕ → ℕ) (at : ℕ) where
   one_number : (m n : ℕ) → m < 2 ^ 32 → n < 2 ^ 32 → Stands f at 4 (to_be_bytes w32 m)

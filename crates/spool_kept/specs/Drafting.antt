@@ -22,7 +22,7 @@ use Rattle.upload_rules.specs.World.{Patch, World}
 use Rattle.upload_rules.specs.declared.errors.UploadRefusal.{UploadRefusal}
 use Rattle.upload_rules.specs.declared.errors.UploadRefusal.TheVariants.{NoSuch}
 use Rattle.spool_pages.specs.View.{SlotRecord}
-use Rattle.spool_catalog.specs.Holding.{Holding}
+use Rattle.spool_catalog.specs.Holding.{Holding, IsOwnedBy}
 use Rattle.spool_kept.specs.Stored.{Stored}
 
 -- WHAT HOLDS ALWAYS

@@ -39,6 +39,7 @@ use Rattle.spool_catalog.proofs.slots.Keeps.{keeps_said}
 use Rattle.spool_kept.proofs.slots.SlotChange.{HasRows, IsChange, changed_shows, changed_texts, lasts_either}
 use Rattle.spool_catalog.proofs.slots.SlotFits.{same_others}
 use Rattle.spool_kept.proofs.slots.SlotChange.{told_upload}
+use Rattle.spool_catalog.proofs.NewRecords.{small_is, state_length}
 use Rattle.spool_catalog.proofs.Told.{told_state}
 use Rattle.spool_catalog.proofs.Valid.{in_use}
 use Rattle.spool_blocks.specs.Chains.{OwnsOneEach}
