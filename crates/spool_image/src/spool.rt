@@ -26,6 +26,19 @@ use upload_rules::{New, Record, UploadError, Uploads};
 
 /// The uploads on a disk, with the appends that are under way. After a `DiskFault` it stands for no uploads any more:
 /// drafts can be dropped, and the disk can be taken back and opened again.
+///
+/// An upload of five bytes, received in two pieces and committed at once:
+///
+/// ```
+/// format(&mut disk, 16, &indexes)?;
+/// let mut spool = Spool::open(alloc, disk)?;
+/// let number = spool.create(new)?;
+/// let mut draft = spool.begin(number, 0, 5, None)?;
+/// spool.append(&mut draft, b"hel")?;
+/// spool.append(&mut draft, b"lo")?;
+/// let offset = spool.commit(draft)?;
+/// let read = spool.read_text(number, 0, &mut buf)?;
+/// ```
 pub struct Spool<D: Disk> {
     alloc: Global,
     disk: D,

@@ -13,12 +13,12 @@ ghost use Rattle.spool_kept.specs.Shows.{IsValid};
 ghost use Rattle.spool_pages.specs.Fits.{FitsRow};
 ghost use Rattle.spool_pages.specs.View.{View, Says, first_page};
 
-use common::{ROWS, SLOTS};
 use crate::checks::{are_rows_valid, are_valid};
 use crate::owners::load_rows;
 use crate::reading::{check_prefix, load_indexes};
 use crate::slots::load_slots;
 use crate::{Found, LoadError};
+use common::{ROWS, SLOTS};
 use enc_index::IndexSet;
 use spool_blocks::Blocks;
 use spool_disk::Disk;

@@ -13,10 +13,10 @@ ghost use Rattle.spool_load.specs.Recovered.{LeavesRead, OfView, ReadsSame, Reco
 ghost use Rattle.spool_load.specs.Refusals.{RefusedFor};
 ghost use Rattle.spool_pages.specs.View.{View, IsViewOf};
 
-use spool_journal::PAGE;
 use crate::finding::find;
 use crate::loading::read;
 use spool_disk::Disk;
+use spool_journal::PAGE;
 use spool_kept::{Kept, OpenFault};
 use std::alloc::Global;
 
