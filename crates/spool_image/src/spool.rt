@@ -15,10 +15,10 @@ ghost use Rattle.spool_load.specs.Refusals.{IsNoSpool, HasOtherVersion, IsDamage
 ghost use Rattle.spool_image.specs.LeftOnly.{AllShow, IsSpool, LeftOrShows};
 ghost use Rattle.spool_image.specs.Opening.{ReadsSame, Unwritten};
 
-use spool_journal::PAGE;
 use enc_index::IndexSet;
 use spool_disk::Disk;
 use spool_drafts::SpoolDraft;
+use spool_journal::PAGE;
 use spool_kept::{Kept, OpenFault, append, begin, commit, create, drop_open, terminate};
 use spool_load::load;
 use std::alloc::Global;

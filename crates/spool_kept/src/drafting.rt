@@ -16,11 +16,11 @@ ghost use Rattle.spool_kept.specs.Drafting.{CarriesFor, DraftsFit, IsOfUpload, I
 ghost use Rattle.spool_kept.specs.Drafting.{StandsFor};
 ghost use Rattle.spool_kept.specs.Shows.{ImageShows, Shows};
 
-use spool_journal::PAGE;
 use crate::kept::Kept;
 use common::Stop;
 use spool_disk::Disk;
 use spool_drafts::SpoolDraft;
+use spool_journal::PAGE;
 use std::alloc::Global;
 use upload_rules::{UploadError, UploadRefusal, placed, put_back, taken};
 

@@ -7,9 +7,9 @@ ghost use Rattle.spool_kept.specs.Extending.{longer_record};
 ghost use Rattle.spool_kept.specs.Records.{FitsKept, FitsMemory, IsReadable, IsUnpacked, said_of};
 ghost use Rattle.spool_pages.specs.View.{SlotRecord as Said};
 
-use common::MOST_METADATA;
 use crate::CheckError;
 use crate::extending::Longer;
+use common::MOST_METADATA;
 use enc_stream::Transcoder;
 use spool_pages::SlotRecord;
 use std::alloc::Global;
