@@ -55,7 +55,8 @@ pub shown_by : (o : Option (Bor (List ℕ))) (r : Bor (List ℕ)) (v : List ℕ)
 shown_by o r v e k = let t : option_copied (Some r) ≡ Some v = rw e at k in cc
 
 -- what is read is a whole head within the limits
-pub short_head : (start : List ℕ) (e : Extent) → length start ≤ MOST_HEAD → head_extent start ≡ Some e → e.len ≤ length start
+pub short_head : (start : List ℕ) (e : Extent) → length start ≤ MOST_HEAD → head_extent start ≡ Some e
+    → e.len ≤ length start
     → e.texts ≤ 65
     → IsShortHead (take e.len start)
 short_head start e short some within few =
