@@ -6,8 +6,8 @@ ghost use Rattle.enc_encode.specs.SinkLaws.{encoder_sink};
 
 use crate::encoder::Encoder;
 use crate::error::EncodeError;
-use enc_index::IndexSet;
 use enc_feed::Sink;
+use enc_index::IndexSet;
 use std::marker::Model;
 
 /// An encoder and the vector that it writes to, as a sink of decoded text.

@@ -8,8 +8,8 @@ ghost use Rattle.enc_model.specs.Stream.{Handler, IsCalm, restored_bytes, said, 
 ghost use Rattle.enc_model.specs.Stream.{end_to};
 ghost use Rattle.enc_feed.specs.Sink.{Given};
 
-use crate::batch::{BLOCK, Batch, ROOM};
 use crate::Sink;
+use crate::batch::{BLOCK, Batch, ROOM};
 use enc_model::{Answer, Restored};
 
 /// An ASCII prefix of at least this many bytes goes to the sink as it is.

@@ -11,8 +11,8 @@ ghost use Rattle.enc_legacy.specs.Singles.{single_in, single_start};
 ghost use Rattle.enc_legacy.specs.SinglesCalm.{single_in_calm};
 
 use crate::kana::answer_for;
-use enc_index::{IndexSet, Kind};
 use enc_feed::{Batch, Decoder, ROOM, Sink, feed_each, finish};
+use enc_index::{IndexSet, Kind};
 use enc_model::{Answer, Encoding, Restored, Utf8Char};
 use lane_kernels::{AsciiLanes, ascii_front};
 use std::marker::Model;

@@ -11,9 +11,9 @@ use crate::states::{
     euc_jp_at, euc_jp_bytes, iso2022_at, iso2022_bytes, shift_jis_at, utf8_at, utf8_bytes,
     utf16_at, utf16_bytes,
 };
+use enc_feed::Sink;
 use enc_index::IndexSet;
 use enc_legacy::{EucJpState, Iso2022State, ShiftJisState, SingleState};
-use enc_feed::Sink;
 use enc_model::Encoding;
 use enc_unicode::{Order, Utf8State, Utf16State};
 

@@ -14,8 +14,8 @@ use crate::decoder::AnyDecoder;
 use crate::numbers::{encoding_at, number_of_encoding};
 use crate::progress::Progress;
 use crate::sniff::{Held, Sniffed, bytes_of, held_at, held_packed, sniff};
-use enc_index::IndexSet;
 use enc_feed::Sink;
+use enc_index::IndexSet;
 use enc_model::Encoding;
 
 /// The stage of a transcoder.

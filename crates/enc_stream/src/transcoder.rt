@@ -29,6 +29,20 @@ use std::mem;
 
 /// A decoder and an encoder as one value. It takes the bytes of a text in one encoding, in any pieces, and gives the
 /// bytes of the same text in another.
+///
+/// Two bytes of Shift_JIS that are cut between them, as UTF-8. Only 32 bytes are stored at the cut:
+///
+/// ```
+/// let mut out = Vec::new(alloc);
+/// let mut before = Transcoder::new(Encoding::ShiftJis, Encoding::Utf8, Mode::Html);
+/// before.feed(&set, b"\x82", &mut out)?;
+/// let stored = before.pack();
+///
+/// let mut after = Transcoder::unpack(&stored).expect(rt, "state bytes");
+/// after.feed(&set, b"\xA0", &mut out)?;
+/// after.finish(&set, &mut out)?;
+/// assert_eq!(rt; out.as_slice(), "\u{3042}".as_bytes());
+/// ```
 #[derive(Drop)]
 pub struct Transcoder {
     from: Encoding,

@@ -21,6 +21,26 @@ fn start_of(rt: &impl Abort, direction: &str, label: &str) -> Transcoder {
     }
 }
 
+/// The lines of the example of `Transcoder`.
+fn in_two_calls(rt: &impl Abort, set: &IndexSet, out: &mut Vec<u8>) -> Result<(), TranscodeError> {
+    let mut before = Transcoder::new(Encoding::ShiftJis, Encoding::Utf8, Mode::Html);
+    before.feed(set, b"\x82", out)?;
+    let stored = before.pack();
+
+    let mut after = Transcoder::unpack(&stored).expect(rt, "state bytes");
+    after.feed(set, b"\xA0", out)?;
+    after.finish(set, out)
+}
+
+#[test]
+fn example(rt: HostRuntime) {
+    let alloc = rt.alloc();
+    let set = set_of(&rt, alloc, &[(Kind::Jis0208, "283\t0x3042\n")]);
+    let mut out = Vec::new(alloc);
+    assert_eq!(rt; in_two_calls(&rt, &set, &mut out), Ok(()));
+    assert_eq!(rt; out.as_slice(), "\u{3042}".as_bytes());
+}
+
 /// The text of bytes that come in pieces of `size` bytes.
 fn in_pieces(
     rt: &impl Abort,

@@ -8,8 +8,8 @@ ghost use Rattle.gateway_files.specs.Naming.{is_safe_name, pair, text_in};
 
 use base64::DecodeAllocError;
 use base64::engine::general_purpose::STANDARD;
-use std::alloc::{AllocError, Global};
 use common::{after, prefix};
+use std::alloc::{AllocError, Global};
 
 // The most bytes of a name.
 const LONGEST: usize = 255;

@@ -208,8 +208,8 @@ abbrev pub is_bad : Order → Bool
 is_bad Bad = true
 is_bad _ = false
 
--- more than MOST_LINE bytes in a line, not counting its LF, or more than MOST_SCRIPT in the script up to the line's end,
--- its LF among them
+-- more than MOST_LINE bytes in a line, not counting its LF, or more than MOST_SCRIPT in the script up to the line's
+-- end, its LF among them
 abbrev pub is_long : ℕ → List ℕ → Bool
 is_long start line = nat_lt MOST_LINE (length (before 10 line)) || nat_lt MOST_SCRIPT (start + length line)
 

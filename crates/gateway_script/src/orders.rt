@@ -4,8 +4,8 @@ ghost use Rattle.gateway_script.specs.Script.{bared, order_of, conn_number, orde
 ghost use Rattle.gateway_script.specs.Shown.{order_shown, say_of, came_of};
 
 use crate::digits::HexDigits;
-use std::alloc::{AllocError, Global};
 use common::{after, number, prefix};
+use std::alloc::{AllocError, Global};
 
 /// What a line of a script asks for.
 #[derive(Drop)]

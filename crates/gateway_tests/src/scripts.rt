@@ -8,12 +8,14 @@ use crate::talks::Step::{
     Post, Refused, Replied, Reply, Say, Shown, Text, Told,
 };
 use crate::talks::{Files, Talk, fresh, with_files};
+use common::{MOST_LENGTH, SLOTS};
 use enc_index::Kind;
 use enc_model::Encoding;
 use gateway_files::list_on;
 use gateway_rounds::RunFault;
 use std::alloc::Global;
 use std::process::Abort;
+use tus_request::MOST_HEAD;
 
 const MAX: &str =
     "Tus-Version: 1.0.0\nTus-Extension: creation,creation-defer-length,termination\nTus-Max-Size: 1073741824";
@@ -210,8 +212,8 @@ const LENGTHS: &[Step] = &[
     Patch(1, 1, 0, 1),
     Came(1, b"a"),
     Refused(1, "413 Payload Too Large", 10),
-    Made(2, 1_073_741_824, ""),
-    Post(1_073_741_825, ""),
+    Made(2, MOST_LENGTH, ""),
+    Post(MOST_LENGTH + 1, ""),
     Refused(1, "413 Payload Too Large", 12),
 ];
 
@@ -239,7 +241,7 @@ const OPENED_TWICE: &[Step] = &[Line("open 3"), Line("open 3"), Told("! 3 29")];
 /// A head that is too long, and one that isn't HTTP.
 const NO_HEADS: &[Step] = &[
     Open(2),
-    Came(1, &[b'a'; 8192]),
+    Came(1, &[b'a'; MOST_HEAD]),
     Reply(
         1,
         "431 Request Header Fields Too Large",
@@ -512,23 +514,31 @@ fn heads_that_are_cut(rt: HostRuntime) {
 #[test]
 fn one_upload_too_many(rt: HostRuntime) {
     let mut talk = Talk::new(&rt, rt.alloc(), &[Open(1)]);
-    for number in 1..=512u64 {
+    let slots = SLOTS as u64;
+    for number in 1..=slots {
         talk.go_on(&rt, &[Made(number, 0, "")]);
     }
     let refused = [
         Post(0, ""),
         Refused(1, "507 Insufficient Storage", 11),
-        Shown(1, 512, 0, Some(0), ""),
+        Shown(1, slots, 0, Some(0), ""),
         Deleted(1, 100),
-        Made(513, 0, ""),
+        Made(slots + 1, 0, ""),
     ];
     talk.go_on(&rt, &refused);
     let disk = fresh(&rt, rt.alloc(), 32, None);
-    let disk = ends(&rt, rt.alloc(), "513 uploads", &talk, disk, None);
+    let disk = ends(&rt, rt.alloc(), "one upload too many", &talk, disk, None);
     let mut lines = Vec::new(rt.alloc());
     let (disk, listed) = list_on(rt.alloc(), &mut lines, disk, false);
     drop(disk);
     assert!(rt; listed.is_ok());
-    assert!(rt; lines.ends_with(b"\n512 0/0 0 UTF-8 UTF-8 html\n513 0/0 0 UTF-8 UTF-8 html\n"));
-    assert_eq!(rt; lines.iter().filter(|it| **it == b'\n').count(), 512);
+    let last = slots + 1;
+    let ends_in = format!(in rt.alloc();
+        "\n{slots} 0/0 0 UTF-8 UTF-8 html\n{last} 0/0 0 UTF-8 UTF-8 html\n"
+    ).expect(&rt, "memory");
+    assert!(rt; lines.ends_with(ends_in.as_bytes()));
+    assert_eq!(rt;
+        lines.iter().filter(|it| **it == b'\n').count(),
+        SLOTS as usize
+    );
 }

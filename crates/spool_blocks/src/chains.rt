@@ -4,10 +4,10 @@ ghost use Rattle.std.specs.Prelude.{replicate, IfOk, IfSome};
 ghost use Rattle.spool_blocks.specs.Blocks.{Row, slot_count, IsWhole};
 ghost use Rattle.spool_blocks.specs.Chains.{Owns, rank, Linked, Taken};
 
-use common::{MOST_BLOCKS, SLOTS};
 use crate::link::Link;
 use crate::lists::fill;
 use crate::{BlockNo, Row};
+use common::{MOST_BLOCKS, SLOTS};
 use std::alloc::{AllocError, Global};
 use std::marker::Model;
 

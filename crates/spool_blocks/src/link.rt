@@ -1,8 +1,8 @@
 //! A link from a block to another one.
 ghost use Rattle.std.specs.Prelude.{◌≡◌, ◌<◌, None, IfSome};
 
-use common::MOST_BLOCKS;
 use crate::BlockNo;
+use common::MOST_BLOCKS;
 use std::marker::Model;
 
 /// No block has this number.

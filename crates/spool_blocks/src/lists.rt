@@ -3,9 +3,9 @@ ghost use Rattle.std.specs.Prelude.{◌≡◌, ◌≤◌, ◌<◌, ℕ, Some, le
 ghost use Rattle.spool_blocks.specs.Blocks.{IsWhole};
 ghost use Rattle.spool_blocks.specs.Chains.{Owns, Links, ListedFrom};
 
-use common::MOST_BLOCKS;
 use crate::link::Link;
 use crate::{BlockNo, Row};
+use common::MOST_BLOCKS;
 
 /// Stores each of the slot's blocks at its ordinal, from the highest down.
 pub(crate) fn fill(

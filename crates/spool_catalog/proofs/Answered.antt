@@ -149,7 +149,8 @@ module _ {h : Holding} {v : View} {m : Store} (kept : KeepsView h v) (shows : Sh
 
 one_slot : (h : Holding) → FitsTogether h → (n s : ℕ) → Lists h.order n s → (t : ℕ) → IsUsedBy h.slots t n → t ≡ s
 one_slot h fits n s l t used =
-    let lt : t < SLOTS = (let inside = in_use h.slots t used.used used.there in omega (arith, inside, fits.slot_count)) in
+    let inside = in_use h.slots t used.used used.there in
+    let lt : t < SLOTS = omega (arith, inside, fits.slot_count) in
     let k = subst (λ (m : ℕ). Lists h.order m t) used.is (fits.ordered.all t used.used lt used.there) in
     ordered_slot h.slots h.order fits.slot_count fits.ordered n t s k l
 

@@ -17,13 +17,13 @@ ghost use Rattle.spool_catalog.specs.Records.{HasTextOn, IsUploadOf, KeepsOf};
 ghost use Rattle.spool_catalog.specs.Shows.{Shows};
 ghost use Rattle.spool_pages.specs.View.{View, Says};
 
-use spool_journal::PAGE;
-use common::{MOST_BLOCKS, SLOTS};
 use crate::kept::Kept;
 use crate::order::{NumberedSlot, places_to, slot_of};
+use common::{MOST_BLOCKS, SLOTS};
 use enc_index::IndexSet;
 use spool_blocks::BlockNo;
 use spool_disk::Disk;
+use spool_journal::PAGE;
 use spool_texts::read_text;
 use upload_rules::{Record, UploadError, UploadRefusal};
 

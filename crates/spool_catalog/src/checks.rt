@@ -10,12 +10,12 @@ ghost use Rattle.spool_catalog.specs.Records.{said_of};
 ghost use Rattle.spool_pages.specs.Fits.{FitsRow};
 ghost use Rattle.spool_pages.specs.View.{SlotRecord};
 
-use common::SLOTS;
 use crate::lists::blocks_of;
 use crate::records::{KeptRecord, record_at};
+use common::{MOST_LENGTH, SLOTS};
 use enc_stream::{Progress, Transcoder};
 use spool_blocks::Row;
-use upload_rules::{LENGTH_LIMIT, NUMBERS_END, Record, is_length};
+use upload_rules::{NUMBERS_END, Record, is_length};
 
 // Whether a transcoder may be in this state after so many accepted bytes. It is past the end exactly if the upload is
 // complete, and holds all accepted bytes until a byte order mark is decided.
@@ -45,10 +45,10 @@ fn is_state_valid(record: &Record) -> bool
 fn is_record_valid(record: &Record, next: u64) -> bool
     ensures { IsTrue result ↔ RecordPasses next (said_of «record».now) }
 {
-    let longest = record.declared.unwrap_or(LENGTH_LIMIT);
+    let longest = record.declared.unwrap_or(MOST_LENGTH);
     record.number < next
         && record.accepted <= longest
-        && longest <= LENGTH_LIMIT
+        && longest <= MOST_LENGTH
         && is_state_valid(record)
 }
 

@@ -10,11 +10,11 @@ ghost use Rattle.spool_pages.specs.Changes.{neighbour};
 ghost use Rattle.spool_pages.specs.Fits.{FitsRow};
 ghost use Rattle.spool_pages.specs.View.{SlotRecord as Said, View};
 
-use common::{MOST_METADATA, SLOTS};
 use crate::CheckError;
 use crate::lists::{BlockList, lists_of};
 use crate::order::{NumberedSlot, order_of};
 use crate::records::{KeptRecord, record_at, slot_record_at};
+use common::{MOST_METADATA, SLOTS};
 use enc_index::IndexSet;
 use spool_blocks::{BlockNo, Blocks};
 use spool_journal::Layout;

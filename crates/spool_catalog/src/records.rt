@@ -7,9 +7,9 @@ ghost use Rattle.spool_catalog.specs.Longer.{longer_record};
 ghost use Rattle.spool_catalog.specs.Records.{FitsKept, FitsMemory, IsReadable, IsUnpacked, said_of};
 ghost use Rattle.spool_pages.specs.View.{SlotRecord as Said};
 
-use common::MOST_METADATA;
 use crate::CheckError;
 use crate::longer::Longer;
+use common::MOST_METADATA;
 use enc_stream::Transcoder;
 use spool_pages::SlotRecord;
 use std::alloc::Global;

@@ -7,9 +7,9 @@ ghost use Rattle.spool_pages.specs.Changes.{Changes, upgraded};
 ghost use Rattle.spool_pages.specs.View.{View};
 ghost use Rattle.upload_rules.specs.Store.{Store};
 
-use common::MOST_METADATA;
 use crate::kept::Kept;
 use crate::records::{KeptRecord, slot_record_at};
+use common::MOST_METADATA;
 use spool_journal::Pages;
 use spool_pages::{SlotRecord, pages_of_upgrade};
 use std::alloc::{AllocError, Global};

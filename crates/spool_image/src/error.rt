@@ -1,8 +1,8 @@
 //! The errors of formatting and upgrading.
 ghost use Rattle.std.specs.Prelude.{◌≡◌};
 
-use spool_disk::DiskFault;
 use spool_catalog::OpenFault;
+use spool_disk::DiskFault;
 use spool_load::LoadError;
 use std::alloc::AllocError;
 use thiserror::Error;

@@ -11,8 +11,8 @@ ghost use Rattle.spool_image.specs.Format.{FitsSpool, PrefixStays, HasMagic, IsN
 ghost use Rattle.spool_image.specs.Fresh.{fresh_byte, IsFreshTo, IsFresh, KeepsPrefix};
 ghost use Rattle.spool_image.specs.LeftOnly.{AllShow};
 
-use common::MOST_BLOCKS;
 use crate::FormatError;
+use common::MOST_BLOCKS;
 use enc_index::IndexSet;
 use spool_disk::{Disk, DiskFault};
 use spool_journal::{Layout, PAGE};
@@ -53,7 +53,10 @@ fn write_pages<D: Disk>(disk: &mut D, layout: &Layout, indexes: &IndexSet) -> Re
         → Lasts D.Disk disk.old disk.new (PrefixStays (D.current disk.old) (D.unsynced disk.old)) }
 {
     for page in 1..layout.pages() {
-        disk.write_at(PAGE as u64 * page as u64, &fresh_page(layout, indexes, page))?;
+        disk.write_at(
+            PAGE as u64 * page as u64,
+            &fresh_page(layout, indexes, page),
+        )?;
     }
     Ok(())
 }

@@ -15,11 +15,11 @@ ghost use Rattle.spool_load.specs.Refusals.{IsNoSpool, HasOtherVersion, IsDamage
 ghost use Rattle.spool_image.specs.LeftOnly.{AllShow, IsSpool, LeftOrShows};
 ghost use Rattle.spool_image.specs.Opening.{ReadsSame, Unwritten};
 
-use spool_journal::PAGE;
 use enc_index::IndexSet;
 use spool_catalog::{Kept, OpenFault};
 use spool_disk::Disk;
 use spool_drafts::SpoolDraft;
+use spool_journal::PAGE;
 use spool_kept::{append, begin, commit, create, drop_open, terminate};
 use spool_load::load;
 use std::alloc::Global;
@@ -27,6 +27,19 @@ use upload_rules::{New, Record, UploadError, Uploads};
 
 /// The uploads on a disk, with the appends that are under way. After a `DiskFault` it stands for no uploads any more:
 /// drafts can be dropped, and the disk can be taken back and opened again.
+///
+/// An upload of five bytes, received in two pieces and committed at once:
+///
+/// ```
+/// format(&mut disk, 16, &indexes)?;
+/// let mut spool = Spool::open(alloc, disk)?;
+/// let number = spool.create(new)?;
+/// let mut draft = spool.begin(number, 0, 5, None)?;
+/// spool.append(&mut draft, b"hel")?;
+/// spool.append(&mut draft, b"lo")?;
+/// let offset = spool.commit(draft)?;
+/// let read = spool.read_text(number, 0, &mut buf)?;
+/// ```
 pub struct Spool<D: Disk> {
     alloc: Global,
     disk: D,

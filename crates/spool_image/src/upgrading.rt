@@ -20,10 +20,10 @@ ghost use Rattle.spool_image.specs.LeftOnly.{AllShow, IsSpool, LeftOrShows};
 ghost use Rattle.spool_image.specs.Upgrade.{CommitOfUpgrade, IsAlreadyNew, IsLateRefusal, IsOldDamaged};
 ghost use Rattle.spool_image.specs.Upgrade.{RefusesUpgradeAs, UpgradedFrom, UpgradeRefusedFor, UpgradesOf};
 
-use spool_journal::PAGE;
 use crate::UpgradeError;
-use spool_disk::Disk;
 use spool_catalog::Kept;
+use spool_disk::Disk;
+use spool_journal::PAGE;
 use spool_load::{find, read};
 use spool_pages::{Version, change};
 use std::alloc::Global;

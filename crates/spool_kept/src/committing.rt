@@ -25,12 +25,12 @@ ghost use Rattle.spool_catalog.specs.Holding.{IsUsedBy};
 ghost use Rattle.spool_catalog.specs.Shows.{ImageShows};
 ghost use Rattle.spool_kept.specs.Stored.{ShowsEither, Stored};
 
-use spool_journal::PAGE;
 use crate::extending::extend;
 use common::Stop;
 use spool_catalog::{Kept, Longer};
 use spool_disk::Disk;
 use spool_drafts::{DraftEnd, SpoolDraft};
+use spool_journal::PAGE;
 use std::alloc::Global;
 use upload_rules::{Record, UploadError, UploadRefusal, is_length, is_new, length_then, taken};
 

@@ -17,11 +17,11 @@ ghost use Rattle.spool_catalog.specs.Holding.{IsOwnedBy};
 ghost use Rattle.spool_kept.specs.Drafting.{StandsFor};
 ghost use Rattle.spool_catalog.specs.Shows.{ImageShows, Shows};
 
-use spool_journal::PAGE;
 use common::Stop;
 use spool_catalog::Kept;
 use spool_disk::Disk;
 use spool_drafts::SpoolDraft;
+use spool_journal::PAGE;
 use std::alloc::Global;
 use upload_rules::{UploadError, UploadRefusal, placed, put_back, taken};
 

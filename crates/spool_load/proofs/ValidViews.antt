@@ -87,7 +87,8 @@ module _ (bytes : ℕ → ℕ) (n : ℕ) (version : Version) (next : ℕ) (x : I
   }
 
   pub read_says : StandFields bytes n x → Stands bytes (state_place n) PAGE (state_page version next)
-      → StandSlots bytes n version slots → length slots ≡ SLOTS → StandRows bytes n (ROWS * (journal_pages n - 257)) rows
+      → StandSlots bytes n version slots → length slots ≡ SLOTS
+      → StandRows bytes n (ROWS * (journal_pages n - 257)) rows
       → Says bytes view_read
   read_says fields state stand long there = record {
     first = fields.first;
@@ -119,7 +120,8 @@ module _ (bytes : ℕ → ℕ) (n : ℕ) (version : Version) (next : ℕ) (x : I
         printable = fits.1;
       }
 
-  pub read_valid : LEAST_BLOCKS ≤ n → n ≤ MOST_BLOCKS → StandFields bytes n x → StandSlots bytes n version slots → length slots ≡ SLOTS
+  pub read_valid : LEAST_BLOCKS ≤ n → n ≤ MOST_BLOCKS → StandFields bytes n x
+      → StandSlots bytes n version slots → length slots ≡ SLOTS
       → length rows ≡ n
       → RecordsPass next slots → RowsPass slots rows → ((b : ℕ) → FitsRow (get_or rows b None)) → AreDistinct slots
       → ((s : ℕ) (r : SlotRecord) → get_or slots s None ≡ Some r → OwnsOneEach rows s (blocks_of r.text_len))

@@ -1,8 +1,8 @@
 //! The errors of reading a spool.
 ghost use Rattle.std.specs.Prelude.{◌≡◌};
 
-use spool_disk::DiskFault;
 use spool_catalog::{CheckError, OpenFault};
+use spool_disk::DiskFault;
 use spool_pages::Damaged;
 use std::alloc::AllocError;
 use thiserror::Error;

@@ -16,9 +16,9 @@ ghost use Rattle.spool_pages.specs.View.{View, IsViewOf, Stands, state_page, sta
 ghost use Rattle.spool_pages.specs.declared.version.Version.{Version as Known};
 
 use crate::reading::read_at;
+use spool_catalog::OpenFault;
 use spool_disk::{Disk, DiskFault};
 use spool_journal::{Layout, PAGE, recover};
-use spool_catalog::OpenFault;
 use spool_pages::{Version, blocks_said, is_blank_after_fields, state_place, version_and_next};
 
 /// A spool that was found on a disk and recovered.

@@ -13,16 +13,16 @@ ghost use Rattle.spool_catalog.specs.Shows.{IsValid};
 ghost use Rattle.spool_pages.specs.Fits.{FitsRow};
 ghost use Rattle.spool_pages.specs.View.{View, Says, first_page};
 
-use common::{ROWS, SLOTS};
 use crate::owners::load_rows;
 use crate::reading::{check_prefix, load_indexes};
 use crate::slots::load_slots;
 use crate::{Found, LoadError};
+use common::{ROWS, SLOTS};
 use enc_index::IndexSet;
 use spool_blocks::Blocks;
+use spool_catalog::{Kept, KeptRecord, are_rows_valid, are_valid};
 use spool_disk::Disk;
 use spool_journal::{Layout, PAGE};
-use spool_catalog::{Kept, KeptRecord, are_rows_valid, are_valid};
 use spool_pages::Damaged;
 use std::alloc::Global;
 

@@ -13,11 +13,11 @@ ghost use Rattle.spool_load.specs.Recovered.{LeavesRead, OfView, ReadsSame, Reco
 ghost use Rattle.spool_load.specs.Refusals.{RefusedFor};
 ghost use Rattle.spool_pages.specs.View.{View, IsViewOf};
 
-use spool_journal::PAGE;
 use crate::finding::find;
 use crate::loading::read;
-use spool_disk::Disk;
 use spool_catalog::{Kept, OpenFault};
+use spool_disk::Disk;
+use spool_journal::PAGE;
 use std::alloc::Global;
 
 /// Finds a spool, recovers it and reads it. A crash during it does no harm: it may be called again.

@@ -9,9 +9,9 @@ ghost use Rattle.spool_load.specs.Faults.{Loads};
 ghost use Rattle.spool_load.specs.Reads.{OnlyReads, IsFreeFrom, IsSameTo, StandRows};
 ghost use Rattle.spool_pages.specs.View.{Stands, row_bytes, row_place};
 
-use common::{MOST_BLOCKS, ROWS};
 use crate::LoadError;
 use crate::reading::read_at;
+use common::{MOST_BLOCKS, ROWS};
 use spool_blocks::Row;
 use spool_disk::Disk;
 use spool_journal::{Layout, PAGE};

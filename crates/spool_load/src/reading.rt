@@ -13,9 +13,9 @@ ghost use Rattle.spool_pages.specs.View.{Stands, first_page, index_place};
 
 use crate::LoadError;
 use enc_index::{AreaError, IndexSet};
+use spool_catalog::CheckError;
 use spool_disk::{Disk, DiskFault};
 use spool_journal::{Layout, PAGE};
-use spool_catalog::CheckError;
 use spool_pages::{Damaged, index_place, is_blank_after_fields};
 use std::alloc::Global;
 

@@ -14,9 +14,9 @@ ghost use Rattle.spool_pages.specs.View.{SlotRecord as Said, Stands, slot_bytes,
 use crate::LoadError;
 use crate::reading::read_at;
 use common::SLOTS;
+use spool_catalog::{CheckError, KeptRecord};
 use spool_disk::Disk;
 use spool_journal::{Layout, PAGE};
-use spool_catalog::{CheckError, KeptRecord};
 use spool_pages::{RECORD, SlotRecord, Version, slot_place};
 use std::alloc::Global;
 

@@ -8,10 +8,10 @@ ghost use Rattle.spool_pages.specs.Changes.{SameRowsBut};
 ghost use Rattle.spool_pages.specs.Fits.{FitsRow};
 ghost use Rattle.spool_pages.specs.View.{View, slot_at};
 
-use common::{MOST_METADATA, SLOTS};
 use crate::places::{first_row_number, record_number, row_number, state_number};
 use crate::slot_pages::page_with;
 use crate::{SlotRecord, Version, blank_page, row_page, state_page};
+use common::{MOST_METADATA, SLOTS};
 use spool_blocks::{BlockNo, Row};
 use spool_journal::{Layout, Pages};
 use std::alloc::{AllocError, Global};

@@ -5,9 +5,9 @@ ghost use Rattle.spool_pages.specs.Bytes.{IsPadded};
 ghost use Rattle.spool_pages.specs.Fits.{FitsLength, FitsSlot};
 ghost use Rattle.spool_pages.specs.View.{SlotRecord as Said, length_number, length_tag, record_bytes, slot_bytes};
 
-use common::MOST_METADATA;
 use crate::fields::{get_u16, get_u64, put};
 use crate::{Damaged, Version, is_blank};
+use common::MOST_METADATA;
 use std::marker::Model;
 
 /// The length of a slot in bytes.

@@ -8,9 +8,9 @@ ghost use Rattle.spool_pages.specs.Bytes.{IsPadded};
 ghost use Rattle.spool_pages.specs.Fits.{FitsRow};
 ghost use Rattle.spool_pages.specs.View.{Stands, row_bytes};
 
-use common::ROWS;
 use crate::fields::{get_u32, put};
 use crate::{Damaged, blank_page, is_blank};
+use common::ROWS;
 use spool_blocks::Row;
 use spool_journal::PAGE;
 

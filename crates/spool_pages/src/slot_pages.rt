@@ -5,9 +5,9 @@ ghost use Rattle.spool_pages.specs.Bytes.{IsPadded};
 ghost use Rattle.spool_pages.specs.Changes.{SaysSlot, neighbour};
 ghost use Rattle.spool_pages.specs.View.{Stands, slot_bytes};
 
-use common::MOST_METADATA;
 use crate::fields::put;
 use crate::{RECORD, SlotRecord, Version};
+use common::MOST_METADATA;
 use spool_journal::PAGE;
 
 // The bytes of a slot: zeros if it is free.

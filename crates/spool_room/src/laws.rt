@@ -11,8 +11,8 @@ ghost use Rattle.upload_rules.specs.Store.{Upload, text_of};
 ghost use Rattle.upload_rules.specs.World.{Patch, World, patch_text};
 
 use common::SLOTS;
-use spool_journal::PAGE;
 use spool_blocks::Blocks;
+use spool_journal::PAGE;
 
 /// A slot with one block at each ordinal below n owns n blocks.
 pub fn slot_counts()

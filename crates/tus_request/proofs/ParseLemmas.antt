@@ -13,7 +13,7 @@ use Rattle.httparse.specs.Grammar.{RequestHead, ReadsRequest, HasNoRequest, prin
 use Rattle.httparse.proofs.GrammarLemmas.{request_unique}
 use Rattle.tus_request.specs.Lines.{Extent, head_extent}
 use Rattle.std.proofs.Math.Nat.{min_comm}
-use Rattle.tus_request.specs.declared.heads.TheConstants.{MOST_HEAD}
+use Rattle.tus_request.specs.declared.heads.TheConstants.{MOST_HEAD, MOST_LINES}
 use Rattle.enc_model.specs.declared.Encoding.{Encoding}
 use Rattle.tus_request.specs.Answers.{Answer, More, Judged, answer_with, answer_of}
 use Rattle.tus_request.specs.Grammar.{HeadPrefix, unfinished, too_long, whole, prefix_with, prefix, IsWhole}
@@ -30,7 +30,7 @@ use Rattle.tus_request.proofs.HeadLemmas.{request_extent}
 -- a request head at the start of a whole head is all of it, and has as many fields as lines after the first
 pub fills : (head more : List ℕ) (e : Extent) (h : RequestHead) (rest : List ℕ) → IsShortHeadOf head more e
     → ReadsRequest head h rest
-    → (length h.fields ≤ 64) × (length (print_request h) ≡ length head) × (rest ≡ [])
+    → (length h.fields ≤ MOST_LINES) × (length (print_request h) ≡ length head) × (rest ≡ [])
 fills head more e h rest is reads =
     let whole : head ++ more ≡ print_request h ++ (rest ++ more) =
     ap (λ t. t ++ more) reads.1 ∙ append_assoc (print_request h) rest more in
@@ -43,10 +43,10 @@ fills head more e h rest is reads =
     (omega (arith, is.few), omega (arith, is.all), nil_from_length rest (omega (arith, is.all)))
 
 -- where the parser fails, no prefix is a request head
-pub none_where_failed : (head : List ℕ) → IsShortHead head → RequestOverflows 64 head → HasNoRequest head
+pub none_where_failed : (head : List ℕ) → IsShortHead head → RequestOverflows MOST_LINES head → HasNoRequest head
 none_where_failed head is over h rest reads =
     let f = fills head is.0 is.1 h rest is.2 reads in
-    let o : 64 < length h.fields = over [] h rest (reads.0, append-nil head ∙ reads.1) in
+    let o : MOST_LINES < length h.fields = over [] h rest (reads.0, append-nil head ∙ reads.1) in
     absurd (omega (arith, f.0))
 
 -- what an option of a text shows
@@ -55,7 +55,8 @@ pub shown_by : (o : Option (Bor (List ℕ))) (r : Bor (List ℕ)) (v : List ℕ)
 shown_by o r v e k = let t : option_copied (Some r) ≡ Some v = rw e at k in cc
 
 -- what is read is a whole head within the limits
-pub short_head : (start : List ℕ) (e : Extent) → length start ≤ MOST_HEAD → head_extent start ≡ Some e → e.len ≤ length start
+pub short_head : (start : List ℕ) (e : Extent) → length start ≤ MOST_HEAD → head_extent start ≡ Some e
+    → e.len ≤ length start
     → e.texts ≤ 65
     → IsShortHead (take e.len start)
 short_head start e short some within few =

@@ -63,7 +63,8 @@ lines_with most =
 pub options_reply : (closes : Bool) (own : List ℕ) → own ≡ lines_with (codes "1073741824")
     → IsReply (reply (codes "204 No Content") (own ++ []) None closes) (reply_options closes)
 options_reply closes own is =
-    is_reply _ _ (ap (λ t. reply (codes "204 No Content") t None closes) (append-nil own ∙ is ∙ ap lines_with (sym most_length_is)))
+    is_reply _ _ (ap (λ t. reply (codes "204 No Content") t None closes)
+        (append-nil own ∙ is ∙ ap lines_with (sym most_length_is)))
     (rw most_length_is (grind arith))
 
 pub created : (number : ℕ) (bare closes : Bool) (location size : List ℕ) (n : Option ℕ) → number < 2 ^ 64

@@ -17,10 +17,11 @@ use enc_index::IndexSet;
 use httparse::{Request, Status};
 use std::alloc::{AllocError, Global};
 
-// The most bytes of a head. `MAX_LINES` is the most lines after its request line.
-pub(crate) const MOST_HEAD: usize = 8192;
+/// The most bytes of a request's head.
+pub const MOST_HEAD: usize = 8192;
 
-const MAX_LINES: usize = 64;
+/// The most lines of a head after its request line.
+pub const MOST_LINES: usize = 64;
 
 /// Parses the head at the start of a stream: of all bytes that arrived and aren't taken yet.
 ///
@@ -68,7 +69,7 @@ fn parse_head(
     let Some(extent) = measure(prefix) else {
         return Ok(unmeasured(prefix.len()));
     };
-    if extent.texts > MAX_LINES + 1 {
+    if extent.texts > MOST_LINES + 1 {
         return Ok(no_head(extent.len, Fault::HeadTooLong));
     }
     read_whole(alloc, &prefix[..extent.len], set, routes)
@@ -126,7 +127,7 @@ fn read_whole(
     requires { IsShortHead head.now }
     ensures { IfOk result (λ answer. IsHeadAnswer (offers set.now) head.now (answer_shown answer)) }
 {
-    let mut headers = [httparse::EMPTY_HEADER; MAX_LINES];
+    let mut headers = [httparse::EMPTY_HEADER; MOST_LINES];
     let mut request = Request::new(&mut headers);
     match request.parse(head) {
         Ok(Status::Complete(_)) => {}

@@ -8,8 +8,8 @@ ghost use Rattle.tus_request.specs.Checks.{is_given, first_or, only, number_in, 
 ghost use Rattle.tus_request.specs.Checks.{optional_number_in, declared_in, is_patch_media};
 
 use crate::fields::{Found, find, is_named};
-use common::{number, prefix};
 use crate::texts::{is_word, lists_word};
+use common::{number, prefix};
 use http_header::{
     CONNECTION, CONTENT_LENGTH, CONTENT_TYPE, EXPECT, HeaderName, TRANSFER_ENCODING,
 };

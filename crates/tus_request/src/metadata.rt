@@ -8,9 +8,9 @@ ghost use Rattle.tus_request.specs.Metadata.{metadata_of, setting, mode_of, choi
 ghost use Rattle.tus_request.specs.Pairs.{pair_shown, choice_shown, bytes_shown, pairs_shown};
 
 use crate::texts::trimmed;
-use common::{MOST_METADATA, after, prefix};
 use base64::DecodeAllocError;
 use base64::engine::general_purpose::STANDARD;
+use common::{MOST_METADATA, after, prefix};
 use enc_labels::{encoding_of, output_of};
 use enc_model::{Encoding, Mode};
 use std::alloc::{AllocError, Global};

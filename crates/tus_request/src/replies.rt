@@ -9,8 +9,8 @@ ghost use Rattle.tus_request.specs.Replies.{reply_options, reply_created, reply_
 ghost use Rattle.tus_request.specs.Replies.{reply_text, reply_refused, reply_continue, unless_bare};
 ghost use Rattle.tus_request.specs.Replies.{longest_reply, GrowsBy};
 
-use common::MOST_METADATA;
 use crate::faults::Fault;
+use common::MOST_METADATA;
 use enc_model::Encoding;
 use itoa::Buffer;
 use parts::{

@@ -23,6 +23,17 @@ use upload_rules::Uploads;
 pub const MOST_OPEN: usize = 16;
 
 /// At most `MOST_OPEN` connections: the unfinished head of each, and what it waits for.
+///
+/// A request that comes in two pieces, over a store in memory:
+///
+/// ```
+/// let mut session = Session::new(alloc)?;
+/// session.opened(0)?;
+/// session.came(&mut store, 0, b"OPTIONS /files HT", &mut out)?;
+/// let answer = session.came(&mut store, 0, b"TP/1.1\r\n\r\n", &mut out)?;
+/// assert!(rt; out.starts_with(b"HTTP/1.1 204 No Content\r\n"));
+/// session.ended(&mut store, 0)?;
+/// ```
 pub struct Session<U: Uploads> {
     alloc: Global,
     links: Vec<Option<Link<U::Draft>>>,

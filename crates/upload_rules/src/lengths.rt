@@ -5,16 +5,14 @@ ghost use Rattle.upload_rules.specs.Lengths.{is_length, is_new, is_too_large, kn
 ghost use Rattle.upload_rules.specs.Calls.{length_refusal};
 
 use crate::UploadRefusal;
-
-/// The greatest length of an upload: 1 GiB.
-pub const LENGTH_LIMIT: u64 = 1_073_741_824;
+use common::MOST_LENGTH;
 
 /// Whether the length is known and above the limit.
 pub fn is_too_large(length: Option<u64>) -> bool
     ensures { result ≡ is_too_large length }
 {
     match length {
-        Some(length) => length > LENGTH_LIMIT,
+        Some(length) => length > MOST_LENGTH,
         None => false,
     }
 }
@@ -59,7 +57,7 @@ pub fn length_then(
     };
     let longest = match length {
         Some(length) => length,
-        None => LENGTH_LIMIT,
+        None => MOST_LENGTH,
     };
     if longest < offset || longest - offset < count {
         return Err(UploadRefusal::TooLong);

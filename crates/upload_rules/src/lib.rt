@@ -17,7 +17,7 @@ mod uploads;
 pub use drafts::{placed, put_back, taken};
 pub use errors::{UploadError, UploadRefusal};
 pub use laws::{same_offset, text_grows};
-pub use lengths::{LENGTH_LIMIT, is_length, is_new, is_too_large, length_then};
+pub use lengths::{is_length, is_new, is_too_large, length_then};
 pub use new_text::NewText;
 pub use records::{New, Record};
 pub use table::{NUMBERS_END, Table, TableDraft};

@@ -2,8 +2,8 @@
 
 ghost use Rattle.upload_rules.specs.Records.{IsShort};
 
-use common::MOST_METADATA;
 use crate::{New, Record};
+use common::MOST_METADATA;
 use std::alloc::{AllocError, Global};
 
 /// An upload of a table: its record and its text.

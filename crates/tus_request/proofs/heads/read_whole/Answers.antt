@@ -2,6 +2,7 @@ use Rattle.std.proofs.Common.{rules, ◌≡◌, length, inl, inr, Some, ap, sym,
 use Rattle.httparse.specs.Borrowed.{HoldsSomeRequest}
 use Rattle.httparse.specs.Spans.{RequestOverflows}
 use Rattle.enc_model.specs.Indexes.{offers}
+use Rattle.tus_request.specs.declared.heads.TheConstants.{MOST_LINES}
 use Rattle.tus_request.specs.CheckParts.{verdict_shown}
 use Rattle.tus_request.proofs.ParseLemmas.{fills, none_where_failed, shown_by, same_line, same_verdict}
 use Rattle.tus_request.specs.Answers.{Judged}
@@ -9,7 +10,7 @@ use Rattle.tus_request.proofs.heads.read_whole.Goals as goal
 
 pub returns-in-Err : goal.returns-in-Err
 returns-in-Err c =
-    let n : length c.new-request.result.headers.now ≡ 64 = ap length c.new-request.ensures.room in
+    let n : length c.new-request.result.headers.now ≡ MOST_LINES = ap length c.new-request.ensures.room in
     let over : RequestOverflows (length c.new-request.result.headers.now) c.args.head.now = c.in-Err.ensures.no_room in
     inl (none_where_failed c.args.head.now c.requires (rw n at over), c.no_head-in-Err.ensures)
 
