@@ -1,4 +1,4 @@
-//! The catalog of a spool: all that is kept of it in memory, and what its parts are asked for.
+//! All that is kept of a spool in memory: its type, made of what was read, and its parts.
 ghost use Rattle.std.specs.Prelude.{◌≡◌, ◌≤◌, ◌<◌, ℕ, None, Some, false, IfOk, OnOk, IfSome, MatchResult};
 ghost use Rattle.std.specs.Prelude.{[], IsSome, replicate, length, get_or, option_copied};
 ghost use Rattle.spool_blocks.specs.Chains.{OwnsOneEach};

@@ -1,6 +1,7 @@
 //! What is known of a spool in memory: the records, the blocks of each text, the order of the numbers, and the checks
-//! that make it valid. It says what a view shows, how each change alters it, and which pages the change writes. It
-//! reads texts and writes nothing: opening a spool (`spool_load`) and changing it (`spool_kept`) both stand on it.
+//! that make it valid. It says what a view shows, how each change alters what is kept, and which pages the change makes.
+//! It reads texts from a disk and writes nothing. Opening (`spool_load`) and changing (`spool_kept`) stand on it, side
+//! by side, so it may use neither, nor drafts.
 #![tactic(auto)]
 
 mod answers;

@@ -1,6 +1,5 @@
-//! Changes of a spool, in memory (`spool_catalog`) and on the disk together: an upload is made, gets longer or goes, and
-//! the drafts of its appends are begun, made longer, committed and dropped. Nothing is read or checked here that an
-//! opening reads.
+//! Changes of a spool, in memory (`spool_catalog`) and on the disk together: an upload is made, gets longer or goes,
+//! and the drafts of its appends are begun, made longer, committed and dropped. How a spool is opened isn't known here.
 #![tactic(auto)]
 
 mod committing;
