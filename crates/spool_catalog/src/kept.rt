@@ -128,7 +128,7 @@ impl Kept {
     }
 
     /// The blocks of a slot's text by ordinal.
-    pub fn list(&self, slot: u32) -> &[BlockNo]
+    pub(crate) fn list(&self, slot: u32) -> &[BlockNo]
         requires { IsSome (get_or self.now.slots slot None) }
         ensures blocks { result.now ≡ get_or self.now.lists slot [] }
         ensures below { slot < SLOTS }
