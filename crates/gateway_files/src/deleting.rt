@@ -162,8 +162,8 @@ fn terminate<U: Uploads>(uploads: &mut U, number: u64) -> Result<bool, Fault>
     match uploads.terminate(number) {
         Ok(()) => Ok(true),
         Err(UploadError::Refused(_)) => Ok(false),
-        Err(UploadError::NoMemory) => Err(Fault::NoMemory),
-        Err(UploadError::DiskFault) => Err(Fault::DiskFault),
+        Err(UploadError::Stop(Stop::NoMemory)) => Err(Fault::NoMemory),
+        Err(UploadError::Stop(Stop::DiskFault)) => Err(Fault::DiskFault),
     }
 }
 

@@ -22,7 +22,7 @@ ghost use Rattle.spool_kept.specs.Stored.{Stored, ShowsEither};
 use crate::kept::Kept;
 use crate::order::put;
 use crate::records::{KeptRecord, record_at};
-use common::SLOTS;
+use common::{SLOTS, Stop};
 use spool_disk::Disk;
 use spool_journal::{PAGE, Pages};
 use spool_pages::{change, pages_of_new};
@@ -137,7 +137,7 @@ pub fn create<D: Disk>(
     requires well_formed { IsWellFormed new }
     ensures size { D.size disk.new ≡ D.size disk.old }
     ensures honest { D.honest disk.old ↔ D.honest disk.new }
-    ensures counts { Counts (IsErrOf result UploadError.DiskFault) (D.failures disk.old) (D.failures disk.new) }
+    ensures counts { Counts (IsErrOf result (UploadError.Stop Stop.DiskFault)) (D.failures disk.old) (D.failures disk.new) }
     ensures layout { kept.new.layout ≡ kept.old.layout }
     ensures version { kept.new.version ≡ kept.old.version }
     ensures blocks { kept.new.blocks ≡ kept.old.blocks }
@@ -151,7 +151,7 @@ pub fn create<D: Disk>(
     ensures crash { (m : Store) → Stored true D.Disk disk.old kept.old m
         → Lasts D.Disk disk.old disk.new (ShowsEither kept.old.layout m
         (outcome (create_refusal (at_rest m None) new) m (created_store m new))) }
-    ensures unmade { IsErrOf result UploadError.NoMemory → (disk.new ≡ disk.old) × (kept.new ≡ kept.old) }
+    ensures unmade { IsErrOf result (UploadError.Stop Stop.NoMemory) → (disk.new ≡ disk.old) × (kept.new ≡ kept.old) }
     ensures refused { (e : UploadRefusal) → IsErrOf result (UploadError.Refused e)
         → (disk.new ≡ disk.old) × (kept.new ≡ kept.old) }
     ensures texts { (m : Store) → Stored true D.Disk disk.old kept.old m
@@ -166,10 +166,10 @@ pub fn create<D: Disk>(
     let number = kept.next;
     let record = kept.new_record(new);
     let Ok(pages) = kept.prepare_new(alloc, slot, record) else {
-        return Err(UploadError::NoMemory);
+        return Err(UploadError::Stop(Stop::NoMemory));
     };
     match change(disk, &kept.layout, &pages) {
         Ok(()) => Ok(number),
-        Err(_) => Err(UploadError::DiskFault),
+        Err(_) => Err(UploadError::Stop(Stop::DiskFault)),
     }
 }

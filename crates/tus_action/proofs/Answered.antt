@@ -3,7 +3,8 @@ use Rattle.std.proofs.Common.{◌≡◌, ◌==◌, arith, ℕ, Bool, true, false
 use Rattle.std.proofs.Common.{None, Result, Ok, Err, refl, sym, subst, ap, ◌∙◌, if◌then◌else◌}
 use Rattle.upload_rules.specs.declared.errors.UploadRefusal.{UploadRefusal}
 use Rattle.upload_rules.specs.declared.errors.UploadError.{UploadError}
-use Rattle.upload_rules.specs.declared.errors.UploadError.TheVariants.{NoMemory, DiskFault, Refused}
+use Rattle.upload_rules.specs.declared.errors.UploadError.TheVariants.{Stop, Refused}
+use Rattle.common.specs.declared.stop.Stop.TheVariants.{NoMemory, DiskFault}
 use Rattle.upload_rules.specs.declared.uploads.Uploads.{Ghosts}
 use Rattle.upload_rules.specs.Errors.{stop_of}
 use Rattle.tus_action.specs.Faults.{fault_of}
@@ -67,7 +68,7 @@ pub refused_answer : {T : Type 0} (done : T → Type 0) (same : Type 0) (refusal
 refused_answer {T = T} done same refusal e f is h = subst (λ x. Answers {T = T} refusal (Err x) done same) is h
 
 pub memory_answer : {T : Type 0} (done : T → Type 0) (same : Type 0) (refusal : Option UploadRefusal) (e : UploadError)
-    → e ≡ NoMemory
+    → e ≡ (Stop NoMemory)
     → Answers {T = T} refusal (Err e) done same → IsLate refusal × same
 memory_answer {T = T} done same refusal e is h = subst (λ x. Answers {T = T} refusal (Err x) done same) is h
 
@@ -81,9 +82,9 @@ pub fed_gone : {U B : Type 0} {sure : Bool} (u : Ghosts U B) (store next : U) (w
     (w' : World) (p : Patch) (done : Unit {0} → Type 0) → Answers {T = Unit {0}} None (Err e) done
     (u.stands store sure w) → (u.stands store sure w → u.stands next sure (dropped w d')) → d' ≡ d
     → FeedsDraft u sure next (Err (stop_of e)) (dropped w d) w' d p
-fed_gone {sure = sure} u store next w NoMemory d d' w' p done a drops same = subst
+fed_gone {sure = sure} u store next w (Stop NoMemory) d d' w' p done a drops same = subst
     (λ x. u.stands next sure (dropped w x)) same (drops a.1)
-fed_gone {sure = sure} u store next w DiskFault d d' w' p done a drops same = tt {0}
+fed_gone {sure = sure} u store next w (Stop DiskFault) d d' w' p done a drops same = tt {0}
 fed_gone {sure = sure} u store next w (Refused f) d d' w' p done a drops same = let e : None ≡ Some f = a.0 in absurd
     (cc)
 
@@ -115,19 +116,19 @@ refused_finishes u sure store gone m refusal (Refused f) (Err Stops.NoMemory) on
 refused_finishes u sure store gone m refusal (Refused f) (Err Stops.DiskFault) on_files bare closes old new done
     replies_to
     answered replies = absurd replies
-refused_finishes u sure store gone m refusal NoMemory (Err Stops.NoMemory) on_files bare closes old new done replies_to
+refused_finishes u sure store gone m refusal (Stop NoMemory) (Err Stops.NoMemory) on_files bare closes old new done replies_to
     answered replies = (answered.1, replies)
-refused_finishes u sure store gone m refusal NoMemory (Err Stops.DiskFault) on_files bare closes old new done replies_to
+refused_finishes u sure store gone m refusal (Stop NoMemory) (Err Stops.DiskFault) on_files bare closes old new done replies_to
     answered replies = absurd replies
-refused_finishes u sure store gone m refusal NoMemory (Ok a) on_files bare closes old new done replies_to answered
+refused_finishes u sure store gone m refusal (Stop NoMemory) (Ok a) on_files bare closes old new done replies_to answered
     replies =
     absurd replies
-refused_finishes u sure store gone m refusal DiskFault (Err Stops.NoMemory) on_files bare closes old new done replies_to
+refused_finishes u sure store gone m refusal (Stop DiskFault) (Err Stops.NoMemory) on_files bare closes old new done replies_to
     answered replies = absurd replies
-refused_finishes u sure store gone m refusal DiskFault (Err Stops.DiskFault) on_files bare closes old new done
+refused_finishes u sure store gone m refusal (Stop DiskFault) (Err Stops.DiskFault) on_files bare closes old new done
     replies_to
     answered replies = replies
-refused_finishes u sure store gone m refusal DiskFault (Ok a) on_files bare closes old new done replies_to answered
+refused_finishes u sure store gone m refusal (Stop DiskFault) (Ok a) on_files bare closes old new done replies_to answered
     replies =
     absurd replies
 
@@ -146,10 +147,10 @@ refused_serves u sure store gone m refusal (Refused f) (Ok a) on_files bare clos
     (subst (λ x. Serves u sure store (Ok x) old new gone
     (replied gone (reply_refused (fault_of f) on_files bare closes) closes)) (sym refuses.nothing)
     (record { stands = answered.1; draft = tt {0}; giving = tt {0}; closes = refl; bytes = refuses.replies })))
-refused_serves u sure store gone m refusal NoMemory (Ok a) on_files bare closes old new done replies_to answered
+refused_serves u sure store gone m refusal (Stop NoMemory) (Ok a) on_files bare closes old new done replies_to answered
     refuses =
     absurd refuses.replies
-refused_serves u sure store gone m refusal DiskFault (Ok a) on_files bare closes old new done replies_to answered
+refused_serves u sure store gone m refusal (Stop DiskFault) (Ok a) on_files bare closes old new done replies_to answered
     refuses =
     absurd refuses.replies
 refused_serves {B = B} u sure store gone m refusal e (Err stop) on_files bare closes old new done replies_to answered
@@ -168,10 +169,10 @@ refused_serves {B = B} u sure store gone m refusal e (Err stop) on_files bare cl
         → RepliesTo {T = Unit {0}} (Err s) x on_files bare closes old new
     replies_as (Refused f) Stops.NoMemory is = is
     replies_as (Refused f) Stops.DiskFault is = is
-    replies_as NoMemory Stops.NoMemory is = is
-    replies_as NoMemory Stops.DiskFault is = is
-    replies_as DiskFault Stops.NoMemory is = is
-    replies_as DiskFault Stops.DiskFault is = is
+    replies_as (Stop NoMemory) Stops.NoMemory is = is
+    replies_as (Stop NoMemory) Stops.DiskFault is = is
+    replies_as (Stop DiskFault) Stops.NoMemory is = is
+    replies_as (Stop DiskFault) Stops.DiskFault is = is
 
 -- out of memory, by the call itself or after its refusal: nothing was made
 pub nothing_made : {m0 m1 : ℕ} {l0 l1 : Option ℕ → ℕ → List Store → Type 0} {B T : Type 0} (before after : Store)
@@ -180,16 +181,16 @@ pub nothing_made : {m0 m1 : ℕ} {l0 l1 : Option ℕ → ℕ → List Store → 
     (same : Type 0)
     → Answers {T = T} refusal (Err e) done same → RepliesTo result e on_files bare closes old new
     → IsErrOf result Stops.NoMemory
-    → Limits m0 m1 l0 l1 before (outcome refusal before after) → (e ≡ NoMemory → Limits m0 m1 l0 l1 before before)
+    → Limits m0 m1 l0 l1 before (outcome refusal before after) → (e ≡ (Stop NoMemory) → Limits m0 m1 l0 l1 before before)
     → Limits m0 m1 l0 l1 before before
 nothing_made {m0} {m1} {l0} {l1} before after refusal (Refused f) result on_files bare closes old new done same answered
     replies is limits unmade =
     subst (λ x. Limits m0 m1 l0 l1 before (outcome x before after)) answered.0 limits
-nothing_made before after refusal NoMemory result on_files bare closes old new done same answered replies is limits
+nothing_made before after refusal (Stop NoMemory) result on_files bare closes old new done same answered replies is limits
     unmade = unmade refl
-nothing_made before after refusal DiskFault (Ok a) on_files bare closes old new done same answered replies is limits
+nothing_made before after refusal (Stop DiskFault) (Ok a) on_files bare closes old new done same answered replies is limits
     unmade = absurd replies
-nothing_made before after refusal DiskFault (Err Stops.NoMemory) on_files bare closes old new done same answered replies
+nothing_made before after refusal (Stop DiskFault) (Err Stops.NoMemory) on_files bare closes old new done same answered replies
     is limits unmade = absurd replies
-nothing_made before after refusal DiskFault (Err Stops.DiskFault) on_files bare closes old new done same answered
+nothing_made before after refusal (Stop DiskFault) (Err Stops.DiskFault) on_files bare closes old new done same answered
     replies is limits unmade = absurd (cc)
