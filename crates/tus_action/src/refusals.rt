@@ -47,8 +47,7 @@ pub(crate) fn refuse(
                 Err(_) => Err(Stop::NoMemory),
             }
         }
-        UploadError::Stop(Stop::NoMemory) => Err(Stop::NoMemory),
-        UploadError::Stop(Stop::DiskFault) => Err(Stop::DiskFault),
+        UploadError::Stop(stop) => Err(stop),
     }
 }
 

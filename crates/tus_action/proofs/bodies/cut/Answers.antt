@@ -9,10 +9,12 @@ returns-in-Err-Refused-clause-answer g c = λ sure w p stands found holds.
     (c.in-Err-Refused.ensures.answer sure w p stands found holds) in
     spent_refused (λ v. g.U.Uploads.stands c.commit.new.self sure v) w _ p _ _ a.0 a.1
 
-pub returns-in-Err-NoMemory-clause-answer : goal.returns-in-Err-NoMemory-clause-answer
-returns-in-Err-NoMemory-clause-answer g c = λ sure w p stands found holds.
-    (memory_answer _ _ _ _ c.in-Err-NoMemory.field-0-is
-    (c.in-Err-NoMemory.ensures.answer sure w p stands found holds)).1
+pub returns-in-Err-Stop-clause-answer : goal.returns-in-Err-Stop-clause-answer
+returns-in-Err-Stop-clause-answer g c = λ sure w p stands found holds.
+    let d = g.U.Uploads.number_of c.args.patch.draft in
+    let answered = c.in-Err-Stop.ensures.answer sure w p stands found holds in
+    stops_ends g.U.Uploads sure c.commit.new.self (dropped w d) _ c.in-Err-Stop.stop (commit_refusal w d p) _
+    (stop_answer _ _ _ _ c.in-Err-Stop.field-0-is answered)
 
 pub returns-in-Ok-clause-answer : goal.returns-in-Ok-clause-answer
 returns-in-Ok-clause-answer g c = λ sure w p stands found holds.
