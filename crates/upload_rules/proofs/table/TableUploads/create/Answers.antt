@@ -5,20 +5,20 @@ use Rattle.upload_rules.specs.Lengths.{is_too_large}
 use Rattle.upload_rules.proofs.Makes.{many, spent_numbers, creatable, not_created}
 use Rattle.upload_rules.proofs.Worlds.{creates}
 use Rattle.upload_rules.proofs.table.TableUploads.create.Goals as goal
-use Rattle.upload_rules.proofs.table.TableUploads.create.Goals.{then-len-ge-SLOT_COUNT-via-then-len-ge-SLOT_COUNT}
-use Rattle.upload_rules.proofs.table.TableUploads.create.Goals.{then-len-ge-SLOT_COUNT-via-else-len-ge-SLOT_COUNT+then-self-ge-NUMBERS_END}
+use Rattle.upload_rules.proofs.table.TableUploads.create.Goals.{then-len-via-then-len}
+use Rattle.upload_rules.proofs.table.TableUploads.create.Goals.{then-len-via-else-len+then-self-ge-NUMBERS_END}
 
-pub returns-then-len-ge-SLOT_COUNT-clause-answer : goal.returns-then-len-ge-SLOT_COUNT-clause-answer
-returns-then-len-ge-SLOT_COUNT-clause-answer c = λ sure w stands.
+pub returns-then-len-clause-answer : goal.returns-then-len-clause-answer
+returns-then-len-clause-answer c = λ sure w stands.
     let t = c.args.self.now in
     let small : is_too_large c.args.new.declared ≡ false =
     rw (sym c.new.view_is, sym c.is_too_large.ensures) c.if-is_too_large.false in
     let long = c.len.ensures in (
-      elim c.then-len-ge-SLOT_COUNT.branch [
-        | then-len-ge-SLOT_COUNT-via-then-len-ge-SLOT_COUNT v ↦ many t w stands c.args.new small
-            (omega (arith, v.if-len-ge-SLOT_COUNT.true, long))
-        | then-len-ge-SLOT_COUNT-via-else-len-ge-SLOT_COUNT+then-self-ge-NUMBERS_END v ↦
-            spent_numbers t w stands c.args.new small (omega (arith, v.if-len-ge-SLOT_COUNT.false, long))
+      elim c.then-len.branch [
+        | then-len-via-then-len v ↦ many t w stands c.args.new small
+            (omega (arith, v.if-len.true, long))
+        | then-len-via-else-len+then-self-ge-NUMBERS_END v ↦
+            spent_numbers t w stands c.args.new small (omega (arith, v.if-len.false, long))
             v.if-self-ge-NUMBERS_END.true
       ],
       stands,
@@ -29,7 +29,7 @@ returns-then-is_err-clause-answer c = λ sure w stands.
     let t = c.args.self.now in
     let small : is_too_large c.args.new.declared ≡ false =
     rw (sym c.new.view_is, sym c.is_too_large.ensures) c.if-is_too_large.false in
-    let room : length t.slots.items < SLOTS = omega (arith, c.if-len-ge-SLOT_COUNT.false, c.len.ensures) in
+    let room : length t.slots.items < SLOTS = omega (arith, c.if-len.false, c.len.ensures) in
     let more = t.slots.items ++ c.new-2.result ∷ [] in (
       rw (creatable t w stands c.args.new small room c.if-self-ge-NUMBERS_END.false) tt,
       not_created t w stands c.push.new.self
@@ -42,7 +42,7 @@ returns-clause-answer c = λ sure w stands.
     let t = c.args.self.now in
     let small : is_too_large c.args.new.declared ≡ false =
     rw (sym c.new.view_is, sym c.is_too_large.ensures) c.if-is_too_large.false in
-    let room : length t.slots.items < SLOTS = omega (arith, c.if-len-ge-SLOT_COUNT.false, c.len.ensures) in
+    let room : length t.slots.items < SLOTS = omega (arith, c.if-len.false, c.len.ensures) in
     let more = t.slots.items ++ c.new-2.result ∷ [] in (
       creatable t w stands c.args.new small room c.if-self-ge-NUMBERS_END.false,
       (
