@@ -9,6 +9,7 @@ ghost use Rattle.gateway_files.specs.declared.faults.Fault.{Fault};
 ghost use Rattle.gateway_files.specs.Changing.{IsChangeFault};
 
 use crate::faults::Fault;
+use common::Stop;
 use std::io::Write;
 use upload_rules::{UploadError, Uploads};
 

@@ -17,6 +17,7 @@ use crate::failures::Failure;
 use crate::faults::Fault;
 use crate::spool_files::{open_spool, refused_spool};
 use crate::streams::Noted;
+use common::Stop;
 use spool_disk::{Disk, FileDisk};
 use spool_image::Spool;
 use std::alloc::Global;

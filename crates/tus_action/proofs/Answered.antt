@@ -67,7 +67,7 @@ pub refused_answer : {T : Type 0} (done : T → Type 0) (same : Type 0) (refusal
     → Answers {T = T} refusal (Err e) done same → (refusal ≡ Some f) × same
 refused_answer {T = T} done same refusal e f is h = subst (λ x. Answers {T = T} refusal (Err x) done same) is h
 
-pub memory_answer : {T : Type 0} (done : T → Type 0) (same : Type 0) (refusal : Option UploadRefusal) (e : UploadError)
+memory_answer : {T : Type 0} (done : T → Type 0) (same : Type 0) (refusal : Option UploadRefusal) (e : UploadError)
     → e ≡ errors.Stop NoMemory
     → Answers {T = T} refusal (Err e) done same → IsLate refusal × same
 memory_answer {T = T} done same refusal e is h = subst (λ x. Answers {T = T} refusal (Err x) done same) is h
@@ -90,11 +90,11 @@ fed_gone {sure = sure} u store next w (Refused f) d d' w' p done a drops same = 
 
 -- a cut body that isn't committed: out of memory, the patch is gone
 pub stops_ends : {U B T : Type 0} (u : Ghosts U B) (sure : Bool) (store : U) (gone w : World) (stop : Stop)
-    (refusal : Option UploadRefusal) (done : T → Type 0)
-    → Answers {T = T} refusal (Err (errors.Stop stop)) done (u.stands store sure gone)
-    → Ends u sure store (Err stop) gone w
-stops_ends u sure store gone w NoMemory refusal done answered = answered.1
-stops_ends u sure store gone w DiskFault refusal done answered = tt {0}
+    (refusal : Option UploadRefusal) (e : UploadError) (done : T → Type 0) → e ≡ errors.Stop stop
+    → Answers {T = T} refusal (Err e) done (u.stands store sure gone) → Ends u sure store (Err stop) gone w
+stops_ends u sure store gone w NoMemory refusal e done is answered =
+    (memory_answer done (u.stands store sure gone) refusal e is answered).1
+stops_ends u sure store gone w DiskFault refusal e done is answered = tt {0}
 
 -- a draft that is gone, or a disk fault, is the patch's
 pub feeds_stops : {U B : Type 0} (u : Ghosts U B) (sure : Bool) (store : U) (e : Stop) (gone w : World) (d : ℕ)

@@ -1,6 +1,6 @@
 use Rattle.std.proofs.Common.{subst, sym}
 use Rattle.upload_rules.specs.Calls.{spent}
-use Rattle.tus_action.proofs.Answered.{spent_refused, refused_answer, memory_answer}
+use Rattle.tus_action.proofs.Answered.{spent_refused, refused_answer, stops_ends}
 use Rattle.tus_action.proofs.bodies.cut.Goals as goal
 
 pub returns-in-Err-Refused-clause-answer : goal.returns-in-Err-Refused-clause-answer
@@ -11,10 +11,8 @@ returns-in-Err-Refused-clause-answer g c = λ sure w p stands found holds.
 
 pub returns-in-Err-Stop-clause-answer : goal.returns-in-Err-Stop-clause-answer
 returns-in-Err-Stop-clause-answer g c = λ sure w p stands found holds.
-    let d = g.U.Uploads.number_of c.args.patch.draft in
-    let answered = c.in-Err-Stop.ensures.answer sure w p stands found holds in
-    stops_ends g.U.Uploads sure c.commit.new.self (dropped w d) _ c.in-Err-Stop.stop (commit_refusal w d p) _
-    (stop_answer _ _ _ _ c.in-Err-Stop.field-0-is answered)
+    stops_ends g.U.Uploads sure c.commit.new.self _ _ c.in-Err-Stop.stop _ _ _ c.in-Err-Stop.field-0-is
+    (c.in-Err-Stop.ensures.answer sure w p stands found holds)
 
 pub returns-in-Ok-clause-answer : goal.returns-in-Ok-clause-answer
 returns-in-Ok-clause-answer g c = λ sure w p stands found holds.
