@@ -16,13 +16,13 @@ ghost use Rattle.spool_kept.specs.Records.{HasTextOn, IsUploadOf, KeepsOf};
 ghost use Rattle.spool_kept.specs.Shows.{Shows};
 ghost use Rattle.spool_pages.specs.View.{View, Says};
 
-use spool_journal::PAGE;
-use common::{MOST_BLOCKS, SLOTS, Stop};
 use crate::kept::Kept;
 use crate::order::{NumberedSlot, places_to, slot_of};
+use common::{MOST_BLOCKS, SLOTS, Stop};
 use enc_index::IndexSet;
 use spool_blocks::BlockNo;
 use spool_disk::Disk;
+use spool_journal::PAGE;
 use spool_texts::read_text;
 use upload_rules::{Record, UploadError, UploadRefusal};
 
@@ -93,7 +93,8 @@ impl Kept {
         requires { PAGE * all_pages self.now.layout ≤ D.size disk.old }
         ensures size { D.size disk.new ≡ D.size disk.old }
         ensures honest { D.honest disk.old ↔ D.honest disk.new }
-        ensures counts { Counts (IsErrOf result (UploadError.Stop Stop.DiskFault)) (D.failures disk.old) (D.failures disk.new) }
+        ensures counts { Counts (IsErrOf result (UploadError.Stop Stop.DiskFault)) (D.failures disk.old)
+            (D.failures disk.new) }
         ensures later { D.moment disk.old ≤ D.moment disk.new }
         ensures no_memory { IsErrOf result (UploadError.Stop Stop.NoMemory) → ⊥ }
         ensures count { (m : Store) (v : View) → KeepsView self.now v → Shows v m

@@ -24,12 +24,12 @@ ghost use Rattle.spool_kept.specs.Holding.{IsUsedBy};
 ghost use Rattle.spool_kept.specs.Shows.{ImageShows};
 ghost use Rattle.spool_kept.specs.Stored.{ShowsEither, Stored};
 
-use spool_journal::PAGE;
 use crate::extending::{Longer, extend};
 use crate::kept::Kept;
 use common::Stop;
 use spool_disk::Disk;
 use spool_drafts::{DraftEnd, SpoolDraft};
+use spool_journal::PAGE;
 use std::alloc::Global;
 use upload_rules::{Record, UploadError, UploadRefusal, is_length, is_new, length_then, taken};
 
@@ -103,7 +103,8 @@ fn ended<D: Disk>(
     requires placed { IsPlaced kept.old.layout draft.old }
     ensures size { D.size disk.new ≡ D.size disk.old }
     ensures honest { D.honest disk.old ↔ D.honest disk.new }
-    ensures counts { Counts (IsErrOf result (UploadError.Stop Stop.DiskFault)) (D.failures disk.old) (D.failures disk.new) }
+    ensures counts { Counts (IsErrOf result (UploadError.Stop Stop.DiskFault)) (D.failures disk.old)
+        (D.failures disk.new) }
     ensures same { OnlyReserves kept.old kept.new }
     ensures reserved { IsReserved kept.new.blocks (list_of draft.new) }
     ensures placed { IsPlaced kept.old.layout draft.new }
@@ -170,7 +171,8 @@ fn append_to<D: Disk>(
     requires placed { IsPlaced kept.old.layout draft }
     ensures size { D.size disk.new ≡ D.size disk.old }
     ensures honest { D.honest disk.old ↔ D.honest disk.new }
-    ensures counts { Counts (IsErrOf result (UploadError.Stop Stop.DiskFault)) (D.failures disk.old) (D.failures disk.new) }
+    ensures counts { Counts (IsErrOf result (UploadError.Stop Stop.DiskFault)) (D.failures disk.old)
+        (D.failures disk.new) }
     ensures layout { kept.new.layout ≡ kept.old.layout }
     ensures version { kept.new.version ≡ kept.old.version }
     ensures fits { (drafts : List (Option Draft)) (number : ℕ) → DraftsFit kept.old drafts
@@ -192,7 +194,8 @@ fn append_to<D: Disk>(
         → Lasts D.Disk disk.old disk.new (λ image. ImageShows kept.old.layout image w.store) }
 
     // Every growth comes before the first write.
-    ensures unwritten { D.honest disk.old → IsErrOf result (UploadError.Stop Stop.NoMemory) → OnlyRead D.Disk disk.old disk.new }
+    ensures unwritten { D.honest disk.old → IsErrOf result (UploadError.Stop Stop.NoMemory)
+        → OnlyRead D.Disk disk.old disk.new }
 {
     let mut draft = draft;
     let (longer, last) = match ended(alloc, disk, kept, &mut draft, found) {
@@ -225,7 +228,8 @@ fn set_length<D: Disk>(
     requires may { MayDeclare kept.old.slots slot declared }
     ensures size { D.size disk.new ≡ D.size disk.old }
     ensures honest { D.honest disk.old ↔ D.honest disk.new }
-    ensures counts { Counts (IsErrOf result (UploadError.Stop Stop.DiskFault)) (D.failures disk.old) (D.failures disk.new) }
+    ensures counts { Counts (IsErrOf result (UploadError.Stop Stop.DiskFault)) (D.failures disk.old)
+        (D.failures disk.new) }
     ensures layout { kept.new.layout ≡ kept.old.layout }
     ensures version { kept.new.version ≡ kept.old.version }
     ensures count { (r : Said) → get_or kept.old.slots slot None ≡ Some r → IfOk result (λ n. n ≡ r.accepted) }
@@ -275,7 +279,8 @@ pub fn commit<D: Disk>(
     ensures version { kept.new.version ≡ kept.old.version }
     ensures size { D.size disk.new ≡ D.size disk.old }
     ensures honest { D.honest disk.old ↔ D.honest disk.new }
-    ensures counts { Counts (IsErrOf result (UploadError.Stop Stop.DiskFault)) (D.failures disk.old) (D.failures disk.new) }
+    ensures counts { Counts (IsErrOf result (UploadError.Stop Stop.DiskFault)) (D.failures disk.old)
+        (D.failures disk.new) }
 
     // Whatever the disk said, it is refused with these exactly where the draft's upload is gone, and where it is there
     // without as many bytes as when the draft began.
@@ -299,7 +304,8 @@ pub fn commit<D: Disk>(
         → Lasts D.Disk disk.old disk.new (λ image. ImageShows kept.old.layout image w.store) }
 
     // Every growth comes before the first write.
-    ensures unwritten { D.honest disk.old → IsErrOf result (UploadError.Stop Stop.NoMemory) → OnlyRead D.Disk disk.old disk.new }
+    ensures unwritten { D.honest disk.old → IsErrOf result (UploadError.Stop Stop.NoMemory)
+        → OnlyRead D.Disk disk.old disk.new }
 {
     let Some(draft) = taken(drafts, number) else {
         return Err(UploadError::Refused(UploadRefusal::NoSuch));

@@ -137,7 +137,8 @@ pub fn create<D: Disk>(
     requires well_formed { IsWellFormed new }
     ensures size { D.size disk.new ≡ D.size disk.old }
     ensures honest { D.honest disk.old ↔ D.honest disk.new }
-    ensures counts { Counts (IsErrOf result (UploadError.Stop Stop.DiskFault)) (D.failures disk.old) (D.failures disk.new) }
+    ensures counts { Counts (IsErrOf result (UploadError.Stop Stop.DiskFault)) (D.failures disk.old)
+        (D.failures disk.new) }
     ensures layout { kept.new.layout ≡ kept.old.layout }
     ensures version { kept.new.version ≡ kept.old.version }
     ensures blocks { kept.new.blocks ≡ kept.old.blocks }

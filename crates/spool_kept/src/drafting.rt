@@ -16,11 +16,11 @@ ghost use Rattle.spool_kept.specs.Drafting.{CarriesFor, DraftsFit, IsOfUpload, I
 ghost use Rattle.spool_kept.specs.Drafting.{StandsFor};
 ghost use Rattle.spool_kept.specs.Shows.{ImageShows, Shows};
 
-use spool_journal::PAGE;
 use crate::kept::Kept;
 use common::Stop;
 use spool_disk::Disk;
 use spool_drafts::SpoolDraft;
+use spool_journal::PAGE;
 use std::alloc::Global;
 use upload_rules::{UploadError, UploadRefusal, placed, put_back, taken};
 
@@ -94,7 +94,8 @@ pub fn append<D: Disk>(
     ensures same { OnlyReserves kept.old kept.new }
     ensures size { D.size disk.new ≡ D.size disk.old }
     ensures honest { D.honest disk.old ↔ D.honest disk.new }
-    ensures counts { Counts (IsErrOf result (UploadError.Stop Stop.DiskFault)) (D.failures disk.old) (D.failures disk.new) }
+    ensures counts { Counts (IsErrOf result (UploadError.Stop Stop.DiskFault)) (D.failures disk.old)
+        (D.failures disk.new) }
     ensures answer { (sure : Bool) (w : World) (p : Patch)
         → StandsFor sure D.Disk disk.old kept.old drafts.old.items w
         → find number w.patches ≡ Some p → length p.body + length piece.now ≤ p.count

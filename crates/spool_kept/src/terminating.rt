@@ -107,7 +107,8 @@ pub fn terminate<D: Disk>(
     ensures fits { DraftsFit kept.new drafts.new.items }
     ensures size { D.size disk.new ≡ D.size disk.old }
     ensures honest { D.honest disk.old ↔ D.honest disk.new }
-    ensures counts { Counts (IsErrOf result (UploadError.Stop Stop.DiskFault)) (D.failures disk.old) (D.failures disk.new) }
+    ensures counts { Counts (IsErrOf result (UploadError.Stop Stop.DiskFault)) (D.failures disk.old)
+        (D.failures disk.new) }
     ensures layout { kept.new.layout ≡ kept.old.layout }
     ensures version { kept.new.version ≡ kept.old.version }
 

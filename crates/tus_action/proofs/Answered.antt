@@ -187,5 +187,5 @@ nothing_made {m0} {m1} {l0} {l1} before after refusal (Refused f) result on_file
     subst (λ x. Limits m0 m1 l0 l1 before (outcome x before after)) answered.0 limits
 nothing_made before after refusal (errors.Stop why) (Ok a) on_files bare closes old new done same answered replies is
     limits unmade = absurd replies
-nothing_made before after refusal (errors.Stop why) (Err stop) on_files bare closes old new done same answered replies is
-    limits unmade = unmade (ap errors.Stop (sym replies.0 ∙ is))
+nothing_made before after refusal (errors.Stop why) (Err stop) on_files bare closes old new done same answered replies
+    is limits unmade = unmade (ap errors.Stop (sym replies.0 ∙ is))

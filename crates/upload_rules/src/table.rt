@@ -7,8 +7,7 @@ use crate::new_text::NewText;
 use crate::slot::Slot;
 use crate::slots::{place_of, places_to, read_from};
 use crate::{New, Record, UploadError, UploadRefusal, Uploads};
-use common::Stop;
-use common::SLOTS;
+use common::{SLOTS, Stop};
 use enc_index::IndexSet;
 use std::alloc::Global;
 

@@ -73,7 +73,8 @@ pub trait Uploads {
             (create_outcome w new) }
         ensures unmade { (w : World) → stands self.old true w → IsErrOf result (UploadError.Stop Stop.NoMemory)
             → Limits (moment self.old) (moment self.new) (left_only self.old) (left_only self.new) w.store w.store }
-        ensures counts { Counts (IsErrOf result (UploadError.Stop Stop.DiskFault)) (failures self.old) (failures self.new) };
+        ensures counts { Counts (IsErrOf result (UploadError.Stop Stop.DiskFault)) (failures self.old)
+            (failures self.new) };
 
     /// Deletes an upload and its text. Its number is never used again, and the commit of a draft for it is refused.
     ///
@@ -89,7 +90,8 @@ pub trait Uploads {
             (terminate_outcome w number) }
         ensures unmade { (w : World) → stands self.old true w → IsErrOf result (UploadError.Stop Stop.NoMemory)
             → Limits (moment self.old) (moment self.new) (left_only self.old) (left_only self.new) w.store w.store }
-        ensures counts { Counts (IsErrOf result (UploadError.Stop Stop.DiskFault)) (failures self.old) (failures self.new) };
+        ensures counts { Counts (IsErrOf result (UploadError.Stop Stop.DiskFault)) (failures self.old)
+            (failures self.new) };
 
     /// Opens a draft of `count` bytes at `offset`, which may declare the upload's length. Its number is the least free
     /// one.
@@ -131,7 +133,8 @@ pub trait Uploads {
         ensures crash { (w : World) (p : Patch) → stands self.old true w
             → find (Self.number_of draft.old) w.patches ≡ Some p → holds draft.old p
             → Quiet (moment self.old) (moment self.new) (left_only self.old) (left_only self.new) }
-        ensures counts { Counts (IsErrOf result (UploadError.Stop Stop.DiskFault)) (failures self.old) (failures self.new) };
+        ensures counts { Counts (IsErrOf result (UploadError.Stop Stop.DiskFault)) (failures self.old)
+            (failures self.new) };
 
     /// Appends the draft's text to the upload's, gives the upload the length that the draft declares if it had none,
     /// and returns the new offset. The draft is spent in every case.
@@ -150,9 +153,11 @@ pub trait Uploads {
             → Limits (moment self.old) (moment self.new) (left_only self.old) (left_only self.new) w.store
             (commit_outcome w (Self.number_of draft) p) }
         ensures unmade { (w : World) (p : Patch) → stands self.old true w
-            → find (Self.number_of draft) w.patches ≡ Some p → holds draft p → IsErrOf result (UploadError.Stop Stop.NoMemory)
+            → find (Self.number_of draft) w.patches ≡ Some p → holds draft p
+            → IsErrOf result (UploadError.Stop Stop.NoMemory)
             → Limits (moment self.old) (moment self.new) (left_only self.old) (left_only self.new) w.store w.store }
-        ensures counts { Counts (IsErrOf result (UploadError.Stop Stop.DiskFault)) (failures self.old) (failures self.new) };
+        ensures counts { Counts (IsErrOf result (UploadError.Stop Stop.DiskFault)) (failures self.old)
+            (failures self.new) };
 
     /// Drops a draft. This also works after a disk fault, when the store stands for no world.
     fn drop_open(&mut self, draft: Self::Draft)
@@ -175,7 +180,8 @@ pub trait Uploads {
             (stands self.new sure w) }
         ensures no_memory { IsErrOf result (UploadError.Stop Stop.NoMemory) → ⊥ }
         ensures crash { Quiet (moment self.old) (moment self.new) (left_only self.old) (left_only self.new) }
-        ensures counts { Counts (IsErrOf result (UploadError.Stop Stop.DiskFault)) (failures self.old) (failures self.new) };
+        ensures counts { Counts (IsErrOf result (UploadError.Stop Stop.DiskFault)) (failures self.old)
+            (failures self.new) };
 
     /// Every upload's number is below the next one.
     ghost below: { (store : Self) (sure : Bool) (w : World) (number : ℕ) (u : Upload) → stands store sure w
