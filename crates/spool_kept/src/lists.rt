@@ -12,6 +12,7 @@ use crate::CheckError;
 use crate::records::{KeptRecord, record_at};
 use common::SLOTS;
 use spool_blocks::{BlockNo, Blocks, Row};
+use spool_journal::PAGE;
 use std::alloc::{AllocError, Global};
 use std::marker::Model;
 
