@@ -20,6 +20,8 @@ mod orders;
 #[cfg(test)]
 mod pieces;
 #[cfg(test)]
+mod replies;
+#[cfg(test)]
 mod rounds;
 #[cfg(test)]
 mod scripts;

@@ -1,5 +1,6 @@
 //! Disks that live through rounds and stop at each of their calls in turn.
 
+use crate::replies::{Wanted, replies};
 use crate::spools::{POWERS, calls_of_opening};
 use crate::talks::fresh;
 use enc_index::IndexSet;
@@ -15,7 +16,7 @@ struct Deeds {
     script: &'static [u8],
     /// Each reply in turn, with what a HEAD of the upload gives after it. The first entry is the state before any
     /// reply.
-    stages: &'static [(&'static [u8], &'static [u8])],
+    stages: &'static [(Option<Wanted<'static>>, Wanted<'static>)],
 }
 
 /// Makes an upload of five bytes, and fills it.
@@ -33,7 +34,11 @@ say 1 Content-Length: 5
 say 1
 came 1 68656c6c6f
 ",
-    stages: &[(b"", NONE), (MADE, EMPTY), (FILLED, FULL)],
+    stages: &[
+        (None, NONE),
+        (Some(Wanted::Made(1)), EMPTY),
+        (Some(Wanted::Patched(5)), FULL),
+    ],
 };
 
 /// Makes an upload of unknown length, declares the length with its bytes, and deletes it.
@@ -56,59 +61,59 @@ say 1 Tus-Resumable: 1.0.0
 say 1
 ",
     stages: &[
-        (b"", NONE),
-        (MADE, DEFERRED),
-        (FILLED, FULL),
-        (DELETED, NONE),
+        (None, NONE),
+        (Some(Wanted::Made(1)), DEFERRED),
+        (Some(Wanted::Patched(5)), FULL),
+        (Some(Wanted::Deleted), NONE),
     ],
 };
-
-const MADE: &[u8] =
-    b"< 1 110\nHTTP/1.1 201 Created\r\nTus-Resumable: 1.0.0\r\nCache-Control: no-store\r\nLocation: \
-    /files/1\r\nContent-Length: 0\r\n\r\n\n";
-
-const FILLED: &[u8] =
-    b"< 1 92\nHTTP/1.1 204 No Content\r\nTus-Resumable: 1.0.0\r\nCache-Control: no-store\r\nUpload-Offset: 5\r\n\r\n\n";
-
-const DELETED: &[u8] =
-    b"< 1 74\nHTTP/1.1 204 No Content\r\nTus-Resumable: 1.0.0\r\nCache-Control: no-store\r\n\r\n\n";
 
 /// Asks for the upload with HEAD.
 const LOOKS: &[u8] = b"open 1\nsay 1 HEAD /files/1 HTTP/1.1\nsay 1 Tus-Resumable: 1.0.0\nsay 1\n";
 
-/// The replies to that HEAD: no such upload, an empty one, one of unknown length, and a full one.
-const NONE: &[u8] =
-    b"< 1 87\nHTTP/1.1 404 Not Found\r\nTus-Resumable: 1.0.0\r\nCache-Control: no-store\r\nX-Refusal: 8\r\n\r\n\n";
+/// What a HEAD shows: no such upload, an empty one, one of unknown length, and a full one.
+const NONE: Wanted = Wanted::Gone;
 
-const EMPTY: &[u8] =
-    b"< 1 102\nHTTP/1.1 200 OK\r\nTus-Resumable: 1.0.0\r\nCache-Control: no-store\r\nUpload-Offset: 0\r\n\
-    Upload-Length: 5\r\n\r\n\n";
+const EMPTY: Wanted = Wanted::Shown(0, Some(5), "");
 
-const DEFERRED: &[u8] =
-    b"< 1 108\nHTTP/1.1 200 OK\r\nTus-Resumable: 1.0.0\r\nCache-Control: no-store\r\nUpload-Offset: 0\r\n\
-    Upload-Defer-Length: 1\r\n\r\n\n";
+const DEFERRED: Wanted = Wanted::Shown(0, None, "");
 
-const FULL: &[u8] =
-    b"< 1 102\nHTTP/1.1 200 OK\r\nTus-Resumable: 1.0.0\r\nCache-Control: no-store\r\nUpload-Offset: 5\r\n\
-    Upload-Length: 5\r\n\r\n\n";
+const FULL: Wanted = Wanted::Shown(5, Some(5), "");
 
 /// More calls than a round makes.
 const NO_STOP: u64 = 100_000;
 
+/// What a script's run writes when this reply is given on connection 1; nothing where there is none.
+fn written_of(rt: &impl Abort, alloc: Global, reply: Option<Wanted>) -> Vec<u8> {
+    let mut written = Vec::new(alloc);
+    if let Some(reply) = reply {
+        let bytes = replies(rt, alloc, &[reply]);
+        let count = bytes.len();
+        let line = format!(in alloc; "< 1 {count}\n").expect(rt, "memory");
+        written
+            .extend_from_slice(line.as_bytes())
+            .expect(rt, "memory");
+        written.extend_from_slice(&bytes).expect(rt, "memory");
+        written.extend_from_slice(b"\n").expect(rt, "memory");
+    }
+    written
+}
+
 /// Checks that the upload is as after the last reply that was written, or as after the next one. Returns whether all
 /// replies were written.
-fn check(rt: &impl Abort, deeds: &Deeds, written: &[u8], shown: &[u8]) -> bool {
+fn check(rt: &impl Abort, alloc: Global, deeds: &Deeds, written: &[u8], shown: &[u8]) -> bool {
     let mut left = written;
     let mut right = false;
     let mut whole = true;
     for (reply, after) in deeds.stages {
-        match left.strip_prefix(reply) {
+        let is_after = shown == written_of(rt, alloc, Some(*after)).as_slice();
+        match left.strip_prefix(written_of(rt, alloc, *reply).as_slice()) {
             Some(rest) => {
                 left = rest;
-                right = shown == *after;
+                right = is_after;
             }
             None => {
-                right |= shown == *after;
+                right |= is_after;
                 whole = false;
                 break;
             }
@@ -140,7 +145,7 @@ fn lives(
     let [first, later] = &rounds;
     match (&first.work, &later.work) {
         (Work::Run(first), Work::Run(later)) => {
-            let whole = check(rt, deeds, &first.written.bytes, &later.written.bytes);
+            let whole = check(rt, alloc, deeds, &first.written.bytes, &later.written.bytes);
             assert!(rt; whole || first.fault.is_some());
             first.fault.is_none()
         }
@@ -229,7 +234,12 @@ fn upgrade_is_a_round(rt: HostRuntime) {
     ];
     let _disk = live_through(alloc, FuseDisk::new(disk, NO_STOP), &mut rounds);
     match &rounds[3].work {
-        Work::Run(run) => assert_eq!(rt; run.written.bytes.as_slice(), FULL),
+        Work::Run(run) => {
+            assert_eq!(rt;
+                run.written.bytes.as_slice(),
+                written_of(&rt, alloc, Some(FULL)).as_slice()
+            );
+        },
         Work::Upgrade(_) => panic!(rt; "a run became an upgrade"),
     }
     match (&rounds[1].work, &rounds[2].work) {

@@ -1,18 +1,21 @@
 //! Scripts, and the output that each must write.
 
+use crate::replies::Wanted;
 use crate::spools::ends;
 use crate::stories::{BLOCK, FIFTEEN_BLOCKS, FREED, FULL_SPOOL, HELLO, LONG_TEXT, ONE_WINNER};
 use crate::talks::Step::{
     self, Added, Bytes, Came, Declare, Deferred, Deleted, Gone, Line, Made, Open, Patch, Patched,
-    Post, Refused, Reply, Say, Shown, Text, Told,
+    Post, Refused, Replied, Reply, Say, Shown, Text, Told,
 };
 use crate::talks::{Files, Talk, fresh, with_files};
+use common::{MOST_LENGTH, SLOTS};
 use enc_index::Kind;
 use enc_model::Encoding;
 use gateway_files::list_on;
 use gateway_rounds::RunFault;
 use std::alloc::Global;
 use std::process::Abort;
+use tus_request::MOST_HEAD;
 
 const MAX: &str =
     "Tus-Version: 1.0.0\nTus-Extension: creation,creation-defer-length,termination\nTus-Max-Size: 1073741824";
@@ -119,11 +122,7 @@ const NOT_ENCODED: &[Step] = &[
     Patch(1, 1, 2, 1),
     Came(1, b"\x82"),
     Refused(1, "422 Unprocessable Entity", 6),
-    Shown(
-        1,
-        1,
-        "Upload-Offset: 2\nUpload-Length: 3\nUpload-Metadata: to d2luZG93cy0xMjUy,mode ZmF0YWw=",
-    ),
+    Shown(1, 1, 2, Some(3), "to d2luZG93cy0xMjUy,mode ZmF0YWw="),
     Made(2, 2, FATAL),
     Added(2, 0, b"\xC3", 1),
     Added(2, 1, b"\xA9", 2),
@@ -132,18 +131,11 @@ const NOT_ENCODED: &[Step] = &[
     Patch(1, 3, 0, 2),
     Came(1, b"A\xE3"),
     Refused(1, "422 Unprocessable Entity", 6),
-    Shown(
-        1,
-        3,
-        "Upload-Offset: 0\nUpload-Length: 2\nUpload-Metadata: to d2luZG93cy0xMjUy,mode ZmF0YWw=",
-    ),
+    Shown(1, 3, 0, Some(2), "to d2luZG93cy0xMjUy,mode ZmF0YWw="),
 ];
 
 /// The upload after `ONE_WINNER`.
-const WINNER_SHOWN: &[Step] = &[
-    Shown(1, 1, "Upload-Offset: 2\nUpload-Length: 5"),
-    Text(1, "UTF-8", b"xy"),
-];
+const WINNER_SHOWN: &[Step] = &[Shown(1, 1, 2, Some(5), ""), Text(1, "UTF-8", b"xy")];
 
 /// The bytes of a cut body are stored up to the cut.
 const CUT_BODY: &[Step] = &[
@@ -152,7 +144,7 @@ const CUT_BODY: &[Step] = &[
     Patch(1, 1, 0, 10),
     Came(1, b"abcd"),
     Line("cut 1"),
-    Shown(2, 1, "Upload-Offset: 4\nUpload-Length: 10"),
+    Shown(2, 1, 4, Some(10), ""),
     Patch(2, 1, 4, 6),
     Came(2, b"efghij"),
     Patched(2, 10),
@@ -197,7 +189,7 @@ const PASSED_OVER: &[Step] = &[
     Made(1, 5, ""),
     Came(1, TWO_REQUESTS),
     Refused(1, "415 Unsupported Media Type", 25),
-    Reply(1, "200 OK", "Upload-Offset: 0\nUpload-Length: 5", b""),
+    Replied(1, Wanted::Shown(0, Some(5), "")),
 ];
 
 /// Metadata that is refused, and metadata that is stored.
@@ -208,24 +200,20 @@ const METADATA: &[Step] = &[
     Post(5, "from dXRmLTg=,from dXRmLTg="),
     Refused(1, "400 Bad Request", 27),
     Made(1, 5, "note"),
-    Shown(
-        1,
-        1,
-        "Upload-Offset: 0\nUpload-Length: 5\nUpload-Metadata: note",
-    ),
+    Shown(1, 1, 0, Some(5), "note"),
 ];
 
 /// The least and the greatest length, and one byte more.
 const LENGTHS: &[Step] = &[
     Open(1),
     Made(1, 0, ""),
-    Shown(1, 1, "Upload-Offset: 0\nUpload-Length: 0"),
+    Shown(1, 1, 0, Some(0), ""),
     Text(1, "UTF-8", b""),
     Patch(1, 1, 0, 1),
     Came(1, b"a"),
     Refused(1, "413 Payload Too Large", 10),
-    Made(2, 1_073_741_824, ""),
-    Post(1_073_741_825, ""),
+    Made(2, MOST_LENGTH, ""),
+    Post(MOST_LENGTH + 1, ""),
     Refused(1, "413 Payload Too Large", 12),
 ];
 
@@ -253,7 +241,7 @@ const OPENED_TWICE: &[Step] = &[Line("open 3"), Line("open 3"), Told("! 3 29")];
 /// A head that is too long, and one that isn't HTTP.
 const NO_HEADS: &[Step] = &[
     Open(2),
-    Came(1, &[b'a'; 8192]),
+    Came(1, &[b'a'; MOST_HEAD]),
     Reply(
         1,
         "431 Request Header Fields Too Large",
@@ -278,12 +266,7 @@ const OTHER_METHOD: &[Step] = &[
         1,
         "POST /files/1 HTTP/1.1\nTus-Resumable: 1.0.0\nX-HTTP-Method-Override: HEAD",
     ),
-    Reply(
-        1,
-        "200 OK",
-        "Upload-Offset: 5\nUpload-Length: 5\nContent-Length: 0",
-        b"",
-    ),
+    Replied(1, Wanted::ShownToPost(5, Some(5))),
     Bytes(121),
 ];
 
@@ -309,11 +292,7 @@ const DECLARED_END: &[Step] = &[
     Added(1, 0, b"\xE3", 1),
     Declare(1, 1, 1, 1, 0),
     Refused(1, "422 Unprocessable Entity", 6),
-    Shown(
-        1,
-        1,
-        "Upload-Offset: 1\nUpload-Defer-Length: 1\nUpload-Metadata: to d2luZG93cy0xMjUy,mode ZmF0YWw=",
-    ),
+    Shown(1, 1, 1, None, "to d2luZG93cy0xMjUy,mode ZmF0YWw="),
     Declare(1, 1, 1, 3, 0),
     Patched(1, 1),
 ];
@@ -332,7 +311,7 @@ const OTHER_PATCH: &[Step] = &[
     Refused(1, "400 Bad Request", 34),
     Declare(1, 1, 0, 2, 0),
     Patched(1, 0),
-    Shown(1, 1, "Upload-Offset: 0\nUpload-Length: 2"),
+    Shown(1, 1, 0, Some(2), ""),
     Text(1, "UTF-8", b""),
     Added(1, 0, b"ab", 2),
 ];
@@ -350,7 +329,7 @@ const REFUSED_LENGTHS: &[Step] = &[
     Refused(1, "413 Payload Too Large", 12),
     Patch(1, 1, 0, 1_073_741_825),
     Refused(1, "413 Payload Too Large", 10),
-    Shown(2, 1, "Upload-Offset: 0\nUpload-Defer-Length: 1"),
+    Shown(2, 1, 0, None, ""),
 ];
 
 /// A PATCH whose upload is deleted meanwhile.
@@ -368,7 +347,7 @@ const DELETED_MEANWHILE: &[Step] = &[
 
 /// The uploads after `FULL_SPOOL`.
 const FULL_SHOWN: &[Step] = &[
-    Shown(1, 2, "Upload-Offset: 61440\nUpload-Length: 61441"),
+    Shown(1, 2, 61440, Some(61441), ""),
     Text(1, "UTF-8", BLOCK),
     Text(2, "UTF-8", FIFTEEN_BLOCKS),
 ];
@@ -527,7 +506,7 @@ fn heads_that_are_cut(rt: HostRuntime) {
         let steps = [Line("open 2"), Came(2, &HEAD[..end]), Line("cut 2")];
         talk.go_on(&rt, &steps);
     }
-    talk.go_on(&rt, &[Shown(1, 1, "Upload-Offset: 0\nUpload-Length: 5")]);
+    talk.go_on(&rt, &[Shown(1, 1, 0, Some(5), "")]);
     let disk = fresh(&rt, rt.alloc(), 32, None);
     drop(ends(&rt, rt.alloc(), "cut heads", &talk, disk, None));
 }
@@ -535,23 +514,31 @@ fn heads_that_are_cut(rt: HostRuntime) {
 #[test]
 fn one_upload_too_many(rt: HostRuntime) {
     let mut talk = Talk::new(&rt, rt.alloc(), &[Open(1)]);
-    for number in 1..=512u64 {
+    let slots = SLOTS as u64;
+    for number in 1..=slots {
         talk.go_on(&rt, &[Made(number, 0, "")]);
     }
     let refused = [
         Post(0, ""),
         Refused(1, "507 Insufficient Storage", 11),
-        Shown(1, 512, "Upload-Offset: 0\nUpload-Length: 0"),
+        Shown(1, slots, 0, Some(0), ""),
         Deleted(1, 100),
-        Made(513, 0, ""),
+        Made(slots + 1, 0, ""),
     ];
     talk.go_on(&rt, &refused);
     let disk = fresh(&rt, rt.alloc(), 32, None);
-    let disk = ends(&rt, rt.alloc(), "513 uploads", &talk, disk, None);
+    let disk = ends(&rt, rt.alloc(), "one upload too many", &talk, disk, None);
     let mut lines = Vec::new(rt.alloc());
     let (disk, listed) = list_on(rt.alloc(), &mut lines, disk, false);
     drop(disk);
     assert!(rt; listed.is_ok());
-    assert!(rt; lines.ends_with(b"\n512 0/0 0 UTF-8 UTF-8 html\n513 0/0 0 UTF-8 UTF-8 html\n"));
-    assert_eq!(rt; lines.iter().filter(|it| **it == b'\n').count(), 512);
+    let last = slots + 1;
+    let ends_in = format!(in rt.alloc();
+        "\n{slots} 0/0 0 UTF-8 UTF-8 html\n{last} 0/0 0 UTF-8 UTF-8 html\n"
+    ).expect(&rt, "memory");
+    assert!(rt; lines.ends_with(ends_in.as_bytes()));
+    assert_eq!(rt;
+        lines.iter().filter(|it| **it == b'\n').count(),
+        SLOTS as usize
+    );
 }

@@ -1,5 +1,6 @@
 //! Clients over real sockets, in one thread: each client sends all its bytes before the server runs.
 
+use crate::replies::{Wanted, replies};
 use crate::spools::{calls_of_opening, opened};
 use crate::talks::fresh;
 use gateway_serve::{Listening, Outcome, serve_on};
@@ -12,9 +13,7 @@ use std::time::Clock;
 
 const POST: &[u8] = b"POST /files HTTP/1.1\r\nTus-Resumable: 1.0.0\r\nUpload-Length: 5\r\n\r\n";
 
-const MADE_FIRST: &[u8] =
-    b"HTTP/1.1 201 Created\r\nTus-Resumable: 1.0.0\r\nCache-Control: no-store\r\n\
-Location: /files/1\r\nContent-Length: 0\r\n\r\n";
+const MADE_FIRST: &[Wanted] = &[Wanted::Made(1)];
 
 const SECOND: &[u8] = b"POST /files HTTP/1.1\r\nTus-Resumable: 1.0.0\r\nUpload-Length: 5\r\n\r\n\
 PATCH /files/2 HTTP/1.1\r\nTus-Resumable: 1.0.0\r\nContent-Type: application/offset+octet-stream\r\n\
@@ -22,13 +21,12 @@ Upload-Offset: 0\r\nContent-Length: 5\r\n\r\nhello\
 HEAD /files/2 HTTP/1.1\r\nTus-Resumable: 1.0.0\r\n\r\n\
 GET /files/2 HTTP/1.1\r\n\r\n";
 
-const MADE_SECOND: &[u8] =
-    b"HTTP/1.1 201 Created\r\nTus-Resumable: 1.0.0\r\nCache-Control: no-store\r\n\
-Location: /files/2\r\nContent-Length: 0\r\n\r\n\
-HTTP/1.1 204 No Content\r\nTus-Resumable: 1.0.0\r\nCache-Control: no-store\r\nUpload-Offset: 5\r\n\r\n\
-HTTP/1.1 200 OK\r\nTus-Resumable: 1.0.0\r\nCache-Control: no-store\r\nUpload-Offset: 5\r\nUpload-Length: 5\r\n\r\n\
-HTTP/1.1 200 OK\r\nTus-Resumable: 1.0.0\r\nCache-Control: no-store\r\nContent-Type: text/plain; charset=UTF-8\r\n\
-Content-Length: 5\r\n\r\nhello";
+const MADE_SECOND: &[Wanted] = &[
+    Wanted::Made(2),
+    Wanted::Patched(5),
+    Wanted::Shown(5, Some(5), ""),
+    Wanted::Text(b"hello"),
+];
 
 const CUT_BODY: &[u8] = b"POST /files HTTP/1.1\r\nTus-Resumable: 1.0.0\r\nUpload-Length: 10\r\n\r\n\
 PATCH /files/1 HTTP/1.1\r\nTus-Resumable: 1.0.0\r\nContent-Type: application/offset+octet-stream\r\n\
@@ -36,8 +34,7 @@ Upload-Offset: 0\r\nContent-Length: 10\r\n\r\nabcd";
 
 const HEAD: &[u8] = b"HEAD /files/1 HTTP/1.1\r\nTus-Resumable: 1.0.0\r\n\r\n";
 
-const FOUR_OF_TEN: &[u8] = b"HTTP/1.1 200 OK\r\nTus-Resumable: 1.0.0\r\nCache-Control: no-store\r\n\
-Upload-Offset: 4\r\nUpload-Length: 10\r\n\r\n";
+const FOUR_OF_TEN: &[Wanted] = &[Wanted::Shown(4, Some(10), "")];
 
 const NOT_HTTP: &[u8] = b"BAD\r\n\r\nGET /files/1 HTTP/1.1\r\n\r\n";
 
@@ -127,8 +124,8 @@ fn two_clients_are_served(rt: HostRuntime) {
     let disk = fresh(&rt, alloc, 16, None);
     let (_disk, well) = served(&rt, alloc, &listener, disk, 2);
     assert!(rt; well);
-    is_told(&rt, alloc, &mut first, MADE_FIRST);
-    is_told(&rt, alloc, &mut second, MADE_SECOND);
+    is_told(&rt, alloc, &mut first, &replies(&rt, alloc, MADE_FIRST));
+    is_told(&rt, alloc, &mut second, &replies(&rt, alloc, MADE_SECOND));
 }
 
 #[test]
@@ -140,7 +137,7 @@ fn cut_body_counts_up_to_the_cut_and_a_close_is_told(rt: HostRuntime) {
     let disk = serve(&rt, alloc, &listener, disk);
     let mut later = client(&rt, &listener, HEAD);
     let disk = serve(&rt, alloc, &listener, disk);
-    is_told(&rt, alloc, &mut later, FOUR_OF_TEN);
+    is_told(&rt, alloc, &mut later, &replies(&rt, alloc, FOUR_OF_TEN));
     let mut lost = stays(&rt, &listener, NOT_HTTP);
     drop(serve(&rt, alloc, &listener, disk));
     is_told(&rt, alloc, &mut lost, MALFORMED);

@@ -1,6 +1,7 @@
 //! Clients that read late, over scripted sockets, and a server that has nothing to do.
 
 use crate::clients::{Clients, Manner, Steps, served};
+use crate::replies::{Wanted, replies};
 use std::alloc::Global;
 use std::cell::Cell;
 use std::process::Abort;
@@ -13,11 +14,7 @@ PATCH /files/1 HTTP/1.1\r\nTus-Resumable: 1.0.0\r\nContent-Type: application/off
 Upload-Offset: 0\r\nContent-Length: 5\r\n\r\nhello\
 GET /files/1 HTTP/1.1\r\n\r\n";
 
-const TOLD: &[u8] = b"HTTP/1.1 201 Created\r\nTus-Resumable: 1.0.0\r\nCache-Control: no-store\r\n\
-Location: /files/1\r\nContent-Length: 0\r\n\r\n\
-HTTP/1.1 204 No Content\r\nTus-Resumable: 1.0.0\r\nCache-Control: no-store\r\nUpload-Offset: 5\r\n\r\n\
-HTTP/1.1 200 OK\r\nTus-Resumable: 1.0.0\r\nCache-Control: no-store\r\nContent-Type: text/plain; charset=UTF-8\r\n\
-Content-Length: 5\r\n\r\nhello";
+const TOLD: &[Wanted] = &[Wanted::Made(1), Wanted::Patched(5), Wanted::Text(b"hello")];
 
 const SECOND: u64 = 1_000_000;
 
@@ -67,7 +64,7 @@ fn told(rt: &impl Abort, alloc: Global, pauses: u32) -> usize {
 #[test]
 fn replies_under_way_are_kept_for_a_minute_where_all_places_are_taken(rt: HostRuntime) {
     let alloc = rt.alloc();
-    assert_eq!(rt; told(&rt, alloc, 5), TOLD.len());
+    assert_eq!(rt; told(&rt, alloc, 5), replies(&rt, alloc, TOLD).len());
     assert_eq!(rt; told(&rt, alloc, 100), 10);
 }
 

@@ -23,7 +23,7 @@ pub(crate) const HELLO: &[Step] = &[
     Changed(&[(1, 0, Some(5), b"")]),
     Added(1, 0, b"hello", 5),
     Changed(&[(1, 5, Some(5), b"hello")]),
-    Shown(1, 1, "Upload-Offset: 5\nUpload-Length: 5"),
+    Shown(1, 1, 5, Some(5), ""),
     Text(1, "UTF-8", b"hello"),
 ];
 
@@ -60,12 +60,12 @@ pub(crate) const DECLARED_AND_CUT: &[Step] = &[
     Deferred(1, ""),
     Bytes(110),
     Changed(&[(1, 0, None, b"")]),
-    Shown(2, 1, "Upload-Offset: 0\nUpload-Defer-Length: 1"),
+    Shown(2, 1, 0, None, ""),
     Bytes(108),
     Declare(1, 1, 0, 5, 5),
     Came(1, b"abcd"),
     Line("cut 1"),
-    Shown(2, 1, "Upload-Offset: 4\nUpload-Length: 5"),
+    Shown(2, 1, 4, Some(5), ""),
     Changed(&[(1, 4, Some(5), b"abcd")]),
 ];
 

@@ -1,5 +1,6 @@
 //! Talks: scripts together with the output that their runs must write.
 
+use crate::replies::{Wanted, replies};
 use enc_index::{Index, IndexSet, Kind};
 use spool_disk::MemoryDisk;
 use spool_image::format;
@@ -21,7 +22,9 @@ pub(crate) enum Step<'a> {
     Told(&'a str),
     /// Bytes that must be sent on a connection.
     Given(u32, &'a [u8]),
-    /// A reply on a connection: its status, its own lines and its body.
+    /// A reply on a connection.
+    Replied(u32, Wanted<'a>),
+    /// A reply on a connection that no `Wanted` is: its status, its own lines and its body.
     Reply(u32, &'a str, &'a str, &'a [u8]),
     /// A refusal on a connection: its status and its number.
     Refused(u32, &'a str, u8),
@@ -46,8 +49,8 @@ pub(crate) enum Step<'a> {
     Deleted(u32, u64),
     /// A HEAD of an upload that is gone, on a connection.
     Gone(u32, u64),
-    /// A HEAD of an upload on a connection, and the lines of its reply.
-    Shown(u32, u64, &'a str),
+    /// A HEAD of an upload on a connection, and the offset, the declared length and the metadata that it shows.
+    Shown(u32, u64, u64, Option<u64>, &'a str),
     /// A GET of an upload on connection 1, with the character set and the text of its reply.
     Text(u64, &'a str, &'a [u8]),
     /// The latest reply acknowledged a change. The uploads after it: the number, the accepted bytes, the declared
@@ -129,6 +132,7 @@ impl Talk {
             Step::Came(conn, bytes) => self.came(rt, conn, bytes),
             Step::Told(text) => self.told(rt, text),
             Step::Given(conn, bytes) => self.given(rt, conn, bytes),
+            Step::Replied(conn, reply) => self.replied(rt, conn, reply),
             Step::Reply(conn, status, lines, body) => self.reply(rt, conn, status, lines, body),
             Step::Refused(conn, status, number) => self.refused(rt, conn, status, number),
             Step::Bytes(count) => assert_eq!(rt; self.latest, count),
@@ -146,23 +150,23 @@ impl Talk {
                 Some(length),
                 count,
             ),
-            Step::Patched(conn, offset) => self.patched(rt, conn, offset),
+            Step::Patched(conn, offset) => self.replied(rt, conn, Wanted::Patched(offset)),
             Step::Added(number, offset, bytes, reached) => {
                 self.patch(rt, 1, number, offset, None, bytes.len());
                 self.came(rt, 1, bytes);
-                self.patched(rt, 1, reached);
+                self.replied(rt, 1, Wanted::Patched(reached));
             }
             Step::Deleted(conn, number) => {
                 self.ask(rt, conn, "DELETE", number);
-                self.reply(rt, conn, "204 No Content", "", b"");
+                self.replied(rt, conn, Wanted::Deleted);
             }
             Step::Gone(conn, number) => {
                 self.ask(rt, conn, "HEAD", number);
-                self.reply(rt, conn, "404 Not Found", "X-Refusal: 8", b"");
+                self.replied(rt, conn, Wanted::Gone);
             }
-            Step::Shown(conn, number, lines) => {
+            Step::Shown(conn, number, offset, declared, metadata) => {
                 self.ask(rt, conn, "HEAD", number);
-                self.reply(rt, conn, "200 OK", lines, b"");
+                self.replied(rt, conn, Wanted::Shown(offset, declared, metadata));
             }
             Step::Text(number, charset, text) => self.text(rt, number, charset, text),
             Step::Changed(uploads) => self.changed(rt, uploads),
@@ -216,6 +220,12 @@ impl Talk {
         self.told(rt, "");
     }
 
+    fn replied(&mut self, rt: &impl Abort, conn: u32, reply: Wanted) {
+        let bytes = replies(rt, self.alloc, &[reply]);
+        self.latest = bytes.len();
+        self.given(rt, conn, &bytes);
+    }
+
     fn reply(&mut self, rt: &impl Abort, conn: u32, status: &str, lines: &str, body: &[u8]) {
         let mut bytes = Vec::new(self.alloc);
         put(rt, &mut bytes, b"HTTP/1.1 ");
@@ -260,10 +270,7 @@ impl Talk {
 
     fn made(&mut self, rt: &impl Abort, number: u64, length: Option<u64>, metadata: &str) {
         self.post(rt, length, metadata);
-        let lines = format!(in self.alloc; "Location: /files/{number}\nContent-Length: 0").expect(
-            rt, MEMORY,
-        );
-        self.reply(rt, 1, "201 Created", &lines, b"");
+        self.replied(rt, 1, Wanted::Made(number));
     }
 
     fn patch(
@@ -285,11 +292,6 @@ impl Talk {
             head.push_str(&line).expect(rt, MEMORY);
         }
         self.say(rt, conn, &head);
-    }
-
-    fn patched(&mut self, rt: &impl Abort, conn: u32, offset: u64) {
-        let lines = format!(in self.alloc; "Upload-Offset: {offset}").expect(rt, MEMORY);
-        self.reply(rt, conn, "204 No Content", &lines, b"");
     }
 
     /// The head of a request for an upload.

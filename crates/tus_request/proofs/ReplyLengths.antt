@@ -1,23 +1,23 @@
 -- No reply is longer than 2,048 bytes without its body.
 use Rattle.std.proofs.Common.{ℕ, ◌≤◌, ◌<◌, ◌+◌, ◌^◌, Bool, true, false, List, [], ◌∷◌, ◌++◌, length, Option, Some, None}
-use Rattle.std.proofs.Common.{IfSome, OnErr, OnOk, Result, Ok, Err, arith, codes, ◌≡◌, ap, ◌∙◌}
+use Rattle.std.proofs.Common.{IfSome, OnErr, OnOk, Result, Ok, Err, arith, codes, ◌≡◌, refl, sym, ap, ◌∙◌}
 use Rattle.std.proofs.lemmas.List.{length-append, append-nil}
 use Rattle.std.proofs.lemmas.Fmt.{length-decimal-le}
-use Rattle.std.specs.Fmt.{decimal}
-use Rattle.common.specs.declared.limits.TheConstants.{MOST_METADATA}
+use Rattle.std.specs.Fmt.{decimal, digits}
+use Rattle.common.specs.declared.limits.TheConstants.{MOST_LENGTH, MOST_METADATA}
 use Rattle.enc_model.specs.declared.Encoding.{Encoding}
 use Rattle.enc_labels.specs.Labels.{name_of}
 use Rattle.tus_request.specs.Faults.{fault_number}
 use Rattle.tus_request.specs.declared.faults.Fault.{Fault}
 use Rattle.tus_request.specs.Replies.{close_line, declared_line, header, length_line, metadata_line, refusal_lead}
 use Rattle.tus_request.specs.Replies.{refusal_line, refusal_lines, reply, reply_created, reply_head}
-use Rattle.tus_request.specs.Replies.{longest_reply, GrowsBy, options_lines}
+use Rattle.tus_request.specs.Replies.{longest_reply, GrowsBy}
 use Rattle.tus_request.proofs.ReplyTexts.{one_line, two_lines, three_lines}
 use Rattle.tus_request.specs.Replies.{reply_options, reply_patched, reply_refused, reply_text, status_of, unless_bare}
 
 -- a number has at most 20 digits
-digits : (n : ℕ) → n < 2 ^ 64 → length (decimal n) ≤ 20
-digits n small = length-decimal-le 20 n (omega arith) (omega (arith, small)) small
+few_digits : (n : ℕ) → n < 2 ^ 64 → length (decimal n) ≤ 20
+few_digits n small = length-decimal-le 20 n (omega arith) (omega (arith, small)) small
 
 -- a header's length
 header_length : (name value : List ℕ) → length (header name value) ≡ length name + 4 + length value
@@ -26,7 +26,7 @@ header_length name value =
 
 length_short : (n : Option ℕ) → IfSome n (λ k. k < 2 ^ 64) → length (length_line n) ≤ 38
 length_short None small = omega arith
-length_short (Some n) small = omega (arith, header_length (codes "Content-Length") (decimal n), digits n small)
+length_short (Some n) small = omega (arith, header_length (codes "Content-Length") (decimal n), few_digits n small)
 
 close_short : (closes : Bool) → length (close_line closes) ≤ 19
 close_short closes = grind arith
@@ -49,10 +49,22 @@ unless_small : (bare : Bool) (n : ℕ) → n < 2 ^ 64 → IfSome (unless_bare ba
 unless_small true n small = tt
 unless_small false n small = small
 
-pub options_reply : (closes : Bool) (own : List ℕ) → own ≡ options_lines
+most_length_is : decimal MOST_LENGTH ≡ codes "1073741824"
+unfolding digits
+most_length_is = refl
+
+-- the lines of the reply to OPTIONS, with this for the greatest length
+abbrev pub lines_with : List ℕ → List ℕ
+lines_with most =
+    header (codes "Tus-Version") (codes "1.0.0")
+    ++ (header (codes "Tus-Extension") (codes "creation,creation-defer-length,termination")
+    ++ header (codes "Tus-Max-Size") most)
+
+pub options_reply : (closes : Bool) (own : List ℕ) → own ≡ lines_with (codes "1073741824")
     → IsReply (reply (codes "204 No Content") (own ++ []) None closes) (reply_options closes)
 options_reply closes own is =
-    is_reply _ _ (ap (λ t. reply (codes "204 No Content") t None closes) (append-nil own ∙ is)) (grind arith)
+    is_reply _ _ (ap (λ t. reply (codes "204 No Content") t None closes) (append-nil own ∙ is ∙ ap lines_with (sym most_length_is)))
+    (rw most_length_is (grind arith))
 
 pub created : (number : ℕ) (bare closes : Bool) (location size : List ℕ) (n : Option ℕ) → number < 2 ^ 64
     → location ≡ header (codes "Location") (codes "/files/" ++ decimal number) → size ≡ length_line n
@@ -66,7 +78,7 @@ created number bare closes location size n small place is none =
           (unless_bare bare 0) closes (omega arith) (unless_small bare 0 (omega arith)),
       header_length (codes "Location") (codes "/files/" ++ decimal number),
       length-append {A = ℕ},
-      digits number small,
+      few_digits number small,
     ))
 
 pub patched : (offset : ℕ) (closes : Bool) (own : List ℕ) → offset < 2 ^ 64
@@ -77,12 +89,12 @@ patched offset closes own small is =
       arith,
       around (codes "204 No Content") (header (codes "Upload-Offset") (decimal offset)) None closes (omega arith) tt,
       header_length (codes "Upload-Offset") (decimal offset),
-      digits offset small,
+      few_digits offset small,
     ))
 
 declared_short : (declared : Option ℕ) → IfSome declared (λ k. k < 2 ^ 64) → length (declared_line declared) ≤ 60
 declared_short None small = omega arith
-declared_short (Some n) small = omega (arith, header_length (codes "Upload-Length") (decimal n), digits n small)
+declared_short (Some n) small = omega (arith, header_length (codes "Upload-Length") (decimal n), few_digits n small)
 
 metadata_short : (metadata : List ℕ) → length metadata ≤ MOST_METADATA → length (metadata_line metadata) ≤ 1560
 metadata_short [] few = omega arith
@@ -104,7 +116,7 @@ head offset declared metadata bare closes a b size n small known few offsets dec
       length-append first (declared_line declared ++ metadata_line metadata),
       length-append (declared_line declared) (metadata_line metadata),
       header_length (codes "Upload-Offset") (decimal offset),
-      digits offset small,
+      few_digits offset small,
       declared_short declared known,
       metadata_short metadata few,
     ))
@@ -149,7 +161,7 @@ refused fault on_files bare closes status first number size n stands leads line 
       length-append (refusal_lead fault on_files) (refusal_line fault),
       lead_short fault on_files,
       header_length (codes "X-Refusal") (decimal (fault_number fault)),
-      digits (fault_number fault) (number_small fault),
+      few_digits (fault_number fault) (number_small fault),
     ))
 
 -- one is appended, or nothing is

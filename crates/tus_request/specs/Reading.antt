@@ -5,6 +5,7 @@ use Rattle.std.specs.List.{list_all}
 use Rattle.std.specs.Str.{is_utf8}
 use Rattle.httparse.specs.Grammar.{LineEnd, crlf, lf, is_token, is_uri_byte, is_value_byte, Field, RequestHead}
 use Rattle.httparse.specs.Grammar.{print_request}
+use Rattle.common.specs.Splits.{before, after}
 use Rattle.tus_request.specs.Lines.{lines, is_empty_line}
 
 -- A line without its end.

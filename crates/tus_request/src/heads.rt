@@ -18,7 +18,7 @@ use httparse::{Request, Status};
 use std::alloc::{AllocError, Global};
 
 // The most bytes of a head. `MAX_LINES` is the most lines after its request line.
-pub(crate) const MOST_HEAD: usize = 8192;
+pub const MOST_HEAD: usize = 8192;
 
 const MAX_LINES: usize = 64;
 

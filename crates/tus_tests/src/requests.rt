@@ -3,7 +3,7 @@
 use enc_index::IndexSet;
 use std::alloc::Global;
 use std::process::Abort;
-use tus_request::{Fault, Parsed, parse};
+use tus_request::{Fault, MOST_HEAD, Parsed, parse};
 
 /// The answer to a head without any index file.
 fn parsed(rt: &impl Abort, alloc: Global, head: &[u8]) -> Parsed {
@@ -291,11 +291,14 @@ fn heads_that_are_not_whole(rt: HostRuntime) {
         parsed(&rt, rt.alloc(), b"GET /files/1 HTTP/1.1\r\n"),
         Parsed::More
     );
-    let letters = [b'a'; 8192];
-    assert_eq!(rt; parsed(&rt, rt.alloc(), &letters[..8191]), Parsed::More);
+    let letters = [b'a'; MOST_HEAD];
+    assert_eq!(rt;
+        parsed(&rt, rt.alloc(), &letters[..MOST_HEAD - 1]),
+        Parsed::More
+    );
     assert_eq!(rt;
         parsed(&rt, rt.alloc(), letters.as_slice()),
-        refusal(8192, Fault::HeadTooLong, false, true)
+        refusal(MOST_HEAD, Fault::HeadTooLong, false, true)
     );
 }
 
@@ -312,7 +315,7 @@ fn padded(rt: &impl Abort, alloc: Global, len: usize) -> Vec<u8> {
 
 #[test]
 fn heads_as_long_as_may_be(rt: HostRuntime) {
-    for len in [8191, 8192] {
+    for len in [MOST_HEAD - 1, MOST_HEAD] {
         let head = padded(&rt, rt.alloc(), len);
         assert_eq!(rt; head.len(), len);
         let answer = parsed(&rt, rt.alloc(), &head);
@@ -322,8 +325,8 @@ fn heads_as_long_as_may_be(rt: HostRuntime) {
         );
     }
     assert_eq!(rt;
-        parsed(&rt, rt.alloc(), &padded(&rt, rt.alloc(), 8193)),
-        refusal(8192, Fault::HeadTooLong, false, true)
+        parsed(&rt, rt.alloc(), &padded(&rt, rt.alloc(), MOST_HEAD + 1)),
+        refusal(MOST_HEAD, Fault::HeadTooLong, false, true)
     );
 }
 
