@@ -188,4 +188,4 @@ nothing_made {m0} {m1} {l0} {l1} before after refusal (Refused f) result on_file
 nothing_made before after refusal (errors.Stop why) (Ok a) on_files bare closes old new done same answered replies is
     limits unmade = absurd replies
 nothing_made before after refusal (errors.Stop why) (Err stop) on_files bare closes old new done same answered replies
-    is limits unmade = unmade (ap errors.Stop (sym replies.0 ∙ is))
+    is limits unmade = let none : stop ≡ NoMemory = cc in unmade (ap errors.Stop (sym replies.0 ∙ none))
