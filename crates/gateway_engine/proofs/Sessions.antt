@@ -18,7 +18,8 @@ use Rattle.tus_session.specs.Told.{Told, Opens}
 use Rattle.tus_session.specs.declared.answers.Answer.{Answer}
 use Rattle.tus_session.specs.declared.conns.Link.{Link}
 use Rattle.tus_session.specs.declared.errors.SessionError.{SessionError}
-use Rattle.tus_session.specs.declared.errors.SessionError.TheVariants.{NoMemory, DiskFault, TooMany, Closed, Down}
+use Rattle.tus_session.specs.declared.errors.SessionError.TheVariants.{Stop, TooMany, Closed, Down}
+use Rattle.common.specs.declared.stop.Stop.TheVariants.{NoMemory, DiskFault}
 use Rattle.tus_session.proofs.Limiting.{still_limits}
 use Rattle.tus_session.specs.Connections.{Gives, Does, mark_of}
 use Rattle.tus_session.specs.Images.{shown_by}
@@ -75,7 +76,7 @@ opened_refused st c = opened_stays st c (st.conns c)
 
 -- the gateway is down where the disk failed at the call, and nowhere else
 abbrev pub FallsBy : {T : Type 0} → Bool → Result T SessionError → Type 0
-FallsBy down result = (down ≡ true) ↔ IsErrOf result DiskFault
+FallsBy down result = (down ≡ true) ↔ IsErrOf result (Stop DiskFault)
 
 -- HOW A CALL OF THE SESSION LEAVES THE GATEWAY
 module _ {U B : Type 0} (u : Ghosts U B) (g : Gateway U B) (sure : Bool) (st : State) (e : Event) where
@@ -86,7 +87,7 @@ module _ {U B : Type 0} (u : Ghosts U B) (g : Gateway U B) (sure : Bool) (st : S
   stands s = GatewayStands u g sure s
 
   still_up : {T : Type 0} (result : Result T SessionError) → FallsBy (is_down g) result
-      → (IsErrOf result DiskFault → ⊥) → is_down g ≡ false
+      → (IsErrOf result (Stop DiskFault) → ⊥) → is_down g ≡ false
   still_up result falls valid = false_from_ne_true (is_down g) (λ down. valid (falls.0 down))
 
   at : (s : State) → SessionStands u sure places g.store s → is_down g ≡ false → GatewayStands u g sure s
@@ -101,10 +102,10 @@ module _ {U B : Type 0} (u : Ghosts U B) (g : Gateway U B) (sure : Bool) (st : S
   told_gives (Ok a) old new falls stays t =
       let up = still_up (Ok a) falls (λ f. absurd (cc)) in
       (t.0, record { answer = t.1.outcome; keeps = at _ t.1.stands up }, t.2)
-  told_gives (Err NoMemory) old new falls stays t =
-      let up = still_up {T = Answer} (Err NoMemory) falls (λ f. absurd (cc)) in
+  told_gives (Err (Stop NoMemory)) old new falls stays t =
+      let up = still_up {T = Answer} (Err (Stop NoMemory)) falls (λ f. absurd (cc)) in
       ([], record { answer = t.0.outcome; keeps = at _ t.0.stands up }, t.1)
-  told_gives (Err DiskFault) old new falls stays t = ([], record { answer = t.0; keeps = tt {0} }, t.1)
+  told_gives (Err (Stop DiskFault)) old new falls stays t = ([], record { answer = t.0; keeps = tt {0} }, t.1)
   told_gives (Err TooMany) old new falls stays t =
       let up = still_up {T = Answer} (Err TooMany) falls (λ f. absurd (cc)) in
       ([], record { answer = t.0.outcome; keeps = at_same _ (stays TooMany t.0.outcome) t.0.stands up }, t.1)
@@ -119,10 +120,10 @@ module _ {U B : Type 0} (u : Ghosts U B) (g : Gateway U B) (sure : Bool) (st : S
       → RefusedStays st (step st e Served) → told.Ends u sure places g.store result st e → Does stands result st e
   ends_does (Ok x) falls stays t =
       record { answer = t.outcome; keeps = at _ t.stands (still_up (Ok x) falls (λ f. absurd (cc))) }
-  ends_does (Err NoMemory) falls stays t =
-      let up = still_up {T = Unit {0}} (Err NoMemory) falls (λ f. absurd (cc)) in
+  ends_does (Err (Stop NoMemory)) falls stays t =
+      let up = still_up {T = Unit {0}} (Err (Stop NoMemory)) falls (λ f. absurd (cc)) in
       record { answer = t.outcome; keeps = at _ t.stands up }
-  ends_does (Err DiskFault) falls stays t = record { answer = t; keeps = tt {0} }
+  ends_does (Err (Stop DiskFault)) falls stays t = record { answer = t; keeps = tt {0} }
   ends_does (Err TooMany) falls stays t =
       let up = still_up {T = Unit {0}} (Err TooMany) falls (λ f. absurd (cc)) in
       record { answer = t.outcome; keeps = at_same _ (stays TooMany t.outcome) t.stands up }
@@ -136,8 +137,7 @@ module _ {U B : Type 0} (u : Ghosts U B) (g : Gateway U B) (sure : Bool) (st : S
   pub opens_does : (result : Result (Unit {0}) SessionError) → is_down g ≡ false
       → ManyStays st (step st e Served) → Opens u sure places g.store result st e → Does stands result st e
   opens_does (Ok x) up stays t = record { answer = t.outcome; keeps = at _ t.stands up }
-  opens_does (Err NoMemory) up stays t = let f : NoMemory ≡ TooMany = (stays NoMemory t.outcome).0 in absurd (cc)
-  opens_does (Err DiskFault) up stays t = let f : DiskFault ≡ TooMany = (stays DiskFault t.outcome).0 in absurd (cc)
+  opens_does (Err (Stop stop)) up stays t = let f : Stop stop ≡ TooMany = (stays (Stop stop) t.outcome).0 in absurd (cc)
   opens_does (Err TooMany) up stays t =
       record { answer = t.outcome; keeps = at_same _ ((stays TooMany t.outcome).1) t.stands up }
   opens_does (Err Closed) up stays t = let f : Closed ≡ TooMany = (stays Closed t.outcome).0 in absurd (cc)
@@ -148,11 +148,11 @@ module _ {before now : ℕ} {left_only left_only' : Option ℕ → ℕ → List 
     (e : Event) where
   pub shown_after : (result : Result T SessionError) → Limits before now left_only left_only' st.world.store
       (step st e Served).state.world.store
-      → (IsErrOf result NoMemory → Limits before now left_only left_only' st.world.store st.world.store)
+      → (IsErrOf result (Stop NoMemory) → Limits before now left_only left_only' st.world.store st.world.store)
       → Limits before now left_only left_only' st.world.store (shown_by st e (mark_of result))
   shown_after (Ok x) made unmade = made
-  shown_after (Err NoMemory) made unmade = still_limits _ (unmade refl)
-  shown_after (Err DiskFault) made unmade = made
+  shown_after (Err (Stop NoMemory)) made unmade = still_limits _ (unmade refl)
+  shown_after (Err (Stop DiskFault)) made unmade = made
   shown_after (Err TooMany) made unmade = made
   shown_after (Err Closed) made unmade = made
   shown_after (Err Down) made unmade = made

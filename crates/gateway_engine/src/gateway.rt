@@ -6,6 +6,7 @@ ghost use Rattle.upload_rules.specs.Answers.{Quiet};
 ghost use Rattle.tus_session.specs.History.{State, beginning};
 ghost use Rattle.gateway_engine.specs.Gateways.{GatewayStands, store_of, is_down};
 
+use common::Stop;
 use std::alloc::{AllocError, Global};
 use tus_session::{Answer, Connections, Session, SessionError};
 use upload_rules::Uploads;
@@ -79,9 +80,9 @@ impl<U: Uploads> Gateway<U> {
 
 // Whether the disk failed at the call that answered so.
 fn failed<T>(answer: &Result<T, SessionError>) -> bool
-    ensures { IsTrue result ↔ IsErrOf answer.now SessionError.DiskFault }
+    ensures { IsTrue result ↔ IsErrOf answer.now (SessionError.Stop Stop.DiskFault) }
 {
-    matches!(answer, Err(SessionError::DiskFault))
+    matches!(answer, Err(SessionError::Stop(Stop::DiskFault)))
 }
 
 impl<U: Uploads> Connections for Gateway<U> {

@@ -14,7 +14,7 @@ use Rattle.upload_rules.specs.Reading.{no_such}
 use Rattle.upload_rules.specs.Store.{Store, Upload, deleted_store, find, others, upload_of}
 use Rattle.upload_rules.specs.World.{World, is_there}
 use Rattle.upload_rules.specs.declared.errors.UploadError.{UploadError}
-use Rattle.upload_rules.specs.declared.errors.UploadError.TheVariants.{NoMemory, DiskFault, Refused}
+use Rattle.upload_rules.specs.declared.errors.UploadError.TheVariants.{Stop, Refused}
 use Rattle.upload_rules.specs.declared.errors.UploadRefusal.{UploadRefusal}
 use Rattle.upload_rules.specs.declared.uploads.Uploads.{Ghosts}
 use Rattle.gateway_files.specs.Changing.{AllAmong, LimitsTo}
@@ -35,8 +35,7 @@ stays stands w n e is now = rw (others_all n w.store.uploads (none_there (upload
 pub refused_stays : {T : Type 0} (stands : World → Type 0) (w : World) (n : ℕ) (done : T → Type 0) (f : UploadError)
     (e : UploadRefusal) → f ≡ Refused e → Answers {T = T} (no_such (upload_of w.store n)) (Err f) done (stands w)
     → stands (terminated w n)
-refused_stays stands w n done NoMemory e is said = absurd (cc)
-refused_stays stands w n done DiskFault e is said = absurd (cc)
+refused_stays stands w n done (Stop stop) e is said = absurd (cc)
 refused_stays stands w n done (Refused f) e is said = stays stands w n f said.0 said.1
 
 -- no failure was counted

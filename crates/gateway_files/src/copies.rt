@@ -9,6 +9,7 @@ ghost use Rattle.gateway_files.specs.declared.faults.Fault.{Fault};
 ghost use Rattle.gateway_files.specs.Changing.{IsChangeFault};
 
 use crate::faults::Fault;
+use common::Stop;
 use std::io::Write;
 use upload_rules::{UploadError, Uploads};
 
@@ -105,7 +106,7 @@ fn read_at<U: Uploads>(uploads: &mut U, number: u64, at: u64, piece: &mut [u8]) 
     match uploads.read_text(number, at, piece) {
         // What no upload has is no text.
         Ok(_) | Err(UploadError::Refused(_)) => Ok(()),
-        Err(UploadError::NoMemory) => Err(Fault::NoMemory),
-        Err(UploadError::DiskFault) => Err(Fault::DiskFault),
+        Err(UploadError::Stop(Stop::NoMemory)) => Err(Fault::NoMemory),
+        Err(UploadError::Stop(Stop::DiskFault)) => Err(Fault::DiskFault),
     }
 }

@@ -17,6 +17,7 @@ use crate::failures::Failure;
 use crate::faults::Fault;
 use crate::spool_files::{open_spool, refused_spool};
 use crate::streams::Noted;
+use common::Stop;
 use spool_disk::{Disk, FileDisk};
 use spool_image::Spool;
 use std::alloc::Global;
@@ -162,8 +163,8 @@ fn terminate<U: Uploads>(uploads: &mut U, number: u64) -> Result<bool, Fault>
     match uploads.terminate(number) {
         Ok(()) => Ok(true),
         Err(UploadError::Refused(_)) => Ok(false),
-        Err(UploadError::NoMemory) => Err(Fault::NoMemory),
-        Err(UploadError::DiskFault) => Err(Fault::DiskFault),
+        Err(UploadError::Stop(Stop::NoMemory)) => Err(Fault::NoMemory),
+        Err(UploadError::Stop(Stop::DiskFault)) => Err(Fault::DiskFault),
     }
 }
 

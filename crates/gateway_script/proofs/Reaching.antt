@@ -6,6 +6,7 @@ use Rattle.gateway_script.proofs.Passing.{give_adds, given_adds}
 use Rattle.tus_session.specs.History.{Event, Marked, Came, More, Outcome, Gave, Refused}
 use Rattle.tus_session.specs.declared.answers.Answer.{Answer}
 use Rattle.tus_session.specs.declared.errors.SessionError.TheVariants as errors
+use Rattle.common.specs.declared.stop.Stop.TheVariants as stops
 use Rattle.gateway_script.specs.Script as script
 use Rattle.gateway_script.specs.Script.{Run, Flow, flow, call, mores, mores_after, most_calls, onward, given_after}
 use Rattle.gateway_script.specs.Script.{give_within}
@@ -104,7 +105,7 @@ module _ {C : Type 0} (v : View C) (f : Run → Flow) (n k : ℕ) (r s : Run) (p
   more_fails faults.DiskFault c = (
     c.0,
     reach_both f (mores (suc k) n) (λ x. flow x false) r s c.0 p
-        (reach_more k n s c.0 (Refused errors.DiskFault) c.1),
+        (reach_more k n s c.0 (Refused (errors.Stop stops.DiskFault)) c.1),
     c.2,
   )
   more_fails faults.NoMemory c = more_broken faults.NoMemory (more_stops v faults.NoMemory n k s c.0 c.1 c.2 c.3)
@@ -187,7 +188,7 @@ came_stops v fault k n bytes r s o some c at = (
 pub came_fails : {C : Type 0} (v : View C) (fault : CallFault) (k n : ℕ) (bytes : List ℕ) (r : Run) → (bytes ≡ [] → ⊥)
     → Called v (Err fault) n (Came n bytes) r → GivenOnce v (Err fault) k n bytes r
 came_fails v faults.DiskFault k n bytes r some c =
-    (c.0, came_reaches k n bytes r c.0 (Refused errors.DiskFault) some c.1, c.2)
+    (c.0, came_reaches k n bytes r c.0 (Refused (errors.Stop stops.DiskFault)) some c.1, c.2)
 came_fails v faults.NoMemory k n bytes r some c = came_stops v faults.NoMemory k n bytes r c.0 c.1 some c.2 c.3
 came_fails v faults.Io k n bytes r some c = came_stops v faults.Io k n bytes r c.0 c.1 some c.2 c.3
 

@@ -6,6 +6,7 @@ use Rattle.tus_session.specs.History.{Event, Mark, Served, Outcome, Gave, Done, 
 use Rattle.tus_session.specs.declared.answers.Answer.{Answer}
 use Rattle.tus_session.specs.declared.errors.SessionError.{SessionError}
 use Rattle.tus_session.specs.declared.errors.SessionError.TheVariants as errors
+use Rattle.common.specs.declared.stop.Stop.TheVariants as stops
 use Rattle.tus_session.specs.Connections.{Falls, mark_of, Gives, Does, UnlessFailed}
 use Rattle.tus_session.specs.Images.{shown_by}
 use Rattle.gateway_script.specs.declared.faults.CallFault.{CallFault}
@@ -29,20 +30,20 @@ unfolding call
 leads r n e m = (m ∷ [], λ rest. refl)
 
 -- without a disk fault the connections still stand
-unfailed : (T : Type 0) (f : SessionError) (X : Type 0) → (f ≡ errors.DiskFault → ⊥) → UnlessFailed {T = T} (Err f) X
-    → X × (is_fault (Refused f) ≡ false)
-unfailed T errors.NoMemory X other x = (x, refl)
-unfailed T errors.DiskFault X other x = absurd (other refl)
+unfailed : (T : Type 0) (f : SessionError) (X : Type 0) → (f ≡ errors.Stop stops.DiskFault → ⊥)
+    → UnlessFailed {T = T} (Err f) X → X × (is_fault (Refused f) ≡ false)
+unfailed T (errors.Stop stops.NoMemory) X other x = (x, refl)
+unfailed T (errors.Stop stops.DiskFault) X other x = absurd (other refl)
 unfailed T errors.TooMany X other x = (x, refl)
 unfailed T errors.Closed X other x = (x, refl)
 unfailed T errors.Down X other x = (x, refl)
 
 -- the connections are down after a disk fault
 abbrev pub Falling : {C : Type 0} → View C → C → SessionError → Type 0
-Falling v now f = f ≡ errors.DiskFault → v.u.down now ≡ true
+Falling v now f = f ≡ errors.Stop stops.DiskFault → v.u.down now ≡ true
 
-pub falling : {T : Type 0} (was now : Bool) (f : SessionError) → Falls {T = T} was now (Err f) → f ≡ errors.DiskFault
-    → now ≡ true
+pub falling : {T : Type 0} (was now : Bool) (f : SessionError) → Falls {T = T} was now (Err f)
+    → f ≡ errors.Stop stops.DiskFault → now ≡ true
 falling was now f falls is = falls.falls.1 (inr (ap Err is))
 
 -- of a call that is known to be sure
@@ -112,7 +113,7 @@ module _ {C : Type 0} (v : View C) (now : C) (held : Option (List ℕ)) (r : Run
   -- a refusal is written as the history has it, and a disk fault puts the connections down
   module _ (T : Type 0) (f : SessionError) (is : (step r.state e m).outcome ≡ Refused f)
       (keeps : UnlessFailed {T = T} (Err f) (v.u.stands now v.sure (step r.state e m).state)) where
-    refused_so : (result : Result (Unit {0}) CallFault) → (f ≡ errors.DiskFault → ⊥)
+    refused_so : (result : Result (Unit {0}) CallFault) → (f ≡ errors.Stop stops.DiskFault → ⊥)
         → Writes v.held held result (written (conn_in e) (Refused f))
         → Lands (current_after v now held) result (stepped r (conn_in e) e m)
     refused_so result other wrote =
@@ -124,7 +125,8 @@ module _ {C : Type 0} (v : View C) (now : C) (held : Option (List ℕ)) (r : Run
         → Lands (current_after v now held) result (stepped r (conn_in e) e m)
     refused_at (Ok x) durable fell refuses = refused_so (Ok x) refuses.1 refuses.0
     refused_at (Err faults.DiskFault) durable fell refuses =
-        let down : (step r.state e m).outcome ≡ Refused errors.DiskFault = is ∙ ap Refused refuses.0 in record {
+        let down : (step r.state e m).outcome ≡ Refused (errors.Stop stops.DiskFault) = is ∙ ap Refused refuses.0 in
+        record {
           wrote = written_on v held r e m at.history at.wrote ([], rw down refl, rw refuses.1 (appends_nothing v.held));
           down = ap is_fault down;
           fell = fell refuses.0;

@@ -6,6 +6,7 @@ use Rattle.tus_session.specs.declared.answers.Answer.{Answer}
 use Rattle.std.specs.Io.KnownBytes.{Appends}
 use Rattle.tus_session.specs.declared.errors.SessionError.{SessionError}
 use Rattle.tus_session.specs.declared.errors.SessionError.TheVariants as errors
+use Rattle.common.specs.declared.stop.Stop.TheVariants as stops
 use Rattle.tus_session.specs.Images.{stores_of, ShowsLast, LimitsTo}
 use Rattle.tus_session.specs.declared.connections.Connections.{Ghosts}
 use Rattle.gateway_script.specs.Script as script
@@ -118,10 +119,11 @@ Flowed v (Err e) f r = Stops v e flow_past f r
 
 -- a refusal is written; of the disk fault nothing
 abbrev pub Refuses : Option (List ℕ) → Option (List ℕ) → Result (Unit {0}) CallFault → ℕ → SessionError → Type 0
-Refuses old new (Ok x) n error = Appends old new (written_refusal n error) × (error ≡ errors.DiskFault → ⊥)
-Refuses old new (Err DiskFault) n error = (error ≡ errors.DiskFault) × (new ≡ old)
-Refuses old new (Err NoMemory) n error = (new ≡ old) × (error ≡ errors.DiskFault → ⊥)
-Refuses old new (Err Io) n error = AppendsPart old new (written_refusal n error) × (error ≡ errors.DiskFault → ⊥)
+Refuses old new (Ok x) n error = Appends old new (written_refusal n error) × (error ≡ errors.Stop stops.DiskFault → ⊥)
+Refuses old new (Err DiskFault) n error = (error ≡ errors.Stop stops.DiskFault) × (new ≡ old)
+Refuses old new (Err NoMemory) n error = (new ≡ old) × (error ≡ errors.Stop stops.DiskFault → ⊥)
+Refuses old new (Err Io) n error =
+    AppendsPart old new (written_refusal n error) × (error ≡ errors.Stop stops.DiskFault → ⊥)
 
 -- the run after a call with this mark, whatever marks are to come
 abbrev pub stepped : Run → ℕ → Event → Mark → Run
@@ -146,7 +148,7 @@ abbrev pub Called : {C : Type 0} → View C → Result (Option Answer) CallFault
 Called v (Ok (Some a)) n e r = (s : Run) × (bytes : List ℕ) × Calls r n e s (Gave bytes a.taken a.closes a.more)
     × IsAt v s
 Called v (Ok None) n e r = (s : Run) × (f : SessionError) × Calls r n e s (Refused f) × IsAt v s
-Called v (Err DiskFault) n e r = (s : Run) × Calls r n e s (Refused errors.DiskFault) × IsDown v s
+Called v (Err DiskFault) n e r = (s : Run) × Calls r n e s (Refused (errors.Stop stops.DiskFault)) × IsDown v s
 Called v (Err f) n e r = (s : Run) × (o : Outcome) × Calls r n e s o × IsStopped v f s
 
 -- what was given is written

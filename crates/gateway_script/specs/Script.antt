@@ -7,7 +7,8 @@ use Rattle.common.specs.Numbers.{number_of}
 use Rattle.common.specs.Splits.{before, after}
 use Rattle.tus_request.specs.Value.{answered}
 use Rattle.tus_session.specs.declared.errors.SessionError.{SessionError}
-use Rattle.tus_session.specs.declared.errors.SessionError.TheVariants.{DiskFault}
+use Rattle.tus_session.specs.declared.errors.SessionError.TheVariants.{Stop}
+use Rattle.common.specs.declared.stop.Stop.TheVariants.{DiskFault}
 use Rattle.tus_session.specs.Faults.{error_number}
 use Rattle.tus_session.specs.History.{State, Event, Opened, Came, More, Ended, Mark, Served, Marked, Step, step}
 use Rattle.gateway_script.specs.declared.runs.TheConstants.{MOST_LINE, MOST_SCRIPT}
@@ -99,7 +100,7 @@ abbrev pub written_close : ℕ → Bool → List ℕ
 written_close n closes = if closes then codes "x " ++ (decimal n ++ (10 ∷ [])) else []
 
 abbrev pub written_refusal : ℕ → SessionError → List ℕ
-written_refusal n DiskFault = []
+written_refusal n (Stop DiskFault) = []
 written_refusal n f = codes "! " ++ (decimal n ++ (32 ∷ (decimal (error_number f) ++ (10 ∷ []))))
 
 abbrev pub written : ℕ → Outcome → List ℕ
@@ -108,7 +109,7 @@ written n Done = []
 written n (Refused f) = written_refusal n f
 
 abbrev pub is_fault : Outcome → Bool
-is_fault (Refused DiskFault) = true
+is_fault (Refused (Stop DiskFault)) = true
 is_fault _ = false
 
 -- a run after a call, and what the call answered

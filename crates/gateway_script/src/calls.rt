@@ -8,6 +8,7 @@ ghost use Rattle.gateway_script.specs.Runs.{view, IsAt, Went, Refuses, Called, T
 use crate::faults::CallFault;
 use crate::streams::CountedWrite;
 use crate::writing::{report, report_refusal, write_out};
+use common::Stop;
 use std::alloc::Global;
 use tus_session::{Answer, Connections, SessionError};
 
@@ -22,11 +23,11 @@ pub(crate) fn refused<W: CountedWrite>(
     ensures io { Counts (IsErrOf result CallFault.Io) (W.refusals writer.old) (W.refusals writer.new) }
 {
     let number = match error {
-        SessionError::NoMemory => 0,
+        SessionError::Stop(Stop::NoMemory) => 0,
         SessionError::TooMany => 29,
         SessionError::Closed => 30,
         SessionError::Down => 31,
-        SessionError::DiskFault => return Err(CallFault::DiskFault),
+        SessionError::Stop(Stop::DiskFault) => return Err(CallFault::DiskFault),
     };
     let mut out = Vec::new(alloc);
     report_refusal(alloc, conn, number, &mut out)?;

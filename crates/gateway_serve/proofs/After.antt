@@ -7,6 +7,7 @@ use Rattle.upload_rules.specs.Store.{Store}
 use Rattle.tus_session.specs.History.{State, Event, Marked, Failed, step, history}
 use Rattle.tus_session.specs.declared.errors.SessionError.{SessionError}
 use Rattle.tus_session.specs.declared.errors.SessionError.TheVariants as errors
+use Rattle.common.specs.declared.stop.Stop.TheVariants as stops
 use Rattle.tus_session.specs.Connections.{Falls, mark_of, UnlessFailed}
 use Rattle.tus_session.specs.Images.{shown_by}
 use Rattle.tus_session.specs.declared.connections.Connections.{Ghosts}
@@ -23,10 +24,10 @@ surely {c = c} {now = now} {st = st} {past = past} went known =
 
 -- serving goes on after every answer but the disk fault
 abbrev pub GoesOn : {T U : Type 0} → Result T SessionError → Result U DiskFault → Type 0
-GoesOn answer told = IsErr told ↔ IsErrOf answer errors.DiskFault
+GoesOn answer told = IsErr told ↔ IsErrOf answer (errors.Stop stops.DiskFault)
 
 abbrev pub Faults : {T : Type 0} → Result T SessionError → Type 0
-Faults answer = IsErrOf answer errors.DiskFault
+Faults answer = IsErrOf answer (errors.Stop stops.DiskFault)
 
 module _ {C : Type 0} (c : Ghosts C) (sure : Bool) (before old now : C) (st : State) (past : List Marked) (e : Event)
     (w : WentOn c sure before old st past)
@@ -45,11 +46,11 @@ module _ {C : Type 0} (c : Ghosts C) (sure : Bool) (before old now : C) (st : St
   stands_still : {T : Type 0} (answer : Result T SessionError) → (Faults answer → ⊥) → Keeps answer
       → c.stands now sure (step (history st past) e (mark_of answer)).state
   stands_still (Ok x) ok keeps = keeps
-  stands_still (Err errors.NoMemory) ok keeps = keeps
+  stands_still (Err (errors.Stop stops.NoMemory)) ok keeps = keeps
   stands_still (Err errors.TooMany) ok keeps = keeps
   stands_still (Err errors.Closed) ok keeps = keeps
   stands_still (Err errors.Down) ok keeps = keeps
-  stands_still (Err errors.DiskFault) ok keeps = absurd (ok refl)
+  stands_still (Err (errors.Stop stops.DiskFault)) ok keeps = absurd (ok refl)
 
   module _ (On Down : List Marked → Type 0) where
     pub served : {T U : Type 0} (answer : Result T SessionError) (told : Result U DiskFault) → GoesOn answer told
@@ -66,7 +67,7 @@ module _ {C : Type 0} (c : Ghosts C) (sure : Bool) (before old now : C) (st : St
           on ok,
         )
     served answer (Err y) same keeps leaves falls on down =
-        let f : answer ≡ Err errors.DiskFault = same.0 refl in
+        let f : answer ≡ Err (errors.Stop stops.DiskFault) = same.0 refl in
         let left = rw f at leaves in (
           past,
           e,

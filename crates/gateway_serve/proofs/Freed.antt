@@ -5,7 +5,8 @@ use Rattle.std.proofs.Common.{◌∙◌, ap}
 use Rattle.std.proofs.Common.{append-nil}
 use Rattle.tus_session.specs.History.{State, Ended, Mark, Marked, history, step}
 use Rattle.tus_session.specs.declared.errors.SessionError.{SessionError}
-use Rattle.tus_session.specs.declared.errors.SessionError.TheVariants.{DiskFault}
+use Rattle.tus_session.specs.declared.errors.SessionError.TheVariants.{Stop}
+use Rattle.common.specs.declared.stop.Stop.TheVariants.{DiskFault}
 use Rattle.tus_session.specs.Connections.{mark_of}
 use Rattle.gateway_serve.specs.Conversations.{Conversation, AreTalks, hung_up}
 use Rattle.gateway_serve.specs.Sockets as sockets
@@ -93,7 +94,7 @@ module _ (sure : Bool) (ended : List Seen) (st : State) (past : List Marked) (n 
         rw (first_current n s ended refl) (served, is.pairs),
       )
 
-  told_none : (answer : Result (Unit {0}) SessionError) → (answer ≡ Err DiskFault → ⊥)
+  told_none : (answer : Result (Unit {0}) SessionError) → (answer ≡ Err (Stop DiskFault) → ⊥)
       → (history st ((Ended n, mark_of answer) ∷ past)).conns n ≡ None
   told_none answer ok = grind (arith, ended_shuts, ended_lost)
 
@@ -101,7 +102,7 @@ module _ (sure : Bool) (ended : List Seen) (st : State) (past : List Marked) (n 
   pub told_place : {S : Type 0} (reason : Reason) (p p' : Place S) (ended' : List Seen)
       (answer : Result (Unit {0}) SessionError)
       → p' ≡ Free → ended' ≡ with_place n reason p ended → MayEnd reason p → PlaceWaits p → (p ≡ Free → ⊥)
-      → (answer ≡ Err DiskFault → ⊥) → PlaceJoins sure p (current_of n ended) st past n
+      → (answer ≡ Err (Stop DiskFault) → ⊥) → PlaceJoins sure p (current_of n ended) st past n
       → PlaceJoins sure p' (current_of n ended') st ((Ended n, mark_of answer) ∷ past) n
   told_place reason Free p' ended' answer free with may few used ok is = absurd (used refl)
   told_place reason (Open l) p' ended' answer free with may few used ok is =

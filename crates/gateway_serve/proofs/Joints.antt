@@ -7,7 +7,8 @@ use Rattle.tus_session.specs.History.{State, Event, Came, More, Mark, Marked, Se
 use Rattle.tus_session.specs.History.{Gave, Refused, history, step}
 use Rattle.tus_session.specs.declared.answers.Answer.{Answer}
 use Rattle.tus_session.specs.declared.errors.SessionError.{SessionError}
-use Rattle.tus_session.specs.declared.errors.SessionError.TheVariants.{NoMemory, DiskFault, TooMany, Closed, Down}
+use Rattle.tus_session.specs.declared.errors.SessionError.TheVariants.{Stop, TooMany, Closed, Down}
+use Rattle.common.specs.declared.stop.Stop.TheVariants.{NoMemory, DiskFault}
 use Rattle.tus_action.specs.Serves.{Appends}
 use Rattle.tus_session.specs.Connections.{mark_of, told, Adds}
 use Rattle.gateway_serve.specs.Conversations.{Conversation, AreTalks, GaveAs, longer}
@@ -85,20 +86,20 @@ module _ (sure : Bool) (ended : List Seen) (st : State) (past : List Marked) (n 
       is.told is.taken is.few (ap (λ l. j.went ++ l) adds ∙ is.given) shut
 
   -- the connection is closed after a refusal
-  shut_after : (e : Event) (f : SessionError) → (f ≡ DiskFault → ⊥)
+  shut_after : (e : Event) (f : SessionError) → (f ≡ Stop DiskFault → ⊥)
       → (Shuts (step (history st past) e Served).outcome → (step (history st past) e Served).state.conns n ≡ None)
       → (step (history st past) e OutOfMemory).state.conns n ≡ None
       → (step (history st past) e (mark_of {T = Answer} (Err f))).outcome ≡ Refused f
       → (step (history st past) e (mark_of {T = Answer} (Err f))).state.conns n ≡ None
-  shut_after e NoMemory ok shuts lost same = lost
+  shut_after e (Stop NoMemory) ok shuts lost same = lost
   shut_after e TooMany ok shuts lost same = shuts (rw same (tt {0}))
   shut_after e Closed ok shuts lost same = shuts (rw same (tt {0}))
   shut_after e Down ok shuts lost same = shuts (rw same (tt {0}))
-  shut_after e DiskFault ok shuts lost same = absurd (ok refl)
+  shut_after e (Stop DiskFault) ok shuts lost same = absurd (ok refl)
 
   -- bytes came
   came_joins : (answer : Result Answer SessionError) (bytes : List ℕ) (j : Joint) (output : List ℕ)
-      → (answer ≡ Err DiskFault → ⊥)
+      → (answer ≡ Err (Stop DiskFault) → ⊥)
       → (step (history st past) (Came n j.input) (mark_of answer)).outcome ≡ told bytes answer
       → Adds sure answer bytes (step (history st past) (Came n j.input) (mark_of answer)).text j.output output
       → Joins sure j ended st past n
@@ -119,7 +120,7 @@ module _ (sure : Bool) (ended : List Seen) (st : State) (past : List Marked) (n 
 
   -- the next piece of a text was asked for
   more_joins : (answer : Result Answer SessionError) (bytes : List ℕ) (j : Joint) (output : List ℕ)
-      → (answer ≡ Err DiskFault → ⊥)
+      → (answer ≡ Err (Stop DiskFault) → ⊥)
       → (step (history st past) (More n) (mark_of answer)).outcome ≡ told bytes answer
       → Adds sure answer bytes (step (history st past) (More n) (mark_of answer)).text j.output output
       → Joins sure j ended st past n
@@ -139,7 +140,7 @@ module _ (sure : Bool) (ended : List Seen) (st : State) (past : List Marked) (n 
 
   -- THE LINK AFTER AN ANSWER, at the stage that follows it. What was given is what waits
   pub came_link : (answer : Result Answer SessionError) (bytes : List ℕ) (j : Joint) (piece input output : List ℕ)
-      (stage : Stage) (taken : ℕ) → (answer ≡ Err DiskFault → ⊥)
+      (stage : Stage) (taken : ℕ) → (answer ≡ Err (Stop DiskFault) → ⊥)
       → piece ≡ j.input → (step (history st past) (Came n piece) (mark_of answer)).outcome ≡ told bytes answer
       → Adds sure answer bytes (step (history st past) (Came n piece) (mark_of answer)).text j.output output
       → stage ≡ stage_after answer → taken ≡ taken_after answer → input ≡ drop taken j.input
@@ -150,18 +151,18 @@ module _ (sure : Bool) (ended : List Seen) (st : State) (past : List Marked) (n 
 
   -- the disk failed
   pub came_down : (answer : Result Answer SessionError) (bytes : List ℕ) (j : Joint) (piece output : List ℕ)
-      → answer ≡ Err DiskFault → piece ≡ j.input
+      → answer ≡ Err (Stop DiskFault) → piece ≡ j.input
       → (step (history st past) (Came n piece) (mark_of answer)).outcome ≡ told bytes answer
       → Adds sure answer bytes (step (history st past) (Came n piece) (mark_of answer)).text j.output output
       → Joins sure j ended st past n
       → Joins sure (with_input j j.input output j.closed) ended st ((Came n piece, mark_of answer) ∷ past) n
   came_down answer bytes j piece output fails whole same adds is =
-      rw (whole, fails) (refused_joins (Came n j.input) Failed DiskFault j output j.closed is (talks_here sure st past
-      (Came n j.input) Failed (is.latest ∷ is.others) (Refused DiskFault) is.talks) (rw (whole, fails) at same)
-      (rw (whole, fails) at adds) (λ e. came_failed (history st past) n j.input ∙ is.shut e))
+      rw (whole, fails) (refused_joins (Came n j.input) Failed (Stop DiskFault) j output j.closed is (talks_here sure
+      st past (Came n j.input) Failed (is.latest ∷ is.others) (Refused (Stop DiskFault)) is.talks)
+      (rw (whole, fails) at same) (rw (whole, fails) at adds) (λ e. came_failed (history st past) n j.input ∙ is.shut e))
 
   pub more_link : (answer : Result Answer SessionError) (bytes : List ℕ) (j : Joint) (output : List ℕ) (stage : Stage)
-      → (answer ≡ Err DiskFault → ⊥)
+      → (answer ≡ Err (Stop DiskFault) → ⊥)
       → (step (history st past) (More n) (mark_of answer)).outcome ≡ told bytes answer
       → Adds sure answer bytes (step (history st past) (More n) (mark_of answer)).text j.output output
       → stage ≡ stage_after answer → Joins sure j ended st past n
@@ -169,12 +170,12 @@ module _ (sure : Bool) (ended : List Seen) (st : State) (past : List Marked) (n 
   more_link answer bytes j output stage ok same adds s is = rw s (more_joins answer bytes j output ok same adds is)
 
   pub more_fell : (answer : Result Answer SessionError) (bytes : List ℕ) (j : Joint) (output : List ℕ)
-      → answer ≡ Err DiskFault
+      → answer ≡ Err (Stop DiskFault)
       → (step (history st past) (More n) (mark_of answer)).outcome ≡ told bytes answer
       → Adds sure answer bytes (step (history st past) (More n) (mark_of answer)).text j.output output
       → Joins sure j ended st past n
       → Joins sure (with_input j j.input output j.closed) ended st ((More n, mark_of answer) ∷ past) n
   more_fell answer bytes j output fails same adds is =
-      rw fails (refused_joins (More n) Failed DiskFault j output j.closed is (talks_here sure st past (More n) Failed
-      (is.latest ∷ is.others) (Refused DiskFault) is.talks) (rw fails at same) (rw fails at adds)
+      rw fails (refused_joins (More n) Failed (Stop DiskFault) j output j.closed is (talks_here sure st past (More n)
+      Failed (is.latest ∷ is.others) (Refused (Stop DiskFault)) is.talks) (rw fails at same) (rw fails at adds)
       (λ e. more_failed (history st past) n ∙ is.shut e))

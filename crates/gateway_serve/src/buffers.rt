@@ -2,6 +2,7 @@
 ghost use Rattle.std.specs.Prelude.{◌≡◌, ◌≤◌, ◌++◌, ℕ, List, [], length, take, drop, slice_range, vec_len, Bool, true};
 ghost use Rattle.std.specs.Prelude.{◌↔◌, IfOk, OnErr, IsErrOf, IsTrue, vec_capacity};
 ghost use Rattle.std.specs.Io.KnownBytes.{Consumes, Appends, Keeps, IsAtEnd};
+ghost use Rattle.common.specs.declared.stop.Stop.{Stop};
 ghost use Rattle.upload_rules.specs.Answers.{Limits, Quiet, Counts};
 ghost use Rattle.tus_session.specs.History.{State, Came, More};
 ghost use Rattle.tus_session.specs.Connections.{Gives, Falls, mark_of};
@@ -180,7 +181,7 @@ impl Output {
         ensures crash { (st : State) → C.stands gateway.old true st
             → Limits (C.moment gateway.old) (C.moment gateway.new) (C.left_only gateway.old) (C.left_only gateway.new)
             st.world.store (shown_by st (Came conn bytes.now) (mark_of result)) }
-        ensures counts { Counts (IsErrOf result SessionError.DiskFault) (C.failures gateway.old)
+        ensures counts { Counts (IsErrOf result (SessionError.Stop Stop.DiskFault)) (C.failures gateway.old)
             (C.failures gateway.new) }
         ensures falls { Falls (C.down gateway.old) (C.down gateway.new) result }
     {
@@ -200,7 +201,7 @@ impl Output {
             → Gives sure (C.stands gateway.new sure) result self.old self.new st (More conn) }
         ensures crash { Quiet (C.moment gateway.old) (C.moment gateway.new) (C.left_only gateway.old)
             (C.left_only gateway.new) }
-        ensures counts { Counts (IsErrOf result SessionError.DiskFault) (C.failures gateway.old)
+        ensures counts { Counts (IsErrOf result (SessionError.Stop Stop.DiskFault)) (C.failures gateway.old)
             (C.failures gateway.new) }
         ensures falls { Falls (C.down gateway.old) (C.down gateway.new) result }
     {

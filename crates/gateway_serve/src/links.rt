@@ -20,7 +20,7 @@ use crate::reasons::{Gone, Reason};
 use crate::requests::Request;
 use crate::sockets::{Seen, Socket, Untouched};
 use crate::stays::{At, Stay};
-use common::{DiskFault, Trace};
+use common::{DiskFault, Stop, Trace};
 use std::alloc::Global;
 use std::io::{self, ErrorKind, Read, Write};
 use std::time::Duration;
@@ -385,7 +385,7 @@ struct Next {
 
 // A call that is refused closes the connection.
 fn next_after(answer: Result<Answer, SessionError>) -> Result<Next, DiskFault>
-    ensures fault { IsErr result ↔ IsErrOf answer SessionError.DiskFault }
+    ensures fault { IsErr result ↔ IsErrOf answer (SessionError.Stop Stop.DiskFault) }
     ensures stage { IfOk result (λ next. next.stage ≡ stage_after answer) }
     ensures taken { IfOk result (λ next. next.taken ≡ taken_after answer) }
 {
@@ -394,9 +394,9 @@ fn next_after(answer: Result<Answer, SessionError>) -> Result<Next, DiskFault>
             stage: stage_by(answer),
             taken: answer.taken,
         }),
-        Err(SessionError::DiskFault) => Err(DiskFault),
+        Err(SessionError::Stop(Stop::DiskFault)) => Err(DiskFault),
         Err(
-            SessionError::NoMemory
+            SessionError::Stop(Stop::NoMemory)
             | SessionError::TooMany
             | SessionError::Closed
             | SessionError::Down,

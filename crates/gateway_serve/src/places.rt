@@ -10,7 +10,7 @@ use crate::idle::Tick;
 use crate::links::{Left, Link};
 use crate::reasons::Reason;
 use crate::sockets::{Seen, Untouched};
-use common::{DiskFault, Trace};
+use common::{DiskFault, Stop, Trace};
 use std::alloc::Global;
 use std::io::{Read, Write};
 use std::mem;
@@ -143,13 +143,13 @@ impl<S: Read + Write + Drop> Place<S> {
 /// What a call of the session comes to for serving, which goes on after every refusal but the disk fault. So it
 /// meets `Down` only at a gateway that it was given so.
 pub(crate) fn unless_failed(answer: Result<(), SessionError>) -> Result<(), DiskFault>
-    ensures { IsErr result ↔ IsErrOf answer SessionError.DiskFault }
+    ensures { IsErr result ↔ IsErrOf answer (SessionError.Stop Stop.DiskFault) }
 {
     match answer {
-        Err(SessionError::DiskFault) => Err(DiskFault),
+        Err(SessionError::Stop(Stop::DiskFault)) => Err(DiskFault),
         Ok(())
         | Err(
-            SessionError::NoMemory
+            SessionError::Stop(Stop::NoMemory)
             | SessionError::TooMany
             | SessionError::Closed
             | SessionError::Down,

@@ -19,7 +19,7 @@ ghost use Rattle.spool_pages.specs.View.{View, Says};
 
 use crate::kept::Kept;
 use crate::order::{NumberedSlot, places_to, slot_of};
-use common::{MOST_BLOCKS, SLOTS};
+use common::{MOST_BLOCKS, SLOTS, Stop};
 use enc_index::IndexSet;
 use spool_blocks::BlockNo;
 use spool_disk::Disk;
@@ -94,9 +94,10 @@ impl Kept {
         requires { PAGE * all_pages self.now.layout ≤ D.size disk.old }
         ensures size { D.size disk.new ≡ D.size disk.old }
         ensures honest { D.honest disk.old ↔ D.honest disk.new }
-        ensures counts { Counts (IsErrOf result UploadError.DiskFault) (D.failures disk.old) (D.failures disk.new) }
+        ensures counts { Counts (IsErrOf result (UploadError.Stop Stop.DiskFault)) (D.failures disk.old)
+            (D.failures disk.new) }
         ensures later { D.moment disk.old ≤ D.moment disk.new }
-        ensures no_memory { IsErrOf result UploadError.NoMemory → ⊥ }
+        ensures no_memory { IsErrOf result (UploadError.Stop Stop.NoMemory) → ⊥ }
         ensures count { (m : Store) (v : View) → KeepsView self.now v → Shows v m
             → Answers (no_such (upload_of m number)) result
             (λ n. n ≡ min (length (text_at m (upload_of m number)) - at) (length buf.old)) (Unit {0}) }
@@ -121,7 +122,7 @@ impl Kept {
             buf,
         ) {
             Ok(count) => Ok(count),
-            Err(_) => Err(UploadError::DiskFault),
+            Err(_) => Err(UploadError::Stop(Stop::DiskFault)),
         }
     }
 

@@ -8,7 +8,7 @@ use Rattle.spool_journal.specs.declared.TheConstants.{PAGE}
 use Rattle.enc_model.specs.Indexes.{IndexSet}
 use Rattle.spool_blocks.specs.Blocks.{Held}
 use Rattle.upload_rules.specs.declared.errors.UploadError.{UploadError}
-use Rattle.upload_rules.specs.declared.errors.UploadError.TheVariants.{NoMemory, DiskFault, Refused}
+use Rattle.upload_rules.specs.declared.errors.UploadError.TheVariants.{Stop, Refused}
 use Rattle.upload_rules.specs.declared.errors.UploadRefusal.{UploadRefusal}
 use Rattle.upload_rules.specs.Room.{need_of, wants}
 use Rattle.upload_rules.specs.Store.{text_of, text_with, is_complete}
@@ -42,8 +42,7 @@ module _ (x : IndexSet) (p : Patch) (d : SpoolDraft) (held : Holds x p d) (still
     (done : Bool) where
   pub refused : (blocks blocks' : Held) (new : SpoolDraft) (e : UploadError) → FinishesAs x p.began p.body done (Err e)
       → EndsAs x p done d new blocks blocks' (Err e)
-  refused blocks blocks' new NoMemory ends = tt
-  refused blocks blocks' new DiskFault ends = absurd ends
+  refused blocks blocks' new (Stop stop) ends = tt
   refused blocks blocks' new (Refused e) ends =
       subst (λ (r : UploadRefusal). EndsAs x p done d new blocks blocks' (Err (Refused r))) (sym ends.0)
       (ap (λ r. is_there r.fault) (patch_text_is x p done) ∙ ends.1)
@@ -108,8 +107,7 @@ module _ (x : IndexSet) (p : Patch) (d : SpoolDraft) (held : Holds x p d) (still
     pub not_closed : (growth : Growth) (new : SpoolDraft) (blocks blocks' : Held) (e : UploadError)
         → ClosesAs {T = Vec ℕ Global} d.growth growth (length text) blocks blocks' (Err e)
         → EndsAs x p done d new blocks blocks' (Err e)
-    not_closed growth new blocks blocks' NoMemory closes = tt
-    not_closed growth new blocks blocks' DiskFault closes = tt
+    not_closed growth new blocks blocks' (Stop stop) closes = tt
     not_closed growth new blocks blocks' (Refused e) closes =
         subst (λ (r : UploadRefusal). EndsAs x p done d new blocks blocks' (Err (Refused r))) (sym closes.0)
         (encodable_end, by_room d.growth.short refl)

@@ -6,7 +6,8 @@ use Rattle.enc_model.specs.Transcode.{IsAt, added}
 use Rattle.enc_stream.specs.Standing.{Standing, stepped_on}
 use Rattle.enc_stream.specs.StateBytes.{IsValid, state_bytes}
 use Rattle.upload_rules.specs.declared.errors.UploadError.{UploadError}
-use Rattle.upload_rules.specs.declared.errors.UploadError.TheVariants.{NoMemory, DiskFault, Refused}
+use Rattle.upload_rules.specs.declared.errors.UploadError.TheVariants.{Stop, Refused}
+use Rattle.common.specs.declared.stop.Stop.TheVariants.{NoMemory, DiskFault}
 use Rattle.upload_rules.specs.declared.errors.UploadRefusal.{UploadRefusal}
 use Rattle.upload_rules.specs.declared.errors.UploadRefusal.TheVariants as refusals
 use Rattle.upload_rules.specs.States.{transcoder_over, state_with}
@@ -83,8 +84,8 @@ module _ (x : IndexSet) (u : Upload) (bytes : List ℕ) where
     encodable = ap (λ r. r.fault) (sym (same_text done)) ∙ ended.encodable;
     adds = ap (λ r. r.bytes ++ parts.1.items) (sym (same_text false)) ∙ ended.rest ∙ ap (λ r. r.bytes) (same_text done);
   }
-  finishes done (Err NoMemory) only ended = tt
-  finishes done (Err DiskFault) only ended = absurd ended
+  finishes done (Err (Stop NoMemory)) only ended = tt
+  finishes done (Err (Stop DiskFault)) only ended = absurd ended
   finishes done (Err (Refused e)) only ended =
       let is = only e refl in (
         is,

@@ -7,7 +7,7 @@ use Rattle.enc_stream.specs.StateBytes.{IsValid}
 use Rattle.spool_blocks.specs.Blocks.{Held}
 use Rattle.upload_rules.specs.Calls.{begin_refusal_at, first_patch}
 use Rattle.upload_rules.specs.declared.errors.UploadError.{UploadError}
-use Rattle.upload_rules.specs.declared.errors.UploadError.TheVariants.{NoMemory, DiskFault, Refused}
+use Rattle.upload_rules.specs.declared.errors.UploadError.TheVariants.{Stop, Refused}
 use Rattle.upload_rules.specs.declared.errors.UploadRefusal.{UploadRefusal}
 use Rattle.upload_rules.specs.declared.errors.UploadRefusal.TheVariants as refusals
 use Rattle.upload_rules.specs.Lengths.{is_too_large, known_or, longest}
@@ -138,8 +138,7 @@ pub record IsWhole (x : IndexSet) (p : Patch) (done : Bool) (d : SpoolDraft) (e 
 abbrev pub EndsAs : IndexSet → Patch → Bool → SpoolDraft → SpoolDraft → Held → Held → Result DraftEnd UploadError
     → Type 0
 EndsAs x p done old new blocks blocks' (Ok e) = IsWhole x p done new e
-EndsAs x p done old new blocks blocks' (Err NoMemory) = Unit {0}
-EndsAs x p done old new blocks blocks' (Err DiskFault) = Unit {0}
+EndsAs x p done old new blocks blocks' (Err (Stop stop)) = Unit {0}
 EndsAs x p done old new blocks blocks' (Err (Refused refusals.Unencodable)) =
     is_there (patch_text x p done).fault ≡ true
 EndsAs x p done old new blocks blocks' (Err (Refused refusals.Full)) =

@@ -4,7 +4,8 @@ use Rattle.std.specs.declared.alloc.Global.{Global}
 use Rattle.enc_stream.specs.StateBytes.{IsValid}
 use Rattle.upload_rules.specs.States.{IsStateLike, state_with, transcoder_with}
 use Rattle.upload_rules.specs.declared.errors.UploadError.{UploadError}
-use Rattle.upload_rules.specs.declared.errors.UploadError.TheVariants.{NoMemory, DiskFault, Refused}
+use Rattle.upload_rules.specs.declared.errors.UploadError.TheVariants.{Stop, Refused}
+use Rattle.common.specs.declared.stop.Stop.TheVariants.{NoMemory, DiskFault}
 use Rattle.upload_rules.specs.declared.errors.UploadRefusal.TheVariants as refusals
 use Rattle.enc_model.specs.Indexes.{IndexSet}
 use Rattle.upload_rules.specs.Store.{Upload, text_with, is_complete}
@@ -52,7 +53,7 @@ pub record IsFinished (x : IndexSet) (u : Upload) (bytes : List ℕ) (done : Boo
 -- The result of the end.
 abbrev pub FinishesAs : IndexSet → Upload → List ℕ → Bool → Result (List ℕ × Vec ℕ Global) UploadError → Type 0
 FinishesAs x u bytes done (Ok parts) = IsFinished x u bytes done parts.0 parts.1.items
-FinishesAs x u bytes done (Err NoMemory) = Unit {0}
-FinishesAs x u bytes done (Err DiskFault) = ⊥
+FinishesAs x u bytes done (Err (Stop NoMemory)) = Unit {0}
+FinishesAs x u bytes done (Err (Stop DiskFault)) = ⊥
 FinishesAs x u bytes done (Err (Refused e)) =
     (e ≡ refusals.Unencodable) × (is_there (text_with x u bytes done).fault ≡ true)

@@ -8,6 +8,7 @@ ghost use Rattle.upload_rules.specs.Store.{Upload, text_with, is_complete};
 ghost use Rattle.upload_rules.specs.States.{IsState, SameEncodings, transcoder_with};
 ghost use Rattle.upload_rules.specs.declared.errors.UploadRefusal.{UploadRefusal as Refusal};
 ghost use Rattle.spool_drafts.specs.Fresh.{StandsAt, Reads, GoesOn, IsGrowing, FinishesAs};
+ghost use Rattle.common.specs.declared.stop.Stop.{Stop};
 
 use enc_index::IndexSet;
 use enc_stream::{TranscodeError, Transcoder};
@@ -84,7 +85,7 @@ impl Fresh {
         ensures same { (state : List ℕ) → IsState state → GoesOn state self.now
             → IfOk result (λ end. SameEncodings state end.0) }
         ensures growing { IsOk result → IsGrowing self.now }
-        ensures no_disk_fault { IsErrOf result UploadError.DiskFault → ⊥ }
+        ensures no_disk_fault { IsErrOf result (UploadError.Stop Stop.DiskFault) → ⊥ }
         ensures refusal { (e : Refusal) → IsErrOf result (UploadError.Refused e) → e ≡ UploadRefusal.Unencodable }
     {
         let Fresh::Growing(transcoder) = self else {

@@ -173,7 +173,8 @@ impl Growth {
         requires tailed { IsTailed layout.now self.old }
         ensures size { D.size disk.new ≡ D.size disk.old }
         ensures honest { D.honest disk.old ↔ D.honest disk.new }
-        ensures counts { Counts (IsErrOf result UploadError.DiskFault) (D.failures disk.old) (D.failures disk.new) }
+        ensures counts { Counts (IsErrOf result (UploadError.Stop Stop.DiskFault)) (D.failures disk.old)
+            (D.failures disk.new) }
         ensures same { (self.new.text_len ≡ self.old.text_len) × (self.new.tail ≡ self.old.tail) }
         ensures grasps { (own : List ℕ)
             × Regrasps blocks.old blocks.new (list_on self.old.on) (list_on self.new.on) own }
@@ -206,7 +207,7 @@ impl Growth {
         };
         match text.end(alloc, blocks, bytes) {
             Ok(last) => Ok(last),
-            Err(DraftError::Stop(stop)) => Err(UploadError::from(stop)),
+            Err(DraftError::Stop(stop)) => Err(UploadError::Stop(stop)),
             Err(DraftError::Full) => {
                 self.short = true;
                 self.give_back(blocks);

@@ -26,7 +26,8 @@ use Rattle.upload_rules.specs.Drafts.{draft_at}
 use Rattle.upload_rules.specs.Store.{New, Store, Upload, created_store, find, new_upload, upload_of}
 use Rattle.upload_rules.specs.World.{Patch, World, at_rest}
 use Rattle.upload_rules.specs.declared.errors.UploadError.{UploadError}
-use Rattle.upload_rules.specs.declared.errors.UploadError.TheVariants.{NoMemory, DiskFault, Refused}
+use Rattle.upload_rules.specs.declared.errors.UploadError.TheVariants.{Stop, Refused}
+use Rattle.common.specs.declared.stop.Stop.TheVariants.{NoMemory, DiskFault}
 use Rattle.upload_rules.specs.declared.errors.UploadRefusal.{UploadRefusal}
 use Rattle.spool_load.proofs.Opens.{same_function}
 use Rattle.spool_kept.specs.Drafting.{DraftsStand, DraftStands, IsStillOpen, StandsFor}
@@ -187,10 +188,10 @@ on_known X (Err e) is = tt
 
 -- what was created, or nothing has changed
 pub created_answers : (refusal : Option UploadRefusal) (r : Result ℕ UploadError) (next : ℕ) (Same : Type 0)
-    {X Done Done' Same' : Type 0} → OnOk r X → (X → Done → Done') → (IsErrOf r NoMemory → Same')
+    {X Done Done' Same' : Type 0} → OnOk r X → (X → Done → Done') → (IsErrOf r (Stop NoMemory) → Same')
     → ((e : UploadRefusal) → IsErrOf r (Refused e) → Same')
     → Answers refusal r (λ n. (n ≡ next) × Done) Same → Answers refusal r (λ n. (n ≡ next) × Done') Same'
 created_answers refusal (Ok n) next Same x done memory refused a = (a.0, (a.1.0, done x a.1.1))
-created_answers refusal (Err NoMemory) next Same x done memory refused a = (a.0, memory refl)
-created_answers refusal (Err DiskFault) next Same x done memory refused a = a
+created_answers refusal (Err (Stop NoMemory)) next Same x done memory refused a = (a.0, memory refl)
+created_answers refusal (Err (Stop DiskFault)) next Same x done memory refused a = a
 created_answers refusal (Err (Refused e)) next Same x done memory refused a = (a.0, refused e refl)

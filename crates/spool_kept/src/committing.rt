@@ -104,7 +104,8 @@ fn ended<D: Disk>(
     requires placed { IsPlaced kept.old.layout draft.old }
     ensures size { D.size disk.new ≡ D.size disk.old }
     ensures honest { D.honest disk.old ↔ D.honest disk.new }
-    ensures counts { Counts (IsErrOf result UploadError.DiskFault) (D.failures disk.old) (D.failures disk.new) }
+    ensures counts { Counts (IsErrOf result (UploadError.Stop Stop.DiskFault)) (D.failures disk.old)
+        (D.failures disk.new) }
     ensures same { OnlyReserves kept.old kept.new }
     ensures reserved { IsReserved kept.new.blocks (list_of draft.new) }
     ensures placed { IsPlaced kept.old.layout draft.new }
@@ -171,7 +172,8 @@ fn append_to<D: Disk>(
     requires placed { IsPlaced kept.old.layout draft }
     ensures size { D.size disk.new ≡ D.size disk.old }
     ensures honest { D.honest disk.old ↔ D.honest disk.new }
-    ensures counts { Counts (IsErrOf result UploadError.DiskFault) (D.failures disk.old) (D.failures disk.new) }
+    ensures counts { Counts (IsErrOf result (UploadError.Stop Stop.DiskFault)) (D.failures disk.old)
+        (D.failures disk.new) }
     ensures layout { kept.new.layout ≡ kept.old.layout }
     ensures version { kept.new.version ≡ kept.old.version }
     ensures fits { (drafts : List (Option Draft)) (number : ℕ) → DraftsFit kept.old drafts
@@ -189,11 +191,12 @@ fn append_to<D: Disk>(
         → Lasts D.Disk disk.old disk.new (ShowsEither kept.old.layout w.store (commit_outcome w number p)) }
     ensures unmade { (drafts : List (Option Draft)) (number : ℕ) (w : World) (p : Patch)
         → IsCommit true D.Disk disk.old kept.old drafts number draft w p
-        → IsErrOf result UploadError.NoMemory
+        → IsErrOf result (UploadError.Stop Stop.NoMemory)
         → Lasts D.Disk disk.old disk.new (λ image. ImageShows kept.old.layout image w.store) }
 
     // Every growth comes before the first write.
-    ensures unwritten { D.honest disk.old → IsErrOf result UploadError.NoMemory → OnlyRead D.Disk disk.old disk.new }
+    ensures unwritten { D.honest disk.old → IsErrOf result (UploadError.Stop Stop.NoMemory)
+        → OnlyRead D.Disk disk.old disk.new }
 {
     let mut draft = draft;
     let (longer, last) = match ended(alloc, disk, kept, &mut draft, found) {
@@ -207,9 +210,9 @@ fn append_to<D: Disk>(
         Ok(()) => Ok(longer.accepted),
         Err(Stop::NoMemory) => {
             draft.give_back(&mut kept.blocks);
-            Err(UploadError::NoMemory)
+            Err(UploadError::Stop(Stop::NoMemory))
         }
-        Err(Stop::DiskFault) => Err(UploadError::DiskFault),
+        Err(Stop::DiskFault) => Err(UploadError::Stop(Stop::DiskFault)),
     }
 }
 
@@ -226,7 +229,8 @@ fn set_length<D: Disk>(
     requires may { MayDeclare kept.old.slots slot declared }
     ensures size { D.size disk.new ≡ D.size disk.old }
     ensures honest { D.honest disk.old ↔ D.honest disk.new }
-    ensures counts { Counts (IsErrOf result UploadError.DiskFault) (D.failures disk.old) (D.failures disk.new) }
+    ensures counts { Counts (IsErrOf result (UploadError.Stop Stop.DiskFault)) (D.failures disk.old)
+        (D.failures disk.new) }
     ensures layout { kept.new.layout ≡ kept.old.layout }
     ensures version { kept.new.version ≡ kept.old.version }
     ensures count { (r : Said) → get_or kept.old.slots slot None ≡ Some r → IfOk result (λ n. n ≡ r.accepted) }
@@ -241,7 +245,7 @@ fn set_length<D: Disk>(
     ensures crash { (m : Store) (n : ℕ)
         → Stored true D.Disk disk.old kept.old m → IsUsedBy kept.old.slots slot n → is_too_large declared ≡ false
         → Lasts D.Disk disk.old disk.new (ShowsEither kept.old.layout m (patched_store m n declared [])) }
-    ensures unmade { IsErrOf result UploadError.NoMemory → (disk.new ≡ disk.old) × (kept.new ≡ kept.old) }
+    ensures unmade { IsErrOf result (UploadError.Stop Stop.NoMemory) → (disk.new ≡ disk.old) × (kept.new ≡ kept.old) }
 {
     let used = kept.in_slot(slot).unwrap().record();
     let longer = Longer {
@@ -253,8 +257,8 @@ fn set_length<D: Disk>(
     };
     match extend(alloc, disk, kept, &longer, &[], &[]) {
         Ok(()) => Ok(longer.accepted),
-        Err(Stop::NoMemory) => Err(UploadError::NoMemory),
-        Err(Stop::DiskFault) => Err(UploadError::DiskFault),
+        Err(Stop::NoMemory) => Err(UploadError::Stop(Stop::NoMemory)),
+        Err(Stop::DiskFault) => Err(UploadError::Stop(Stop::DiskFault)),
     }
 }
 
@@ -276,7 +280,8 @@ pub fn commit<D: Disk>(
     ensures version { kept.new.version ≡ kept.old.version }
     ensures size { D.size disk.new ≡ D.size disk.old }
     ensures honest { D.honest disk.old ↔ D.honest disk.new }
-    ensures counts { Counts (IsErrOf result UploadError.DiskFault) (D.failures disk.old) (D.failures disk.new) }
+    ensures counts { Counts (IsErrOf result (UploadError.Stop Stop.DiskFault)) (D.failures disk.old)
+        (D.failures disk.new) }
 
     // Whatever the disk said, it is refused with these exactly where the draft's upload is gone, and where it is there
     // without as many bytes as when the draft began.
@@ -296,11 +301,12 @@ pub fn commit<D: Disk>(
         → Lasts D.Disk disk.old disk.new (ShowsEither kept.old.layout w.store (commit_outcome w number p)) }
     ensures unmade { (w : World) (p : Patch) → StandsFor true D.Disk disk.old kept.old drafts.old.items w
         → find number w.patches ≡ Some p
-        → IsErrOf result UploadError.NoMemory
+        → IsErrOf result (UploadError.Stop Stop.NoMemory)
         → Lasts D.Disk disk.old disk.new (λ image. ImageShows kept.old.layout image w.store) }
 
     // Every growth comes before the first write.
-    ensures unwritten { D.honest disk.old → IsErrOf result UploadError.NoMemory → OnlyRead D.Disk disk.old disk.new }
+    ensures unwritten { D.honest disk.old → IsErrOf result (UploadError.Stop Stop.NoMemory)
+        → OnlyRead D.Disk disk.old disk.new }
 {
     let Some(draft) = taken(drafts, number) else {
         return Err(UploadError::Refused(UploadRefusal::NoSuch));

@@ -15,6 +15,7 @@ ghost use Rattle.upload_rules.specs.World.{at_rest};
 ghost use Rattle.spool_kept.specs.Drafting.{DraftsFit};
 ghost use Rattle.spool_kept.specs.Stored.{Stored, ShowsEither};
 
+use common::Stop;
 use spool_catalog::Kept;
 use spool_disk::Disk;
 use spool_journal::PAGE;
@@ -35,7 +36,8 @@ pub fn create<D: Disk>(
     requires well_formed { IsWellFormed new }
     ensures size { D.size disk.new ≡ D.size disk.old }
     ensures honest { D.honest disk.old ↔ D.honest disk.new }
-    ensures counts { Counts (IsErrOf result UploadError.DiskFault) (D.failures disk.old) (D.failures disk.new) }
+    ensures counts { Counts (IsErrOf result (UploadError.Stop Stop.DiskFault)) (D.failures disk.old)
+        (D.failures disk.new) }
     ensures layout { kept.new.layout ≡ kept.old.layout }
     ensures version { kept.new.version ≡ kept.old.version }
     ensures blocks { kept.new.blocks ≡ kept.old.blocks }
@@ -49,7 +51,7 @@ pub fn create<D: Disk>(
     ensures crash { (m : Store) → Stored true D.Disk disk.old kept.old m
         → Lasts D.Disk disk.old disk.new (ShowsEither kept.old.layout m
         (outcome (create_refusal (at_rest m None) new) m (created_store m new))) }
-    ensures unmade { IsErrOf result UploadError.NoMemory → (disk.new ≡ disk.old) × (kept.new ≡ kept.old) }
+    ensures unmade { IsErrOf result (UploadError.Stop Stop.NoMemory) → (disk.new ≡ disk.old) × (kept.new ≡ kept.old) }
     ensures refused { (e : UploadRefusal) → IsErrOf result (UploadError.Refused e)
         → (disk.new ≡ disk.old) × (kept.new ≡ kept.old) }
     ensures texts { (m : Store) → Stored true D.Disk disk.old kept.old m
@@ -64,10 +66,10 @@ pub fn create<D: Disk>(
     let number = kept.next_number();
     let record = kept.new_record(new);
     let Ok(pages) = kept.prepare_new(alloc, slot, record) else {
-        return Err(UploadError::NoMemory);
+        return Err(UploadError::Stop(Stop::NoMemory));
     };
     match change(disk, &kept.layout, &pages) {
         Ok(()) => Ok(number),
-        Err(_) => Err(UploadError::DiskFault),
+        Err(_) => Err(UploadError::Stop(Stop::DiskFault)),
     }
 }

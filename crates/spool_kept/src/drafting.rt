@@ -63,7 +63,7 @@ pub fn begin<D: Disk>(
 ) -> Result<usize, UploadError>
     requires fits { DraftsFit kept.now drafts.old.items }
     ensures fits { DraftsFit kept.now drafts.new.items }
-    ensures no_disk_fault { IsErrOf result UploadError.DiskFault → ⊥ }
+    ensures no_disk_fault { IsErrOf result (UploadError.Stop Stop.DiskFault) → ⊥ }
     ensures answer { (sure : Bool) (disk : D) (w : World) → StandsFor sure D.Disk disk kept.now drafts.old.items w
         → Answers (begin_refusal w number offset count declare) result
         (λ d. (d ≡ free_number w) × StandsFor sure D.Disk disk kept.now drafts.new.items (begun w number count declare))
@@ -75,7 +75,7 @@ pub fn begin<D: Disk>(
     };
     match placed(drafts, draft) {
         Ok(number) => Ok(number),
-        Err(_) => Err(UploadError::NoMemory),
+        Err(_) => Err(UploadError::Stop(Stop::NoMemory)),
     }
 }
 
@@ -95,7 +95,8 @@ pub fn append<D: Disk>(
     ensures same { OnlyReserves kept.old kept.new }
     ensures size { D.size disk.new ≡ D.size disk.old }
     ensures honest { D.honest disk.old ↔ D.honest disk.new }
-    ensures counts { Counts (IsErrOf result UploadError.DiskFault) (D.failures disk.old) (D.failures disk.new) }
+    ensures counts { Counts (IsErrOf result (UploadError.Stop Stop.DiskFault)) (D.failures disk.old)
+        (D.failures disk.new) }
     ensures answer { (sure : Bool) (w : World) (p : Patch)
         → StandsFor sure D.Disk disk.old kept.old drafts.old.items w
         → find number w.patches ≡ Some p → length p.body + length piece.now ≤ p.count

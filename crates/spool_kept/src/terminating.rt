@@ -15,6 +15,7 @@ ghost use Rattle.spool_kept.specs.Stored.{ShowsEither};
 ghost use Rattle.spool_kept.specs.Terminating.{EachForgets, ForgetsOf};
 ghost use Rattle.spool_catalog.specs.TakenOut.{IsTakenOut};
 
+use common::Stop;
 use spool_catalog::Kept;
 use spool_disk::Disk;
 use spool_drafts::SpoolDraft;
@@ -58,18 +59,19 @@ pub fn terminate<D: Disk>(
     ensures fits { DraftsFit kept.new drafts.new.items }
     ensures size { D.size disk.new ≡ D.size disk.old }
     ensures honest { D.honest disk.old ↔ D.honest disk.new }
-    ensures counts { Counts (IsErrOf result UploadError.DiskFault) (D.failures disk.old) (D.failures disk.new) }
+    ensures counts { Counts (IsErrOf result (UploadError.Stop Stop.DiskFault)) (D.failures disk.old)
+        (D.failures disk.new) }
     ensures layout { kept.new.layout ≡ kept.old.layout }
     ensures version { kept.new.version ≡ kept.old.version }
 
     // Whatever the disk said, it is refused so exactly where no slot has the number.
     ensures no_such { IsErrOf result (UploadError.Refused UploadRefusal.NoSuch)
         ↔ ((slot : ℕ) → IsUsedBy kept.old.slots slot number → ⊥) }
-    ensures taken_out { (IsErrOf result UploadError.NoMemory → ⊥) → (slot : ℕ)
+    ensures taken_out { (IsErrOf result (UploadError.Stop Stop.NoMemory) → ⊥) → (slot : ℕ)
         → IsUsedBy kept.old.slots slot number → IsTakenOut kept.old slot kept.new }
-    ensures forgets { (IsErrOf result UploadError.NoMemory → ⊥) → (slot : ℕ)
+    ensures forgets { (IsErrOf result (UploadError.Stop Stop.NoMemory) → ⊥) → (slot : ℕ)
         → IsUsedBy kept.old.slots slot number → EachForgets number drafts.old.items drafts.new.items }
-    ensures unmade { IsErrOf result UploadError.NoMemory
+    ensures unmade { IsErrOf result (UploadError.Stop Stop.NoMemory)
         → (disk.new ≡ disk.old) × (kept.new ≡ kept.old) × (drafts.new.items ≡ drafts.old.items) }
     ensures refused { (e : Refusal) → IsErrOf result (UploadError.Refused e)
         → (disk.new ≡ disk.old) × (kept.new ≡ kept.old) × (drafts.new.items ≡ drafts.old.items) }
@@ -90,13 +92,13 @@ pub fn terminate<D: Disk>(
         return Err(UploadError::Refused(UploadRefusal::NoSuch));
     };
     let Ok(mut pages) = kept.pages_without(alloc, slot) else {
-        return Err(UploadError::NoMemory);
+        return Err(UploadError::Stop(Stop::NoMemory));
     };
     kept.take_out(number, slot);
     forget_tails(drafts, number);
     fill_rows(&mut pages, &kept.layout, kept.blocks.rows());
     match change(disk, &kept.layout, &pages) {
         Ok(()) => Ok(()),
-        Err(_) => Err(UploadError::DiskFault),
+        Err(_) => Err(UploadError::Stop(Stop::DiskFault)),
     }
 }

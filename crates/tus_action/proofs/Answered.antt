@@ -3,14 +3,15 @@ use Rattle.std.proofs.Common.{◌≡◌, ◌==◌, arith, ℕ, Bool, true, false
 use Rattle.std.proofs.Common.{None, Result, Ok, Err, refl, sym, subst, ap, ◌∙◌, if◌then◌else◌}
 use Rattle.upload_rules.specs.declared.errors.UploadRefusal.{UploadRefusal}
 use Rattle.upload_rules.specs.declared.errors.UploadError.{UploadError}
-use Rattle.upload_rules.specs.declared.errors.UploadError.TheVariants.{NoMemory, DiskFault, Refused}
+use Rattle.upload_rules.specs.declared.errors.UploadError.TheVariants as errors
+use Rattle.upload_rules.specs.declared.errors.UploadError.TheVariants.{Refused}
 use Rattle.upload_rules.specs.declared.uploads.Uploads.{Ghosts}
 use Rattle.upload_rules.specs.Errors.{stop_of}
 use Rattle.tus_action.specs.Faults.{fault_of}
-use Rattle.tus_action.specs.Serves.{Feeds, FeedsDraft, Finishes, Serves, RepliesOnly, RepliesTo}
+use Rattle.tus_action.specs.Serves.{Ends, Feeds, FeedsDraft, Finishes, Serves, RepliesOnly, RepliesTo}
 use Rattle.tus_action.specs.declared.bodies.OpenPatch.{OpenPatch}
 use Rattle.common.specs.declared.stop.Stop.{Stop}
-use Rattle.common.specs.declared.stop.Stop.TheVariants as Stops
+use Rattle.common.specs.declared.stop.Stop.TheVariants.{NoMemory, DiskFault}
 use Rattle.tus_action.specs.declared.acts.Done as code
 use Rattle.tus_action.specs.declared.acts.Done.TheVariants as done
 use Rattle.tus_request.specs.Replies.{reply_refused}
@@ -66,8 +67,8 @@ pub refused_answer : {T : Type 0} (done : T → Type 0) (same : Type 0) (refusal
     → Answers {T = T} refusal (Err e) done same → (refusal ≡ Some f) × same
 refused_answer {T = T} done same refusal e f is h = subst (λ x. Answers {T = T} refusal (Err x) done same) is h
 
-pub memory_answer : {T : Type 0} (done : T → Type 0) (same : Type 0) (refusal : Option UploadRefusal) (e : UploadError)
-    → e ≡ NoMemory
+memory_answer : {T : Type 0} (done : T → Type 0) (same : Type 0) (refusal : Option UploadRefusal) (e : UploadError)
+    → e ≡ errors.Stop NoMemory
     → Answers {T = T} refusal (Err e) done same → IsLate refusal × same
 memory_answer {T = T} done same refusal e is h = subst (λ x. Answers {T = T} refusal (Err x) done same) is h
 
@@ -81,21 +82,36 @@ pub fed_gone : {U B : Type 0} {sure : Bool} (u : Ghosts U B) (store next : U) (w
     (w' : World) (p : Patch) (done : Unit {0} → Type 0) → Answers {T = Unit {0}} None (Err e) done
     (u.stands store sure w) → (u.stands store sure w → u.stands next sure (dropped w d')) → d' ≡ d
     → FeedsDraft u sure next (Err (stop_of e)) (dropped w d) w' d p
-fed_gone {sure = sure} u store next w NoMemory d d' w' p done a drops same = subst
+fed_gone {sure = sure} u store next w (errors.Stop NoMemory) d d' w' p done a drops same = subst
     (λ x. u.stands next sure (dropped w x)) same (drops a.1)
-fed_gone {sure = sure} u store next w DiskFault d d' w' p done a drops same = tt {0}
+fed_gone {sure = sure} u store next w (errors.Stop DiskFault) d d' w' p done a drops same = tt {0}
 fed_gone {sure = sure} u store next w (Refused f) d d' w' p done a drops same = let e : None ≡ Some f = a.0 in absurd
     (cc)
+
+-- a cut body that isn't committed: out of memory, the patch is gone
+pub stops_ends : {U B T : Type 0} (u : Ghosts U B) (sure : Bool) (store : U) (gone w : World) (stop : Stop)
+    (refusal : Option UploadRefusal) (e : UploadError) (done : T → Type 0) → e ≡ errors.Stop stop
+    → Answers {T = T} refusal (Err e) done (u.stands store sure gone) → Ends u sure store (Err stop) gone w
+stops_ends u sure store gone w NoMemory refusal e done is answered =
+    (memory_answer done (u.stands store sure gone) refusal e is answered).1
+stops_ends u sure store gone w DiskFault refusal e done is answered = tt {0}
 
 -- a draft that is gone, or a disk fault, is the patch's
 pub feeds_stops : {U B : Type 0} (u : Ghosts U B) (sure : Bool) (store : U) (e : Stop) (gone w : World) (d : ℕ)
     (b : OpenPatch B) (p : Patch) → FeedsDraft u sure store (Err e) gone w d p → Feeds u sure store (Err e) gone w b p
-feeds_stops u sure store Stops.NoMemory gone w d b p is = is
-feeds_stops u sure store Stops.DiskFault gone w d b p is = is
+feeds_stops u sure store NoMemory gone w d b p is = is
+feeds_stops u sure store DiskFault gone w d b p is = is
 
 -- what was appended is taken back
 pub taken_back : {A : Type 0} (old more new : List A) (n : ℕ) → n ≡ length old → new ≡ take n (old ++ more) → new ≡ old
 taken_back old more new n is e = e ∙ (ap (λ k. take k (old ++ more)) is ∙ take-append_seam old more)
+
+-- a call that stops, out of memory where the patch is gone
+stops_as : {U B : Type 0} (u : Ghosts U B) (sure : Bool) (store : U) (gone : World) (m : Acted) (stop : Stop)
+    (old new : List ℕ) → (stop ≡ NoMemory → u.stands store sure gone) → new ≡ old
+    → Finishes u sure store (Err stop) old new gone m
+stops_as u sure store gone m NoMemory old new stands same = (stands refl, same)
+stops_as u sure store gone m DiskFault old new stands same = same
 
 -- a call on the uploads that gave no answer, where its refusal changes nothing but what is gone
 pub refused_finishes : {U B : Type 0} (u : Ghosts U B) (sure : Bool) (store : U) (gone : World)
@@ -109,26 +125,16 @@ refused_finishes u sure store gone m refusal (Refused f) (Ok a) on_files bare cl
     =
     subst (λ x. Finishes u sure store (Ok a) old new gone (m x)) (sym answered.0)
     (subst (λ x. Finishes u sure store (Ok a) old new gone x) (sym (replies_to f)) (answered.1, replies))
-refused_finishes u sure store gone m refusal (Refused f) (Err Stops.NoMemory) on_files bare closes old new done
-    replies_to
-    answered replies = (answered.1, replies)
-refused_finishes u sure store gone m refusal (Refused f) (Err Stops.DiskFault) on_files bare closes old new done
-    replies_to
-    answered replies = absurd replies
-refused_finishes u sure store gone m refusal NoMemory (Err Stops.NoMemory) on_files bare closes old new done replies_to
-    answered replies = (answered.1, replies)
-refused_finishes u sure store gone m refusal NoMemory (Err Stops.DiskFault) on_files bare closes old new done replies_to
-    answered replies = absurd replies
-refused_finishes u sure store gone m refusal NoMemory (Ok a) on_files bare closes old new done replies_to answered
-    replies =
-    absurd replies
-refused_finishes u sure store gone m refusal DiskFault (Err Stops.NoMemory) on_files bare closes old new done replies_to
-    answered replies = absurd replies
-refused_finishes u sure store gone m refusal DiskFault (Err Stops.DiskFault) on_files bare closes old new done
-    replies_to
-    answered replies = replies
-refused_finishes u sure store gone m refusal DiskFault (Ok a) on_files bare closes old new done replies_to answered
-    replies =
+refused_finishes u sure store gone m refusal (Refused f) (Err stop) on_files bare closes old new done replies_to
+    answered replies =
+    stops_as u sure store gone (m refusal) stop old new (λ none. answered.1) replies.1
+refused_finishes u sure store gone m refusal (errors.Stop why) (Err stop) on_files bare closes old new done replies_to
+    answered replies =
+    stops_as u sure store gone (m refusal) stop old new
+    (λ none. (memory_answer done (u.stands store sure gone) refusal (errors.Stop why)
+    (ap errors.Stop (sym replies.0 ∙ none)) answered).1) replies.1
+refused_finishes u sure store gone m refusal (errors.Stop why) (Ok a) on_files bare closes old new done replies_to
+    answered replies =
     absurd replies
 
 -- the same at a request's head
@@ -146,32 +152,25 @@ refused_serves u sure store gone m refusal (Refused f) (Ok a) on_files bare clos
     (subst (λ x. Serves u sure store (Ok x) old new gone
     (replied gone (reply_refused (fault_of f) on_files bare closes) closes)) (sym refuses.nothing)
     (record { stands = answered.1; draft = tt {0}; giving = tt {0}; closes = refl; bytes = refuses.replies })))
-refused_serves u sure store gone m refusal NoMemory (Ok a) on_files bare closes old new done replies_to answered
-    refuses =
-    absurd refuses.replies
-refused_serves u sure store gone m refusal DiskFault (Ok a) on_files bare closes old new done replies_to answered
-    refuses =
+refused_serves u sure store gone m refusal (errors.Stop why) (Ok a) on_files bare closes old new done replies_to
+    answered refuses =
     absurd refuses.replies
 refused_serves {B = B} u sure store gone m refusal e (Err stop) on_files bare closes old new done replies_to answered
     refuses
     =
-    stops_as stop (refused_finishes u sure store gone m refusal e (Err stop) on_files bare closes old new done
+    serves_as stop (refused_finishes u sure store gone m refusal e (Err stop) on_files bare closes old new done
     replies_to
     answered (replies_as e stop refuses.replies))
   where
-    stops_as : (s : Stop) → Finishes u sure store (Err s) old new gone (m refusal)
+    serves_as : (s : Stop) → Finishes u sure store (Err s) old new gone (m refusal)
         → Serves u sure store (Err s) old new gone (m refusal)
-    stops_as Stops.NoMemory is = is
-    stops_as Stops.DiskFault is = is
+    serves_as NoMemory is = is
+    serves_as DiskFault is = is
 
     replies_as : (x : UploadError) (s : Stop) → RepliesTo {T = code.Done B} (Err s) x on_files bare closes old new
         → RepliesTo {T = Unit {0}} (Err s) x on_files bare closes old new
-    replies_as (Refused f) Stops.NoMemory is = is
-    replies_as (Refused f) Stops.DiskFault is = is
-    replies_as NoMemory Stops.NoMemory is = is
-    replies_as NoMemory Stops.DiskFault is = is
-    replies_as DiskFault Stops.NoMemory is = is
-    replies_as DiskFault Stops.DiskFault is = is
+    replies_as (Refused f) s is = is
+    replies_as (errors.Stop why) s is = is
 
 -- out of memory, by the call itself or after its refusal: nothing was made
 pub nothing_made : {m0 m1 : ℕ} {l0 l1 : Option ℕ → ℕ → List Store → Type 0} {B T : Type 0} (before after : Store)
@@ -179,17 +178,14 @@ pub nothing_made : {m0 m1 : ℕ} {l0 l1 : Option ℕ → ℕ → List Store → 
     (result : Result B Stop) (on_files bare closes : Bool) (old new : List ℕ) (done : T → Type 0)
     (same : Type 0)
     → Answers {T = T} refusal (Err e) done same → RepliesTo result e on_files bare closes old new
-    → IsErrOf result Stops.NoMemory
-    → Limits m0 m1 l0 l1 before (outcome refusal before after) → (e ≡ NoMemory → Limits m0 m1 l0 l1 before before)
+    → IsErrOf result NoMemory
+    → Limits m0 m1 l0 l1 before (outcome refusal before after)
+    → (e ≡ errors.Stop NoMemory → Limits m0 m1 l0 l1 before before)
     → Limits m0 m1 l0 l1 before before
 nothing_made {m0} {m1} {l0} {l1} before after refusal (Refused f) result on_files bare closes old new done same answered
     replies is limits unmade =
     subst (λ x. Limits m0 m1 l0 l1 before (outcome x before after)) answered.0 limits
-nothing_made before after refusal NoMemory result on_files bare closes old new done same answered replies is limits
-    unmade = unmade refl
-nothing_made before after refusal DiskFault (Ok a) on_files bare closes old new done same answered replies is limits
-    unmade = absurd replies
-nothing_made before after refusal DiskFault (Err Stops.NoMemory) on_files bare closes old new done same answered replies
-    is limits unmade = absurd replies
-nothing_made before after refusal DiskFault (Err Stops.DiskFault) on_files bare closes old new done same answered
-    replies is limits unmade = absurd (cc)
+nothing_made before after refusal (errors.Stop why) (Ok a) on_files bare closes old new done same answered replies is
+    limits unmade = absurd replies
+nothing_made before after refusal (errors.Stop why) (Err stop) on_files bare closes old new done same answered replies
+    is limits unmade = let none : stop ≡ NoMemory = cc in unmade (ap errors.Stop (sym replies.0 ∙ none))

@@ -183,10 +183,9 @@ CanBeRead w _ = Unit {0}
 abbrev pub RepliesTo : {T : Type 0} → Result T Stop → UploadError → Bool → Bool → Bool → List ℕ → List ℕ → Type 0
 RepliesTo (Ok a) (errors.Refused f) on_files bare closes old new =
     new ≡ old ++ reply_refused (fault_of f) on_files bare closes
-RepliesTo (Err NoMemory) (errors.Refused f) on_files bare closes old new = new ≡ old
-RepliesTo (Err NoMemory) errors.NoMemory on_files bare closes old new = new ≡ old
-RepliesTo (Err DiskFault) errors.DiskFault on_files bare closes old new = new ≡ old
-RepliesTo _ _ on_files bare closes old new = ⊥
+RepliesTo (Err stop) (errors.Refused f) on_files bare closes old new = (stop ≡ NoMemory) × (new ≡ old)
+RepliesTo (Err stop) (errors.Stop why) on_files bare closes old new = (stop ≡ why) × (new ≡ old)
+RepliesTo (Ok a) (errors.Stop why) on_files bare closes old new = ⊥
 
 -- The same, and nothing is open afterwards.
 pub record RepliesOnly {B : Type 0} (result : Result (code.Done B) Stop) (e : UploadError) (on_files bare closes : Bool)

@@ -174,7 +174,6 @@ pub fn cut<U: Uploads>(store: &mut U, patch: OpenPatch<U::Draft>) -> Result<(), 
     match store.commit(draft) {
         Ok(_offset) => Ok(()),
         Err(UploadError::Refused(_refusal)) => Ok(()),
-        Err(UploadError::NoMemory) => Err(Stop::NoMemory),
-        Err(UploadError::DiskFault) => Err(Stop::DiskFault),
+        Err(UploadError::Stop(stop)) => Err(stop),
     }
 }

@@ -7,7 +7,6 @@ use Rattle.tus_session.specs.History.{Refused, step, put, turned, conn_in, lost_
 use Rattle.tus_session.specs.History.{ended_at, is_closed, has_text}
 use Rattle.tus_session.specs.Stands.{SessionStands}
 use Rattle.tus_session.specs.Turned.{Turned, TurnedAs, EndedAs, Ended as EndedBy}
-use Rattle.tus_session.specs.Faults.{error_of}
 use Rattle.common.specs.declared.stop.Stop.{Stop}
 use Rattle.common.specs.declared.stop.Stop.TheVariants as stops
 use Rattle.tus_session.specs.Told.{Follows, Told, Ends}
@@ -45,7 +44,11 @@ IsOnOpen (Ended c) = Unit {0}
 
 memory_is : (st : State) (e : Event) (conn : Conn) → IsOnOpen e → st.conns (conn_in e) ≡ Some conn
     → step st e OutOfMemory ≡ record
-    { state = put st (left_world st.world conn.draft) (conn_in e) None; outcome = Refused errors.NoMemory; text = [] }
+    {
+      state = put st (left_world st.world conn.draft) (conn_in e) None;
+      outcome = Refused (errors.Stop stops.NoMemory);
+      text = [];
+    }
 unfolding step
 memory_is st (Opened c) conn on is = absurd on
 memory_is st (Came c piece) conn on is = ap (lost_at st c) is
@@ -53,7 +56,7 @@ memory_is st (More c) conn on is = ap (lost_at st c) is
 memory_is st (Ended c) conn on is = ap (lost_at st c) is
 
 failed_is : (st : State) (e : Event) (conn : Conn) → IsOnOpen e → st.conns (conn_in e) ≡ Some conn
-    → (step st e Failed).outcome ≡ Refused errors.DiskFault
+    → (step st e Failed).outcome ≡ Refused (errors.Stop stops.DiskFault)
 unfolding step
 failed_is st (Opened c) conn on is = absurd on
 failed_is st (Came c piece) conn on is = ap (λ o. (failed_at st c o).outcome) is
@@ -66,7 +69,7 @@ module _ {U B : Type 0} (u : Ghosts U B) (sure : Bool) where
     -- the connection is gone, with its draft
     lost : IsPut places all (conn_in e) None → u.stands store' sure (left_world st.world conn.draft)
         → Follows u sure all store' (step st e OutOfMemory).state (step st e OutOfMemory).outcome
-        (Refused errors.NoMemory)
+        (Refused (errors.Stop stops.NoMemory))
     lost is_put shown =
         let s = in_place u sure places all store store' st (left_world st.world conn.draft) (conn_in e) None None stands
         is_put (rw is (left_moves st.world conn.draft)) shown tt in
@@ -85,7 +88,7 @@ module _ {U B : Type 0} (u : Ghosts U B) (sure : Bool) where
     -- an error closes the connection
     pub stopped : (t : Turn) (stop : Stop) (old new : List ℕ) → IsPut places all (conn_in e) None
         → Turned u sure store' (Err stop) old new st.world conn.draft t
-        → Told u sure all store' (Err (error_of stop)) old new st e
+        → Told u sure all store' (Err (errors.Stop stop)) old new st e
     stopped t stops.NoMemory old new is_put (shown, same) = (lost is_put shown, same)
     stopped t stops.DiskFault old new is_put same = (failed_is st e conn on is, same)
 
@@ -99,7 +102,7 @@ module _ {U B : Type 0} (u : Ghosts U B) (sure : Bool) where
 
     pub ends_stopped : (stop : Stop) → IsPut places all (conn_in e) None
         → EndedBy u sure store' (Err stop) st.world conn.draft (ended_world st.world conn)
-        → Ends u sure all store' (Err (error_of stop)) st e
+        → Ends u sure all store' (Err (errors.Stop stop)) st e
     ends_stopped stops.NoMemory is_put shown = lost is_put shown
     ends_stopped stops.DiskFault is_put turn = failed_is st e conn on is
 
@@ -122,15 +125,14 @@ ended_step st c conn e = ap (ended_at st c) e
 
 module _ {A : Type 0} where
   -- what a `?` makes of it
-  pub stop_is : (result : Result A SessionError) (stop : Stop) → IsErrAnd result (λ e. e ≡ error_of stop)
-      → result ≡ Err (error_of stop)
+  pub stop_is : (result : Result A SessionError) (stop : Stop) → IsErrAnd result (λ e. e ≡ errors.Stop stop)
+      → result ≡ Err (errors.Stop stop)
   stop_is result stop is = let s = err_from_is_err_and result is in s.1 ∙ ap Err s.2
 
 module _ {A B : Type 0} where
-  pub no_memory : (stop : Stop) → IsErrOf {T = A} (Err (error_of stop)) errors.NoMemory
+  pub no_memory : (stop : Stop) → IsErrOf {T = A} (Err (errors.Stop stop)) (errors.Stop stops.NoMemory)
       → IsErrOf {T = B} (Err stop) stops.NoMemory
-  no_memory stops.NoMemory f = refl
-  no_memory stops.DiskFault f = absurd (cc)
+  no_memory stop f = cc
 
   -- a call that stopped out of memory, where its caller does
   pub same_stop : (r : Result A Stop) (e stop : Stop) → r ≡ Err e → e ≡ stop → IsErrOf r stops.NoMemory

@@ -7,13 +7,14 @@ use Rattle.tus_session.specs.History.{State, Event, Mark, Served, OutOfMemory, F
 use Rattle.tus_session.specs.History.{Outcome, Gave, Done, Refused, Step, step}
 use Rattle.tus_session.specs.declared.answers.Answer.{Answer}
 use Rattle.tus_session.specs.declared.errors.SessionError.{SessionError}
-use Rattle.tus_session.specs.declared.errors.SessionError.TheVariants.{NoMemory, DiskFault, Down}
+use Rattle.tus_session.specs.declared.errors.SessionError.TheVariants.{Stop, Down}
+use Rattle.common.specs.declared.stop.Stop.TheVariants.{NoMemory, DiskFault}
 
 -- The mark that a result gives its event.
 abbrev pub mark_of : {T : Type 0} → Result T SessionError → Mark
 mark_of (Ok x) = Served
-mark_of (Err NoMemory) = OutOfMemory
-mark_of (Err DiskFault) = Failed
+mark_of (Err (Stop NoMemory)) = OutOfMemory
+mark_of (Err (Stop DiskFault)) = Failed
 mark_of (Err f) = Served
 
 -- The outcome that a result represents.
@@ -28,7 +29,7 @@ told_done (Err f) = Refused f
 
 -- After a disk fault nothing is claimed of the connections.
 abbrev pub UnlessFailed : {T : Type 0} → Result T SessionError → Type 0 → Type 0
-UnlessFailed (Err DiskFault) stands = Unit {0}
+UnlessFailed (Err (Stop DiskFault)) stands = Unit {0}
 UnlessFailed result stands = stands
 
 -- The history has this outcome, and the connections stand for its next state.
@@ -61,7 +62,7 @@ Does stands result st e = Keeps stands result (told_done result) (step st e (mar
 -- this call met a disk fault.
 pub record Falls {T : Type 0} (was now : Bool) (result : Result T SessionError) : Type 0 where
   pub refused : IsErrOf result Down ↔ (was ≡ true)
-  pub falls : (now ≡ true) ↔ ((was ≡ true) ⊎ IsErrOf result DiskFault)
+  pub falls : (now ≡ true) ↔ ((was ≡ true) ⊎ IsErrOf result (Stop DiskFault))
 
 -- The disk wasn't asked: its crash images are limited exactly as they were.
 pub record Unasked (moment moment' : ℕ) (left_only left_only' : Option ℕ → ℕ → List Store → Type 0)

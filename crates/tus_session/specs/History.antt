@@ -2,7 +2,8 @@
 use Rattle.std.specs.Prelude.{ℕ, Bool, true, false, List, [], ◌∷◌, nat_lt, ◌==◌, if◌then◌else◌, Option, Some, None}
 use Rattle.tus_session.specs.declared.session.TheConstants.{MOST_OPEN}
 use Rattle.tus_session.specs.declared.errors.SessionError.{SessionError}
-use Rattle.tus_session.specs.declared.errors.SessionError.TheVariants.{NoMemory, DiskFault, TooMany, Closed}
+use Rattle.tus_session.specs.declared.errors.SessionError.TheVariants.{Stop, TooMany, Closed}
+use Rattle.common.specs.declared.stop.Stop.TheVariants.{NoMemory, DiskFault}
 use Rattle.upload_rules.specs.Store.{Store}
 use Rattle.upload_rules.specs.World.{World, at_rest}
 use Rattle.tus_action.specs.Acts.{is_pending}
@@ -108,14 +109,14 @@ abbrev pub lost_at : State → ℕ → Option Conn → Step
 lost_at st c None = kept st Closed
 lost_at st c (Some k) = record {
   state = put st (left_world st.world k.draft) c None;
-  outcome = Refused NoMemory;
+  outcome = Refused (Stop NoMemory);
   text = [];
 }
 
 -- A disk fault changes nothing here. `Closed` goes before.
 abbrev pub failed_at : State → ℕ → Option Conn → Step
 failed_at st c None = kept st Closed
-failed_at st c (Some k) = kept st DiskFault
+failed_at st c (Some k) = kept st (Stop DiskFault)
 
 -- The step of an event that is out of memory: no upload changes, the event's connection closes, the others stay.
 -- Opening needs no memory.

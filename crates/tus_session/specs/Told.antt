@@ -7,7 +7,8 @@ use Rattle.tus_session.specs.Stands.{SessionStands}
 use Rattle.tus_session.specs.declared.answers.Answer.{Answer}
 use Rattle.tus_session.specs.declared.conns.Link.{Link}
 use Rattle.tus_session.specs.declared.errors.SessionError.{SessionError}
-use Rattle.tus_session.specs.declared.errors.SessionError.TheVariants.{NoMemory, DiskFault}
+use Rattle.tus_session.specs.declared.errors.SessionError.TheVariants.{Stop}
+use Rattle.common.specs.declared.stop.Stop.TheVariants.{NoMemory, DiskFault}
 
 -- The session stands for the state after the event, and the history's outcome is the given one.
 pub record Follows {U B : Type 0} (u : Ghosts U B) (sure : Bool) (places : List (Option (Link B))) (store : U)
@@ -22,10 +23,11 @@ abbrev pub Told : {U B : Type 0} → Ghosts U B → Bool → List (Option (Link 
 Told u sure places store (Ok a) old new st e =
     (bytes : List ℕ) × Follows u sure places store (step st e Served).state (step st e Served).outcome
     (Gave bytes a.taken a.closes a.more) × Appends sure old new bytes (step st e Served).text
-Told u sure places store (Err NoMemory) old new st e =
+Told u sure places store (Err (Stop NoMemory)) old new st e =
     Follows u sure places store (step st e OutOfMemory).state (step st e OutOfMemory).outcome
-    (Refused NoMemory) × (new ≡ old)
-Told u sure places store (Err DiskFault) old new st e = ((step st e Failed).outcome ≡ Refused DiskFault) × (new ≡ old)
+    (Refused (Stop NoMemory)) × (new ≡ old)
+Told u sure places store (Err (Stop DiskFault)) old new st e =
+    ((step st e Failed).outcome ≡ Refused (Stop DiskFault)) × (new ≡ old)
 Told u sure places store (Err f) old new st e =
     Follows u sure places store st (step st e Served).outcome (Refused f) × (new ≡ old)
 
@@ -34,9 +36,9 @@ abbrev pub Ends : {U B : Type 0} → Ghosts U B → Bool → List (Option (Link 
     → State → Event → Type 0
 Ends u sure places store (Ok x) st e = Follows u sure places store (step st e Served).state (step st e Served).outcome
     Done
-Ends u sure places store (Err NoMemory) st e =
-    Follows u sure places store (step st e OutOfMemory).state (step st e OutOfMemory).outcome (Refused NoMemory)
-Ends u sure places store (Err DiskFault) st e = (step st e Failed).outcome ≡ Refused DiskFault
+Ends u sure places store (Err (Stop NoMemory)) st e =
+    Follows u sure places store (step st e OutOfMemory).state (step st e OutOfMemory).outcome (Refused (Stop NoMemory))
+Ends u sure places store (Err (Stop DiskFault)) st e = (step st e Failed).outcome ≡ Refused (Stop DiskFault)
 Ends u sure places store (Err f) st e = Follows u sure places store st (step st e Served).outcome (Refused f)
 
 -- The connection is open, or nothing changed.

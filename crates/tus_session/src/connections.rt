@@ -1,5 +1,6 @@
 //! The trait of connections that scripts and sockets drive.
 ghost use Rattle.std.specs.Prelude.{◌≡◌, ℕ, Bool, true, false, List, IsErrOf, Option};
+ghost use Rattle.common.specs.declared.stop.Stop.{Stop};
 ghost use Rattle.upload_rules.specs.Store.{Store};
 ghost use Rattle.upload_rules.specs.Answers.{Among, Limits, Quiet, Counts};
 ghost use Rattle.tus_session.specs.History.{State, Opened, Came, More, Ended};
@@ -39,7 +40,8 @@ pub trait Connections {
         ensures does { (sure : Bool) (st : State) → stands self.old sure st
             → Does (stands self.new sure) result st (Opened conn) }
         ensures crash { Quiet (moment self.old) (moment self.new) (left_only self.old) (left_only self.new) }
-        ensures counts { Counts (IsErrOf result SessionError.DiskFault) (failures self.old) (failures self.new) }
+        ensures counts { Counts (IsErrOf result (SessionError.Stop Stop.DiskFault)) (failures self.old)
+            (failures self.new) }
         ensures falls { Falls (down self.old) (down self.new) result }
         ensures unasked { down self.old ≡ true → Unasked (moment self.old) (moment self.new) (left_only self.old)
             (left_only self.new) (failures self.old) (failures self.new) };
@@ -56,7 +58,8 @@ pub trait Connections {
         ensures crash { (st : State) → stands self.old true st
             → Limits (moment self.old) (moment self.new) (left_only self.old) (left_only self.new) st.world.store
             (shown_by st (Came conn bytes.now) (mark_of result)) }
-        ensures counts { Counts (IsErrOf result SessionError.DiskFault) (failures self.old) (failures self.new) }
+        ensures counts { Counts (IsErrOf result (SessionError.Stop Stop.DiskFault)) (failures self.old)
+            (failures self.new) }
         ensures falls { Falls (down self.old) (down self.new) result }
         ensures unasked { down self.old ≡ true → Unasked (moment self.old) (moment self.new) (left_only self.old)
             (left_only self.new) (failures self.old) (failures self.new) }
@@ -72,7 +75,8 @@ pub trait Connections {
         ensures gives { (sure : Bool) (st : State) → stands self.old sure st
             → Gives sure (stands self.new sure) result out.old.items out.new.items st (More conn) }
         ensures crash { Quiet (moment self.old) (moment self.new) (left_only self.old) (left_only self.new) }
-        ensures counts { Counts (IsErrOf result SessionError.DiskFault) (failures self.old) (failures self.new) }
+        ensures counts { Counts (IsErrOf result (SessionError.Stop Stop.DiskFault)) (failures self.old)
+            (failures self.new) }
         ensures falls { Falls (down self.old) (down self.new) result }
         ensures unasked { down self.old ≡ true → Unasked (moment self.old) (moment self.new) (left_only self.old)
             (left_only self.new) (failures self.old) (failures self.new) }
@@ -90,7 +94,8 @@ pub trait Connections {
         ensures crash { (st : State) → stands self.old true st
             → Limits (moment self.old) (moment self.new) (left_only self.old) (left_only self.new) st.world.store
             (shown_by st (Ended conn) (mark_of result)) }
-        ensures counts { Counts (IsErrOf result SessionError.DiskFault) (failures self.old) (failures self.new) }
+        ensures counts { Counts (IsErrOf result (SessionError.Stop Stop.DiskFault)) (failures self.old)
+            (failures self.new) }
         ensures falls { Falls (down self.old) (down self.new) result }
         ensures unasked { down self.old ≡ true → Unasked (moment self.old) (moment self.new) (left_only self.old)
             (left_only self.new) (failures self.old) (failures self.new) };

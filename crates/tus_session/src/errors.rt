@@ -1,16 +1,14 @@
 //! The errors of a session.
 ghost use Rattle.std.specs.Prelude.{◌≡◌};
-ghost use Rattle.tus_session.specs.Faults.{error_of};
+ghost use Rattle.tus_session.specs.declared.errors.SessionError.{SessionError};
 
 use common::Stop;
 
 /// Why a session refuses a call.
 #[derive(Clone, Copy, Debug, PartialEq, Eq, Drop)]
 pub enum SessionError {
-    /// Out of memory: nothing was committed, and the connection is closed.
-    NoMemory,
-    /// A disk fault: the spool has to be opened again.
-    DiskFault,
+    /// Out of memory: nothing was committed, and the connection is closed. Or a disk fault.
+    Stop(Stop),
     /// The connection's number isn't below `MOST_OPEN`, or that connection is open.
     TooMany,
     /// The connection isn't open.
@@ -20,12 +18,9 @@ pub enum SessionError {
 }
 
 impl From<Stop> for SessionError {
-    ghost from_gives = { λ stop error. error ≡ error_of stop };
+    ghost from_gives = { λ stop error. error ≡ SessionError.Stop stop };
 
     fn from(stop: Stop) -> Self {
-        match stop {
-            Stop::NoMemory => SessionError::NoMemory,
-            Stop::DiskFault => SessionError::DiskFault,
-        }
+        SessionError::Stop(stop)
     }
 }

@@ -1,5 +1,6 @@
 //! The connections of a server, over any store of uploads.
 ghost use Rattle.std.specs.Prelude.{◌≡◌, ◌<◌, ℕ, length, Option, None, IfOk, IfErr, OnOk, OnErr, IsErrOf, Bool, true};
+ghost use Rattle.common.specs.declared.stop.Stop.{Stop};
 ghost use Rattle.tus_session.specs.History.{State, Opened, Came, More, Ended, Served, step, beginning};
 ghost use Rattle.tus_session.specs.Places.{places_of, IsPut, IsOpen};
 ghost use Rattle.tus_session.specs.Stands.{SessionStands};
@@ -79,7 +80,7 @@ impl<U: Uploads> Session<U> {
         ensures answer { (sure : Bool) (store : U) (st : State)
             → SessionStands U.Uploads sure (places_of self.old) store st
             → Opens U.Uploads sure (places_of self.new) store result st (Opened conn) }
-        ensures no_disk_fault { IsErrOf result SessionError.DiskFault → ⊥ }
+        ensures no_disk_fault { IsErrOf result (SessionError.Stop Stop.DiskFault) → ⊥ }
         ensures no_down { IsErrOf result SessionError.Down → ⊥ }
     {
         if conn >= self.links.len() || self.links[conn].is_some() {
@@ -118,10 +119,11 @@ impl<U: Uploads> Session<U> {
             (U.left_only store.new) st.world.store
             (step st (Came conn bytes.now) Served).state.world.store }
         ensures unmade { (st : State) → SessionStands U.Uploads true (places_of self.old) store.old st
-            → IsErrOf result SessionError.NoMemory
+            → IsErrOf result (SessionError.Stop Stop.NoMemory)
             → Limits (U.moment store.old) (U.moment store.new) (U.left_only store.old)
             (U.left_only store.new) st.world.store st.world.store }
-        ensures counts { Counts (IsErrOf result SessionError.DiskFault) (U.failures store.old) (U.failures store.new) }
+        ensures counts { Counts (IsErrOf result (SessionError.Stop Stop.DiskFault)) (U.failures store.old)
+            (U.failures store.new) }
         ensures no_down { IsErrOf result SessionError.Down → ⊥ }
         ensures few { GivesFew out.old.items out.new.items }
     {
@@ -155,7 +157,8 @@ impl<U: Uploads> Session<U> {
             → Told U.Uploads sure (places_of self.new) store.new result out.old.items out.new.items st (More conn) }
         ensures crash { Quiet (U.moment store.old) (U.moment store.new) (U.left_only store.old)
             (U.left_only store.new) }
-        ensures counts { Counts (IsErrOf result SessionError.DiskFault) (U.failures store.old) (U.failures store.new) }
+        ensures counts { Counts (IsErrOf result (SessionError.Stop Stop.DiskFault)) (U.failures store.old)
+            (U.failures store.new) }
         ensures no_down { IsErrOf result SessionError.Down → ⊥ }
         ensures few { GivesFew out.old.items out.new.items }
     {
@@ -179,10 +182,11 @@ impl<U: Uploads> Session<U> {
             (U.left_only store.new) st.world.store
             (step st (Ended conn) Served).state.world.store }
         ensures unmade { (st : State) → SessionStands U.Uploads true (places_of self.old) store.old st
-            → IsErrOf result SessionError.NoMemory
+            → IsErrOf result (SessionError.Stop Stop.NoMemory)
             → Limits (U.moment store.old) (U.moment store.new) (U.left_only store.old)
             (U.left_only store.new) st.world.store st.world.store }
-        ensures counts { Counts (IsErrOf result SessionError.DiskFault) (U.failures store.old) (U.failures store.new) }
+        ensures counts { Counts (IsErrOf result (SessionError.Stop Stop.DiskFault)) (U.failures store.old)
+            (U.failures store.new) }
         ensures no_down { IsErrOf result SessionError.Down → ⊥ }
     {
         let link = self.take(conn)?;

@@ -5,7 +5,8 @@ use Rattle.enc_model.specs.Indexes.{IndexSet}
 use Rattle.enc_model.specs.Decode.{text}
 use Rattle.enc_stream.specs.StateBytes.{state_bytes}
 use Rattle.upload_rules.specs.declared.errors.UploadError.{UploadError}
-use Rattle.upload_rules.specs.declared.errors.UploadError.TheVariants.{NoMemory, DiskFault, Refused}
+use Rattle.upload_rules.specs.declared.errors.UploadError.TheVariants.{Stop, Refused}
+use Rattle.common.specs.declared.stop.Stop.TheVariants.{NoMemory, DiskFault}
 use Rattle.upload_rules.specs.declared.errors.UploadRefusal.TheVariants as refusals
 use Rattle.upload_rules.specs.declared.slot.Slot.{Slot}
 use Rattle.upload_rules.specs.declared.appends.OpenAppend.{OpenAppend}
@@ -91,8 +92,8 @@ module _ (x : IndexSet) (next : ℕ) (p : Patch) (o : OpenAppend) (stands : Appe
 
       -- why the patch isn't put after
       pub not_put : (e : UploadError) (done : Bool) → IsEnded x u p.body done (Err e) → IsPut x p u done s (Err e)
-      not_put NoMemory done ended = kept
-      not_put DiskFault done ended = absurd ended
+      not_put (Stop NoMemory) done ended = kept
+      not_put (Stop DiskFault) done ended = absurd ended
       not_put (Refused refusals.Unencodable) done ended =
           (ap is_there (ap (λ r. r.fault) (patch_text_is x p done)) ∙ ended, kept)
       not_put (Refused e) done ended = absurd ended

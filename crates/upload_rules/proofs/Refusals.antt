@@ -8,7 +8,8 @@ use Rattle.upload_rules.proofs.Growing.{known_already}
 use Rattle.std.proofs.lemmas.List.{get_or_past, set-set, nil_from_length}
 use Rattle.std.proofs.lemmas.Option.{same_Some}
 use Rattle.upload_rules.specs.declared.errors.UploadError.{UploadError}
-use Rattle.upload_rules.specs.declared.errors.UploadError.TheVariants.{NoMemory, DiskFault, Refused}
+use Rattle.upload_rules.specs.declared.errors.UploadError.TheVariants.{Stop, Refused}
+use Rattle.common.specs.declared.stop.Stop.TheVariants.{NoMemory, DiskFault}
 use Rattle.upload_rules.specs.declared.errors.UploadRefusal.TheVariants as refusals
 use Rattle.upload_rules.specs.declared.appends.OpenAppend.{OpenAppend}
 use Rattle.upload_rules.specs.declared.slot.Slot.{Slot}
@@ -327,9 +328,9 @@ module _ (t : Table) (w : World) (stands : TableStands t w) (d : ℕ) (p : Patch
                       p.body place new slots there_is first_of_patch inside after_put put.2),
                 ),
               )
-              commits (Err NoMemory) done new slots is_done unfinished after_put kept =
+              commits (Err (Stop NoMemory)) done new slots is_done unfinished after_put kept =
                   (late, slots_same new slots after_put kept)
-              commits (Err DiskFault) done new slots is_done unfinished after_put kept = absurd kept
+              commits (Err (Stop DiskFault)) done new slots is_done unfinished after_put kept = absurd kept
               commits (Err (Refused refusals.Unencodable)) done new slots is_done unfinished after_put kept =
                   (no_value done is_done unfinished kept.0, slots_same new slots after_put kept.1)
               commits (Err (Refused e)) done new slots is_done unfinished after_put kept = absurd kept

@@ -1,7 +1,8 @@
 -- The results of calls on a store.
 use Rattle.std.specs.Prelude.{◌≡◌, ◌⊎◌, ◌<◌, ◌≤◌, ◌+◌, ◌^◌, ℕ, List, [], ◌∷◌, Option, Some, None, Result, Ok, Err}
 use Rattle.upload_rules.specs.declared.errors.UploadError.{UploadError}
-use Rattle.upload_rules.specs.declared.errors.UploadError.TheVariants.{NoMemory, DiskFault, Refused}
+use Rattle.upload_rules.specs.declared.errors.UploadError.TheVariants.{Stop, Refused}
+use Rattle.common.specs.declared.stop.Stop.TheVariants.{NoMemory, DiskFault}
 use Rattle.upload_rules.specs.declared.errors.UploadRefusal.{UploadRefusal}
 use Rattle.upload_rules.specs.declared.errors.UploadRefusal.TheVariants.{Unencodable, Full}
 use Rattle.upload_rules.specs.Store.{Upload, Store}
@@ -20,8 +21,8 @@ IsLate (Some e) = ⊥
 -- met a disk fault.
 abbrev pub Answers : {T : Type 0} → Option UploadRefusal → Result T UploadError → (T → Type 0) → Type 0 → Type 0
 Answers refusal (Ok t) done same = (refusal ≡ None) × done t
-Answers refusal (Err NoMemory) done same = IsLate refusal × same
-Answers refusal (Err DiskFault) done same = IsLate refusal
+Answers refusal (Err (Stop NoMemory)) done same = IsLate refusal × same
+Answers refusal (Err (Stop DiskFault)) done same = IsLate refusal
 Answers refusal (Err (Refused e)) done same = (refusal ≡ Some e) × same
 
 -- The draft represents the first patch of the upload.

@@ -2,7 +2,8 @@
 use Rattle.std.specs.Prelude.{◌≡◌, ◌≤◌, ◌<◌, ◌+◌, ◌^◌, ℕ, Bool, true, false, length, None, Result, Ok, Err}
 use Rattle.enc_model.specs.Indexes.{IndexSet}
 use Rattle.upload_rules.specs.declared.errors.UploadError.{UploadError}
-use Rattle.upload_rules.specs.declared.errors.UploadError.TheVariants.{NoMemory, Refused}
+use Rattle.upload_rules.specs.declared.errors.UploadError.TheVariants.{Stop, Refused}
+use Rattle.common.specs.declared.stop.Stop.TheVariants.{NoMemory}
 use Rattle.upload_rules.specs.declared.errors.UploadRefusal.TheVariants as refusals
 use Rattle.upload_rules.specs.Lengths.{known_or, longest}
 use Rattle.upload_rules.specs.Store.{Upload, patched}
@@ -29,7 +30,7 @@ pub record AppendStands (x : IndexSet) (next : ℕ) (p : Patch) (o : OpenAppend)
 abbrev pub IsPut : IndexSet → Patch → Upload → Bool → Slot → Result ℕ UploadError → Type 0
 IsPut x p u done s (Ok n) =
     (n ≡ reached p) × ((patch_text x p done).fault ≡ None) × SlotStands x p.number (patched u p.declare p.body) s
-IsPut x p u done s (Err NoMemory) = SlotStands x p.number u s
+IsPut x p u done s (Err (Stop NoMemory)) = SlotStands x p.number u s
 IsPut x p u done s (Err (Refused refusals.Unencodable)) =
     (is_there (patch_text x p done).fault ≡ true) × SlotStands x p.number u s
 IsPut x p u done s (Err e) = ⊥

@@ -9,7 +9,8 @@ use Rattle.upload_rules.specs.Store.{Upload, text_with, is_complete}
 use Rattle.upload_rules.specs.States.{IsStateLike, transcoder_with, state_with}
 use Rattle.upload_rules.specs.World.{is_there}
 use Rattle.upload_rules.specs.declared.errors.UploadError.{UploadError}
-use Rattle.upload_rules.specs.declared.errors.UploadError.TheVariants.{NoMemory, Refused}
+use Rattle.upload_rules.specs.declared.errors.UploadError.TheVariants.{Stop, Refused}
+use Rattle.common.specs.declared.stop.Stop.TheVariants.{NoMemory}
 use Rattle.upload_rules.specs.declared.errors.UploadRefusal.TheVariants as refusals
 use Rattle.upload_rules.specs.declared.new_text.NewText.{NewText}
 use Rattle.upload_rules.specs.declared.new_text.NewText.TheVariants.{Growing, Unencodable, Complete}
@@ -54,6 +55,6 @@ pub record IsWhole (x : IndexSet) (u : Upload) (bytes : List ℕ) (done : Bool) 
 -- The result of an append's end.
 abbrev pub IsEnded : IndexSet → Upload → List ℕ → Bool → Result (List ℕ × Vec ℕ Global) UploadError → Type 0
 IsEnded x u bytes done (Ok parts) = IsWhole x u bytes done parts.0 parts.1.items
-IsEnded x u bytes done (Err NoMemory) = Unit {0}
+IsEnded x u bytes done (Err (Stop NoMemory)) = Unit {0}
 IsEnded x u bytes done (Err (Refused refusals.Unencodable)) = is_there (text_with x u bytes done).fault ≡ true
 IsEnded x u bytes done (Err e) = ⊥

@@ -12,6 +12,7 @@ use crate::UploadError;
 use crate::lengths::{is_length, is_new};
 use crate::new_text::NewText;
 use crate::slot::Slot;
+use common::Stop;
 use enc_index::IndexSet;
 use std::alloc::AllocError;
 use std::mem;
@@ -66,7 +67,7 @@ impl OpenAppend {
             → (length : Option ℕ) × (u ≡ with_length p.began length) → is_complete u ≡ false
             → declared ≡ known_or u.declared p.declare → SlotStands indexes.now p.number u slot.old
             → IsPut indexes.now p u (is_length declared (reached p)) slot.new result }
-        ensures no_disk_fault { IsErrOf result UploadError.DiskFault → ⊥ }
+        ensures no_disk_fault { IsErrOf result (UploadError.Stop Stop.DiskFault) → ⊥ }
     {
         let OpenAppend {
             number: _,
@@ -79,7 +80,7 @@ impl OpenAppend {
         let (state, text) = text.ended(indexes, is_length(declared, accepted))?;
         match slot.grow(&text, declared, accepted, state) {
             Ok(()) => Ok(accepted),
-            Err(_) => Err(UploadError::NoMemory),
+            Err(_) => Err(UploadError::Stop(Stop::NoMemory)),
         }
     }
 }

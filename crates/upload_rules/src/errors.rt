@@ -27,10 +27,8 @@ pub enum UploadRefusal {
 /// Why a call on uploads fails.
 #[derive(Clone, Copy, Debug, PartialEq, Eq, Drop)]
 pub enum UploadError {
-    /// Out of memory.
-    NoMemory,
-    /// A disk fault: the spool has to be opened again.
-    DiskFault,
+    /// Out of memory, or a disk fault.
+    Stop(Stop),
     /// The rules refuse the call.
     Refused(UploadRefusal),
 }
@@ -43,21 +41,18 @@ impl From<UploadError> for Stop {
     /// For calls that the rules can't refuse: a refusal doesn't occur there.
     fn from(error: UploadError) -> Stop {
         match error {
-            UploadError::DiskFault => Stop::DiskFault,
-            UploadError::NoMemory | UploadError::Refused(_) => Stop::NoMemory,
+            UploadError::Stop(stop) => stop,
+            UploadError::Refused(_) => Stop::NoMemory,
         }
     }
 }
 
 impl From<Stop> for UploadError {
-    ghost use Rattle.upload_rules.specs.Errors.{stopped};
+    ghost use Rattle.upload_rules.specs.declared.errors.UploadError.{UploadError};
 
-    ghost from_gives = { λ stop error. error ≡ stopped stop };
+    ghost from_gives = { λ stop error. error ≡ UploadError.Stop stop };
 
     fn from(stop: Stop) -> UploadError {
-        match stop {
-            Stop::NoMemory => UploadError::NoMemory,
-            Stop::DiskFault => UploadError::DiskFault,
-        }
+        UploadError::Stop(stop)
     }
 }

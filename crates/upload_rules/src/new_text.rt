@@ -9,6 +9,7 @@ ghost use Rattle.upload_rules.specs.declared.errors.UploadRefusal.{UploadRefusal
 
 use crate::lengths::is_length;
 use crate::{Record, UploadError, UploadRefusal};
+use common::Stop;
 use enc_index::IndexSet;
 use enc_stream::{TranscodeError, Transcoder};
 use std::alloc::{AllocError, Global};
@@ -107,7 +108,7 @@ impl NewText {
         ensures same { (state : List ℕ) → IsState state → GoesOn state self
             → IfOk result (λ end. SameEncodings state end.0) }
         ensures growing { IsOk result → IsGrowing self }
-        ensures no_disk_fault { IsErrOf result UploadError.DiskFault → ⊥ }
+        ensures no_disk_fault { IsErrOf result (UploadError.Stop Stop.DiskFault) → ⊥ }
         ensures refusal { (e : Refusal) → IsErrOf result (UploadError.Refused e) → e ≡ UploadRefusal.Unencodable }
     {
         let NewText::Growing {
@@ -123,7 +124,7 @@ impl NewText {
                 Err(TranscodeError::Unencodable(_)) => return Err(UploadError::Refused(
                     UploadRefusal::Unencodable,
                 )),
-                Err(_) => return Err(UploadError::NoMemory),
+                Err(_) => return Err(UploadError::Stop(Stop::NoMemory)),
             }
         }
         // A spent transcoder has no state bytes.

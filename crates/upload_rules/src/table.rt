@@ -7,7 +7,7 @@ use crate::new_text::NewText;
 use crate::slot::Slot;
 use crate::slots::{place_of, places_to, read_from};
 use crate::{New, Record, UploadError, UploadRefusal, Uploads};
-use common::SLOTS;
+use common::{SLOTS, Stop};
 use enc_index::IndexSet;
 use std::alloc::Global;
 
@@ -135,7 +135,7 @@ impl Uploads for Table {
         }
         let number = self.next;
         if self.slots.push(Slot::new(self.alloc, number, new)).is_err() {
-            return Err(UploadError::NoMemory);
+            return Err(UploadError::Stop(Stop::NoMemory));
         }
         self.next = number + 1;
         Ok(number)
@@ -162,7 +162,7 @@ impl Uploads for Table {
         };
         match placed(&mut self.appends, append) {
             Ok(number) => Ok(TableDraft { number }),
-            Err(_) => Err(UploadError::NoMemory),
+            Err(_) => Err(UploadError::Stop(Stop::NoMemory)),
         }
     }
 
@@ -174,7 +174,7 @@ impl Uploads for Table {
         put_back(&mut self.appends, draft.number, append);
         match outcome {
             Ok(()) => Ok(()),
-            Err(_) => Err(UploadError::NoMemory),
+            Err(_) => Err(UploadError::Stop(Stop::NoMemory)),
         }
     }
 

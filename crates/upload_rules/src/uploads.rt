@@ -1,6 +1,7 @@
 //! The trait of stores of uploads. Each result is stated for every world that the store stands for.
 ghost use Rattle.std.specs.Prelude.{◌≡◌, ◌≤◌, ◌<◌, ◌+◌, ℕ, Bool, true, List, length, Option, Some, None, IfSome};
 ghost use Rattle.std.specs.Prelude.{IsErrOf, option_copied};
+ghost use Rattle.common.specs.declared.stop.Stop.{Stop};
 ghost use Rattle.upload_rules.specs.Store.{Upload, Store, upload_of, find};
 ghost use Rattle.upload_rules.specs.World.{Patch, World, free_number, reached};
 ghost use Rattle.upload_rules.specs.Calls.{create_refusal, created, create_outcome, terminate_refusal, terminated};
@@ -70,9 +71,10 @@ pub trait Uploads {
         ensures crash { (w : World) → stands self.old true w
             → Limits (moment self.old) (moment self.new) (left_only self.old) (left_only self.new) w.store
             (create_outcome w new) }
-        ensures unmade { (w : World) → stands self.old true w → IsErrOf result UploadError.NoMemory
+        ensures unmade { (w : World) → stands self.old true w → IsErrOf result (UploadError.Stop Stop.NoMemory)
             → Limits (moment self.old) (moment self.new) (left_only self.old) (left_only self.new) w.store w.store }
-        ensures counts { Counts (IsErrOf result UploadError.DiskFault) (failures self.old) (failures self.new) };
+        ensures counts { Counts (IsErrOf result (UploadError.Stop Stop.DiskFault)) (failures self.old)
+            (failures self.new) };
 
     /// Deletes an upload and its text. Its number is never used again, and the commit of a draft for it is refused.
     ///
@@ -86,9 +88,10 @@ pub trait Uploads {
         ensures crash { (w : World) → stands self.old true w
             → Limits (moment self.old) (moment self.new) (left_only self.old) (left_only self.new) w.store
             (terminate_outcome w number) }
-        ensures unmade { (w : World) → stands self.old true w → IsErrOf result UploadError.NoMemory
+        ensures unmade { (w : World) → stands self.old true w → IsErrOf result (UploadError.Stop Stop.NoMemory)
             → Limits (moment self.old) (moment self.new) (left_only self.old) (left_only self.new) w.store w.store }
-        ensures counts { Counts (IsErrOf result UploadError.DiskFault) (failures self.old) (failures self.new) };
+        ensures counts { Counts (IsErrOf result (UploadError.Stop Stop.DiskFault)) (failures self.old)
+            (failures self.new) };
 
     /// Opens a draft of `count` bytes at `offset`, which may declare the upload's length. Its number is the least free
     /// one.
@@ -108,7 +111,7 @@ pub trait Uploads {
             (λ draft. (Self.number_of draft ≡ free_number w) × IsBegun (holds draft) number count declare
             (upload_of w.store number) × stands self.new sure (begun w number count declare))
             (stands self.new sure w) }
-        ensures no_disk_fault { IsErrOf result UploadError.DiskFault → ⊥ }
+        ensures no_disk_fault { IsErrOf result (UploadError.Stop Stop.DiskFault) → ⊥ }
         ensures crash { Quiet (moment self.old) (moment self.new) (left_only self.old) (left_only self.new) }
         ensures counts { failures self.new ≡ failures self.old };
 
@@ -130,7 +133,8 @@ pub trait Uploads {
         ensures crash { (w : World) (p : Patch) → stands self.old true w
             → find (Self.number_of draft.old) w.patches ≡ Some p → holds draft.old p
             → Quiet (moment self.old) (moment self.new) (left_only self.old) (left_only self.new) }
-        ensures counts { Counts (IsErrOf result UploadError.DiskFault) (failures self.old) (failures self.new) };
+        ensures counts { Counts (IsErrOf result (UploadError.Stop Stop.DiskFault)) (failures self.old)
+            (failures self.new) };
 
     /// Appends the draft's text to the upload's, gives the upload the length that the draft declares if it had none,
     /// and returns the new offset. The draft is spent in every case.
@@ -149,9 +153,11 @@ pub trait Uploads {
             → Limits (moment self.old) (moment self.new) (left_only self.old) (left_only self.new) w.store
             (commit_outcome w (Self.number_of draft) p) }
         ensures unmade { (w : World) (p : Patch) → stands self.old true w
-            → find (Self.number_of draft) w.patches ≡ Some p → holds draft p → IsErrOf result UploadError.NoMemory
+            → find (Self.number_of draft) w.patches ≡ Some p → holds draft p
+            → IsErrOf result (UploadError.Stop Stop.NoMemory)
             → Limits (moment self.old) (moment self.new) (left_only self.old) (left_only self.new) w.store w.store }
-        ensures counts { Counts (IsErrOf result UploadError.DiskFault) (failures self.old) (failures self.new) };
+        ensures counts { Counts (IsErrOf result (UploadError.Stop Stop.DiskFault)) (failures self.old)
+            (failures self.new) };
 
     /// Drops a draft. This also works after a disk fault, when the store stands for no world.
     fn drop_open(&mut self, draft: Self::Draft)
@@ -172,9 +178,10 @@ pub trait Uploads {
             (λ n. IsReadOf sure (text_at w.store (upload_of w.store number)) at n buf.old buf.new
             × stands self.new sure w)
             (stands self.new sure w) }
-        ensures no_memory { IsErrOf result UploadError.NoMemory → ⊥ }
+        ensures no_memory { IsErrOf result (UploadError.Stop Stop.NoMemory) → ⊥ }
         ensures crash { Quiet (moment self.old) (moment self.new) (left_only self.old) (left_only self.new) }
-        ensures counts { Counts (IsErrOf result UploadError.DiskFault) (failures self.old) (failures self.new) };
+        ensures counts { Counts (IsErrOf result (UploadError.Stop Stop.DiskFault)) (failures self.old)
+            (failures self.new) };
 
     /// Every upload's number is below the next one.
     ghost below: { (store : Self) (sure : Bool) (w : World) (number : ℕ) (u : Upload) → stands store sure w

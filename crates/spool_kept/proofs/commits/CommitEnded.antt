@@ -25,7 +25,8 @@ use Rattle.upload_rules.specs.Store.{find, is_complete, patched, with_length}
 use Rattle.upload_rules.specs.World.{Patch, World, completes, reached}
 use Rattle.upload_rules.proofs.Commits.{complete_patched}
 use Rattle.upload_rules.specs.declared.errors.UploadError.{UploadError}
-use Rattle.upload_rules.specs.declared.errors.UploadError.TheVariants.{NoMemory, DiskFault, Refused}
+use Rattle.upload_rules.specs.declared.errors.UploadError.TheVariants.{Stop, Refused}
+use Rattle.common.specs.declared.stop.Stop.TheVariants.{NoMemory, DiskFault}
 use Rattle.upload_rules.specs.declared.errors.UploadRefusal.TheVariants as refusals
 use Rattle.spool_kept.specs.Committing.{HasSameCount, IsCommit, IsFound}
 use Rattle.spool_kept.specs.Drafting.{DraftsHold, DraftStands, OnlyReserves}
@@ -191,8 +192,8 @@ module _ {D : Type 0} {sure : Bool} {disk : Ghosts D} {d d' : D} {h h' : Holding
 
     pub refused : {T : Type 0} (done : T → Type 0) (e : UploadError) → EndsAs w.store.indexes p (completes w.store p)
         o o' h.blocks h'.blocks (Err e) → Answers {T = T} (commit_refusal w number p) (Err e) done (Unit {0})
-    refused done NoMemory ends = (rules.late w number p is.allowed, tt)
-    refused done DiskFault ends = rules.late w number p is.allowed
+    refused done (Stop NoMemory) ends = (rules.late w number p is.allowed, tt)
+    refused done (Stop DiskFault) ends = rules.late w number p is.allowed
     refused done (Refused refusals.Unencodable) ends = (rules.no_code w number p is.allowed is.changes ends, tt)
     refused done (Refused refusals.Full) ends = (
       rules.no_room w number p is.allowed is.changes ends.0 (elim ends.1 [

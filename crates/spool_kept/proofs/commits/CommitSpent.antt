@@ -21,7 +21,8 @@ use Rattle.upload_rules.specs.Store.{Store, find, is_complete, patched, patched_
 use Rattle.upload_rules.specs.Store.{with_length, without}
 use Rattle.upload_rules.specs.World.{Patch, World}
 use Rattle.upload_rules.specs.declared.errors.UploadError.{UploadError}
-use Rattle.upload_rules.specs.declared.errors.UploadError.TheVariants.{NoMemory, DiskFault, Refused}
+use Rattle.upload_rules.specs.declared.errors.UploadError.TheVariants.{Stop, Refused}
+use Rattle.common.specs.declared.stop.Stop.TheVariants.{NoMemory, DiskFault}
 use Rattle.upload_rules.specs.declared.errors.UploadRefusal.{UploadRefusal}
 use Rattle.upload_rules.proofs.Growing.{grown_dropped, grown_put}
 use Rattle.spool_kept.specs.Committing.{IsCommit, with_length_at}
@@ -62,8 +63,8 @@ crash_then {disk = disk} {d = d} {d' = d'} {d'' = d''} {n = n} w number p allowe
 pub also_refused : {T U : Type 0} (refusal : Option UploadRefusal) (e : UploadError) (done : T → Type 0)
     (done' : U → Type 0) (X Y : Type 0) → Answers {T = T} refusal (Err e) done X → Y
     → Answers {T = U} refusal (Err e) done' Y
-also_refused refusal NoMemory done done' X Y is y = (is.0, y)
-also_refused refusal DiskFault done done' X Y is y = is
+also_refused refusal (Stop NoMemory) done done' X Y is y = (is.0, y)
+also_refused refusal (Stop DiskFault) done done' X Y is y = is
 also_refused refusal (Refused f) done done' X Y is y = (is.0, y)
 
 -- the answer of a call that refuses nothing
@@ -71,8 +72,8 @@ pub alone : (refusal : Option UploadRefusal) → refusal ≡ None → (result : 
     (P P' Q : Type 0) → Answers None result (λ n. P) Q → IfOk result (λ n. n ≡ a) → a ≡ k → (P → P')
     → Answers refusal result (λ n. (n ≡ k) × P') Q
 alone refusal none (Ok n) a k P P' Q is count same then_so = (none, (count ∙ same, then_so is.1))
-alone refusal none (Err NoMemory) a k P P' Q is count same then_so = (subst IsLate (sym none) is.0, is.1)
-alone refusal none (Err DiskFault) a k P P' Q is count same then_so = subst IsLate (sym none) is
+alone refusal none (Err (Stop NoMemory)) a k P P' Q is count same then_so = (subst IsLate (sym none) is.0, is.1)
+alone refusal none (Err (Stop DiskFault)) a k P P' Q is count same then_so = subst IsLate (sym none) is
 alone refusal none (Err (Refused e)) a k P P' Q is count same then_so = absurd (let k = is.0 in cc)
 
 -- WHAT IT STANDS FOR

@@ -32,7 +32,7 @@ use Rattle.upload_rules.specs.Answers.{Answers}
 use Rattle.common.specs.declared.stop.Stop.{Stop}
 use Rattle.common.specs.declared.stop.Stop.TheVariants as Stops
 use Rattle.upload_rules.specs.Errors.{unrefused}
-use Rattle.upload_rules.specs.declared.errors.UploadError.TheVariants.{DiskFault}
+use Rattle.upload_rules.specs.declared.errors.UploadError.{UploadError}
 use Rattle.spool_catalog.specs.Holding.{Holding}
 use Rattle.spool_kept.specs.Stored.{Stored}
 use Rattle.spool_kept.specs.Changed.{slot_of}
@@ -306,15 +306,15 @@ answered X Y (Err Stops.NoMemory) done same = (tt, same refl)
 answered X Y (Err Stops.DiskFault) done same = tt
 
 -- a disk fault is told as itself
-pub is_told : {T : Type 0} (r : Result T Stop) → IsErrOf r Stops.DiskFault → IsErrOf (unrefused r) DiskFault
+pub is_told : {T : Type 0} (r : Result T Stop) → IsErrOf r Stops.DiskFault
+    → IsErrOf (unrefused r) (UploadError.Stop Stops.DiskFault)
 is_told (Ok t) is = absurd (cc)
-is_told (Err Stops.NoMemory) is = absurd (cc)
-is_told (Err Stops.DiskFault) is = refl
+is_told (Err stop) is = cc
 
-pub was_told : {T : Type 0} (r : Result T Stop) → IsErrOf (unrefused r) DiskFault → IsErrOf r Stops.DiskFault
+pub was_told : {T : Type 0} (r : Result T Stop) → IsErrOf (unrefused r) (UploadError.Stop Stops.DiskFault)
+    → IsErrOf r Stops.DiskFault
 was_told (Ok t) is = absurd (cc)
-was_told (Err Stops.NoMemory) is = absurd (cc)
-was_told (Err Stops.DiskFault) is = refl
+was_told (Err stop) is = cc
 
 pub longer_world : {D : Type 0} {sure : Bool} {disk : Ghosts D} {d : D} {h : Holding} {drafts : List
     (Option SpoolDraft)}

@@ -1,6 +1,6 @@
 use Rattle.std.proofs.Common.{subst, sym}
 use Rattle.upload_rules.specs.Calls.{spent}
-use Rattle.tus_action.proofs.Answered.{spent_refused, refused_answer, memory_answer}
+use Rattle.tus_action.proofs.Answered.{spent_refused, refused_answer, stops_ends}
 use Rattle.tus_action.proofs.bodies.cut.Goals as goal
 
 pub returns-in-Err-Refused-clause-answer : goal.returns-in-Err-Refused-clause-answer
@@ -9,10 +9,10 @@ returns-in-Err-Refused-clause-answer g c = λ sure w p stands found holds.
     (c.in-Err-Refused.ensures.answer sure w p stands found holds) in
     spent_refused (λ v. g.U.Uploads.stands c.commit.new.self sure v) w _ p _ _ a.0 a.1
 
-pub returns-in-Err-NoMemory-clause-answer : goal.returns-in-Err-NoMemory-clause-answer
-returns-in-Err-NoMemory-clause-answer g c = λ sure w p stands found holds.
-    (memory_answer _ _ _ _ c.in-Err-NoMemory.field-0-is
-    (c.in-Err-NoMemory.ensures.answer sure w p stands found holds)).1
+pub returns-in-Err-Stop-clause-answer : goal.returns-in-Err-Stop-clause-answer
+returns-in-Err-Stop-clause-answer g c = λ sure w p stands found holds.
+    stops_ends g.U.Uploads sure c.commit.new.self _ _ c.in-Err-Stop.stop _ _ _ c.in-Err-Stop.field-0-is
+    (c.in-Err-Stop.ensures.answer sure w p stands found holds)
 
 pub returns-in-Ok-clause-answer : goal.returns-in-Ok-clause-answer
 returns-in-Ok-clause-answer g c = λ sure w p stands found holds.
