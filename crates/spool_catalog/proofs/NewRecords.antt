@@ -14,7 +14,7 @@ use Rattle.spool_catalog.specs.TakenIn.{IsNewRecord}
 use Rattle.spool_catalog.specs.Records.{said_of, FitsMemory}
 use Rattle.spool_catalog.specs.Shows.{IsRecordOf, IsValidRecord}
 use Rattle.spool_catalog.proofs.Told.{told_state, with_from, with_to, with_mode}
-use Rattle.std.proofs.Common.{inl, inr, ◌-◌, Option, None, Some}
+use Rattle.std.proofs.Common.{inl, inr, Option, None, Some}
 use Rattle.std.proofs.lemmas.Bool.{cases_lt, both_ways, lt-ltb}
 use Rattle.common.specs.declared.limits.TheConstants.{MOST_LENGTH}
 use Rattle.enc_model.specs.Transcode.{Transcoder}

@@ -1,6 +1,6 @@
 -- Two views of one image have the same blocks and the same rows, and so what one leaves free the other does.
 use Rattle.std.proofs.lemmas.Grind.{common_steps}
-use Rattle.std.proofs.Common.{◌≡◌, ℕ, ◌+◌, ◌-◌, ◌^◌, ◌<◌, List, Option, None, Some, get_or, refl}
+use Rattle.std.proofs.Common.{◌≡◌, ℕ, ◌+◌, ◌^◌, ◌<◌, List, Option, None, Some, get_or, refl}
 use Rattle.std.proofs.Common.{sym, ◌∙◌, arith}
 use Rattle.std.specs.Int.{to_be_bytes, w32}
 use Rattle.std.proofs.Math.ListN.{get_or-eq_default}
