@@ -159,7 +159,8 @@ module _ (sure : Bool) (ended : List Seen) (st : State) (past : List Marked) (n 
   came_down answer bytes j piece output fails whole same adds is =
       rw (whole, fails) (refused_joins (Came n j.input) Failed (Stop DiskFault) j output j.closed is (talks_here sure
       st past (Came n j.input) Failed (is.latest ∷ is.others) (Refused (Stop DiskFault)) is.talks)
-      (rw (whole, fails) at same) (rw (whole, fails) at adds) (λ e. came_failed (history st past) n j.input ∙ is.shut e))
+      (rw (whole, fails) at same) (rw (whole, fails) at adds)
+      (λ e. came_failed (history st past) n j.input ∙ is.shut e))
 
   pub more_link : (answer : Result Answer SessionError) (bytes : List ℕ) (j : Joint) (output : List ℕ) (stage : Stage)
       → (answer ≡ Err (Stop DiskFault) → ⊥)

@@ -8,7 +8,7 @@ use Rattle.upload_rules.specs.declared.errors.UploadError.TheVariants.{Refused}
 use Rattle.upload_rules.specs.declared.uploads.Uploads.{Ghosts}
 use Rattle.upload_rules.specs.Errors.{stop_of}
 use Rattle.tus_action.specs.Faults.{fault_of}
-use Rattle.tus_action.specs.Serves.{Ends, Feeds, FeedsDraft, Finishes, Serves, RepliesOnly, RepliesTo}
+use Rattle.tus_action.specs.Serves.{Ends, Feeds, Finishes, Serves, RepliesOnly, RepliesTo}
 use Rattle.tus_action.specs.declared.bodies.OpenPatch.{OpenPatch}
 use Rattle.common.specs.declared.stop.Stop.{Stop}
 use Rattle.common.specs.declared.stop.Stop.TheVariants.{NoMemory, DiskFault}
@@ -79,13 +79,13 @@ some_items b list is not_empty none = let e : true ≡ false =
 
 -- bytes that were not taken: the draft is dropped
 pub fed_gone : {U B : Type 0} {sure : Bool} (u : Ghosts U B) (store next : U) (w : World) (e : UploadError) (d d' : ℕ)
-    (w' : World) (p : Patch) (done : Unit {0} → Type 0) → Answers {T = Unit {0}} None (Err e) done
+    (w' : World) (b : OpenPatch B) (p : Patch) (done : Unit {0} → Type 0) → Answers {T = Unit {0}} None (Err e) done
     (u.stands store sure w) → (u.stands store sure w → u.stands next sure (dropped w d')) → d' ≡ d
-    → FeedsDraft u sure next (Err (stop_of e)) (dropped w d) w' d p
-fed_gone {sure = sure} u store next w (errors.Stop NoMemory) d d' w' p done a drops same = subst
+    → Feeds u sure next (Err (stop_of e)) (dropped w d) w' b p
+fed_gone {sure = sure} u store next w (errors.Stop NoMemory) d d' w' b p done a drops same = subst
     (λ x. u.stands next sure (dropped w x)) same (drops a.1)
-fed_gone {sure = sure} u store next w (errors.Stop DiskFault) d d' w' p done a drops same = tt {0}
-fed_gone {sure = sure} u store next w (Refused f) d d' w' p done a drops same = let e : None ≡ Some f = a.0 in absurd
+fed_gone {sure = sure} u store next w (errors.Stop DiskFault) d d' w' b p done a drops same = tt {0}
+fed_gone {sure = sure} u store next w (Refused f) d d' w' b p done a drops same = let e : None ≡ Some f = a.0 in absurd
     (cc)
 
 -- a cut body that isn't committed: out of memory, the patch is gone
@@ -95,12 +95,6 @@ pub stops_ends : {U B T : Type 0} (u : Ghosts U B) (sure : Bool) (store : U) (go
 stops_ends u sure store gone w NoMemory refusal e done is answered =
     (memory_answer done (u.stands store sure gone) refusal e is answered).1
 stops_ends u sure store gone w DiskFault refusal e done is answered = tt {0}
-
--- a draft that is gone, or a disk fault, is the patch's
-pub feeds_stops : {U B : Type 0} (u : Ghosts U B) (sure : Bool) (store : U) (e : Stop) (gone w : World) (d : ℕ)
-    (b : OpenPatch B) (p : Patch) → FeedsDraft u sure store (Err e) gone w d p → Feeds u sure store (Err e) gone w b p
-feeds_stops u sure store NoMemory gone w d b p is = is
-feeds_stops u sure store DiskFault gone w d b p is = is
 
 -- what was appended is taken back
 pub taken_back : {A : Type 0} (old more new : List A) (n : ℕ) → n ≡ length old → new ≡ take n (old ++ more) → new ≡ old

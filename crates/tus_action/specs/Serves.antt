@@ -101,13 +101,6 @@ Serves u sure store (Ok a) old new gone m = ActedAs u sure store a old new m
 Serves u sure store (Err NoMemory) old new gone m = u.stands store sure gone × (new ≡ old)
 Serves u sure store (Err DiskFault) old new gone m = new ≡ old
 
--- The draft took the bytes. Out of memory, it is gone.
-abbrev pub FeedsDraft : {U B : Type 0} → Ghosts U B → Bool → U → Result B Stop → World → World → ℕ → Patch → Type 0
-FeedsDraft u sure store (Ok b) gone w d p =
-    (u.number_of b ≡ d) × u.holds b p × (find d w.patches ≡ Some p) × u.stands store sure w
-FeedsDraft u sure store (Err NoMemory) gone w d p = u.stands store sure gone
-FeedsDraft u sure store (Err DiskFault) gone w d p = Unit {0}
-
 -- The patch took the bytes: nothing but its draft changed, and that has the same number.
 pub record Fed {U B : Type 0} (u : Ghosts U B) (sure : Bool) (store : U) (b b' : OpenPatch B) (w : World)
     (p : Patch) : Type 0 where

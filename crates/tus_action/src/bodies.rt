@@ -6,7 +6,7 @@ ghost use Rattle.upload_rules.specs.Calls.{commit_refusal, commit_outcome, spent
 ghost use Rattle.upload_rules.specs.Answers.{Counts, Limits, Quiet};
 ghost use Rattle.tus_request.specs.Requests.{Request};
 ghost use Rattle.tus_action.specs.Acts.{fed, fed_patch, committed_as};
-ghost use Rattle.tus_action.specs.Serves.{Feeds, FeedsDraft, Finishes, Ends};
+ghost use Rattle.tus_action.specs.Serves.{Feeds, Finishes, Ends};
 ghost use Rattle.tus_request.specs.Replies.{longest_reply, GrowsBy};
 
 use crate::refusals::refuse;
@@ -49,41 +49,22 @@ pub fn feed<U: Uploads>(
         → Quiet (U.moment store.old) (U.moment store.new) (U.left_only store.old) (U.left_only store.new) }
     ensures counts { Counts (IsErrOf result Stop.DiskFault) (U.failures store.old) (U.failures store.new) }
 {
+    if piece.is_empty() {
+        return Ok(patch);
+    }
     let OpenPatch {
-        draft,
+        mut draft,
         reached,
         bare,
         closes,
     } = patch;
-    let draft = feed_draft(store, draft, piece)?;
-    Ok(OpenPatch {
-        draft,
-        reached,
-        bare,
-        closes,
-    })
-}
-
-// The same for the draft alone.
-fn feed_draft<U: Uploads>(store: &mut U, draft: U::Draft, piece: &[u8]) -> Result<U::Draft, Stop>
-    ensures answer { (sure : Bool) (w : World) (p : Patch) → U.stands store.old sure w
-        → find (U.number_of draft) w.patches ≡ Some p
-        → U.holds draft p
-        → length p.body + length piece.now ≤ p.count
-        → FeedsDraft U.Uploads sure store.new result (dropped w (U.number_of draft))
-        (fed w (U.number_of draft) piece.now)
-        (U.number_of draft) (fed_patch w (U.number_of draft) p piece.now) }
-    ensures crash { (w : World) (p : Patch) → U.stands store.old true w → find (U.number_of draft) w.patches ≡ Some p
-        → U.holds draft p
-        → Quiet (U.moment store.old) (U.moment store.new) (U.left_only store.old) (U.left_only store.new) }
-    ensures counts { Counts (IsErrOf result Stop.DiskFault) (U.failures store.old) (U.failures store.new) }
-{
-    if piece.is_empty() {
-        return Ok(draft);
-    }
-    let mut draft = draft;
     match store.append(&mut draft, piece) {
-        Ok(()) => Ok(draft),
+        Ok(()) => Ok(OpenPatch {
+            draft,
+            reached,
+            bare,
+            closes,
+        }),
         Err(error) => {
             store.drop_open(draft);
             Err(Stop::from(error))

@@ -1,23 +1,33 @@
-use Rattle.std.proofs.Common.{Err, ap, refl, subst, sym, ◌∙◌}
-use Rattle.std.proofs.lemmas.Result.{err_from_is_err_and}
+use Rattle.std.proofs.Common.{◌≡◌, [], Some, Err, refl, subst, ap, sym, ◌∙◌}
+use Rattle.upload_rules.specs.Store.{find}
 use Rattle.upload_rules.specs.Calls.{dropped}
 use Rattle.tus_action.specs.Acts.{fed, fed_patch}
 use Rattle.tus_action.specs.Serves.{Feeds}
-use Rattle.common.specs.declared.stop.Stop.{Stop}
-use Rattle.tus_action.proofs.Answered.{feeds_stops}
+use Rattle.tus_action.proofs.Answered.{fed_some, fed_patch_some, find_appended, some_items, fed_gone}
 use Rattle.tus_action.proofs.bodies.feed.Goals as goal
 
-pub returns-clause-answer : goal.returns-clause-answer
-returns-clause-answer g c sure w p stands found holds fits =
-    let a = c.in_ok-draft.ensures.answer sure w p stands found holds fits in
-    record { number = a.0; holds = a.1; found = a.2; shown = a.3; reached = refl; bare = refl; closes = refl }
-
-pub returns-in_err-draft-clause-answer : goal.returns-in_err-draft-clause-answer
-returns-in_err-draft-clause-answer g c sure w p stands found holds fits =
+pub returns-in-Ok-clause-answer : goal.returns-in-Ok-clause-answer
+returns-in-Ok-clause-answer g c = λ sure w p stands found holds fits.
+    let a = c.in-Ok.ensures.answer sure w p stands found holds fits in
     let d = g.U.Uploads.number_of c.args.patch.draft in
     let piece = c.args.piece.now in
-    let err = err_from_is_err_and c.from_residual.result c.from_residual.ensures.1 in
-    subst (λ r. Feeds g.U.Uploads sure c.feed_draft.new.store r (dropped w d) (fed w d piece) c.args.patch
-    (fed_patch w d p piece)) (sym (err.1 ∙ ap (λ (e : Stop). Err e) err.2))
-    (feeds_stops g.U.Uploads sure c.feed_draft.new.store c.in_err-draft.field-0.0 (dropped w d) (fed w d piece) d
-    c.args.patch (fed_patch w d p piece) (c.in_err-draft.ensures.answer sure w p stands found holds fits))
+    let some : piece ≡ [] → ⊥ = some_items _ piece c.is_empty.ensures c.if-is_empty.false in
+    let patch = fed_patch_some w d p piece some in
+    let world = fed_some w d piece some in record {
+      number = c.append.ensures.same;
+      holds = subst (λ x. g.U.Uploads.holds c.append.new.draft x) patch a.1.0;
+      found = ap (λ x. find d x.patches) (sym world) ∙ (find_appended w d p piece found ∙ ap Some patch);
+      shown = subst (λ x. g.U.Uploads.stands c.append.new.self sure x) world a.1.1;
+      reached = refl;
+      bare = refl;
+      closes = refl;
+    }
+
+pub returns-in-Err-clause-answer : goal.returns-in-Err-clause-answer
+returns-in-Err-clause-answer g c = λ sure w p stands found holds fits.
+    let d = g.U.Uploads.number_of c.args.patch.draft in
+    subst (λ s. Feeds g.U.Uploads sure c.drop_open.new.self (Err s) (dropped w d) (fed w d c.args.piece.now)
+    c.args.patch (fed_patch w d p c.args.piece.now)) (sym c.from.ensures)
+    (fed_gone g.U.Uploads c.append.new.self c.drop_open.new.self w c.in-Err.error d _ _ _ _ _
+    (c.in-Err.ensures.answer sure w p stands found holds fits) (c.drop_open.ensures.stands sure w)
+    c.append.ensures.same)
