@@ -30,7 +30,7 @@ module _ (f : Encoder) (steady : IsSteady f) (mode : Mode) where
   refused_later a b c x y w p q =
       let r = coded f mode a.state x in
       let e = coded_both f steady mode a.state x y p.fault
-          ∙ ap (λ s. led_by r.bytes (coded f mode s y)) (sym p.state) in
+      ∙ ap (λ s. led_by r.bytes (coded f mode s y)) (sym p.state) in
       record {
         prefix = r.bytes ++ q.prefix;
         rest = q.rest;

@@ -64,7 +64,7 @@ pub options_reply : (closes : Bool) (own : List ℕ) → own ≡ lines_with (cod
     → IsReply (reply (codes "204 No Content") (own ++ []) None closes) (reply_options closes)
 options_reply closes own is =
     is_reply _ _ (ap (λ t. reply (codes "204 No Content") t None closes)
-        (append-nil own ∙ is ∙ ap lines_with (sym most_length_is)))
+    (append-nil own ∙ is ∙ ap lines_with (sym most_length_is)))
     (rw most_length_is (grind arith))
 
 pub created : (number : ℕ) (bare closes : Bool) (location size : List ℕ) (n : Option ℕ) → number < 2 ^ 64

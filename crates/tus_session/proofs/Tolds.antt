@@ -43,8 +43,7 @@ IsOnOpen (More c) = Unit {0}
 IsOnOpen (Ended c) = Unit {0}
 
 memory_is : (st : State) (e : Event) (conn : Conn) → IsOnOpen e → st.conns (conn_in e) ≡ Some conn
-    → step st e OutOfMemory ≡ record
-    {
+    → step st e OutOfMemory ≡ record {
       state = put st (left_world st.world conn.draft) (conn_in e) None;
       outcome = Refused (errors.Stop stops.NoMemory);
       text = [];
