@@ -129,6 +129,7 @@ fn example(rt: HostRuntime) {
     spool.append(&mut draft, b"lo").expect(&rt, "room");
     assert_eq!(rt; spool.commit(draft), Ok(5));
     assert!(rt; has_text(&mut spool, number, b"hello"));
+    drop(spool.into_disk());
 }
 
 /// Each row: an upload's length without its last byte, whether another upload takes a block before that byte comes, and
