@@ -1,5 +1,7 @@
-//! Tests of the request parser by its public calls.
+//! Tests of the request parser and of the replies by their public calls.
 #![tactic(auto)]
 
+#[cfg(test)]
+mod replies;
 #[cfg(test)]
 mod requests;
