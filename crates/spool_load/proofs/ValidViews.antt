@@ -8,7 +8,7 @@ use Rattle.enc_index.specs.Area.{area_byte}
 use Rattle.enc_index.specs.Sets.{IsIndexSet}
 use Rattle.spool_blocks.specs.Chains.{OwnsOneEach}
 use Rattle.spool_journal.specs.Image.{journal_pages, text_page}
-use Rattle.spool_journal.specs.Texts.{text_shown}
+use Rattle.spool_texts.specs.Texts.{text_shown}
 use Rattle.upload_rules.specs.Room.{blocks_of}
 use Rattle.spool_pages.specs.Fits.{FitsSlotOf, FitsRow}
 use Rattle.spool_pages.specs.View.{SlotRecord, View, Says, Stands, state_page, slot_bytes, row_bytes}

@@ -6,7 +6,7 @@ use Rattle.spool_disk.specs.Disk.{IsImage, Keeps}
 use Rattle.spool_disk.proofs.Span.{span_same}
 use Rattle.spool_journal.specs.Image.{journal_pages, Outside, overlaid, text_page}
 use Rattle.spool_journal.specs.Phases.{Idle, Settled, IsBefore, ReadsAs}
-use Rattle.spool_journal.specs.Texts.{owns, block_at, block_bytes, joined, text_shown}
+use Rattle.spool_texts.specs.Texts.{owns, block_at, block_bytes, joined, text_shown}
 use Rattle.spool_journal.proofs.Gate.{shut_view}
 use Rattle.spool_texts.specs.Written.{InBlocks, WritesIn, IsImageBut, aside_blocks}
 use Rattle.spool_texts.proofs.Asides.{aside_blocks_else}

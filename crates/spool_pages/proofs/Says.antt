@@ -4,7 +4,7 @@ use Rattle.std.proofs.Common.{take, refl, sym, ◌∙◌, ap, arith}
 use Rattle.spool_journal.specs.declared.TheConstants.{PAGE}
 use Rattle.spool_disk.proofs.Span.{span_same}
 use Rattle.spool_journal.specs.Image.{journal_pages, all_pages, Outside, text_page}
-use Rattle.spool_journal.specs.Texts.{block_at, block_bytes, joined, text_shown}
+use Rattle.spool_texts.specs.Texts.{block_at, block_bytes, joined, text_shown}
 use Rattle.spool_pages.specs.View.{View, Stands, Says, index_place, state_place, slot_place, row_place}
 
 pub some_journal : (n : ℕ) → 257 ≤ journal_pages n

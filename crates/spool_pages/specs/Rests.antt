@@ -2,7 +2,7 @@
 use Rattle.std.specs.Prelude.{◌≡◌, ℕ, ◌+◌, ◌/◌, ◌<◌, List, None, Some, length, get_or}
 use Rattle.spool_journal.specs.declared.TheConstants.{PAGE}
 use Rattle.spool_blocks.specs.Blocks.{Row}
-use Rattle.spool_journal.specs.Texts.{text_shown}
+use Rattle.spool_texts.specs.Texts.{text_shown}
 use Rattle.spool_journal.specs.Image.{text_page}
 use Rattle.spool_pages.specs.View.{SlotRecord, View, slot_at, IsViewOf}
 

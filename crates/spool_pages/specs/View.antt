@@ -7,7 +7,7 @@ use Rattle.common.specs.declared.limits.TheConstants.{MOST_METADATA, ROWS, SLOTS
 use Rattle.enc_model.specs.Indexes.{IndexSet}
 use Rattle.enc_index.specs.Area.{area_byte}
 use Rattle.spool_journal.specs.Image.{byte_of, journal_pages, InForm, count, number, overlaid, text_page}
-use Rattle.spool_journal.specs.Texts.{text_shown}
+use Rattle.spool_texts.specs.Texts.{text_shown}
 use Rattle.spool_pages.specs.declared.version.Version.{Version}
 use Rattle.spool_pages.specs.declared.version.Version.TheVariants.{One, Two}
 

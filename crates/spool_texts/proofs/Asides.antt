@@ -4,7 +4,7 @@ use Rattle.std.proofs.Common.{refl, ◌∙◌, arith, ⊎_elim}
 use Rattle.std.proofs.lemmas.Bool.{cases_eq}
 use Rattle.spool_journal.specs.declared.TheConstants.{PAGE}
 use Rattle.spool_disk.specs.Disk.{IsImage}
-use Rattle.spool_journal.proofs.TextFrames.{aside_there, aside_else, frame_aside}
+use Rattle.spool_texts.proofs.TextFrames.{aside_there, aside_else, frame_aside}
 use Rattle.spool_texts.specs.Written.{InBlocks, IsImageBut, aside_blocks, FrameBlocks}
 use Rattle.spool_journal.specs.Image.{area_end}
 

@@ -1,4 +1,5 @@
 pub mod Shown
+pub mod TextFrames
 pub mod Asides
 pub mod Pieces
 pub mod Steps

@@ -6,8 +6,6 @@ use Rattle.spool_journal.specs.declared.TheConstants.{PAGE}
 use Rattle.spool_disk.specs.Disk.{span, In, IsImage, Writes}
 use Rattle.spool_disk.proofs.Span.{span_same}
 use Rattle.spool_journal.specs.Phases.{Idle}
-use Rattle.spool_journal.specs.Texts.{aside}
-use Rattle.spool_journal.proofs.TextFrames.{aside_else}
 use Rattle.spool_texts.specs.TextOn.{blocks_on, text_on}
 use Rattle.spool_texts.specs.Written.{SameOutside, NoneOf, InBlocks, WritesIn, IsImageBut}
 use Rattle.spool_texts.proofs.Shown.{text_prefix, text_joined}
@@ -44,15 +42,13 @@ blocks_same f g first (b ∷ list) same =
     both e f = cc
 
 module _ {current current' : ℕ → ℕ} {unsynced unsynced' : ℕ → Type 0} {done : Type 0} (first : ℕ) (list bytes : List ℕ)
-    (some : 1 ≤ length list) (fits : length bytes ≤ PAGE)
-    (writes : Writes (PAGE * (first + get_or list
-    (length list - 1) 0) + 0) bytes done current current' unsynced unsynced') where
-  last_block : (p : ℕ) → In (PAGE * (first + get_or list (length list - 1) 0) + 0) (length bytes) p
-      → InBlocks first list p
+    (some : 1 ≤ length list) (fits : length bytes ≤ PAGE) (page : ℕ) (last : page ≡ first + get_or list
+    (length list - 1) 0) (writes : Writes (PAGE * page) bytes done current current' unsynced unsynced') where
+  last_block : (p : ℕ) → In (PAGE * page) (length bytes) p → InBlocks first list p
   last_block p within = record {
     at = length list - 1;
     below = omega (arith, some);
-    here = omega (arith, within.from, within.below, fits);
+    here = omega (arith, last, within.from, within.below, fits);
   }
 
   pub prefix_writes : WritesIn first list current current' unsynced unsynced'
@@ -85,11 +81,8 @@ module _ {current current' : ℕ → ℕ} {unsynced unsynced' : ℕ → Type 0} 
           (omega (arith, some)) (omega (arith, e', here.here))))
 
       here : text_on current' first (get_or list (length list - 1) 0 ∷ []) (length bytes) ≡ bytes
-      here =
-          let at : PAGE * (first + get_or list (length list - 1) 0) ≡ PAGE * (first + get_or list (length list - 1)
-          0) + 0 = omega arith in
-          text_one current' first (get_or list (length list - 1) 0) (length bytes) fits
-          ∙ ap (λ (p : ℕ). span current' p (length bytes)) at ∙ writes.inside ok
+      here = text_one current' first (get_or list (length list - 1) 0) (length bytes) fits
+          ∙ ap (λ (b : ℕ). span current' (PAGE * b) (length bytes)) (sym last) ∙ writes.inside ok
 
       both : {a b c d : List ℕ} → a ≡ b → c ≡ d → a ++ c ≡ b ++ d
       both e f = cc
@@ -107,16 +100,6 @@ idle_in {j = j} {blocks = blocks} idle writes = record {
   closed = λ e. idle.closed (sym (writes.outside PAGE (λ within. omega (arith, within.here))) ∙ e);
   area = λ p within l. ⊎_elim (idle.area p within) (λ here. omega (arith, here.here, within.below))
       (writes.unsyncs p l);
-}
-
--- an image of a write to one of the blocks
-pub image_but : {current image : ℕ → ℕ} {unsynced : ℕ → Type 0} (first : ℕ) (list : List ℕ) (i : ℕ) → i < length list
-    → IsImage current unsynced (aside (first + get_or list i 0) current image)
-    → IsImageBut first list current unsynced image
-image_but {current = current} {image = image} first list i lt is = record {
-  same = λ p away is_synced. sym
-      (aside_else (first + get_or list i 0) current image p (λ e. away record { at = i; below = lt; here = e }))
-      ∙ is.same p is_synced;
 }
 
 -- an image after such writes

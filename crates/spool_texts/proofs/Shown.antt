@@ -7,7 +7,7 @@ use Rattle.std.proofs.lemmas.List.{append_assoc, take-append-le, take_all, take-
 use Rattle.spool_journal.specs.declared.TheConstants.{PAGE}
 use Rattle.spool_disk.specs.Disk.{span}
 use Rattle.spool_disk.proofs.Span.{length-span}
-use Rattle.spool_journal.specs.Texts.{owns, block_at, block_bytes, joined, text_shown}
+use Rattle.spool_texts.specs.Texts.{owns, block_at, block_bytes, joined, text_shown}
 use Rattle.spool_texts.specs.TextOn.{blocks_on, text_on, IsListed}
 
 -- the slot's block at the ordinal is owned

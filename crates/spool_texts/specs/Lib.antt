@@ -1,4 +1,5 @@
 pub mod Drafts
 pub mod Reading
 pub mod TextOn
+pub mod Texts
 pub mod Written

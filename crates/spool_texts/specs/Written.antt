@@ -2,7 +2,7 @@
 use Rattle.std.specs.Prelude.{◌≡◌, ◌≢◌, ◌⊎◌, ℕ, ◌+◌, ◌/◌, ◌<◌, List, [], ◌∷◌, Option, None, length, get_or}
 use Rattle.spool_journal.specs.declared.TheConstants.{PAGE}
 use Rattle.spool_journal.specs.Image.{InForm, count, number, overlaid}
-use Rattle.spool_journal.specs.Texts.{text_shown, aside}
+use Rattle.spool_texts.specs.Texts.{text_shown, aside}
 
 -- The place is in one of these blocks.
 pub record InBlocks (first : ℕ) (blocks : List ℕ) (p : ℕ) : Type 0 where

@@ -18,7 +18,7 @@ use crate::{DraftError, read_text};
 use common::{MOST_BLOCKS, Stop};
 use spool_blocks::{BlockNo, Blocks};
 use spool_disk::{Disk, DiskFault};
-use spool_journal::{Layout, PAGE, write_block};
+use spool_journal::{Layout, PAGE};
 use std::alloc::{AllocError, Global};
 use std::marker::Model;
 
@@ -378,8 +378,8 @@ fn write_prefix<D: Disk>(
     ensures lasts { D.honest disk.old → Lasts D.Disk disk.old disk.new
         (IsImageBut (text_page layout.now) list.now (D.current disk.old) (D.unsynced disk.old)) }
 {
-    let last = list[list.len() - 1];
-    write_block(disk, layout, last, 0, bytes)
+    let page = layout.block_page(list[list.len() - 1]);
+    disk.write_at(PAGE as u64 * page as u64, bytes)
 }
 
 /// Writes the last bytes of a text to the last of the listed blocks, without a sync.

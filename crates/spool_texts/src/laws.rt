@@ -1,7 +1,7 @@
 //! Laws about texts on blocks. The functions do nothing; their contracts are the laws.
 ghost use Rattle.std.specs.Prelude.{◌≡◌, ◌≤◌, ◌+◌, ◌*◌, ◌/◌, ◌++◌, ℕ, List, Option, length, take};
 ghost use Rattle.spool_journal.specs.Image.{journal_pages, text_page};
-ghost use Rattle.spool_journal.specs.Texts.{text_shown};
+ghost use Rattle.spool_texts.specs.Texts.{text_shown};
 ghost use Rattle.spool_texts.specs.Drafts.{Draft, content_on};
 ghost use Rattle.spool_texts.specs.TextOn.{text_on, IsListed};
 ghost use Rattle.spool_texts.specs.Written.{FrameBlocks, NoneOf, SameOutside, aside_blocks};

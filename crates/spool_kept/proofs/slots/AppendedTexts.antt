@@ -7,7 +7,7 @@ use Rattle.spool_journal.specs.declared.TheConstants.{PAGE}
 use Rattle.upload_rules.specs.Room.{blocks_of}
 use Rattle.spool_blocks.specs.Blocks.{Row}
 use Rattle.spool_blocks.specs.Chains.{Owns, OwnsOneEach}
-use Rattle.spool_journal.specs.Texts.{block_at, block_bytes, joined, text_shown}
+use Rattle.spool_texts.specs.Texts.{block_at, block_bytes, joined, text_shown}
 use Rattle.spool_texts.specs.TextOn.{blocks_on, text_on, IsListed}
 use Rattle.spool_texts.proofs.Shown.{found, shown, text_joined}
 

@@ -15,7 +15,7 @@ use Rattle.spool_blocks.specs.Blocks.{Row, Held}
 use Rattle.spool_disk.specs.declared.disk.Disk.{Ghosts}
 use Rattle.spool_disk.specs.Views.{Lasts}
 use Rattle.spool_journal.specs.Image.{text_page}
-use Rattle.spool_journal.specs.Texts.{text_shown}
+use Rattle.spool_texts.specs.Texts.{text_shown}
 use Rattle.spool_pages.specs.Changes.{SameRowsBut, ChangesButRows, Changes, with_record}
 use Rattle.spool_pages.proofs.Resting.{rests_says}
 use Rattle.spool_pages.specs.Rests.{Rests, Unowned, HasTexts}

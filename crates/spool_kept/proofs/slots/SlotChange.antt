@@ -14,7 +14,7 @@ use Rattle.spool_blocks.specs.Chains.{Owns, OwnsOneEach}
 use Rattle.spool_disk.specs.Views.{Lasts}
 use Rattle.spool_disk.specs.declared.disk.Disk.{Ghosts}
 use Rattle.spool_journal.specs.Image.{text_page}
-use Rattle.spool_journal.specs.Texts.{text_shown}
+use Rattle.spool_texts.specs.Texts.{text_shown}
 use Rattle.spool_pages.specs.Changes.{with_slot}
 use Rattle.spool_pages.specs.Rests.{HasTexts}
 use Rattle.spool_pages.specs.View.{IsViewOf, SlotRecord, View, slot_at}

@@ -1,11 +1,9 @@
--- A write into a block that no row owns.
+-- A change of a block that no row owns.
 use Rattle.std.proofs.Common.{◌≡◌, ℕ, zero, suc, ◌+◌, ◌*◌, ◌/◌, ◌≤◌, Bool, true, false, cond, List, [], ◌∷◌}
 use Rattle.std.proofs.Common.{Option, None, Some, length, get_or, take, refl, sym, ◌∙◌, ap, arith, ⊎_elim}
 use Rattle.std.proofs.lemmas.Bool.{cases_eq}
-use Rattle.spool_disk.specs.Disk.{In, IsImage, Writes}
 use Rattle.spool_disk.proofs.Span.{span_same}
-use Rattle.spool_journal.specs.Phases.{Idle}
-use Rattle.spool_journal.specs.Texts.{owns, block_at, block_bytes, joined, aside, SameBut, Frame}
+use Rattle.spool_texts.specs.Texts.{owns, block_at, block_bytes, joined, aside, SameBut, Frame}
 use Rattle.std.proofs.lemmas.Bool.Decides.{nat_tests}
 use Rattle.spool_journal.specs.declared.TheConstants.{PAGE}
 use Rattle.spool_journal.proofs.Gate.{open_view, shut_view, SameJournal, form_on, replay_on}
@@ -16,35 +14,6 @@ aside_there page was image p e = grind (arith, nat_tests)
 
 pub aside_else : (page : ℕ) (was image : ℕ → ℕ) (p : ℕ) → (page ≡ p / PAGE → ⊥) → aside page was image p ≡ image p
 aside_else page was image p e = grind (arith, nat_tests)
-
--- but for the page, an image after the write is one from before it
-pub aside_image : {current current' image : ℕ → ℕ} {unsynced unsynced' : ℕ
-    → Type 0} {done : Type 0} (page at : ℕ) (bytes : List ℕ)
-    → PAGE * page ≤ at → at + length bytes ≤ PAGE * (page + 1)
-    → Writes at bytes done current current' unsynced unsynced'
-    → IsImage current' unsynced' image → IsImage current unsynced (aside page current image)
-aside_image {current = current} {image = image} page at bytes from below writes is = record {
-  same = λ p is_synced. ⊎_elim
-      (λ (e : page ≡ p / PAGE). aside_there page current image p e)
-      (λ (e : page ≡ p / PAGE → ⊥). aside_else page current image p e ∙ is.same p
-      (λ l. ⊎_elim is_synced (λ here. e (inside p here)) (writes.unsyncs p l))
-      ∙ writes.outside p (λ here. e (inside p here)))
-      (cases_eq page (p / PAGE));
-}
-  where
-    inside : (p : ℕ) → In at (length bytes) p → page ≡ p / PAGE
-    inside p here = omega (arith, here.from, here.below, from, below)
-
-pub idle_writes : {j : ℕ} {current current' : ℕ → ℕ} {unsynced unsynced' : ℕ
-    → Type 0} {done : Type 0} (at : ℕ) (bytes : List ℕ)
-    → PAGE * area_end j ≤ at → Idle j current unsynced → Writes at bytes done current current' unsynced unsynced'
-    → Idle j current' unsynced'
-idle_writes at bytes from idle writes = record {
-  gate = λ l. ⊎_elim idle.gate (λ here. omega (arith, here.from, from)) (writes.unsyncs PAGE l);
-  closed = λ e. idle.closed (sym (writes.outside PAGE (λ here. omega (arith, here.from, from))) ∙ e);
-  area = λ p within l. ⊎_elim (idle.area p within) (λ here. omega (arith, here.from, from, within.below))
-      (writes.unsyncs p l);
-}
 
 -- the block at an ordinal is another than one without owner
 module _ (image image' : ℕ → ℕ) (first x slot ordinal : ℕ) (same : SameBut (first + x) image image') where
