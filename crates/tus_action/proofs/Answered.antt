@@ -13,7 +13,6 @@ use Rattle.tus_action.specs.declared.bodies.OpenPatch.{OpenPatch}
 use Rattle.common.specs.declared.stop.Stop.{Stop}
 use Rattle.common.specs.declared.stop.Stop.TheVariants.{NoMemory, DiskFault}
 use Rattle.tus_action.specs.declared.acts.Done as code
-use Rattle.tus_action.specs.declared.acts.Done.TheVariants as done
 use Rattle.tus_request.specs.Replies.{reply_refused}
 use Rattle.std.proofs.Math.Seq.{take-append_seam}
 use Rattle.std.specs.Prelude.{IsErrOf}
@@ -67,7 +66,7 @@ pub refused_answer : {T : Type 0} (done : T → Type 0) (same : Type 0) (refusal
     → Answers {T = T} refusal (Err e) done same → (refusal ≡ Some f) × same
 refused_answer {T = T} done same refusal e f is h = subst (λ x. Answers {T = T} refusal (Err x) done same) is h
 
-memory_answer : {T : Type 0} (done : T → Type 0) (same : Type 0) (refusal : Option UploadRefusal) (e : UploadError)
+pub memory_answer : {T : Type 0} (done : T → Type 0) (same : Type 0) (refusal : Option UploadRefusal) (e : UploadError)
     → e ≡ errors.Stop NoMemory
     → Answers {T = T} refusal (Err e) done same → IsLate refusal × same
 memory_answer {T = T} done same refusal e is h = subst (λ x. Answers {T = T} refusal (Err x) done same) is h

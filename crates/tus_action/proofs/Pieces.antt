@@ -1,25 +1,28 @@
 -- The pieces of a text that is given.
 use Rattle.std.proofs.Common.{◌≡◌, ◌≤◌, ◌<◌, ◌+◌, ◌-◌, min, arith, ℕ, Bool, true, false, List, [], ◌∷◌, ◌++◌, length}
-use Rattle.std.proofs.Common.{take, drop, nat_le, Option, Some, None, Ok, Err, refl, sym, subst, ap, ◌∙◌, if◌then◌else◌}
+use Rattle.std.proofs.Common.{take, drop, nat_le, Option, Some, None, Err, refl, sym, subst, ap, ◌∙◌, if◌then◌else◌}
 use Rattle.std.proofs.Common.{append-nil}
 use Rattle.std.proofs.lemmas.List.{length-take, length-drop, take_all, take-take, drop-drop, drop_all, drop-take}
 use Rattle.std.proofs.lemmas.List.{length-take-le, nil_from_length}
 use Rattle.std.proofs.lemmas.Bool.{leb-true, leb-false}
 use Rattle.tus_action.specs.declared.reads.TheConstants.{PIECE}
 use Rattle.upload_rules.specs.Store.{Store, Upload, upload_of, text_of}
-use Rattle.upload_rules.specs.Reading.{text_at, IsRead}
+use Rattle.upload_rules.specs.Reading.{no_such, text_at, IsRead}
 use Rattle.upload_rules.specs.World.{World, is_there}
-use Rattle.upload_rules.specs.Records.{TellsOf, with_number}
-use Rattle.upload_rules.specs.declared.records.Record.{Record}
+use Rattle.upload_rules.specs.Answers.{Answers, IsLate}
+use Rattle.upload_rules.specs.declared.errors.UploadError.{UploadError}
+use Rattle.upload_rules.specs.declared.errors.UploadError.TheVariants as errors
 use Rattle.upload_rules.specs.declared.uploads.Uploads.{Ghosts}
-use Rattle.tus_action.specs.Acts.{Giving, piece_of, pending_of, pending_after}
-use Rattle.tus_action.specs.Serves.{Appends, AppendsPiece, AppendsText, GivesAs, IsGiving, GivingIs, GivesPiece}
-use Rattle.tus_action.specs.Serves.{IsGiven, Gives}
-use Rattle.tus_action.specs.Serves.{giving_after}
-use Rattle.tus_action.specs.declared.acts.Giving as given
-use Rattle.tus_action.specs.declared.acts.Given.TheVariants.{Piece, Last}
 use Rattle.common.specs.declared.stop.Stop.{Stop}
-use Rattle.common.specs.declared.stop.Stop.TheVariants as Stops
+use Rattle.common.specs.declared.stop.Stop.TheVariants.{NoMemory, DiskFault}
+use Rattle.tus_action.proofs.Answered.{memory_answer}
+use Rattle.upload_rules.specs.declared.errors.UploadRefusal.{UploadRefusal}
+use Rattle.tus_action.specs.Acts.{Giving, piece_of, pending_of, pending_after}
+use Rattle.tus_action.specs.Serves.{Appends, AppendsPiece, AppendsText, GivesAs, IsGiving, GivingIs}
+use Rattle.tus_action.specs.Serves.{IsGiven, Gives, given_after, left_of}
+use Rattle.tus_action.specs.declared.acts.Giving as given
+use Rattle.tus_action.specs.declared.acts.Given.{Given}
+use Rattle.tus_action.specs.declared.acts.Given.TheVariants.{Piece, Last, Gone}
 
 -- what is left of the first bytes of a text
 pub left_is : (text : List ℕ) (l g : ℕ) → g ≤ l → drop g (take l text) ≡ take (l - g) (drop g text)
@@ -164,42 +167,69 @@ after_case m g h up gives all c count false under =
     (subst (λ k. IsGiving m (record { number = g.number; length = g.length; given = g.given + k; closes = g.closes })
     (record h { left = drop PIECE h.left })) (sym c_is) rest)
 
--- what is left after the piece
-pub gives_on : (m : Store) (g : given.Giving) (h : Giving) (up : Upload) → GivesAs m g h up → IsGiving m g h → (c : ℕ)
-    → c ≡ min (g.length - g.given) PIECE → GivingIs m (giving_after g c) (pending_after h)
-gives_on m g h up gives all c count = after_case m g h up gives all c count (nat_le g.length (g.given + c)) refl
+-- the piece that was given, and what is left after it
+pub piece_left : {sure : Bool} (m : Store) (g : given.Giving) (h : Giving) (up : Upload) → GivesAs m g h up
+    → IsGiving m g h → (c : ℕ) → c ≡ min (g.length - g.given) PIECE → (old new : List ℕ)
+    → AppendsPiece sure old new (piece_of h) → IsGiven sure m (given_after g c) old new h (Some up)
+piece_left {sure = sure} m g h up gives all c count old new appended =
+    by_end (nat_le g.length (g.given + c)) (after_case m g h up gives all c count (nat_le g.length (g.given + c)) refl)
+  where
+    none_is : (p : Option Giving) → GivingIs m None p → p ≡ None
+    none_is None is = refl
+    none_is (Some q) is = absurd is
 
--- the upload that a record tells of
-pub told_there : (m : Store) (n k : ℕ) (r : Record) → n ≡ k → TellsOf m.indexes (with_number n (upload_of m n)) (Some r)
+    rest : given.Giving
+    rest = record { number = g.number; length = g.length; given = g.given + c; closes = g.closes }
+
+    by_end : (b : Bool) → GivingIs m (if b then None else Some rest) (pending_after h)
+        → IsGiven sure m (if b then Last else Piece rest) old new h (Some up)
+    by_end true is = (none_is (pending_after h) is, appended)
+    by_end false is = (is, appended)
+
+-- what is left of a text that is there
+pub left_is_given : {sure : Bool} (m : Store) (given : Given) (old new : List ℕ) (h : Giving) (up : Upload)
+    → IsGiven sure m given old new h (Some up)
+    → GivingIs m (left_of given) (pending_after h) × AppendsPiece sure old new (piece_of h)
+left_is_given m (Piece g) old new h up is = is
+left_is_given m Last old new h up is = (subst (λ p. GivingIs m None p) (sym is.0) tt, is.1)
+left_is_given m Gone old new h up is = absurd is
+
+-- an upload whose text was read
+pub read_there : (m : Store) (n k : ℕ) → n ≡ k → no_such (upload_of m n) ≡ None
     → (up : Upload) × (upload_of m k ≡ Some up)
-told_there m n k r same told = subst (λ i. (up : Upload) × (upload_of m i ≡ Some up)) same (of (upload_of m n) told)
+read_there m n k same none = subst (λ i. (up : Upload) × (upload_of m i ≡ Some up)) same (of (upload_of m n) none)
   where
-    of : (o : Option Upload) → TellsOf m.indexes (with_number n o) (Some r) → (up : Upload) × (o ≡ Some up)
-    of None told = absurd told
-    of (Some up) told = (up, refl)
+    of : (o : Option Upload) → no_such o ≡ None → (up : Upload) × (o ≡ Some up)
+    of None none = absurd (cc)
+    of (Some up) none = (up, refl)
 
--- the piece that was given
-pub piece_given : {U B : Type 0} {sure : Bool} (u : Ghosts U B) (store : U) (w : World) (h : Giving) (up : Upload)
-    (left : Option given.Giving) (g : given.Giving) (old new : List ℕ) → upload_of w.store h.number ≡ Some up
-    → left ≡ Some g → GivesPiece u sure store (Ok left) old new w h → Gives u sure store (Ok (Piece g)) old new w h
-piece_given {sure = sure} u store w h up left g old new there is gave =
-    let rest = subst (λ l. GivingIs w.store l (pending_after h)) is gave.1 in
-    (gave.0, subst (IsGiven sure w.store (Piece g) old new h) (sym there) (rest, gave.2))
-
-pub last_given : {U B : Type 0} {sure : Bool} (u : Ghosts U B) (store : U) (w : World) (h : Giving) (up : Upload)
-    (left : Option given.Giving) (old new : List ℕ) → upload_of w.store h.number ≡ Some up → left ≡ None
-    → GivesPiece u sure store (Ok left) old new w h → Gives u sure store (Ok Last) old new w h
-last_given {sure = sure} u store w h up left old new there is gave =
-    let none = none_is w.store (pending_after h) (subst (λ l. GivingIs w.store l (pending_after h)) is gave.1) in
-    (gave.0, subst (IsGiven sure w.store Last old new h) (sym there) (none, gave.2))
+-- one whose text couldn't be read is there, or gone
+pub late_there : (m : Store) (n k : ℕ) → n ≡ k → IsLate (no_such (upload_of m n)) → is_there (upload_of m k) ≡ true
+late_there m n k same late = subst (λ i. is_there (upload_of m i) ≡ true) same (of (upload_of m n) late)
   where
-    none_is : (m : Store) (p : Option Giving) → GivingIs m None p → p ≡ None
-    none_is m None is = refl
-    none_is m (Some q) is = absurd is
+    of : (o : Option Upload) → IsLate (no_such o) → is_there o ≡ true
+    of None late = absurd late
+    of (Some up) late = refl
 
--- nothing was given, out of memory or for a disk fault
-pub stops_gives : {U B : Type 0} (u : Ghosts U B) (sure : Bool) (store : U) (w : World) (h : Giving) (up : Upload)
-    (stop : Stop) (old new : List ℕ) → upload_of w.store h.number ≡ Some up
-    → GivesPiece u sure store (Err stop) old new w h → Gives u sure store (Err stop) old new w h
-stops_gives u sure store w h up Stops.NoMemory old new there is = (ap is_there there, is.0, is.1)
-stops_gives u sure store w h up Stops.DiskFault old new there is = (ap is_there there, is)
+pub refused_gone : (sure : Bool) (m : Store) (n : ℕ) (h : Giving) (e : UploadRefusal) (old : List ℕ) → n ≡ h.number
+    → no_such (upload_of m n) ≡ Some e → IsGiven sure m Gone old old h (upload_of m h.number)
+refused_gone sure m n h e old same refused =
+    subst (λ i. IsGiven sure m Gone old old h (upload_of m i)) same (of (upload_of m n) refused)
+  where
+    of : (o : Option Upload) → no_such o ≡ Some e → IsGiven sure m Gone old old h o
+    of None refused = refl
+    of (Some up) refused = absurd (cc)
+
+-- a text whose read stopped
+pub stops_read : {U B T : Type 0} (u : Ghosts U B) (sure : Bool) (store : U) (w : World) (n : ℕ) (h : Giving)
+    (stop : Stop) (e : UploadError) (old : List ℕ) (done : T → Type 0) → n ≡ h.number → e ≡ errors.Stop stop
+    → Answers {T = T} (no_such (upload_of w.store n)) (Err e) done (u.stands store sure w)
+    → Gives u sure store (Err stop) old old w h
+stops_read u sure store w n h NoMemory e old done same is answered =
+    let a = memory_answer done (u.stands store sure w) (no_such (upload_of w.store n)) e is answered in
+    (late_there w.store n h.number same a.0, a.1, refl)
+stops_read {T = T} u sure store w n h DiskFault e old done same is answered = (
+  late_there w.store n h.number same (subst (λ x. Answers {T = T} (no_such (upload_of w.store n)) (Err x) done
+      (u.stands store sure w)) is answered),
+  refl,
+)

@@ -13,11 +13,12 @@ use Rattle.tus_request.specs.Replies.{reply_text}
 use Rattle.tus_action.specs.Acts.{Acted, Giving, pending_of, pending_after, is_pending, get}
 use Rattle.tus_action.specs.declared.reads.TheConstants.{PIECE}
 use Rattle.tus_action.specs.Serves.{Appends, GivesAs, IsGiving, GivingIs, DraftIs, ActedAs, Serves}
-use Rattle.tus_action.specs.Serves.{GivesPiece, replied_giving}
-use Rattle.tus_action.proofs.Pieces.{appends}
+use Rattle.tus_action.specs.Serves.{Gives, IsGiven, left_of, replied_giving}
+use Rattle.tus_action.proofs.Pieces.{appends, left_is_given}
 use Rattle.tus_action.specs.Serves.{draft_in, giving_in, closes_in}
 use Rattle.tus_action.specs.declared.acts.Done.TheVariants as done
 use Rattle.tus_action.specs.declared.acts.Giving as given
+use Rattle.tus_action.specs.declared.acts.Given.{Given}
 use Rattle.common.specs.declared.stop.Stop.{Stop}
 use Rattle.common.specs.declared.stop.Stop.TheVariants as Stops
 use Rattle.tus_action.proofs.Answered.{taken_back}
@@ -72,28 +73,28 @@ no_draft u w (Some g) closes = tt {0}
 
 -- the reply's head and the first piece
 pub get_acts : {U B : Type 0} {sure : Bool} (u : Ghosts U B) (store : U) (w : World) (r : Request) (n : ℕ)
-    (rec : Record) (left : Option given.Giving) (old mid new : List ℕ) (o : Option Upload)
+    (rec : Record) (gave : Given) (old mid new : List ℕ) (o : Option Upload)
     → ((v : Upload) → upload_of w.store n ≡ Some v → n < w.store.next) → upload_of w.store n ≡ o
     → TellsOf w.store.indexes (with_number n o) (Some rec) → r.bare ≡ false
     → mid ≡ old ++ reply_text rec.to rec.text_len false r.closes
-    → ((h : Giving) (up : Upload) → IsGiving w.store (at_start n rec.text_len r.closes) h
-    → upload_of w.store h.number ≡ Some up → GivesPiece u sure store (Ok left) mid new w h)
-    → ActedAs u sure store (replied_giving left r.closes) old new (get w r n o)
-get_acts u store w r n rec left old mid new None below e tells bare head gives = absurd tells
-get_acts {B = B} {sure = sure} u store w r n rec left old mid new (Some up) below e tells bare head gives =
+    → ((h : Giving) → IsGiving w.store (at_start n rec.text_len r.closes) h → Gives u sure store (Ok gave) mid new w h)
+    → ActedAs u sure store (replied_giving (left_of gave) r.closes) old new (get w r n o)
+get_acts u store w r n rec gave old mid new None below e tells bare head gives = absurd tells
+get_acts {B = B} {sure = sure} u store w r n rec gave old mid new (Some up) below e tells bare head gives =
     let text : List ℕ = text_of w.store.indexes up in
     let h : Giving = whole_text n text r.closes in
-    let g = gives h up (starts w.store n rec up r.closes (below up e) e tells) e in
+    let g = gives h (starts w.store n rec up r.closes (below up e) e tells) in
+    let here = left_is_given w.store gave mid new h up (subst (IsGiven sure w.store gave mid new h) e g.1) in
     let pend : pending_after h ≡ pending_of n (if r.bare then [] else drop PIECE text) r.closes =
     ap (λ b. pending_of n (if b then [] else drop PIECE text) r.closes) (sym bare) in
-    let is : GivingIs w.store left (pending_of n (if r.bare then [] else drop PIECE text) r.closes) =
-    subst (λ p. GivingIs w.store left p) pend g.1 in
+    let is : GivingIs w.store (left_of gave) (pending_of n (if r.bare then [] else drop PIECE text) r.closes) =
+    subst (λ p. GivingIs w.store (left_of gave) p) pend here.0 in
     let reply : reply_text rec.to rec.text_len false r.closes ≡ reply_text up.to (length text) false r.closes =
     ap (λ t. reply_text t rec.text_len false r.closes) tells.to ∙ ap (λ l. reply_text up.to l false r.closes)
     tells.text_len in
-    let piece : List ℕ = g.2.0 in
+    let piece : List ℕ = here.1.0 in
     let bytes : new ≡ old ++ (reply_text up.to (length text) false r.closes ++ piece) =
-    g.2.1 ∙ (ap (λ x. x ++ piece) (head ∙ ap (λ x. old ++ x) reply)
+    here.1.1 ∙ (ap (λ x. x ++ piece) (head ∙ ap (λ x. old ++ x) reply)
     ∙ append_assoc old (reply_text up.to (length text) false r.closes) piece) in
     let given : Appends sure old new (reply_text up.to (length text) false r.closes ++ take PIECE text)
     (take PIECE text) =
@@ -103,13 +104,13 @@ get_acts {B = B} {sure = sure} u store w r n rec left old mid new (Some up) belo
       piece = piece;
       parts = refl;
       appended = bytes;
-      are = g.2.2;
+      are = here.1.2;
     }) in
     record {
       stands = g.0;
-      draft = no_draft u w left r.closes;
-      giving = given_is B w.store left _ r.closes is;
-      closes = given_closes B w.store left _ r.closes is;
+      draft = no_draft u w (left_of gave) r.closes;
+      giving = given_is B w.store (left_of gave) _ r.closes is;
+      closes = given_closes B w.store (left_of gave) _ r.closes is;
       bytes = subst (λ (b : Bool). Appends sure old new
           (reply_text up.to (length text) b r.closes ++ (if b then [] else take PIECE text))
           (if b then [] else take PIECE text)) (sym bare) given;
@@ -120,39 +121,36 @@ pub get_stops : {U B : Type 0} (u : Ghosts U B) (sure : Bool) (store : U) (w : W
     (rec : Record) (stop : Stop) (old more mid out new : List ℕ) (k : ℕ) (m : Acted) (o : Option Upload)
     → ((v : Upload) → upload_of w.store n ≡ Some v → n < w.store.next) → upload_of w.store n ≡ o
     → TellsOf w.store.indexes (with_number n o) (Some rec) → mid ≡ old ++ more → k ≡ length old → new ≡ take k out
-    → ((h : Giving) (up : Upload) → IsGiving w.store (at_start n rec.text_len closes) h
-    → upload_of w.store h.number ≡ Some up → GivesPiece u sure store (Err stop) mid out w h)
+    → ((h : Giving) → IsGiving w.store (at_start n rec.text_len closes) h → Gives u sure store (Err stop) mid out w h)
     → Serves {B = B} u sure store (Err stop) old new w m
 get_stops u sure store w closes n rec stop old more mid out new k m None below e tells head size cut gives = absurd
     tells
 get_stops u sure store w closes n rec Stops.NoMemory old more mid out new k m (Some up) below e tells head size cut
     gives =
-    let g = gives (whole_text n (text_of w.store.indexes up) closes) up
-    (starts w.store n rec up closes (below up e) e tells) e in
-    (g.0, taken_back old more new k size (cut ∙ ap (take k) (g.1 ∙ head)))
+    let g = gives (whole_text n (text_of w.store.indexes up) closes)
+    (starts w.store n rec up closes (below up e) e tells) in
+    (g.1, taken_back old more new k size (cut ∙ ap (take k) (g.2 ∙ head)))
 get_stops u sure store w closes n rec Stops.DiskFault old more mid out new k m (Some up) below e tells head size cut
     gives =
-    let g = gives (whole_text n (text_of w.store.indexes up) closes) up
-    (starts w.store n rec up closes (below up e) e tells) e in
-    taken_back old more new k size (cut ∙ ap (take k) (g ∙ head))
+    let g = gives (whole_text n (text_of w.store.indexes up) closes)
+    (starts w.store n rec up closes (below up e) e tells) in
+    taken_back old more new k size (cut ∙ ap (take k) (g.1 ∙ head))
 
 -- the same with the flags that the code was given
 pub get_acts_as : {U B : Type 0} {sure : Bool} (u : Ghosts U B) (store : U) (w : World) (r : Request) (n : ℕ)
-    (rec : Record) (left : Option given.Giving) (old mid new : List ℕ) (bare closes : Bool) (o : Option Upload)
+    (rec : Record) (gave : Given) (old mid new : List ℕ) (bare closes : Bool) (o : Option Upload)
     → ((v : Upload) → upload_of w.store n ≡ Some v → n < w.store.next) → upload_of w.store n ≡ o
     → TellsOf w.store.indexes (with_number n o) (Some rec) → bare ≡ r.bare → bare ≡ false → closes ≡ r.closes
     → mid ≡ old ++ reply_text rec.to rec.text_len bare closes
-    → ((h : Giving) (up : Upload) → IsGiving w.store (at_start n rec.text_len closes) h
-    → upload_of w.store h.number ≡ Some up → GivesPiece u sure store (Ok left) mid new w h)
-    → ActedAs u sure store (replied_giving left closes) old new (get w r n o)
-get_acts_as {sure = sure} u store w r n rec left old mid new bare closes o below e tells bare_is not_bare closes_is
+    → ((h : Giving) → IsGiving w.store (at_start n rec.text_len closes) h → Gives u sure store (Ok gave) mid new w h)
+    → ActedAs u sure store (replied_giving (left_of gave) closes) old new (get w r n o)
+get_acts_as {sure = sure} u store w r n rec gave old mid new bare closes o below e tells bare_is not_bare closes_is
     head gives =
-    subst (λ c. ActedAs u sure store (replied_giving left c) old new (get w r n o)) (sym closes_is)
-    (get_acts u store w r n rec left old mid new o below e tells (sym bare_is ∙ not_bare)
+    subst (λ c. ActedAs u sure store (replied_giving (left_of gave) c) old new (get w r n o)) (sym closes_is)
+    (get_acts u store w r n rec gave old mid new o below e tells (sym bare_is ∙ not_bare)
     (head ∙ (ap (λ b. old ++ reply_text rec.to rec.text_len b closes) not_bare
     ∙ ap (λ c. old ++ reply_text rec.to rec.text_len false c) closes_is))
-    (λ h up is there. gives h up (subst (λ c. IsGiving w.store (at_start n rec.text_len c) h) (sym closes_is) is)
-    there))
+    (λ h is. gives h (subst (λ c. IsGiving w.store (at_start n rec.text_len c) h) (sym closes_is) is)))
 
 abbrev q_of : Request → Bool → Bool → Request
 q_of r bare closes = record r { bare = bare; closes = closes }

@@ -136,14 +136,6 @@ Ends u sure store (Err DiskFault) gone w = Unit {0}
 abbrev pub AppendsPiece : Bool → List ℕ → List ℕ → List ℕ → Type 0
 AppendsPiece sure old new text = (piece : List ℕ) × (new ≡ old ++ piece) × AreOf sure piece text
 
--- The next piece was appended. Both errors leave the output unchanged.
-abbrev pub GivesPiece : {U B : Type 0} → Ghosts U B → Bool → U → Result (Option given.Giving) Stop → List ℕ → List ℕ
-    → World → Giving → Type 0
-GivesPiece u sure store (Ok g) old new w h =
-    u.stands store sure w × GivingIs w.store g (pending_after h) × AppendsPiece sure old new (piece_of h)
-GivesPiece u sure store (Err NoMemory) old new w h = u.stands store sure w × (new ≡ old)
-GivesPiece u sure store (Err DiskFault) old new w h = new ≡ old
-
 -- The next piece of the text, or nothing if the upload is gone.
 abbrev pub IsGiven : Bool → Store → Given → List ℕ → List ℕ → Giving → Option Upload → Type 0
 IsGiven sure m (Piece g) old new h (Some up) =
@@ -187,10 +179,16 @@ pub record RepliesOnly {B : Type 0} (result : Result (code.Done B) Stop) (e : Up
   pub nothing : IfOk result (λ a. a ≡ done.Replied closes)
 
 -- What is left of a text after n more bytes.
-abbrev pub giving_after : given.Giving → ℕ → Option given.Giving
-giving_after g n =
-    if nat_le g.length (g.given + n) then None
-    else Some (record { number = g.number; length = g.length; given = g.given + n; closes = g.closes })
+abbrev pub given_after : given.Giving → ℕ → Given
+given_after g n =
+    if nat_le g.length (g.given + n) then Last
+    else Piece (record { number = g.number; length = g.length; given = g.given + n; closes = g.closes })
+
+-- The text of which more is to be given.
+abbrev pub left_of : Given → Option given.Giving
+left_of (Piece g) = Some g
+left_of Last = None
+left_of Gone = None
 
 -- A reply with text left, or without.
 abbrev pub replied_giving : {B : Type 0} → Option given.Giving → Bool → code.Done B

@@ -1,6 +1,6 @@
 //! The results of a request's head, and what stays open after it.
 ghost use Rattle.std.specs.Prelude.{◌≡◌};
-ghost use Rattle.tus_action.specs.Serves.{replied_giving, giving_after};
+ghost use Rattle.tus_action.specs.Serves.{replied_giving, left_of, given_after};
 
 /// A text of which more is still to be given.
 #[derive(Clone, Copy, Debug, PartialEq, Eq, Drop)]
@@ -40,26 +40,26 @@ pub enum Done<B> {
 }
 
 impl<B> Done<B> {
-    /// A reply with this much text left, or none.
-    pub(crate) fn giving(giving: Option<Giving>, closes: bool) -> Self
-        ensures { result ≡ replied_giving giving closes }
+    /// A reply after which this is left of its text.
+    pub(crate) fn giving(given: Given, closes: bool) -> Self
+        ensures { result ≡ replied_giving (left_of given) closes }
     {
-        match giving {
-            Some(giving) => Done::Giving(giving),
-            None => Done::Replied { closes },
+        match given {
+            Given::Piece(giving) => Done::Giving(giving),
+            Given::Last | Given::Gone => Done::Replied { closes },
         }
     }
 }
 
 impl Giving {
     /// What is left of the text after `count` more bytes.
-    pub(crate) fn after(self, count: u64) -> Option<Giving>
-        ensures { result ≡ giving_after self count }
+    pub(crate) fn after(self, count: u64) -> Given
+        ensures { result ≡ given_after self count }
     {
         let given = self.given.saturating_add(count);
         if given >= self.length {
-            return None;
+            return Given::Last;
         }
-        Some(Giving { given, ..self })
+        Given::Piece(Giving { given, ..self })
     }
 }

@@ -1,11 +1,11 @@
 //! Requests that read uploads: HEAD, GET, and the further pieces of a text.
-ghost use Rattle.std.specs.Prelude.{◌≡◌, ◌+◌, Some, None, IsErrOf, Bool};
-ghost use Rattle.upload_rules.specs.Store.{Upload, upload_of};
+ghost use Rattle.std.specs.Prelude.{◌≡◌, ◌+◌, IsErrOf, Bool};
+ghost use Rattle.upload_rules.specs.Store.{upload_of};
 ghost use Rattle.upload_rules.specs.World.{World};
 ghost use Rattle.upload_rules.specs.Answers.{Counts, Quiet};
 ghost use Rattle.tus_request.specs.Requests.{Request};
 ghost use Rattle.tus_action.specs.Acts.{head, get, Giving as Pending};
-ghost use Rattle.tus_action.specs.Serves.{Serves, Gives, GivesPiece, IsGiving};
+ghost use Rattle.tus_action.specs.Serves.{Serves, Gives, IsGiving};
 ghost use Rattle.tus_request.specs.Replies.{longest_reply, GrowsBy};
 
 use crate::acts::{Done, Given, Giving};
@@ -61,34 +61,6 @@ pub(crate) fn show<U: Uploads>(
     }
 }
 
-// Appends the next piece of an existing upload's text to `out`: 65,536 bytes, or the rest if that is shorter.
-fn next_piece<U: Uploads>(
-    store: &mut U,
-    giving: Giving,
-    buffer: &mut PieceBuffer,
-    out: &mut Vec<u8>,
-) -> Result<Option<Giving>, Stop>
-    ensures answer { (sure : Bool) (w : World) (h : Pending) (up : Upload) → U.stands store.old sure w
-        → IsGiving w.store giving h
-        → upload_of w.store h.number ≡ Some up
-        → GivesPiece U.Uploads sure store.new result out.old.items out.new.items w h }
-    ensures crash { Quiet (U.moment store.old) (U.moment store.new) (U.left_only store.old) (U.left_only store.new) }
-    ensures counts { Counts (IsErrOf result Stop.DiskFault) (U.failures store.old) (U.failures store.new) }
-    ensures few { GrowsBy PIECE out.old.items out.new.items }
-{
-    let left = giving.length.saturating_sub(giving.given);
-    let count = left.min(PIECE as u64) as usize;
-    let piece = &mut buffer[..count];
-    match store.read_text(giving.number, giving.given, piece) {
-        Ok(_count) => {}
-        Err(error) => return Err(Stop::from(error)),
-    }
-    match out.extend_from_slice(piece) {
-        Ok(()) => Ok(giving.after(count as u64)),
-        Err(_) => Err(Stop::NoMemory),
-    }
-}
-
 /// Appends the next piece of a text to `out`: 65,536 bytes, or the rest if that is shorter. If the upload was deleted,
 /// nothing is appended.
 ///
@@ -107,13 +79,17 @@ pub fn give_more<U: Uploads>(
     ensures counts { Counts (IsErrOf result Stop.DiskFault) (U.failures store.old) (U.failures store.new) }
     ensures few { GrowsBy PIECE out.old.items out.new.items }
 {
-    let Some(_there) = store.record(giving.number) else {
-        return Ok(Given::Gone);
-    };
-    match next_piece(store, giving, buffer, out) {
-        Ok(Some(left)) => Ok(Given::Piece(left)),
-        Ok(None) => Ok(Given::Last),
-        Err(stop) => Err(stop),
+    let left = giving.length.saturating_sub(giving.given);
+    let count = left.min(PIECE as u64) as usize;
+    let piece = &mut buffer[..count];
+    match store.read_text(giving.number, giving.given, piece) {
+        Ok(_count) => {}
+        Err(UploadError::Refused(_)) => return Ok(Given::Gone),
+        Err(UploadError::Stop(stop)) => return Err(stop),
+    }
+    match out.extend_from_slice(piece) {
+        Ok(()) => Ok(giving.after(count as u64)),
+        Err(_) => Err(Stop::NoMemory),
     }
 }
 
@@ -153,8 +129,8 @@ pub(crate) fn give_text<U: Uploads>(
         given: 0,
         closes,
     };
-    match next_piece(store, giving, buffer, out) {
-        Ok(left) => Ok(Done::giving(left, closes)),
+    match give_more(store, giving, buffer, out) {
+        Ok(given) => Ok(Done::giving(given, closes)),
         Err(stop) => {
             out.truncate(before);
             Err(stop)

@@ -1,7 +1,7 @@
 -- The lines of a reply, one after the other, are the reply.
 use Rattle.std.specs.Prelude.{◌≡◌, ℕ, ◌+◌, ◌≤◌, ◌<◌, Bool, List, [], ◌∷◌, ◌++◌, length, take, drop, Option, None}
-use Rattle.std.specs.Prelude.{codes, OnOk, Result}
-use Rattle.std.proofs.Common.{append_assoc, ap, sym, ◌∙◌, subst, get_or, arith}
+use Rattle.std.specs.Prelude.{codes}
+use Rattle.std.proofs.Common.{append_assoc, ap, sym, ◌∙◌, get_or, arith}
 use Rattle.std.proofs.lemmas.List.{append-nil, length-append, take_more, at_drop_more}
 use Rattle.tus_request.specs.Replies.{crlf, header, length_line}
 use Rattle.tus_request.specs.Replies.{reply}
@@ -55,11 +55,6 @@ print_more old status lines i d mid new inside was is =
     begun_more old status (lines_shown (take i lines)) (line_shown (get_or lines i d)) new
     (is ∙ ap (λ t. t ++ line_shown (get_or lines i d)) was)
     ∙ ap (λ t. old ++ begun status t) (sym (lines_more lines i d inside))
-
--- what is appended, in other words
-pub told : {X E : Type 0} (r : Result X E) (old new text said : List ℕ) → OnOk r (new ≡ old ++ text) → text ≡ said
-    → OnOk r (new ≡ old ++ said)
-told r old new text said ok same = subst (λ t. OnOk r (new ≡ old ++ t)) same ok
 
 -- the line of the body's length may be told apart from a reply's own lines
 pub with_length : (status own size : List ℕ) (n : Option ℕ) (closes : Bool) → size ≡ length_line n
