@@ -129,7 +129,8 @@ fn run_over_disk<D: Disk + Drop, R: CountedRead, W: CountedWrite>(
 
 // The program's error for a run that ended early.
 fn fault_of(fault: ScriptFault) -> Fault
-    ensures stop { (stop : Stop) → fault ≡ ScriptFault.Stop stop → result ≡ Fault.Stop stop }
+    ensures memory { fault ≡ ScriptFault.Stop Stop.NoMemory → result ≡ Fault.Stop Stop.NoMemory }
+    ensures device { fault ≡ ScriptFault.Stop Stop.DiskFault → result ≡ Fault.Stop Stop.DiskFault }
     ensures script { (line : ℕ) → fault ≡ ScriptFault.Script line → result ≡ Fault.Script line }
     ensures io { fault ≡ ScriptFault.Io → result ≡ Fault.Io }
 {
