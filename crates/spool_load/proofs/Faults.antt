@@ -2,13 +2,24 @@
 use Rattle.std.proofs.Common.{◌≡◌, ℕ, Err, ap, refl}
 use Rattle.std.specs.Prelude.{IsErrOf}
 use Rattle.common.specs.declared.stop.Stop.TheVariants.{DiskFault}
+use Rattle.spool_catalog.specs.declared.error.CheckError.{CheckError}
+use Rattle.spool_catalog.specs.declared.error.CheckError.TheVariants as checks
 use Rattle.spool_disk.specs.Disk.{Counts}
 use Rattle.spool_catalog.specs.Loads.{LoadsAs}
 use Rattle.spool_catalog.specs.declared.error.OpenFault.{OpenFault}
 use Rattle.spool_catalog.specs.declared.error.OpenFault.TheVariants as opens
-use Rattle.spool_load.specs.Faults.{TellsNothing, load_fault}
+use Rattle.spool_load.specs.Faults.{TellsNothing, check_fault, load_fault}
 use Rattle.spool_load.specs.declared.error.LoadError.{LoadError}
 use Rattle.spool_load.specs.declared.error.LoadError.TheVariants.{Stop, Damaged}
+
+-- a check meets no disk fault, and out of memory it tells nothing of the disk
+pub check_sound : (e : CheckError) → check_fault e ≡ Stop DiskFault → ⊥
+check_sound checks.Damaged is = cc
+check_sound checks.NoMemory is = cc
+
+pub check_told : (e : CheckError) → e ≡ checks.NoMemory → TellsNothing (check_fault e)
+check_told checks.Damaged is = absurd (cc)
+check_told checks.NoMemory is = tt
 
 -- the disk failed in both
 disk_fault_told : (e : LoadError) → load_fault e ≡ opens.Stop DiskFault → e ≡ Stop DiskFault
