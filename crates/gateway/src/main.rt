@@ -7,6 +7,7 @@ mod watched;
 
 use clap::Error;
 use clap::error::ErrorKind;
+use common::Stop;
 use gateway_files::{
     Failure, Fault, Formatted, Task, delete_file, delete_incomplete_file, ended, export_file,
     format_file, json_file, list_file, say_formatted, say_read, say_upgraded, text_file,
@@ -94,7 +95,7 @@ fn no_words<'a>(rt: &HostRuntime, error: io::Error) -> Result<u8, Failure<'a>> {
             eprintln!(rt; "error: invalid UTF-8 was detected in one or more arguments")?;
             Ok(USAGE)
         }
-        io::ErrorKind::OutOfMemory => Err(Failure::from(Fault::NoMemory)),
+        io::ErrorKind::OutOfMemory => Err(Failure::from(Fault::Stop(Stop::NoMemory))),
         _ => Err(Failure::new(Fault::from(error), Task::ReadWords, error)),
     }
 }
@@ -102,7 +103,7 @@ fn no_words<'a>(rt: &HostRuntime, error: io::Error) -> Result<u8, Failure<'a>> {
 // Prints help, or the fault of the command line. Out of memory isn't a fault of the command line.
 fn refuse<'a>(rt: &HostRuntime, error: Error) -> Result<u8, Failure<'a>> {
     if error.kind() == ErrorKind::OutOfMemory {
-        return Err(Failure::from(Fault::NoMemory));
+        return Err(Failure::from(Fault::Stop(Stop::NoMemory)));
     }
     Ok(say_usage(&error, &mut io::writer(rt), &mut rt.stderr())?)
 }

@@ -1,5 +1,6 @@
 //! Running standard input as a script over a spool.
 ghost use Rattle.std.specs.Prelude.{◌≡◌, ℕ, Some, Err, IsOk};
+ghost use Rattle.common.specs.declared.stop.Stop.{Stop};
 ghost use Rattle.spool_disk.specs.Disk.{Counts};
 ghost use Rattle.spool_image.specs.LeftOnly.{IsSpool};
 ghost use Rattle.upload_rules.specs.Store.{Store};
@@ -114,7 +115,7 @@ fn run_over_disk<D: Disk + Drop, R: CountedRead, W: CountedWrite>(
         → HasRunSpool D.Disk n m (R.remaining reader.old) (W.contents writer.old) (W.contents writer.new) result.0 }
 
     // The disk failed exactly where it says so.
-    ensures counts { Counts (result.1 ≡ Err Fault.DiskFault) (D.failures disk) (D.failures result.0) }
+    ensures counts { Counts (result.1 ≡ Err (Fault.Stop Stop.DiskFault)) (D.failures disk) (D.failures result.0) }
 {
     let spool = match Spool::open(alloc, disk) {
         Ok(spool) => spool,
@@ -128,14 +129,13 @@ fn run_over_disk<D: Disk + Drop, R: CountedRead, W: CountedWrite>(
 
 // The program's error for a run that ended early.
 fn fault_of(fault: ScriptFault) -> Fault
-    ensures memory { fault ≡ ScriptFault.NoMemory → result ≡ Fault.NoMemory }
-    ensures device { fault ≡ ScriptFault.DiskFault → result ≡ Fault.DiskFault }
+    ensures memory { fault ≡ ScriptFault.Stop Stop.NoMemory → result ≡ Fault.Stop Stop.NoMemory }
+    ensures device { fault ≡ ScriptFault.Stop Stop.DiskFault → result ≡ Fault.Stop Stop.DiskFault }
     ensures script { (line : ℕ) → fault ≡ ScriptFault.Script line → result ≡ Fault.Script line }
     ensures io { fault ≡ ScriptFault.Io → result ≡ Fault.Io }
 {
     match fault {
-        ScriptFault::NoMemory => Fault::NoMemory,
-        ScriptFault::DiskFault => Fault::DiskFault,
+        ScriptFault::Stop(stop) => Fault::Stop(stop),
         ScriptFault::Script(line) => Fault::Script(line),
         ScriptFault::Io => Fault::Io,
     }

@@ -10,6 +10,7 @@ ghost use Rattle.gateway_files.specs.Failures.{fault_in};
 ghost use Rattle.gateway_files.specs.Faults.{status_of};
 
 use crate::watched::Watched;
+use common::Stop;
 use gateway_engine::{Connections, Gateway};
 use gateway_files::{
     Failure, Fault, Survey, Task, open_spool, open_surveyed, refused_spool, say_open, say_served,
@@ -196,7 +197,7 @@ fn open_with_survey<'a>(
     let (disk, fault) = match open_surveyed(alloc, open_spool(rt, spool)?) {
         Ok((uploads, survey)) => match Gateway::new(alloc, uploads) {
             Ok(gateway) => return Ok((gateway, survey)),
-            Err((uploads, _)) => (uploads.into_disk(), Fault::NoMemory),
+            Err((uploads, _)) => (uploads.into_disk(), Fault::Stop(Stop::NoMemory)),
         },
         Err((disk, fault)) => (disk, Fault::from(fault)),
     };

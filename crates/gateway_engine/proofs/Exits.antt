@@ -4,6 +4,7 @@ use Rattle.std.proofs.Common.{subst, ◌∙◌, append-nil, arith}
 use Rattle.std.proofs.Common.{⊎_elim, true}
 use Rattle.std.specs.Prelude.{IsErrOf}
 use Rattle.std.specs.Io.KnownBytes.{Appends}
+use Rattle.common.specs.declared.stop.Stop.TheVariants.{NoMemory, DiskFault}
 use Rattle.upload_rules.specs.Store.{Store}
 use Rattle.upload_rules.specs.Answers.{Among, Quiet, Counts}
 use Rattle.upload_rules.specs.declared.uploads.Uploads.{Ghosts}
@@ -143,8 +144,8 @@ module _ {U B C : Type 0} (u : Ghosts U B) (v : View C) (before store : U) (byte
 
   pub stopped : (fault : ScriptFault) → Ends v (Err fault) lines begun → HasRun u v.sure before (Err (store, fault))
       v.held v.prefix v.st bytes
-  stopped runs.NoMemory p = stopped_so faults.NoMemory p
-  stopped runs.DiskFault p = failed_so p.0 p.1 p.2
+  stopped (runs.Stop NoMemory) p = stopped_so (faults.Stop NoMemory) p
+  stopped (runs.Stop DiskFault) p = failed_so p.0 p.1 p.2
   stopped (runs.Script n) p = rests_so p.0 (AtLine n) p.1 p.2
   stopped runs.Io p = stopped_so faults.Io p
 
@@ -169,22 +170,24 @@ module _ {U B : Type 0} (u : Ghosts U B) (sure : Bool) (store : U) (held : Optio
     },
   )
 
-  pub unbegun : (fault : ScriptFault) → (fault ≡ runs.NoMemory) ⊎ (fault ≡ runs.Io)
+  pub unbegun : (fault : ScriptFault) → (fault ≡ runs.Stop NoMemory) ⊎ (fault ≡ runs.Io)
       → HasRun u sure store (Err (store, fault)) held held st bytes
   unbegun fault (inl e) = subst (λ f. HasRun u sure store (Err (store, f)) held held st bytes) (sym e)
-      (none_so faults.NoMemory (inl refl))
+      (none_so (faults.Stop NoMemory) (inl refl))
   unbegun fault (inr e) = subst (λ f. HasRun u sure store (Err (store, f)) held held st bytes) (sym e)
       (none_so faults.Io ([], [], [], refl, refl, refl))
 
 -- THE COUNT OF FAULTS
 pub counts_as : {U : Type 0} {a b : ℕ} (store : U) (fault : ScriptFault)
-    → Counts (IsErrOf {T = Unit {0}} (Err fault) runs.DiskFault) a b → Counts (HasFailed (Err (store, fault))) a b
-counts_as store runs.NoMemory c = record {
+    → Counts (IsErrOf {T = Unit {0}} (Err fault) (runs.Stop DiskFault)) a b
+    → Counts (HasFailed (Err (store, fault))) a b
+counts_as store (runs.Stop NoMemory) c = record {
   later = c.later;
   counted = λ f. absurd f;
-  nothing_else = λ less. let e : Err runs.NoMemory ≡ Err runs.DiskFault = c.nothing_else less in absurd (cc);
+  nothing_else = λ less.
+      let e : Err (runs.Stop NoMemory) ≡ Err (runs.Stop DiskFault) = c.nothing_else less in absurd (cc);
 }
-counts_as store runs.DiskFault c = record {
+counts_as store (runs.Stop DiskFault) c = record {
   later = c.later;
   counted = λ f. c.counted refl;
   nothing_else = λ less. tt {0};
@@ -192,16 +195,16 @@ counts_as store runs.DiskFault c = record {
 counts_as store (runs.Script n) c = record {
   later = c.later;
   counted = λ f. absurd f;
-  nothing_else = λ less. let e : Err (runs.Script n) ≡ Err runs.DiskFault = c.nothing_else less in absurd (cc);
+  nothing_else = λ less. let e : Err (runs.Script n) ≡ Err (runs.Stop DiskFault) = c.nothing_else less in absurd (cc);
 }
 counts_as store runs.Io c = record {
   later = c.later;
   counted = λ f. absurd f;
-  nothing_else = λ less. let e : Err runs.Io ≡ Err runs.DiskFault = c.nothing_else less in absurd (cc);
+  nothing_else = λ less. let e : Err runs.Io ≡ Err (runs.Stop DiskFault) = c.nothing_else less in absurd (cc);
 }
 
 pub counts_nothing : {U : Type 0} (a : ℕ) (store : U) (fault : ScriptFault)
-    → (fault ≡ runs.NoMemory) ⊎ (fault ≡ runs.Io) → Counts (HasFailed (Err (store, fault))) a a
+    → (fault ≡ runs.Stop NoMemory) ⊎ (fault ≡ runs.Io) → Counts (HasFailed (Err (store, fault))) a a
 counts_nothing a store fault (inl e) = subst (λ f. Counts (HasFailed (Err (store, f))) a a) (sym e) (record {
   later = omega arith;
   counted = λ f. absurd f;
@@ -216,15 +219,10 @@ counts_nothing a store fault (inr e) = subst (λ f. Counts (HasFailed (Err (stor
 -- THE COUNTS OF REFUSALS
 refused_as : {T U : Type 0} {a b : ℕ} (store : U) (fault : ScriptFault)
     → Counts (IsErrOf {T = T} (Err fault) runs.Io) a b → Counts (HasRefused (Err (store, fault))) a b
-refused_as store runs.NoMemory c = record {
+refused_as store (runs.Stop stop) c = record {
   later = c.later;
   counted = λ f. absurd f;
-  nothing_else = λ less. let e : Err runs.NoMemory ≡ Err runs.Io = c.nothing_else less in absurd (cc);
-}
-refused_as store runs.DiskFault c = record {
-  later = c.later;
-  counted = λ f. absurd f;
-  nothing_else = λ less. let e : Err runs.DiskFault ≡ Err runs.Io = c.nothing_else less in absurd (cc);
+  nothing_else = λ less. let e : Err (runs.Stop stop) ≡ Err runs.Io = c.nothing_else less in absurd (cc);
 }
 refused_as store (runs.Script n) c = record {
   later = c.later;

@@ -2,6 +2,7 @@
 use Rattle.std.proofs.Common.{◌≡◌, ◌≤◌, ◌*◌, inl, inr, ℕ, List, [], ◌∷◌, Option, Some, Ok, Err, refl, sym}
 use Rattle.std.proofs.Common.{subst, arith, Bool, true, false, ◌∙◌}
 use Rattle.std.specs.Io.KnownBytes.{Appends}
+use Rattle.common.specs.declared.stop.Stop.TheVariants.{NoMemory, DiskFault}
 use Rattle.spool_disk.specs.Disk.{IsImage}
 use Rattle.spool_disk.specs.declared.disk.Disk.{Ghosts}
 use Rattle.spool_journal.specs.Image.{all_pages}
@@ -158,8 +159,8 @@ module _ {D U B : Type 0} (disk : Ghosts D) (disk_of : U → D) (size_of : U →
       pub broke_on : (bytes : List ℕ) (fault : ScriptFault)
           → HasRun u true before (Err (now, fault)) held prefix st bytes
           → HasRunOn disk (disk_of before) (Err (disk_of now, fault)) held prefix n st bytes
-      broke_on bytes runs.NoMemory has = (has.0, stopped_on _ _ has.1)
-      broke_on bytes runs.DiskFault has = (has.0, failed_on _ has.1)
+      broke_on bytes (runs.Stop NoMemory) has = (has.0, stopped_on _ _ has.1)
+      broke_on bytes (runs.Stop DiskFault) has = (has.0, failed_on _ has.1)
       broke_on bytes (runs.Script line) has = (has.0, rests_on _ _ has.1)
       broke_on bytes runs.Io has = (has.0, stopped_on _ _ has.1)
 
@@ -171,8 +172,8 @@ module _ {D U B : Type 0} (u : uploads.Ghosts U B) (before now : U) (d : D) (hel
 
   pub writes_most : (fault : ScriptFault) → HasRun u false before (Err (now, fault)) held prefix st bytes
       → Writes (Err (d, fault)) held prefix st bytes
-  writes_most runs.NoMemory has = (has.0, has.1.writes)
-  writes_most runs.DiskFault has = (has.0, has.1.ended.writes)
+  writes_most (runs.Stop NoMemory) has = (has.0, has.1.writes)
+  writes_most (runs.Stop DiskFault) has = (has.0, has.1.ended.writes)
   writes_most (runs.Script line) has = (has.0, has.1.ended.writes)
   writes_most runs.Io has = (has.0, has.1.writes)
 
@@ -181,7 +182,6 @@ pub refused_as : {T U : Type 0} (done : T → Type 0) (done' : U → Type 0) (fa
     → LoadsAs {T = T} (Err fault) done
     → LoadsAs {T = U} (Err fault) done'
 refused_as done done' opens.NotASpool refused = refused
-refused_as done done' opens.DiskFault refused = tt {0}
 refused_as done done' opens.Damaged refused = refused
 refused_as done done' opens.Version refused = refused
-refused_as done done' opens.NoMemory refused = tt {0}
+refused_as done done' (opens.Stop stop) refused = tt {0}

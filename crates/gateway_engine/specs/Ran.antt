@@ -1,6 +1,7 @@
 -- What a run of a script comes to.
 use Rattle.std.specs.Prelude.{◌≡◌, ◌⊎◌, ◌<◌, ◌≤◌, ◌+◌, ◌^◌, ℕ, Bool, true, List, Option, Result, Ok, Err}
 use Rattle.std.specs.Io.KnownBytes.{Appends}
+use Rattle.common.specs.declared.stop.Stop.TheVariants.{NoMemory, DiskFault}
 use Rattle.upload_rules.specs.World.{at_rest}
 use Rattle.upload_rules.specs.declared.uploads.Uploads.{Ghosts}
 use Rattle.tus_session.specs.History.{State, Mark, Marked, history}
@@ -12,7 +13,7 @@ use Rattle.gateway_script.specs.Runs.{HasWritten}
 use Rattle.gateway_script.specs.declared.faults.CallFault.{CallFault}
 use Rattle.gateway_script.specs.declared.faults.CallFault.TheVariants as calls
 use Rattle.gateway_script.specs.declared.faults.ScriptFault.{ScriptFault}
-use Rattle.gateway_script.specs.declared.faults.ScriptFault.TheVariants.{DiskFault, Script, NoMemory, Io}
+use Rattle.gateway_script.specs.declared.faults.ScriptFault.TheVariants.{Stop, Script, Io}
 
 -- From the uploads before to the uploads now. What a crash at any moment since the run began might have left shows the
 -- uploads of the history after all these events, all but the latest, and so on; and images of earlier moments show
@@ -75,16 +76,16 @@ HasRun u sure before (Ok store) held prefix st bytes =
     (marks : List Mark) × RestsSo u sure before store st (the_script st marks bytes) held prefix Ran
 HasRun u sure before (Err (store, Script n)) held prefix st bytes =
     (marks : List Mark) × RestsSo u sure before store st (the_script st marks bytes) held prefix (AtLine n)
-HasRun u sure before (Err (store, DiskFault)) held prefix st bytes =
+HasRun u sure before (Err (store, Stop DiskFault)) held prefix st bytes =
     (marks : List Mark) × FailedSo u sure before store st (the_script st marks bytes) held prefix
-HasRun u sure before (Err (store, NoMemory)) held prefix st bytes =
-    (marks : List Mark) × StoppedSo u sure before store st (the_script st marks bytes) held prefix calls.NoMemory
+HasRun u sure before (Err (store, Stop NoMemory)) held prefix st bytes =
+    (marks : List Mark) × StoppedSo u sure before store st (the_script st marks bytes) held prefix (calls.Stop NoMemory)
 HasRun u sure before (Err (store, Io)) held prefix st bytes =
     (marks : List Mark) × StoppedSo u sure before store st (the_script st marks bytes) held prefix calls.Io
 
 -- the disk failed
 abbrev pub HasFailed : {U : Type 0} → Result U (U × ScriptFault) → Type 0
-HasFailed (Err (store, DiskFault)) = Unit {0}
+HasFailed (Err (store, Stop DiskFault)) = Unit {0}
 HasFailed result = ⊥
 
 -- the uploads that are handed back

@@ -1,6 +1,7 @@
 -- What a run of a script over a spool on a disk comes to.
 use Rattle.std.specs.Prelude.{◌≡◌, ◌≤◌, ◌*◌, ℕ, false, List, Option, Result, Ok, Err}
 use Rattle.std.specs.Io.KnownBytes.{Appends}
+use Rattle.common.specs.declared.stop.Stop.TheVariants.{NoMemory, DiskFault}
 use Rattle.spool_disk.specs.Disk.{IsImage}
 use Rattle.spool_disk.specs.declared.disk.Disk.{Ghosts}
 use Rattle.spool_journal.specs.Image.{all_pages}
@@ -15,7 +16,7 @@ use Rattle.gateway_script.specs.declared.faults.CallFault.{CallFault}
 use Rattle.gateway_script.specs.declared.faults.CallFault.TheVariants as calls
 use Rattle.gateway_engine.specs.Ran.{WritesAll, WritesSome}
 use Rattle.gateway_script.specs.declared.faults.ScriptFault.{ScriptFault}
-use Rattle.gateway_script.specs.declared.faults.ScriptFault.TheVariants.{NoMemory, DiskFault, Script, Io}
+use Rattle.gateway_script.specs.declared.faults.ScriptFault.TheVariants.{Stop, Script, Io}
 
 -- IMAGES
 
@@ -77,10 +78,10 @@ HasRunOn disk before (Ok d) held prefix n st bytes =
     (marks : List Mark) × RestsOn disk before d n st (the_script st marks bytes) held prefix Ran
 HasRunOn disk before (Err (d, Script line)) held prefix n st bytes =
     (marks : List Mark) × RestsOn disk before d n st (the_script st marks bytes) held prefix (AtLine line)
-HasRunOn disk before (Err (d, DiskFault)) held prefix n st bytes =
+HasRunOn disk before (Err (d, Stop DiskFault)) held prefix n st bytes =
     (marks : List Mark) × FailedOn disk before d n st (the_script st marks bytes) held prefix
-HasRunOn disk before (Err (d, NoMemory)) held prefix n st bytes =
-    (marks : List Mark) × StoppedOn disk before d n st (the_script st marks bytes) held prefix calls.NoMemory
+HasRunOn disk before (Err (d, Stop NoMemory)) held prefix n st bytes =
+    (marks : List Mark) × StoppedOn disk before d n st (the_script st marks bytes) held prefix (calls.Stop NoMemory)
 HasRunOn disk before (Err (d, Io)) held prefix n st bytes =
     (marks : List Mark) × StoppedOn disk before d n st (the_script st marks bytes) held prefix calls.Io
 
@@ -93,9 +94,9 @@ Writes (Ok d) held prefix st bytes =
     (marks : List Mark) × WritesAll false st (the_script st marks bytes) held prefix Ran
 Writes (Err (d, Script line)) held prefix st bytes =
     (marks : List Mark) × WritesAll false st (the_script st marks bytes) held prefix (AtLine line)
-Writes (Err (d, DiskFault)) held prefix st bytes =
+Writes (Err (d, Stop DiskFault)) held prefix st bytes =
     (marks : List Mark) × WritesAll false st (the_script st marks bytes) held prefix Faulted
-Writes (Err (d, NoMemory)) held prefix st bytes =
-    (marks : List Mark) × WritesSome false st (the_script st marks bytes) held prefix calls.NoMemory
+Writes (Err (d, Stop NoMemory)) held prefix st bytes =
+    (marks : List Mark) × WritesSome false st (the_script st marks bytes) held prefix (calls.Stop NoMemory)
 Writes (Err (d, Io)) held prefix st bytes =
     (marks : List Mark) × WritesSome false st (the_script st marks bytes) held prefix calls.Io

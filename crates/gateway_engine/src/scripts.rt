@@ -8,6 +8,7 @@ ghost use Rattle.gateway_script.specs.Script.{IsScript};
 ghost use Rattle.gateway_engine.specs.Ran.{HasRun, HasFailed, HasRefused, CountsEither, handed_back};
 
 use crate::gateway::Gateway;
+use common::Stop;
 use gateway_script::{CountedRead, CountedWrite, ScriptFault, read_script, run_script};
 use std::alloc::Global;
 use upload_rules::Uploads;
@@ -17,8 +18,8 @@ use upload_rules::Uploads;
 ///
 /// The script is read whole before its first line is run.
 ///
-/// Refused with `NoMemory` where a growth outside the calls was refused, `DiskFault`, `Script` of the first line that
-/// is none or too long, and `Io`. What was committed and written before stands.
+/// Refused with `Stop` where a growth outside the calls was refused or the disk failed, `Script` of the first line
+/// that is none or too long, and `Io`. What was committed and written before stands.
 pub fn run_over<U: Uploads, R: CountedRead, W: CountedWrite>(
     alloc: Global,
     reader: &mut R,
@@ -44,7 +45,7 @@ pub fn run_over<U: Uploads, R: CountedRead, W: CountedWrite>(
     };
     let mut gateway = match Gateway::new(alloc, store) {
         Ok(gateway) => gateway,
-        Err((store, _)) => return Err((store, ScriptFault::NoMemory)),
+        Err((store, _)) => return Err((store, ScriptFault::Stop(Stop::NoMemory))),
     };
     match run_script(alloc, &mut gateway, writer, &script) {
         Ok(()) => Ok(gateway.close()),

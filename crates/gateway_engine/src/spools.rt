@@ -18,6 +18,7 @@ ghost use Rattle.gateway_engine.specs.RanOn.{HasRunOn, Writes};
 
 use crate::gateway::Gateway;
 use crate::scripts::run_over;
+use common::Stop;
 use gateway_script::{CountedRead, CountedWrite, ScriptFault};
 use spool_disk::Disk;
 use spool_image::{OpenFault, Spool};
@@ -63,7 +64,7 @@ impl<D: Disk> Gateway<Spool<D>> {
         let spool = Spool::open(alloc, disk)?;
         match Gateway::new(alloc, spool) {
             Ok(gateway) => Ok(gateway),
-            Err((spool, _)) => Err((spool.into_disk(), OpenFault::NoMemory)),
+            Err((spool, _)) => Err((spool.into_disk(), OpenFault::Stop(Stop::NoMemory))),
         }
     }
 
@@ -84,8 +85,8 @@ impl<D: Disk> Gateway<Spool<D>> {
 ///
 /// The script is read whole before its first line is run.
 ///
-/// Refused with `NoMemory` where a growth outside the calls was refused, `DiskFault`, `Script` of the first line that
-/// is none or too long, and `Io`. What was committed and written before stands.
+/// Refused with `Stop` where a growth outside the calls was refused or the disk failed, `Script` of the first line
+/// that is none or too long, and `Io`. What was committed and written before stands.
 pub fn run<D: Disk, R: CountedRead, W: CountedWrite>(
     alloc: Global,
     reader: &mut R,

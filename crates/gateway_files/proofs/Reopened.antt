@@ -9,7 +9,7 @@ use Rattle.spool_journal.specs.Phases.{Settled}
 use Rattle.spool_journal.proofs.Gate.{shut_view}
 use Rattle.spool_catalog.specs.Holding.{Holding}
 use Rattle.spool_catalog.specs.declared.error.OpenFault.{OpenFault}
-use Rattle.spool_catalog.specs.declared.error.OpenFault.TheVariants.{NotASpool, DiskFault, Damaged, Version, NoMemory}
+use Rattle.spool_catalog.specs.declared.error.OpenFault.TheVariants.{NotASpool, Damaged, Stop, Version}
 use Rattle.spool_load.specs.Loaded.{FoundOn, OpenedFrom}
 use Rattle.spool_load.specs.Reads.{NeedsReplay, SaysBlocks}
 use Rattle.spool_load.specs.Refusals.{HasKnownVersion, RefusedFor}
@@ -77,8 +77,7 @@ module _ (size size' : ℕ) (found : Found) (old current : ℕ → ℕ) (unsynce
             })
             (here ∙ sym same);
       }
-  refused_back NoMemory why = tt
-  refused_back DiskFault why = tt
+  refused_back (Stop stop) why = tt
 
 -- no journal is to be replayed twice
 none_again : (j size : ℕ) (bytes current : ℕ → ℕ) (unsynced : ℕ → Type 0) → Settled j bytes current unsynced

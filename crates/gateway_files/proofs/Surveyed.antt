@@ -6,7 +6,7 @@ use Rattle.spool_journal.specs.Image.{all_pages, journal_pages, overlaid}
 use Rattle.spool_journal.specs.Phases.{ReadsAs, Settled}
 use Rattle.spool_catalog.specs.Loads.{LoadsAs}
 use Rattle.spool_catalog.specs.declared.error.OpenFault.{OpenFault}
-use Rattle.spool_catalog.specs.declared.error.OpenFault.TheVariants.{NotASpool, DiskFault, Damaged, Version, NoMemory}
+use Rattle.spool_catalog.specs.declared.error.OpenFault.TheVariants.{NotASpool, Damaged, Stop, Version}
 use Rattle.spool_load.proofs.Opens.{settled_reads}
 use Rattle.spool_image.proofs.Opens.{image_shows}
 use Rattle.spool_image.specs.LeftOnly.{AllShow, IsSpool, LeftOrShows}
@@ -47,7 +47,6 @@ module _ {D : Type 0} (disk : Ghosts D) (n : ℕ) (m : Store) where
 pub loads_err : {T U : Type 0} (e : OpenFault) (P : T → Type 0) (Q : U → Type 0) → LoadsAs {T = T} (Err e) P
     → LoadsAs {T = U} (Err e) Q
 loads_err NotASpool P Q is = is
-loads_err DiskFault P Q is = is
 loads_err Damaged P Q is = is
 loads_err Version P Q is = is
-loads_err NoMemory P Q is = is
+loads_err (Stop stop) P Q is = is

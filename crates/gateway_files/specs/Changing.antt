@@ -1,9 +1,10 @@
 -- Uploads that are changed, one change after the other.
 use Rattle.std.specs.Prelude.{◌≡◌, ◌⊎◌, ◌≤◌, ℕ, List, Option, Result, Ok, Err}
+use Rattle.common.specs.declared.stop.Stop.TheVariants.{NoMemory, DiskFault}
 use Rattle.upload_rules.specs.Answers.{Among}
 use Rattle.upload_rules.specs.Store.{Store}
 use Rattle.gateway_files.specs.declared.faults.Fault.{Fault}
-use Rattle.gateway_files.specs.declared.faults.Fault.TheVariants.{NoMemory, DiskFault, Io}
+use Rattle.gateway_files.specs.declared.faults.Fault.TheVariants.{Stop, Io}
 
 -- each of the first stores is one of the second
 abbrev pub AllAmong : List Store → List Store → Type 0
@@ -18,7 +19,7 @@ pub record LimitsTo (moment moment' : ℕ) (left_only left_only' : Option ℕ �
 
 -- why uploads aren't changed: for memory, for the writer or for the disk
 abbrev pub IsChangeFault : Fault → Type 0
-IsChangeFault f = (f ≡ NoMemory) ⊎ (f ≡ Io) ⊎ (f ≡ DiskFault)
+IsChangeFault f = (f ≡ Stop NoMemory) ⊎ (f ≡ Io) ⊎ (f ≡ Stop DiskFault)
 
 -- done, or refused for one of these
 abbrev pub Changes : {T : Type 0} → Result T Fault → Type 0

@@ -3,6 +3,7 @@ use Rattle.std.specs.Prelude.{ℕ, List, [], ◌∷◌, ◌++◌, codes, decimal
 use Rattle.std.specs.Borrow.{Bor}
 use Rattle.std.specs.declared.io.ErrorKind.{ErrorKind}
 use Rattle.std.specs.declared.io.ErrorKind.TheVariants as kinds
+use Rattle.common.specs.declared.stop.Stop.TheVariants as stops
 use Rattle.enc_index.specs.declared.kind.ReadError.TheVariants as lines
 use Rattle.spool_image.specs.declared.error.FormatError.{FormatError}
 use Rattle.spool_image.specs.declared.error.FormatError.TheVariants as formats
@@ -15,8 +16,8 @@ use Rattle.gateway_files.specs.declared.faults.Fault.TheVariants as faults
 
 -- THE PROGRAM'S REFUSALS, each with its number and its name. A disk fault is none
 abbrev pub refusal_of : Fault → Option (ℕ × List ℕ)
-refusal_of faults.NoMemory = Some (0, codes "NoMemory")
-refusal_of faults.DiskFault = None
+refusal_of (faults.Stop stops.NoMemory) = Some (0, codes "NoMemory")
+refusal_of (faults.Stop stops.DiskFault) = None
 refusal_of faults.Damaged = Some (2, codes "Damaged")
 refusal_of (faults.Index file (lines.Line line)) = Some (3, codes "Line")
 refusal_of (faults.Index file (lines.Range line)) = Some (4, codes "Range")
@@ -59,7 +60,7 @@ line_of fault = said (refusal_of fault) (place_of fault)
 
 -- and its status: 3 for the disk, 4 for a file that differs, 2 for each other refusal
 abbrev pub status_of : Fault → ℕ
-status_of faults.DiskFault = 3
+status_of (faults.Stop stops.DiskFault) = 3
 status_of faults.FileDiffers = 4
 status_of fault = 2
 
@@ -78,21 +79,20 @@ opening_fault kinds.FileTooLarge = faults.CannotOpen
 opening_fault kinds.ExecutableFileBusy = faults.CannotOpen
 opening_fault kinds.InvalidInput = faults.CannotOpen
 opening_fault kinds.InvalidFilename = faults.CannotOpen
-opening_fault kinds.OutOfMemory = faults.NoMemory
-opening_fault kind = faults.DiskFault
+opening_fault kinds.OutOfMemory = faults.Stop stops.NoMemory
+opening_fault kind = faults.Stop stops.DiskFault
 
 -- WHAT THE CALLS BELOW REFUSE, as the program says it
 abbrev pub open_fault : OpenFault → Fault
 open_fault opens.NotASpool = faults.NotASpool
-open_fault opens.DiskFault = faults.DiskFault
 open_fault opens.Damaged = faults.Damaged
 open_fault opens.Version = faults.Version
-open_fault opens.NoMemory = faults.NoMemory
+open_fault (opens.Stop stop) = faults.Stop stop
 
 abbrev pub format_fault : FormatError → Fault
 format_fault formats.AlreadySpool = faults.AlreadySpool
 format_fault formats.Size = faults.Size
-format_fault formats.DiskFault = faults.DiskFault
+format_fault formats.DiskFault = faults.Stop stops.DiskFault
 
 abbrev pub upgrade_fault : UpgradeError → Fault
 upgrade_fault (upgrades.Open fault) = open_fault fault

@@ -2,6 +2,7 @@
 use Rattle.std.specs.Prelude.{ℕ, zero, suc, ◌+◌, List, [], ◌∷◌, codes, Option, Some, None}
 use Rattle.std.specs.Prelude.{◌≡◌, Result, Ok, Err}
 use Rattle.std.specs.Borrow.{Bor}
+use Rattle.common.specs.declared.stop.Stop.TheVariants.{NoMemory}
 use Rattle.enc_model.specs.declared.Encoding.TheVariants as e
 use Rattle.enc_model.specs.Index.{Index, code}
 use Rattle.enc_model.specs.Indexes.{IndexSet, no_indexes}
@@ -40,7 +41,7 @@ with_file set kind (Some bytes) = with_read set kind (file_of kind bytes)
 
 -- why it isn't: the file's first bad line, or memory or the folder
 abbrev pub IsReadFault : List ℕ → Kind → Option (List ℕ) → Fault → Type 0
-IsReadFault name kind there faults.NoMemory = Unit {0}
+IsReadFault name kind there (faults.Stop NoMemory) = Unit {0}
 IsReadFault name kind there faults.Io = Unit {0}
 IsReadFault name kind there (faults.Index file lines.NoMemory) = file.now ≡ name
 IsReadFault name kind (Some bytes) (faults.Index file error) = (file.now ≡ name) × (file_of kind bytes ≡ Err error)

@@ -1,6 +1,7 @@
 -- What `list` makes of the spool in a file.
 use Rattle.std.specs.Prelude.{◌≡◌, ℕ, Bool, List, Option, Result, Err, IfErr, IfOk, IsOk, OnOk}
 use Rattle.std.specs.Io.KnownBytes.{Appends}
+use Rattle.common.specs.declared.stop.Stop.TheVariants.{DiskFault}
 use Rattle.spool_disk.specs.Disk.{Counts, IsImage}
 use Rattle.spool_disk.specs.Views.{Lasts}
 use Rattle.spool_disk.specs.declared.disk.Disk.{Ghosts}
@@ -12,7 +13,7 @@ use Rattle.gateway_files.specs.Lines.{lines_of}
 use Rattle.gateway_files.specs.Listing.{ListRefusedFor, Lists, RefusesListAs}
 use Rattle.gateway_files.specs.SpoolFiles.{OnlyRead}
 use Rattle.gateway_files.specs.declared.faults.Fault.{Fault}
-use Rattle.gateway_files.specs.declared.faults.Fault.TheVariants.{NotASpool, Version, Damaged, DiskFault}
+use Rattle.gateway_files.specs.declared.faults.Fault.TheVariants.{NotASpool, Version, Damaged, Stop}
 use Rattle.gateway_files.specs.declared.surveying.Survey.{Survey}
 
 -- A LIST OF A DISK'S UPLOADS and its answer, from what the writer had to what it has: all that `list_on` says of them
@@ -30,7 +31,7 @@ pub record ListsAs {D : Type 0} (disk : Ghosts D) (d d' : D) (long : Bool) (befo
     pub not_a_spool : disk.honest d → IsNoSpool (disk.size d) (disk.current d) → RefusesListAs result NotASpool
     pub version : disk.honest d → HasOtherVersion (disk.size d) (disk.current d) → RefusesListAs result Version
     pub damaged : disk.honest d → IsDamaged (disk.size d) (disk.current d) → RefusesListAs result Damaged
-    pub counts : Counts (result ≡ Err DiskFault) (disk.failures d) (disk.failures d')
+    pub counts : Counts (result ≡ Err (Stop DiskFault)) (disk.failures d) (disk.failures d')
 
 -- THE LIST WAS REFUSED with this fault, and then the spool's file was at most looked at
 pub record RefusedList {D : Type 0} (disk : Ghosts D) (d : D) (long : Bool) (before after : Option (List ℕ))

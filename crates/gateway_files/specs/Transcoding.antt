@@ -1,6 +1,7 @@
 -- Input as the text of an upload.
 use Rattle.std.specs.Prelude.{◌≡◌, ◌⊎◌, ⊤, ℕ, true, List, Option, Some, None}
 use Rattle.std.specs.Io.KnownBytes.{Appends, Consumes}
+use Rattle.common.specs.declared.stop.Stop.TheVariants.{NoMemory}
 use Rattle.enc_model.specs.Decode.{text}
 use Rattle.enc_model.specs.Encode.{Coded, Tables}
 use Rattle.enc_model.specs.Transcode.{added, added_end}
@@ -9,7 +10,7 @@ use Rattle.enc_stream.specs.declared.error.TranscodeError.{TranscodeError}
 use Rattle.enc_stream.specs.declared.error.TranscodeError.TheVariants as errors
 use Rattle.tus_request.specs.Metadata as metadata
 use Rattle.gateway_files.specs.declared.faults.Fault.{Fault}
-use Rattle.gateway_files.specs.declared.faults.Fault.TheVariants.{NoMemory, Io, Unencodable}
+use Rattle.gateway_files.specs.declared.faults.Fault.TheVariants.{Stop, Io, Unencodable}
 use Rattle.gateway_files.specs.declared.transcoding.Conversion.{Conversion}
 
 -- the conversion as a choice that a POST makes
@@ -28,11 +29,11 @@ IsStored t c (Some input) prefix held =
 
 -- why it isn't: for memory, for the reader or the writer, or since a character has no code
 abbrev pub IsTextFault : Fault → Type 0
-IsTextFault f = (f ≡ NoMemory) ⊎ (f ≡ Io) ⊎ ((c : Option ℕ) × (f ≡ Unencodable c))
+IsTextFault f = (f ≡ Stop NoMemory) ⊎ (f ≡ Io) ⊎ ((c : Option ℕ) × (f ≡ Unencodable c))
 
 -- by the transcoder: which character that is, if the call met it
 abbrev pub transcode_fault : TranscodeError → Fault
-transcode_fault errors.NoMemory = NoMemory
+transcode_fault errors.NoMemory = Stop NoMemory
 transcode_fault (errors.Unencodable c) = Unencodable (Some c)
 transcode_fault errors.Spent = Unencodable None
 

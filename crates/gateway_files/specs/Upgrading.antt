@@ -1,9 +1,10 @@
 -- What `upgrade` makes of the spool in a file.
 use Rattle.std.specs.Prelude.{◌≡◌, ◌⊎◌, ◌↔◌, ◌≤◌, ◌*◌, ℕ, Result, Ok, Err, IfErr, OnOk}
+use Rattle.common.specs.declared.stop.Stop.TheVariants.{DiskFault}
 use Rattle.spool_disk.specs.Disk.{Counts, IsImage, Keeps}
 use Rattle.spool_disk.specs.Views.{Lasts}
 use Rattle.spool_disk.specs.declared.disk.Disk.{Ghosts}
-use Rattle.spool_catalog.specs.declared.error.OpenFault.TheVariants.{DiskFault, Damaged, NotASpool, Version}
+use Rattle.spool_catalog.specs.declared.error.OpenFault.TheVariants.{Damaged, NotASpool, Stop, Version}
 use Rattle.spool_load.specs.Reads.{NeedsReplay}
 use Rattle.spool_load.specs.Refusals.{HasOtherVersion, IsNoSpool}
 use Rattle.spool_image.specs.LeftOnly.{AllShow, IsSpool, LeftOrShows}
@@ -26,7 +27,7 @@ use Rattle.gateway_files.specs.declared.failures.Failure.{Failure}
 pub record Upgrades {T D : Type 0} (disk : Ghosts D) (d d' : D) (result : Result T UpgradeError) : Type 0 where
   pub size : disk.size d' ≡ disk.size d
   pub honest : disk.honest d ↔ disk.honest d'
-  pub counts : Counts (result ≡ Err (Open DiskFault)) (disk.failures d) (disk.failures d')
+  pub counts : Counts (result ≡ Err (Open (Stop DiskFault))) (disk.failures d) (disk.failures d')
   pub upgraded : disk.honest d → (v : View) → IsValid v → IsViewOf (disk.current d) v
       → 4096 * all_pages v.blocks ≤ disk.size d → UpgradesOf v.version result
   pub valid : disk.honest d
@@ -38,17 +39,19 @@ pub record Upgrades {T D : Type 0} (disk : Ghosts D) (d d' : D) (result : Result
   pub damaged : disk.honest d → IsOldDamaged (disk.size d) (disk.current d) → RefusesUpgradeAs result (Open Damaged)
   pub stays : disk.honest d → (v : View) → IsValid v → IsViewOf (disk.current d) v
       → 4096 * all_pages v.blocks ≤ disk.size d
-      → IfErr result (λ e. (e ≡ Open DiskFault → ⊥) → Rests v (disk.current d') (disk.unsynced d'))
+      → IfErr result (λ e. (e ≡ Open (Stop DiskFault) → ⊥) → Rests v (disk.current d') (disk.unsynced d'))
   pub unwritten : disk.honest d → (NeedsReplay (disk.size d) (disk.current d) → ⊥)
-      → IfErr result (λ e. (e ≡ Open DiskFault → ⊥) → Lasts disk d d' (IsImage (disk.current d) (disk.unsynced d)))
+      → IfErr result (λ e. (e ≡ Open (Stop DiskFault) → ⊥)
+      → Lasts disk d d' (IsImage (disk.current d) (disk.unsynced d)))
   pub same : disk.honest d → (NeedsReplay (disk.size d) (disk.current d) → ⊥)
-      → IfErr result (λ e. (e ≡ Open DiskFault → ⊥)
+      → IfErr result (λ e. (e ≡ Open (Stop DiskFault) → ⊥)
       → Keeps (disk.current d) (disk.current d') (disk.unsynced d) (disk.unsynced d'))
   pub lasts : disk.honest d → (v : View) → IsValid v → IsViewOf (disk.current d) v
       → 4096 * all_pages v.blocks ≤ disk.size d → Lasts disk d d' (λ image.
       IsImage (disk.current d) (disk.unsynced d) image ⊎ IsViewOf image v ⊎ IsViewOf image (of_version_2 v))
   pub crash : (n : ℕ) (m : Store) → IsSpool disk d n m → Lasts disk d d' (LeftOrShows disk d n m)
-  pub shows : (n : ℕ) (m : Store) → IsSpool disk d n m → (result ≡ Err (Open DiskFault) → ⊥) → AllShow disk d' n m
+  pub shows : (n : ℕ) (m : Store) → IsSpool disk d n m → (result ≡ Err (Open (Stop DiskFault)) → ⊥)
+      → AllShow disk d' n m
 
 -- what is answered for that
 abbrev pub Tells : {T : Type 0} → Result T UpgradeError → Result T Failure → Type 0

@@ -1,6 +1,7 @@
 //! Texts of uploads, copied to writers.
 ghost use Rattle.std.specs.Prelude.{◌≡◌, ◌<◌, ◌≤◌, ◌+◌, ◌-◌, IfErr, IfOk, IsErrOf, OnOk, drop, length, min, take, true};
 ghost use Rattle.std.specs.Io.KnownBytes.{Appends};
+ghost use Rattle.common.specs.declared.stop.Stop.{Stop};
 ghost use Rattle.upload_rules.specs.Answers.{Counts, Quiet};
 ghost use Rattle.upload_rules.specs.Reading.{text_at};
 ghost use Rattle.upload_rules.specs.Store.{upload_of};
@@ -9,7 +10,6 @@ ghost use Rattle.gateway_files.specs.declared.faults.Fault.{Fault};
 ghost use Rattle.gateway_files.specs.Changing.{IsChangeFault};
 
 use crate::faults::Fault;
-use common::Stop;
 use std::io::Write;
 use upload_rules::{UploadError, Uploads};
 
@@ -31,7 +31,8 @@ pub fn copy_text<W: Write, U: Uploads>(
     ensures crash { Quiet (U.moment uploads.old) (U.moment uploads.new) (U.left_only uploads.old)
         (U.left_only uploads.new) }
     ensures refused { IfErr result IsChangeFault }
-    ensures counts { Counts (IsErrOf result Fault.DiskFault) (U.failures uploads.old) (U.failures uploads.new) }
+    ensures counts { Counts (IsErrOf result (Fault.Stop Stop.DiskFault)) (U.failures uploads.old)
+        (U.failures uploads.new) }
 {
     let Some(record) = uploads.record(number) else {
         return Ok(());
@@ -55,7 +56,8 @@ fn copy_bytes<W: Write, U: Uploads>(
     ensures crash { Quiet (U.moment uploads.old) (U.moment uploads.new) (U.left_only uploads.old)
         (U.left_only uploads.new) }
     ensures refused { IfErr result IsChangeFault }
-    ensures counts { Counts (IsErrOf result Fault.DiskFault) (U.failures uploads.old) (U.failures uploads.new) }
+    ensures counts { Counts (IsErrOf result (Fault.Stop Stop.DiskFault)) (U.failures uploads.old)
+        (U.failures uploads.new) }
 {
     let mut at = 0;
     while at < len {
@@ -82,7 +84,8 @@ fn copy_piece<W: Write, U: Uploads>(
     ensures crash { Quiet (U.moment uploads.old) (U.moment uploads.new) (U.left_only uploads.old)
         (U.left_only uploads.new) }
     ensures refused { IfErr result IsChangeFault }
-    ensures counts { Counts (IsErrOf result Fault.DiskFault) (U.failures uploads.old) (U.failures uploads.new) }
+    ensures counts { Counts (IsErrOf result (Fault.Stop Stop.DiskFault)) (U.failures uploads.old)
+        (U.failures uploads.new) }
 {
     let count = (len - at).min(PIECE as u64);
     let mut buffer = [0; PIECE];
@@ -101,12 +104,12 @@ fn read_at<U: Uploads>(uploads: &mut U, number: u64, at: u64, piece: &mut [u8]) 
     ensures crash { Quiet (U.moment uploads.old) (U.moment uploads.new) (U.left_only uploads.old)
         (U.left_only uploads.new) }
     ensures refused { IfErr result IsChangeFault }
-    ensures counts { Counts (IsErrOf result Fault.DiskFault) (U.failures uploads.old) (U.failures uploads.new) }
+    ensures counts { Counts (IsErrOf result (Fault.Stop Stop.DiskFault)) (U.failures uploads.old)
+        (U.failures uploads.new) }
 {
     match uploads.read_text(number, at, piece) {
         // What no upload has is no text.
         Ok(_) | Err(UploadError::Refused(_)) => Ok(()),
-        Err(UploadError::Stop(Stop::NoMemory)) => Err(Fault::NoMemory),
-        Err(UploadError::Stop(Stop::DiskFault)) => Err(Fault::DiskFault),
+        Err(UploadError::Stop(stop)) => Err(Fault::Stop(stop)),
     }
 }

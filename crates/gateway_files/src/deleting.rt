@@ -1,6 +1,7 @@
 //! Uploads of a spool, deleted by their numbers.
 ghost use Rattle.std.specs.Prelude.{◌≡◌, ℕ, Bool, Err, IfErr, IfOk, IsErrOf, IsOk, OnOk, true};
 ghost use Rattle.std.specs.Io.KnownBytes.{Appends};
+ghost use Rattle.common.specs.declared.stop.Stop.{Stop};
 ghost use Rattle.spool_load.specs.Refusals.{HasOtherVersion, IsDamaged, IsNoSpool};
 ghost use Rattle.upload_rules.specs.Answers.{Counts, Limits};
 ghost use Rattle.upload_rules.specs.Calls.{terminated};
@@ -17,7 +18,6 @@ use crate::failures::Failure;
 use crate::faults::Fault;
 use crate::spool_files::{open_spool, refused_spool};
 use crate::streams::Noted;
-use common::Stop;
 use spool_disk::{Disk, FileDisk};
 use spool_image::Spool;
 use std::alloc::Global;
@@ -83,7 +83,7 @@ pub fn delete_on<D: Disk + Drop, W: Write>(
     ensures version { D.honest disk → HasOtherVersion (D.size disk) (D.current disk)
         → RefusesListAs result.1 Fault.Version }
     ensures damaged { D.honest disk → IsDamaged (D.size disk) (D.current disk) → RefusesListAs result.1 Fault.Damaged }
-    ensures counts { Counts (result.1 ≡ Err Fault.DiskFault) (D.failures disk) (D.failures result.0) }
+    ensures counts { Counts (result.1 ≡ Err (Fault.Stop Stop.DiskFault)) (D.failures disk) (D.failures result.0) }
 {
     match Spool::open(alloc, disk) {
         Ok(mut spool) => {
@@ -96,7 +96,7 @@ pub fn delete_on<D: Disk + Drop, W: Write>(
 
 /// Deletes the uploads of these numbers, one after the other, and writes a line for each: whether each had one.
 ///
-/// Refused with `NoMemory`, `DiskFault` or `Io` at one of them: the others before it are deleted.
+/// Refused with `Stop` or `Io` at one of them: the others before it are deleted.
 pub fn delete_uploads<W: Write, U: Uploads>(
     writer: &mut W,
     uploads: &mut U,
@@ -115,7 +115,8 @@ pub fn delete_uploads<W: Write, U: Uploads>(
         → LimitsTo (U.moment uploads.old) (U.moment uploads.new) (U.left_only uploads.old) (U.left_only uploads.new)
         (stages w.store numbers.now) }
     ensures refused { IfErr result IsChangeFault }
-    ensures counts { Counts (IsErrOf result Fault.DiskFault) (U.failures uploads.old) (U.failures uploads.new) }
+    ensures counts { Counts (IsErrOf result (Fault.Stop Stop.DiskFault)) (U.failures uploads.old)
+        (U.failures uploads.new) }
 {
     let mut all = true;
     for number in numbers {
@@ -141,7 +142,8 @@ fn delete_one<W: Write, U: Uploads>(
         → Limits (U.moment uploads.old) (U.moment uploads.new) (U.left_only uploads.old) (U.left_only uploads.new)
         w.store (deleted_store w.store number) }
     ensures refused { IfErr result IsChangeFault }
-    ensures counts { Counts (IsErrOf result Fault.DiskFault) (U.failures uploads.old) (U.failures uploads.new) }
+    ensures counts { Counts (IsErrOf result (Fault.Stop Stop.DiskFault)) (U.failures uploads.old)
+        (U.failures uploads.new) }
 {
     let there = terminate(uploads, number)?;
     say_deleted(writer, number, there)?;
@@ -158,13 +160,13 @@ fn terminate<U: Uploads>(uploads: &mut U, number: u64) -> Result<bool, Fault>
         → Limits (U.moment uploads.old) (U.moment uploads.new) (U.left_only uploads.old) (U.left_only uploads.new)
         w.store (deleted_store w.store number) }
     ensures refused { IfErr result IsChangeFault }
-    ensures counts { Counts (IsErrOf result Fault.DiskFault) (U.failures uploads.old) (U.failures uploads.new) }
+    ensures counts { Counts (IsErrOf result (Fault.Stop Stop.DiskFault)) (U.failures uploads.old)
+        (U.failures uploads.new) }
 {
     match uploads.terminate(number) {
         Ok(()) => Ok(true),
         Err(UploadError::Refused(_)) => Ok(false),
-        Err(UploadError::Stop(Stop::NoMemory)) => Err(Fault::NoMemory),
-        Err(UploadError::Stop(Stop::DiskFault)) => Err(Fault::DiskFault),
+        Err(UploadError::Stop(stop)) => Err(Fault::Stop(stop)),
     }
 }
 

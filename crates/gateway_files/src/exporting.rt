@@ -2,6 +2,7 @@
 ghost use Rattle.std.specs.Prelude.{◌≡◌, [], ◌∷◌, ℕ, List, Err, IfErr, IfOk, IsErrOf, IsOk, None, OnErr, OnOk, Some};
 ghost use Rattle.std.specs.Prelude.{◌||◌, ◌==◌, length, map, not, true};
 ghost use Rattle.std.specs.Io.KnownBytes.{Appends};
+ghost use Rattle.common.specs.declared.stop.Stop.{Stop};
 ghost use Rattle.spool_load.specs.Refusals.{HasOtherVersion, IsDamaged, IsNoSpool};
 ghost use Rattle.upload_rules.specs.Answers.{Counts, Quiet};
 ghost use Rattle.upload_rules.specs.Reading.{text_at};
@@ -98,7 +99,7 @@ pub fn export_on<D: Disk + Drop, F: Folder, W: Write>(
     ensures version { D.honest disk → HasOtherVersion (D.size disk) (D.current disk)
         → RefusesListAs result.1 Fault.Version }
     ensures damaged { D.honest disk → IsDamaged (D.size disk) (D.current disk) → RefusesListAs result.1 Fault.Damaged }
-    ensures counts { Counts (result.1 ≡ Err Fault.DiskFault) (D.failures disk) (D.failures result.0) }
+    ensures counts { Counts (result.1 ≡ Err (Fault.Stop Stop.DiskFault)) (D.failures disk) (D.failures result.0) }
 {
     match Spool::open(alloc, disk) {
         Ok(mut spool) => {
@@ -129,7 +130,8 @@ fn export_uploads<W: Write, F: Folder, U: Uploads>(
     ensures crash { Quiet (U.moment uploads.old) (U.moment uploads.new) (U.left_only uploads.old)
         (U.left_only uploads.new) }
     ensures refused { IfErr result IsChangeFault }
-    ensures counts { Counts (IsErrOf result Fault.DiskFault) (U.failures uploads.old) (U.failures uploads.new) }
+    ensures counts { Counts (IsErrOf result (Fault.Stop Stop.DiskFault)) (U.failures uploads.old)
+        (U.failures uploads.new) }
 {
     let jobs = plan(alloc, uploads, all)?;
     let done = do_jobs(writer, folder, uploads, &jobs)?;
@@ -166,7 +168,8 @@ fn do_jobs<W: Write, F: Folder, U: Uploads>(
     ensures crash { Quiet (U.moment uploads.old) (U.moment uploads.new) (U.left_only uploads.old)
         (U.left_only uploads.new) }
     ensures refused { IfErr result IsChangeFault }
-    ensures counts { Counts (IsErrOf result Fault.DiskFault) (U.failures uploads.old) (U.failures uploads.new) }
+    ensures counts { Counts (IsErrOf result (Fault.Stop Stop.DiskFault)) (U.failures uploads.old)
+        (U.failures uploads.new) }
 {
     let mut done = Done {
         exported: 0,
@@ -230,7 +233,8 @@ fn do_job<'j, W: Write, F: Folder, U: Uploads>(
     ensures crash { Quiet (U.moment uploads.old) (U.moment uploads.new) (U.left_only uploads.old)
         (U.left_only uploads.new) }
     ensures refused { IfErr result IsChangeFault }
-    ensures counts { Counts (IsErrOf result Fault.DiskFault) (U.failures uploads.old) (U.failures uploads.new) }
+    ensures counts { Counts (IsErrOf result (Fault.Stop Stop.DiskFault)) (U.failures uploads.old)
+        (U.failures uploads.new) }
 {
     match (export_job(folder, uploads, job), &job.name) {
         (Ok(outcome), _) => {
@@ -264,7 +268,8 @@ fn export_job<'j, F: Folder, U: Uploads>(
     ensures crash { Quiet (U.moment uploads.old) (U.moment uploads.new) (U.left_only uploads.old)
         (U.left_only uploads.new) }
     ensures refused { IfErr result IsChangeFault }
-    ensures counts { Counts (IsErrOf result Fault.DiskFault) (U.failures uploads.old) (U.failures uploads.new) }
+    ensures counts { Counts (IsErrOf result (Fault.Stop Stop.DiskFault)) (U.failures uploads.old)
+        (U.failures uploads.new) }
 {
     let Some(name) = &job.name else {
         return Ok(Outcome::Incomplete);
@@ -310,7 +315,8 @@ fn write_text<F: Folder, U: Uploads>(
     ensures crash { Quiet (U.moment uploads.old) (U.moment uploads.new) (U.left_only uploads.old)
         (U.left_only uploads.new) }
     ensures refused { IfErr result IsChangeFault }
-    ensures counts { Counts (IsErrOf result Fault.DiskFault) (U.failures uploads.old) (U.failures uploads.new) }
+    ensures counts { Counts (IsErrOf result (Fault.Stop Stop.DiskFault)) (U.failures uploads.old)
+        (U.failures uploads.new) }
 {
     let mut file = folder.begin()?;
     match copy_text(&mut file, uploads, number) {

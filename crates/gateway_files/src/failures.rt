@@ -5,6 +5,7 @@ ghost use Rattle.gateway_files.specs.Faults.{opening_fault, status_of};
 ghost use Rattle.gateway_files.specs.Failures.{ended_with, fault_in};
 
 use crate::faults::Fault;
+use common::Stop;
 use spool_disk::FileDisk;
 use std::alloc::AllocError;
 use std::io::Write;
@@ -217,7 +218,7 @@ impl<'a> Failure<'a> {
         ensures { fault_in result ≡ fault }
     {
         match (fault, error) {
-            (Fault::DiskFault, Some(error)) => Failure::new(fault, Task::UseSpool(path), error),
+            (Fault::Stop(Stop::DiskFault), Some(error)) => Failure::new(fault, Task::UseSpool(path), error),
             _ => Failure::from(fault),
         }
     }
@@ -282,9 +283,10 @@ impl<'a> From<Fault> for Failure<'a> {
 }
 
 impl<'a> From<AllocError> for Failure<'a> {
+    ghost use Rattle.common.specs.declared.stop.Stop.{Stop};
     ghost use Rattle.gateway_files.specs.declared.faults.Fault.{Fault};
 
-    ghost from_gives = { λ _ failure. fault_in failure ≡ Fault.NoMemory };
+    ghost from_gives = { λ _ failure. fault_in failure ≡ Fault.Stop Stop.NoMemory };
 
     fn from(error: AllocError) -> Self {
         Failure::from(Fault::from(error))

@@ -2,6 +2,7 @@
 ghost use Rattle.std.specs.Prelude.{◌≡◌, Some, option_map};
 ghost use Rattle.gateway_files.specs.Faults.{line_of, opening_fault, refusal_of, row, status_of};
 
+use common::Stop;
 use enc_index::ReadError;
 use enc_stream::TranscodeError;
 use spool_disk::DiskFault;
@@ -13,10 +14,8 @@ use std::{fmt, io};
 /// Why the program ends before its work is done.
 #[derive(Clone, Copy, Debug, PartialEq, Eq, Drop)]
 pub enum Fault {
-    /// Out of memory.
-    NoMemory,
-    /// The disk failed.
-    DiskFault,
+    /// Out of memory, or the disk failed.
+    Stop(Stop),
     /// The bytes of the file are none that are ever written to a spool.
     Damaged,
     /// A line of this index file isn't of the form, is out of range, or gives a pointer again.
@@ -90,8 +89,8 @@ impl Fault {
             | ErrorKind::ExecutableFileBusy
             | ErrorKind::InvalidInput
             | ErrorKind::InvalidFilename => Fault::CannotOpen,
-            ErrorKind::OutOfMemory => Fault::NoMemory,
-            _ => Fault::DiskFault,
+            ErrorKind::OutOfMemory => Fault::Stop(Stop::NoMemory),
+            _ => Fault::Stop(Stop::DiskFault),
         }
     }
 
@@ -100,8 +99,8 @@ impl Fault {
         ensures { option_map row result ≡ refusal_of self }
     {
         Some(match self {
-            Fault::DiskFault => return None,
-            Fault::NoMemory | Fault::Index(_, ReadError::NoMemory) => (0, "NoMemory"),
+            Fault::Stop(Stop::DiskFault) => return None,
+            Fault::Stop(Stop::NoMemory) | Fault::Index(_, ReadError::NoMemory) => (0, "NoMemory"),
             Fault::Damaged => (2, "Damaged"),
             Fault::Index(_, ReadError::Line(_)) => (3, "Line"),
             Fault::Index(_, ReadError::Range(_)) => (4, "Range"),
@@ -128,7 +127,7 @@ impl Fault {
         ensures { result ≡ status_of self }
     {
         match self {
-            Fault::DiskFault => 3,
+            Fault::Stop(Stop::DiskFault) => 3,
             Fault::FileDiffers => 4,
             _ => 2,
         }
@@ -136,36 +135,39 @@ impl Fault {
 }
 
 impl From<AllocError> for Fault {
+    ghost use Rattle.common.specs.declared.stop.Stop.{Stop};
     ghost use Rattle.gateway_files.specs.declared.faults.Fault.{Fault};
 
-    ghost from_gives = { λ _ fault. fault ≡ Fault.NoMemory };
+    ghost from_gives = { λ _ fault. fault ≡ Fault.Stop Stop.NoMemory };
 
     fn from(_error: AllocError) -> Self {
-        Fault::NoMemory
+        Fault::Stop(Stop::NoMemory)
     }
 }
 
 impl From<io::Error> for Fault {
     ghost use Rattle.std.specs.Prelude.{◌⊎◌};
+    ghost use Rattle.common.specs.declared.stop.Stop.{Stop};
     ghost use Rattle.gateway_files.specs.declared.faults.Fault.{Fault};
 
-    ghost from_gives = { λ _ fault. (fault ≡ Fault.NoMemory) ⊎ (fault ≡ Fault.Io) };
+    ghost from_gives = { λ _ fault. (fault ≡ Fault.Stop Stop.NoMemory) ⊎ (fault ≡ Fault.Io) };
 
     fn from(error: io::Error) -> Self {
         match error.kind() {
-            ErrorKind::OutOfMemory => Fault::NoMemory,
+            ErrorKind::OutOfMemory => Fault::Stop(Stop::NoMemory),
             _ => Fault::Io,
         }
     }
 }
 
 impl From<DiskFault> for Fault {
+    ghost use Rattle.common.specs.declared.stop.Stop.{Stop};
     ghost use Rattle.gateway_files.specs.declared.faults.Fault.{Fault};
 
-    ghost from_gives = { λ _ fault. fault ≡ Fault.DiskFault };
+    ghost from_gives = { λ _ fault. fault ≡ Fault.Stop Stop.DiskFault };
 
     fn from(_fault: DiskFault) -> Self {
-        Fault::DiskFault
+        Fault::Stop(Stop::DiskFault)
     }
 }
 
@@ -178,7 +180,7 @@ impl From<FormatError> for Fault {
         match error {
             FormatError::AlreadySpool => Fault::AlreadySpool,
             FormatError::Size => Fault::Size,
-            FormatError::DiskFault => Fault::DiskFault,
+            FormatError::DiskFault => Fault::Stop(Stop::DiskFault),
         }
     }
 }
@@ -191,10 +193,9 @@ impl From<OpenFault> for Fault {
     fn from(fault: OpenFault) -> Self {
         match fault {
             OpenFault::NotASpool => Fault::NotASpool,
-            OpenFault::DiskFault => Fault::DiskFault,
             OpenFault::Damaged => Fault::Damaged,
             OpenFault::Version => Fault::Version,
-            OpenFault::NoMemory => Fault::NoMemory,
+            OpenFault::Stop(stop) => Fault::Stop(stop),
         }
     }
 }
@@ -219,7 +220,7 @@ impl From<TranscodeError> for Fault {
 
     fn from(error: TranscodeError) -> Self {
         match error {
-            TranscodeError::NoMemory => Fault::NoMemory,
+            TranscodeError::NoMemory => Fault::Stop(Stop::NoMemory),
             TranscodeError::Unencodable(character) => Fault::Unencodable(Some(character)),
             // one is spent by such a character
             TranscodeError::Spent => Fault::Unencodable(None),

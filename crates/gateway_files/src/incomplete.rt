@@ -17,6 +17,7 @@ use crate::deleting::delete_numbers;
 use crate::failures::Failure;
 use crate::faults::Fault;
 use crate::spool_files::{open_spool, refused_spool};
+use common::Stop;
 use spool_disk::Disk;
 use spool_image::Spool;
 use std::alloc::{AllocError, Global};
@@ -70,7 +71,7 @@ pub fn incomplete_on<D: Disk + Drop>(alloc: Global, disk: D) -> (D, Result<Vec<u
     ensures version { D.honest disk → HasOtherVersion (D.size disk) (D.current disk)
         → RefusesListAs result.1 Fault.Version }
     ensures damaged { D.honest disk → IsDamaged (D.size disk) (D.current disk) → RefusesListAs result.1 Fault.Damaged }
-    ensures counts { Counts (result.1 ≡ Err Fault.DiskFault) (D.failures disk) (D.failures result.0) }
+    ensures counts { Counts (result.1 ≡ Err (Fault.Stop Stop.DiskFault)) (D.failures disk) (D.failures result.0) }
 {
     match Spool::open(alloc, disk) {
         Ok(spool) => {
@@ -83,12 +84,12 @@ pub fn incomplete_on<D: Disk + Drop>(alloc: Global, disk: D) -> (D, Result<Vec<u
 
 /// The numbers of the uploads that aren't complete, in order.
 ///
-/// Refused with `NoMemory` alone.
+/// Refused with `Stop(NoMemory)` alone.
 pub fn incomplete_numbers<U: Uploads>(alloc: Global, uploads: &U) -> Result<Vec<u64>, Fault>
     // Whatever the disk: for the uploads that they stand for.
     ensures numbers { (sure : Bool) (w : World) → U.stands uploads.now sure w → IsInOrder w.store
         → IfOk result (λ numbers. numbers.items ≡ incomplete_of w.store) }
-    ensures refused { IfErr result (λ fault. fault ≡ Fault.NoMemory) }
+    ensures refused { IfErr result (λ fault. fault ≡ Fault.Stop Stop.NoMemory) }
 {
     let mut numbers = Vec::new(alloc);
     let mut number = 0;
@@ -100,7 +101,7 @@ pub fn incomplete_numbers<U: Uploads>(alloc: Global, uploads: &U) -> Result<Vec<
         number = record.number;
     }
     // No memory holds so many numbers.
-    Err(Fault::NoMemory)
+    Err(Fault::Stop(Stop::NoMemory))
 }
 
 // Adds the number of an upload, unless it is complete.

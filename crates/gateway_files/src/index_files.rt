@@ -10,6 +10,7 @@ ghost use Rattle.gateway_files.specs.IndexFiles.{standard_entries, with_file};
 use crate::failures::{Failure, Task};
 use crate::faults::Fault;
 use crate::folders::find_folder;
+use common::Stop;
 use enc_index::{Index, IndexSet, Kind};
 use enc_labels::name_of;
 use enc_model::Encoding;
@@ -205,7 +206,7 @@ fn read_rows<'a, F: Readable>(
             entries,
         };
         if files.push(file).is_err() {
-            return Err(Failure::from(Fault::NoMemory));
+            return Err(Failure::from(Fault::Stop(Stop::NoMemory)));
         }
     }
     Ok(IndexFiles { set, files })

@@ -8,6 +8,7 @@ use crate::naming::given_name;
 use crate::spool_files::{open_spool, refused_spool};
 use crate::streams::Noted;
 use common::SLOTS;
+use common::Stop;
 use enc_labels::name_of;
 use serde::Serialize;
 use spool_image::Spool;
@@ -97,7 +98,7 @@ fn write_line<W: Write>(
     };
     // It fails for memory alone.
     let Ok(line) = serde_json::to_string(alloc, &line) else {
-        return Err(Fault::NoMemory);
+        return Err(Fault::Stop(Stop::NoMemory));
     };
     writeln!(writer, "{line}")?;
     Ok(())

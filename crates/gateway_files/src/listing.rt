@@ -2,6 +2,7 @@
 ghost use Rattle.std.specs.Prelude.{◌≡◌, ◌⊎◌, ◌++◌, ℕ, Err, IfErr, IfOk, IsOk, None, Ok, OnOk, Some, option_map};
 ghost use Rattle.std.specs.Prelude.{string_bytes, Bool};
 ghost use Rattle.std.specs.Io.KnownBytes.{Appends};
+ghost use Rattle.common.specs.declared.stop.Stop.{Stop};
 ghost use Rattle.spool_disk.specs.Disk.{Counts, IsImage};
 ghost use Rattle.spool_disk.specs.Views.{Lasts};
 ghost use Rattle.spool_load.specs.Reads.{NeedsReplay};
@@ -155,7 +156,7 @@ pub fn list_on<D: Disk + Drop, W: Write>(
     ensures version { D.honest disk → HasOtherVersion (D.size disk) (D.current disk)
         → RefusesListAs result.1 Fault.Version }
     ensures damaged { D.honest disk → IsDamaged (D.size disk) (D.current disk) → RefusesListAs result.1 Fault.Damaged }
-    ensures counts { Counts (result.1 ≡ Err Fault.DiskFault) (D.failures disk) (D.failures result.0) }
+    ensures counts { Counts (result.1 ≡ Err (Fault.Stop Stop.DiskFault)) (D.failures disk) (D.failures result.0) }
 {
     match open_surveyed(alloc, disk) {
         Ok((spool, survey)) => {
@@ -172,7 +173,7 @@ pub fn list_on<D: Disk + Drop, W: Write>(
 
 /// Writes a line for each upload, by number, with its metadata or without: all of them at once.
 ///
-/// Refused with `NoMemory` before anything was written, and with `Io` where the writer refused.
+/// Refused with `Stop(NoMemory)` before anything was written, and with `Io` where the writer refused.
 pub fn write_uploads<W: Write, U: Uploads>(
     alloc: Global,
     writer: &mut W,

@@ -1,5 +1,6 @@
 //! Signs of lost bytes in texts: U+FFFD, which stands for bytes that aren't of the encoding they were said to be of.
 ghost use Rattle.std.specs.Prelude.{IfErr, IsErrOf, OnOk, true};
+ghost use Rattle.common.specs.declared.stop.Stop.{Stop};
 ghost use Rattle.upload_rules.specs.Answers.{Counts, Quiet};
 ghost use Rattle.upload_rules.specs.World.{World};
 ghost use Rattle.gateway_files.specs.declared.faults.Fault.{Fault};
@@ -110,7 +111,8 @@ pub(crate) fn losses_of<U: Uploads>(
     ensures crash { Quiet (U.moment uploads.old) (U.moment uploads.new) (U.left_only uploads.old)
         (U.left_only uploads.new) }
     ensures refused { IfErr result IsChangeFault }
-    ensures counts { Counts (IsErrOf result Fault.DiskFault) (U.failures uploads.old) (U.failures uploads.new) }
+    ensures counts { Counts (IsErrOf result (Fault.Stop Stop.DiskFault)) (U.failures uploads.old)
+        (U.failures uploads.new) }
 {
     let mut tally = Tally::new(io::sink(), to);
     copy_text(&mut tally, uploads, number)?;

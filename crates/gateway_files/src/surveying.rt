@@ -1,5 +1,6 @@
 //! How much of a spool is in use.
 ghost use Rattle.std.specs.Prelude.{◌≡◌, ◌↔◌, ℕ, Err, IfErr, IfOk, OnOk, Some, false, true};
+ghost use Rattle.common.specs.declared.stop.Stop.{Stop};
 ghost use Rattle.spool_disk.specs.Disk.{Counts, IsImage, Keeps as KeepsAll};
 ghost use Rattle.spool_disk.specs.Views.{Lasts};
 ghost use Rattle.spool_journal.specs.Image.{journal_pages, overlaid};
@@ -94,7 +95,7 @@ pub fn open_surveyed<D: Disk>(alloc: Global, disk: D) -> Result<(Spool<D>, Surve
 fn find_whole<D: Disk>(disk: &mut D) -> Result<Found, OpenFault>
     ensures size { D.size disk.new ≡ D.size disk.old }
     ensures honest { D.honest disk.old ↔ D.honest disk.new }
-    ensures counts { Counts (result ≡ Err OpenFault.DiskFault) (D.failures disk.old) (D.failures disk.new) }
+    ensures counts { Counts (result ≡ Err (OpenFault.Stop Stop.DiskFault)) (D.failures disk.old) (D.failures disk.new) }
     ensures on { D.honest disk.old → IfOk result (FoundOn (D.size disk.old) (D.current disk.old)) }
     ensures refused { D.honest disk.old → IfErr result (NotFoundFor (D.size disk.old) (D.current disk.old)) }
     ensures settled { D.honest disk.old → IfOk result (λ found.
@@ -103,7 +104,7 @@ fn find_whole<D: Disk>(disk: &mut D) -> Result<Found, OpenFault>
     ensures unwritten { D.honest disk.old → (NeedsReplay (D.size disk.old) (D.current disk.old) → ⊥)
         → Lasts D.Disk disk.old disk.new (IsImage (D.current disk.old) (D.unsynced disk.old)) }
     ensures same { D.honest disk.old → (NeedsReplay (D.size disk.old) (D.current disk.old) → ⊥)
-        → (result ≡ Err OpenFault.DiskFault → ⊥)
+        → (result ≡ Err (OpenFault.Stop Stop.DiskFault) → ⊥)
         → KeepsAll (D.current disk.old) (D.current disk.new) (D.unsynced disk.old) (D.unsynced disk.new) }
     ensures found { (n : ℕ) (m : Store) → IsSpool D.Disk disk.old n m → LoadsAs result (λ found. found.layout ≡ n) }
     ensures shows { (n : ℕ) (m : Store) → IsSpool D.Disk disk.old n m → OnOk result (AllShow D.Disk disk.new n m) }

@@ -3,6 +3,7 @@ use Rattle.std.proofs.Common.{◌≡◌, ◌⊎◌, ◌<◌, ◌≤◌, ◌+◌,
 use Rattle.std.proofs.Common.{Some, None, Result, Ok, Err, refl}
 use Rattle.std.proofs.Common.{sym, subst, ap, ◌∙◌, append-nil, append_assoc, arith, ⊎_elim}
 use Rattle.std.proofs.lemmas.Bool.{cases_lt}
+use Rattle.common.specs.declared.stop.Stop.TheVariants.{NoMemory, DiskFault}
 use Rattle.spool_disk.specs.Disk.{Counts, IsImage}
 use Rattle.spool_disk.specs.declared.disk.Disk.{Ghosts}
 use Rattle.spool_journal.specs.Image.{all_pages}
@@ -36,9 +37,8 @@ use Rattle.gateway_script.specs.declared.faults.ScriptFault.{ScriptFault}
 use Rattle.gateway_script.specs.declared.faults.ScriptFault.TheVariants as scripts
 use Rattle.gateway_engine.specs.Ran.{CountsEither, HasFailed, HasRefused}
 use Rattle.gateway_engine.specs.RanOn.{AllShowOne, EndedOn, HasRunOn}
-use Rattle.gateway_rounds.specs.Faults.{run_fault}
 use Rattle.gateway_rounds.specs.declared.faults.RunFault.{RunFault}
-use Rattle.gateway_rounds.specs.declared.faults.RunFault.TheVariants.{Open, NoMemory, DiskFault, Script, Io}
+use Rattle.gateway_rounds.specs.declared.faults.RunFault.TheVariants.{Open, Script}
 use Rattle.gateway_rounds.specs.Rounds.{OpensWith, Crashes, IsFault, left_by_run, left_by_upgrade, IsWhole, EndsAs}
 use Rattle.gateway_rounds.specs.Rounds.{Passes, UpgradeEnds, UpgradeLeaves}
 
@@ -56,7 +56,7 @@ output_prefix st (e ∷ past) = refl
 
 -- what a run that was broken off wrote is the prefix of what its events gave
 most_prefix : (st : State) (past : List Marked) (out : List ℕ)
-    → WroteMost calls.NoMemory st past out → (rest : List ℕ) × (output_of st past ≡ out ++ rest)
+    → WroteMost (calls.Stop NoMemory) st past out → (rest : List ℕ) × (output_of st past ≡ out ++ rest)
 most_prefix st past out (inl all) = ([], sym all ∙ sym (append-nil out))
 most_prefix st past out (inr but_last) =
     (last_output st past, output_prefix st past ∙ ap (λ (xs : List ℕ). xs ++ last_output st past) (sym but_last))
@@ -159,55 +159,58 @@ module _ {D : Type 0} (disk : Ghosts D) (given back : D) (n : ℕ) (before : Lis
         )
 
     at_line : (line : ℕ) → HasRunOn disk begun (Err (back, scripts.Script line)) (Some held) (Some prefix) n st bytes
-        → Lived (Some (Script line))
+        → Lived (Some (Script (scripts.Script line)))
     at_line line (marks, is) =
         let r = the_script st marks bytes in (
           r.run.state.world.store ∷ [],
           all_one disk back n r.run.state.world.store is.shows,
           r.run.out,
           is.ended.wrote,
-          passed marks r.run.past bytes (Some (Script line)) r.run.out (r.run.state.world.store ∷ [])
+          passed marks r.run.past bytes (Some (Script (scripts.Script line))) r.run.out (r.run.state.world.store ∷ [])
               (all_first r.run.past) (written_whole r is.ended)
               (ap (λ (s : State). s.world.store ∷ []) is.ended.state) (is.ended.exits, whole r is.ended),
         )
 
-    failed : HasRunOn disk begun (Err (back, scripts.DiskFault)) (Some held) (Some prefix) n st bytes
-        → Lived (Some DiskFault)
+    failed : HasRunOn disk begun (Err (back, scripts.Stop DiskFault)) (Some held) (Some prefix) n st bytes
+        → Lived (Some (Script (scripts.Stop DiskFault)))
     failed (marks, is) =
         let r = the_script st marks bytes in (
           last_stores st r.run.past,
           is.shows,
           r.run.out,
           is.ended.wrote,
-          passed marks r.run.past bytes (Some DiskFault) r.run.out (last_stores st r.run.past) (all_first r.run.past)
+          passed marks r.run.past bytes (Some (Script (scripts.Stop DiskFault))) r.run.out
+              (last_stores st r.run.past) (all_first r.run.past)
               (written_whole r is.ended) refl (is.ended.exits, whole r is.ended),
         )
 
-    out_of_memory : HasRunOn disk begun (Err (back, scripts.NoMemory)) (Some held) (Some prefix) n st bytes
-        → Lived (Some NoMemory)
+    out_of_memory : HasRunOn disk begun (Err (back, scripts.Stop NoMemory)) (Some held) (Some prefix) n st bytes
+        → Lived (Some (Script (scripts.Stop NoMemory)))
     out_of_memory (marks, is) = (
       (history st is.past).world.store ∷ [],
       all_one disk back n (history st is.past).world.store is.shows,
       is.out,
       is.wrote,
-      passed marks is.past bytes (Some NoMemory) is.out ((history st is.past).world.store ∷ []) is.first
+      passed marks is.past bytes (Some (Script (scripts.Stop NoMemory))) is.out
+          ((history st is.past).world.store ∷ []) is.first
           (most_prefix st is.past is.out is.most) refl is.most,
     )
 
-    broken_off : HasRunOn disk begun (Err (back, scripts.Io)) (Some held) (Some prefix) n st bytes → Lived (Some Io)
+    broken_off : HasRunOn disk begun (Err (back, scripts.Io)) (Some held) (Some prefix) n st bytes
+        → Lived (Some (Script scripts.Io))
     broken_off (marks, is) = (
       (history st is.past).world.store ∷ [],
       all_one disk back n (history st is.past).world.store is.shows,
       is.out,
       is.wrote,
-      passed marks is.past bytes (Some Io) is.out ((history st is.past).world.store ∷ []) is.first
+      passed marks is.past bytes (Some (Script scripts.Io)) is.out ((history st is.past).world.store ∷ []) is.first
           (part_prefix st is.past is.out is.most) refl is.most,
     )
 
     pub told : (fault : ScriptFault) → HasRunOn disk begun (Err (back, fault)) (Some held) (Some prefix) n st bytes
-        → Lived (Some (run_fault fault))
-    told scripts.NoMemory has = out_of_memory has
-    told scripts.DiskFault has = failed has
+        → Lived (Some (Script fault))
+    told (scripts.Stop NoMemory) has = out_of_memory has
+    told (scripts.Stop DiskFault) has = failed has
     told (scripts.Script line) has = at_line line has
     told scripts.Io has = broken_off has
 
@@ -229,8 +232,7 @@ module _ {D : Type 0} (disk : Ghosts D) (given back : D) (n : ℕ) (before : Lis
 
     pub unopened : {S : Type 0} (done : S → Type 0) (fault : OpenFault) → LoadsAs {T = S} (Err fault) done
         → AllShowOne disk back n before → Lived given prefix prefix bytes (Some (Open fault))
-    unopened done opens.NoMemory refused still = unbegun (Open opens.NoMemory) refl refl still
-    unopened done opens.DiskFault refused still = unbegun (Open opens.DiskFault) refl refl still
+    unopened done (opens.Stop stop) refused still = unbegun (Open (opens.Stop stop)) refl refl still
     unopened done opens.NotASpool refused still = absurd refused
     unopened done opens.Damaged refused still = absurd refused
     unopened done opens.Version refused still = absurd refused
@@ -243,14 +245,14 @@ no_fault never counts = record {
   nothing_else = λ less. never (counts.nothing_else less);
 }
 
-pub counts_unopened : (fault : OpenFault) (a b : ℕ) → Counts (fault ≡ opens.DiskFault) a b
+pub counts_unopened : (fault : OpenFault) (a b : ℕ) → Counts (fault ≡ opens.Stop DiskFault) a b
     → Counts (IsFault (Some (Open fault))) a b
-counts_unopened opens.DiskFault a b counts = record {
+counts_unopened (opens.Stop DiskFault) a b counts = record {
   later = counts.later;
   counted = λ f. counts.counted refl;
   nothing_else = λ less. tt {0};
 }
-counts_unopened opens.NoMemory a b counts = no_fault (λ e. cc) counts
+counts_unopened (opens.Stop NoMemory) a b counts = no_fault (λ e. cc) counts
 counts_unopened opens.NotASpool a b counts = no_fault (λ e. cc) counts
 counts_unopened opens.Damaged a b counts = no_fault (λ e. cc) counts
 counts_unopened opens.Version a b counts = no_fault (λ e. cc) counts
@@ -268,16 +270,16 @@ counts_ran {c = c} back first then = subst (λ n. Counts ⊥ n c) (unfailed firs
 
 told_counts : {D : Type 0} (back : D) (fault : ScriptFault) (a b : ℕ)
     → Counts (HasFailed {U = D} (Err (back, fault))) a b
-    → Counts (IsFault (Some (run_fault fault))) a b
-told_counts back scripts.NoMemory a b counts = counts
-told_counts back scripts.DiskFault a b counts = counts
+    → Counts (IsFault (Some (Script fault))) a b
+told_counts back (scripts.Stop NoMemory) a b counts = counts
+told_counts back (scripts.Stop DiskFault) a b counts = counts
 told_counts back (scripts.Script line) a b counts = counts
 told_counts back scripts.Io a b counts = counts
 
 pub counts_told_of : {D : Type 0} {a b c : ℕ} (back : D) (fault : ScriptFault) → Counts ⊥ a b
-    → Counts (HasFailed {U = D} (Err (back, fault))) b c → Counts (IsFault (Some (run_fault fault))) a c
+    → Counts (HasFailed {U = D} (Err (back, fault))) b c → Counts (IsFault (Some (Script fault))) a c
 counts_told_of {a = a} {b = b} {c = c} back fault first then =
-    subst (λ n. Counts (IsFault (Some (run_fault fault))) n c) (unfailed first) (told_counts back fault b c then)
+    subst (λ n. Counts (IsFault (Some (Script fault))) n c) (unfailed first) (told_counts back fault b c then)
 
 -- a reader that refuses nothing
 none_refused : (0 < 0) ⊎ (2 ^ 64 ≤ 0 + 1) → ⊥
@@ -291,19 +293,20 @@ writer_alone into from c = record {
   nothing_else = λ less. from (c.nothing_else (inr less));
 }
 
-pub refusals_done : {v w : ℕ} → CountsEither ⊥ 0 0 v w → Counts (◌≡◌ {A = Option RunFault} None (Some Io)) v w
+pub refusals_done : {v w : ℕ} → CountsEither ⊥ 0 0 v w
+    → Counts (◌≡◌ {A = Option RunFault} None (Some (Script scripts.Io))) v w
 refusals_done c = writer_alone (λ e. absurd (cc)) (λ never. absurd never) c
 
 pub refusals_told : {D : Type 0} (back : D) (fault : ScriptFault) (v w : ℕ)
     → CountsEither (HasRefused {U = D} (Err (back, fault))) 0 0 v w
-    → Counts (◌≡◌ {A = Option RunFault} (Some (run_fault fault)) (Some Io)) v w
-refusals_told back scripts.NoMemory v w c = writer_alone (λ e. absurd (cc)) (λ never. absurd never) c
-refusals_told back scripts.DiskFault v w c = writer_alone (λ e. absurd (cc)) (λ never. absurd never) c
+    → Counts (◌≡◌ {A = Option RunFault} (Some (Script fault)) (Some (Script scripts.Io))) v w
+refusals_told back (scripts.Stop stop) v w c = writer_alone (λ e. absurd (cc)) (λ never. absurd never) c
 refusals_told back (scripts.Script line) v w c = writer_alone (λ e. absurd (cc)) (λ never. absurd never) c
 refusals_told back scripts.Io v w c = writer_alone (λ e. tt) (λ is. refl) c
 
 -- nothing was written
-pub refusals_none : (fault : OpenFault) (v : ℕ) → Counts (◌≡◌ {A = Option RunFault} (Some (Open fault)) (Some Io)) v v
+pub refusals_none : (fault : OpenFault) (v : ℕ)
+    → Counts (◌≡◌ {A = Option RunFault} (Some (Open fault)) (Some (Script scripts.Io))) v v
 refusals_none fault v = record {
   later = omega arith;
   counted = λ e. absurd (cc);
@@ -339,7 +342,8 @@ crashed disk chosen how back after n left all is size keeps image is_synced fail
 -- UPGRADES
 
 pub upgrade_ends : {New : Type 0} (e : UpgradeError)
-    → (New × (e ≡ upgrades.AlreadyNew)) ⊎ (e ≡ upgrades.Open opens.NoMemory) ⊎ (e ≡ upgrades.Open opens.DiskFault)
+    → (New × (e ≡ upgrades.AlreadyNew)) ⊎ (e ≡ upgrades.Open (opens.Stop NoMemory))
+    ⊎ (e ≡ upgrades.Open (opens.Stop DiskFault))
     → UpgradeEnds (Some e)
 upgrade_ends e (inl new) = subst (λ (x : UpgradeError). UpgradeEnds (Some x)) (sym new.1) tt
 upgrade_ends e (inr (inl is)) = subst (λ (x : UpgradeError). UpgradeEnds (Some x)) (sym is) tt
@@ -354,13 +358,13 @@ done_leaves size before image from here = record {
   is = rests_image image from.rests here;
 }
 
-not_disk_fault : (e : UpgradeError) → e ≡ upgrades.AlreadyNew → e ≡ upgrades.Open opens.DiskFault → ⊥
+not_disk_fault : (e : UpgradeError) → e ≡ upgrades.AlreadyNew → e ≡ upgrades.Open (opens.Stop DiskFault) → ⊥
 not_disk_fault e new device = cc
 
 pub refused_leaves : {current : ℕ → ℕ} {unsynced : ℕ → Type 0} (e : UpgradeError) (v : View) (image : ℕ → ℕ) → IsValid v
-    → ((v.version ≡ Two) × (e ≡ upgrades.AlreadyNew)) ⊎ (e ≡ upgrades.Open opens.NoMemory)
-    ⊎ (e ≡ upgrades.Open opens.DiskFault)
-    → ((e ≡ upgrades.Open opens.DiskFault → ⊥) → Rests v current unsynced) → IsImage current unsynced image
+    → ((v.version ≡ Two) × (e ≡ upgrades.AlreadyNew)) ⊎ (e ≡ upgrades.Open (opens.Stop NoMemory))
+    ⊎ (e ≡ upgrades.Open (opens.Stop DiskFault))
+    → ((e ≡ upgrades.Open (opens.Stop DiskFault) → ⊥) → Rests v current unsynced) → IsImage current unsynced image
     → UpgradeLeaves (Some e) image
 refused_leaves e v image valid (inl new) rests here =
     subst (λ (x : UpgradeError). UpgradeLeaves (Some x) image) (sym new.1) (record {
@@ -412,11 +416,11 @@ counts_told e x a b counts = record {
 
 -- what it leaves, by whether the disk failed
 pub left_told : {D : Type 0} (disk : Ghosts D) (back : D) (n : ℕ) (m : Store) (before : List Store) (e : UpgradeError)
-    → ((e ≡ upgrades.Open opens.DiskFault → ⊥) → AllShow disk back n m) → AllShowOne disk back n before
+    → ((e ≡ upgrades.Open (opens.Stop DiskFault) → ⊥) → AllShow disk back n m) → AllShowOne disk back n before
     → (left : List Store) × AllShowOne disk back n left × (left ≡ left_by_upgrade (Some e) m before)
 left_told disk back n m before upgrades.AlreadyNew shows still =
     (m ∷ [], all_one disk back n m (shows (λ device. cc)), refl)
-left_told disk back n m before (upgrades.Open opens.NoMemory) shows still =
+left_told disk back n m before (upgrades.Open (opens.Stop NoMemory)) shows still =
     (m ∷ [], all_one disk back n m (shows (λ device. cc)), refl)
 left_told disk back n m before (upgrades.Open opens.NotASpool) shows still =
     (m ∷ [], all_one disk back n m (shows (λ device. cc)), refl)
@@ -424,7 +428,7 @@ left_told disk back n m before (upgrades.Open opens.Damaged) shows still =
     (m ∷ [], all_one disk back n m (shows (λ device. cc)), refl)
 left_told disk back n m before (upgrades.Open opens.Version) shows still =
     (m ∷ [], all_one disk back n m (shows (λ device. cc)), refl)
-left_told disk back n m before (upgrades.Open opens.DiskFault) shows still = (before, still, refl)
+left_told disk back n m before (upgrades.Open (opens.Stop DiskFault)) shows still = (before, still, refl)
 
 -- THE MAKING: what is refused for its size begins as no spool
 pub refuses_spool : (fault : FormatError)

@@ -1,4 +1,3 @@
-pub mod Faults
 pub mod Streams
 pub mod Rounds
 pub mod Making

@@ -1,6 +1,7 @@
 -- The rounds of a disk's life. In each it is opened and a script is run over it, or it is brought to version 2, and
 -- then it crashes, or it goes on as it is.
 use Rattle.std.specs.Prelude.{◌≡◌, ℕ, List, [], ◌∷◌, ◌++◌, Option, Some, None, take}
+use Rattle.common.specs.declared.stop.Stop.TheVariants.{NoMemory, DiskFault}
 use Rattle.spool_disk.specs.Disk.{Counts, IsImage}
 use Rattle.spool_disk.specs.declared.disk.Disk.{Ghosts}
 use Rattle.spool_image.specs.Format.{IsNewest}
@@ -18,9 +19,10 @@ use Rattle.gateway_script.specs.Script as script
 use Rattle.gateway_script.specs.Script.{script as the_script, Ran, AtLine, Faulted}
 use Rattle.gateway_script.specs.Outputs.{IsFirst, output_of, WroteMost}
 use Rattle.gateway_script.specs.declared.faults.CallFault.TheVariants as calls
+use Rattle.gateway_script.specs.declared.faults.ScriptFault.TheVariants as scripts
 use Rattle.gateway_engine.specs.RanOn.{AllShowOne}
 use Rattle.gateway_rounds.specs.declared.faults.RunFault.{RunFault}
-use Rattle.gateway_rounds.specs.declared.faults.RunFault.TheVariants.{Open, NoMemory, DiskFault, Script, Io}
+use Rattle.gateway_rounds.specs.declared.faults.RunFault.TheVariants.{Open, Script}
 use Rattle.gateway_rounds.specs.declared.round.End.{End}
 use Rattle.gateway_rounds.specs.declared.round.End.TheVariants.{Crash, Nothing}
 use Rattle.gateway_rounds.specs.declared.round.Round.{Round}
@@ -38,7 +40,7 @@ pub record OpensWith {D : Type 0} (disk : Ghosts D) (given : D) (n : ℕ) (store
 -- The stores of which each image shows one after them. Where the disk failed at the latest event, they have its change
 -- or they don't; where the disk wasn't opened, they are those of before
 abbrev pub left_by_run : Option RunFault → State → List Marked → List Store → List Store
-left_by_run (Some DiskFault) st past before = last_stores st past
+left_by_run (Some (Script (scripts.Stop DiskFault))) st past before = last_stores st past
 left_by_run (Some (Open fault)) st past before = before
 left_by_run fault st past before = (history st past).world.store ∷ []
 
@@ -50,18 +52,17 @@ pub record IsWhole (st : State) (r : script.Result) (past : List Marked) (out : 
 -- How the run ended. An opening is refused by memory or the disk alone
 abbrev pub EndsAs : Option RunFault → State → script.Result → List Marked → List ℕ → Type 0
 EndsAs None st r past out = (r.exit ≡ Ran) × IsWhole st r past out
-EndsAs (Some (Script line)) st r past out = (r.exit ≡ AtLine line) × IsWhole st r past out
-EndsAs (Some DiskFault) st r past out = (r.exit ≡ Faulted) × IsWhole st r past out
-EndsAs (Some NoMemory) st r past out = WroteMost calls.NoMemory st past out
-EndsAs (Some Io) st r past out = WroteMost calls.Io st past out
-EndsAs (Some (Open opens.NoMemory)) st r past out = past ≡ []
-EndsAs (Some (Open opens.DiskFault)) st r past out = past ≡ []
+EndsAs (Some (Script (scripts.Script line))) st r past out = (r.exit ≡ AtLine line) × IsWhole st r past out
+EndsAs (Some (Script (scripts.Stop DiskFault))) st r past out = (r.exit ≡ Faulted) × IsWhole st r past out
+EndsAs (Some (Script (scripts.Stop NoMemory))) st r past out = WroteMost (calls.Stop NoMemory) st past out
+EndsAs (Some (Script scripts.Io)) st r past out = WroteMost calls.Io st past out
+EndsAs (Some (Open (opens.Stop stop))) st r past out = past ≡ []
 EndsAs (Some (Open _)) st r past out = ⊥
 
 -- the disk failed
 abbrev pub IsFault : Option RunFault → Type 0
-IsFault (Some DiskFault) = Unit {0}
-IsFault (Some (Open opens.DiskFault)) = Unit {0}
+IsFault (Some (Script (scripts.Stop DiskFault))) = Unit {0}
+IsFault (Some (Open (opens.Stop DiskFault))) = Unit {0}
 IsFault _ = ⊥
 
 -- A RUN
@@ -82,8 +83,8 @@ pub record Passes (n : ℕ) (m : Store) (bytes : List ℕ) (fault : Option RunFa
 abbrev pub read_of : List ℕ → List ℕ
 read_of bytes = take 1073741825 bytes
 
--- A run as it was told, from a disk to the disk that came back. It ends with `Io` exactly where what it wrote was
--- refused to grow
+-- A run as it was told, from a disk to the disk that came back. It ends with `Script Io` exactly where what it wrote
+-- was refused to grow
 pub record IsRun {D : Type 0} (disk : Ghosts D) (n : ℕ) (given back : D) (before left : List Store)
     (run told : RunOf) : Type 0 where
   pub script : told.script ≡ run.script
@@ -93,7 +94,7 @@ pub record IsRun {D : Type 0} (disk : Ghosts D) (n : ℕ) (given back : D) (befo
   pub written : told.written.bytes.items ≡ run.written.bytes.items ++ out
   pub passes : Passes n store (read_of run.script.items) told.fault out before left
   pub counts : Counts (IsFault told.fault) (disk.failures given) (disk.failures back)
-  pub refusals : Counts (told.fault ≡ Some Io) run.written.refusals told.written.refusals
+  pub refusals : Counts (told.fault ≡ Some (Script scripts.Io)) run.written.refusals told.written.refusals
 
 -- AN UPGRADE
 
@@ -101,8 +102,7 @@ pub record IsRun {D : Type 0} (disk : Ghosts D) (n : ℕ) (given back : D) (befo
 abbrev pub UpgradeEnds : Option UpgradeError → Type 0
 UpgradeEnds None = Unit {0}
 UpgradeEnds (Some upgrades.AlreadyNew) = Unit {0}
-UpgradeEnds (Some (upgrades.Open opens.NoMemory)) = Unit {0}
-UpgradeEnds (Some (upgrades.Open opens.DiskFault)) = Unit {0}
+UpgradeEnds (Some (upgrades.Open (opens.Stop stop))) = Unit {0}
 UpgradeEnds (Some (upgrades.Open _)) = ⊥
 
 -- each image is of version 2 where it was done, and where there was nothing left to do
@@ -113,7 +113,7 @@ UpgradeLeaves (Some (upgrades.Open _)) image = Unit {0}
 
 -- it changes no upload. Where the disk failed, the images show one of the stores of before
 abbrev pub left_by_upgrade : Option UpgradeError → Store → List Store → List Store
-left_by_upgrade (Some (upgrades.Open opens.DiskFault)) m before = before
+left_by_upgrade (Some (upgrades.Open (opens.Stop DiskFault))) m before = before
 left_by_upgrade told m before = m ∷ []
 
 -- an upgrade as it was told, from a disk to the disk that came back
@@ -124,7 +124,7 @@ pub record IsUpgrade {D : Type 0} (disk : Ghosts D) (n : ℕ) (given back : D) (
   pub opened : OpensWith disk given n before store
   pub same : left ≡ left_by_upgrade told store before
   pub leaves : (image : ℕ → ℕ) → IsImage (disk.current back) (disk.unsynced back) image → UpgradeLeaves told image
-  pub counts : Counts (told ≡ Some (upgrades.Open opens.DiskFault)) (disk.failures given) (disk.failures back)
+  pub counts : Counts (told ≡ Some (upgrades.Open (opens.Stop DiskFault))) (disk.failures given) (disk.failures back)
 
 -- THE END OF A ROUND
 

@@ -1,6 +1,5 @@
 //! Why the run of a round ends before its script does.
 ghost use Rattle.std.specs.Prelude.{◌≡◌};
-ghost use Rattle.gateway_rounds.specs.Faults.{run_fault};
 
 use gateway_engine::ScriptFault;
 use spool_image::OpenFault;
@@ -10,25 +9,16 @@ use spool_image::OpenFault;
 pub enum RunFault {
     /// The disk wasn't opened as a spool: nothing was read or written.
     Open(OpenFault),
-    /// Out of memory outside the calls of the connections.
-    NoMemory,
-    /// The disk failed.
-    DiskFault,
-    /// The line of this number, counted from 1, is no line of a script, or it or the script is too long.
-    Script(u64),
-    /// The reader or the writer refused.
-    Io,
+    /// The script ended early.
+    Script(ScriptFault),
 }
 
 impl From<ScriptFault> for RunFault {
+    ghost use Rattle.gateway_rounds.specs.declared.faults.RunFault.{RunFault};
+
     fn from(fault: ScriptFault) -> Self
-        ensures { result ≡ run_fault fault }
+        ensures { result ≡ RunFault.Script fault }
     {
-        match fault {
-            ScriptFault::NoMemory => RunFault::NoMemory,
-            ScriptFault::DiskFault => RunFault::DiskFault,
-            ScriptFault::Script(line) => RunFault::Script(line),
-            ScriptFault::Io => RunFault::Io,
-        }
+        RunFault::Script(fault)
     }
 }

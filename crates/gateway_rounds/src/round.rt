@@ -43,7 +43,7 @@ pub enum End<C> {
 pub struct Run {
     /// The script.
     pub script: Vec<u8>,
-    /// What the run writes is put after what stands here. The run ends with `Io` where this is refused to grow.
+    /// What the run writes is put after what stands here. The run ends with `Script(Io)` where this is refused to grow.
     pub written: Written,
     /// Why the run ended before its script did.
     pub fault: Option<RunFault>,

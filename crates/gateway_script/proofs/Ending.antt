@@ -4,6 +4,7 @@ use Rattle.std.proofs.Math.Seq.{drop-append_seam}
 use Rattle.std.proofs.Common.{◌≡◌, ◌==◌, ◌<◌, inl, arith, ◌+◌, Bool, true, false, ◌||◌, ℕ, zero}
 use Rattle.std.proofs.Common.{suc, List, [], ◌∷◌, ◌++◌, length, drop, Option, Result}
 use Rattle.std.proofs.Common.{Ok, Err, refl, sym, subst, ap, ◌∙◌, if◌then◌else◌}
+use Rattle.common.specs.declared.stop.Stop.TheVariants as stops
 use Rattle.tus_session.specs.History.{State, Ended, Mark, Served, Outcome, Done, Refused, step}
 use Rattle.tus_session.specs.History.{is_closed}
 use Rattle.tus_session.specs.declared.session.TheConstants.{MOST_OPEN}
@@ -71,10 +72,10 @@ went_cut : {C : Type 0} (v : View C) (result : Result (Unit {0}) CallFault) (k n
     → is_closed (r.state.conns n) ≡ false → r.down ≡ false
     → Went v result (λ x. (call x n (Ended n)).run) r → CutOne v result k n r
 went_cut v (Ok x) k n r is_open up p = (p.0, cut_goes k n r p.0 is_open up p.1, p.2)
-went_cut v (Err faults.DiskFault) k n r is_open up p =
+went_cut v (Err (faults.Stop stops.DiskFault)) k n r is_open up p =
     let g = cut_goes k n r p.0 is_open up p.1 in
     (p.0, (g.0, λ rest. g.1 rest ∙ cut_down k (n + 1) (with_marks p.0 rest) p.2.down), p.2)
-went_cut v (Err faults.NoMemory) k n r is_open up p = cut_stops v faults.NoMemory k n r is_open up p
+went_cut v (Err (faults.Stop stops.NoMemory)) k n r is_open up p = cut_stops v _ k n r is_open up p
 went_cut v (Err faults.Io) k n r is_open up p = cut_stops v faults.Io k n r is_open up p
 
 pub cut_done : {C : Type 0} (v : View C) (now : C) (k n : ℕ) (r : Run) → IsAt v r
@@ -165,16 +166,16 @@ module _ {C : Type 0} (v : View C) (number start : ℕ) (line : List ℕ) (lines
   pub line_ran : (result : Result (Unit {0}) CallFault) → Went v result (obeyed (order_in line)) r
       → LineRan v (result_of result) number start line lines r
   line_ran (Ok x) p = (p.0, line_leads p.0 p.1, p.2)
-  line_ran (Err faults.DiskFault) p =
+  line_ran (Err (faults.Stop stops.DiskFault)) p =
       let q = line_leads p.0 p.1 in
       (p.0, (q.0, λ rest. q.1 rest ∙ lines_down _ _ lines (with_marks p.0 rest) p.2.down), p.2)
-  line_ran (Err faults.NoMemory) p = line_breaks faults.NoMemory p
+  line_ran (Err (faults.Stop stops.NoMemory)) p = line_breaks _ p
   line_ran (Err faults.Io) p = line_breaks faults.Io p
 
 -- it was out of memory before the line did anything
 pub line_wants : {C : Type 0} (v : View C) (number start : ℕ) (line : List ℕ) (lines : List (List ℕ)) (r : Run)
     → IsAt v r
-    → LineRan v (Err runs.NoMemory) number start line lines r
+    → LineRan v (Err (runs.Stop stops.NoMemory)) number start line lines r
 line_wants v number start line lines r at = (
   r,
   passes_by script_past (run_lines number start (line ∷ lines)) (run_lines number start (line ∷ lines)) r r
@@ -236,8 +237,9 @@ pub lines_end : {C : Type 0} (v : View C) (number start : ℕ) (r : Run) (result
     → Went v result (cut_from MOST_OPEN 0) r → Ends v (result_of result) (run_lines number start []) r
 unfolding run_lines
 lines_end v number start r (Ok x) p = (p.0, (p.1.0, λ rest. rw (p.1.1 rest, p.2.up) refl), p.2)
-lines_end v number start r (Err faults.DiskFault) p = (p.0, (p.1.0, λ rest. rw (p.1.1 rest, p.2.down) refl), p.2)
-lines_end v number start r (Err faults.NoMemory) p = end_breaks v faults.NoMemory number start r p
+lines_end v number start r (Err (faults.Stop stops.DiskFault)) p =
+    (p.0, (p.1.0, λ rest. rw (p.1.1 rest, p.2.down) refl), p.2)
+lines_end v number start r (Err (faults.Stop stops.NoMemory)) p = end_breaks v _ number start r p
 lines_end v number start r (Err faults.Io) p = end_breaks v faults.Io number start r p
 
 -- after some lines
@@ -245,15 +247,16 @@ pub ends_after : {C : Type 0} (v : View C) (result : Result (Unit {0}) ScriptFau
     → script.Result) (r s : Run)
     → Reaches f r g s → Ends v result g s → Ends v result f r
 ends_after v (Ok x) f g r s p q = (q.0, reach_both f g (λ x. ended_as x Ran) r s q.0 p q.1, q.2)
-ends_after v (Err runs.DiskFault) f g r s p q = (q.0, reach_both f g (λ x. ended_as x Faulted) r s q.0 p q.1, q.2)
+ends_after v (Err (runs.Stop stops.DiskFault)) f g r s p q =
+    (q.0, reach_both f g (λ x. ended_as x Faulted) r s q.0 p q.1, q.2)
 ends_after v (Err (runs.Script n)) f g r s p q = (q.0, reach_both f g (λ x. ended_as x (AtLine n)) r s q.0 p q.1, q.2)
-ends_after v (Err runs.NoMemory) f g r s p q = stops_after v faults.NoMemory script_past f g r s p q
+ends_after v (Err (runs.Stop stops.NoMemory)) f g r s p q = stops_after v _ script_past f g r s p q
 ends_after v (Err runs.Io) f g r s p q = stops_after v faults.Io script_past f g r s p q
 
 pub cut_fails : {C : Type 0} (v : View C) (fault : CallFault) (k n : ℕ) (r : Run) → CutOne v (Err fault) k n r
     → Went v (Err fault) (cut_from (suc k) n) r
-cut_fails v faults.DiskFault k n r p = p
-cut_fails v faults.NoMemory k n r p = p
+cut_fails v (faults.Stop stops.DiskFault) k n r p = p
+cut_fails v (faults.Stop stops.NoMemory) k n r p = p
 cut_fails v faults.Io k n r p = p
 
 -- the fault of a line is that of its run

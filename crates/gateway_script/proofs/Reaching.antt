@@ -86,8 +86,9 @@ more_stops v fault n k r s o c at = (
 flow_after : {C : Type 0} (v : View C) (result : Result Bool CallFault) (f g : Run → Flow) (r s : Run)
     → Reaches f r g s → Flowed v result g s → Flowed v result f r
 flow_after v (Ok b) f g r s p q = (q.0, reach_both f g (λ x. flow x b) r s q.0 p q.1, q.2)
-flow_after v (Err faults.DiskFault) f g r s p q = (q.0, reach_both f g (λ x. flow x false) r s q.0 p q.1, q.2)
-flow_after v (Err faults.NoMemory) f g r s p q = stops_after v faults.NoMemory flow_past f g r s p q
+flow_after v (Err (faults.Stop stops.DiskFault)) f g r s p q =
+    (q.0, reach_both f g (λ x. flow x false) r s q.0 p q.1, q.2)
+flow_after v (Err (faults.Stop stops.NoMemory)) f g r s p q = stops_after v _ flow_past f g r s p q
 flow_after v (Err faults.Io) f g r s p q = stops_after v faults.Io flow_past f g r s p q
 
 -- one call more for a text
@@ -102,13 +103,13 @@ module _ {C : Type 0} (v : View C) (f : Run → Flow) (n k : ℕ) (r s : Run) (p
   more_broken fault q = stops_after v fault flow_past f (mores (suc k) n) r s p q
 
   pub more_fails : (fault : CallFault) → Called v (Err fault) n (More n) s → Flowed v (Err fault) f r
-  more_fails faults.DiskFault c = (
+  more_fails (faults.Stop stops.DiskFault) c = (
     c.0,
     reach_both f (mores (suc k) n) (λ x. flow x false) r s c.0 p
         (reach_more k n s c.0 (Refused (errors.Stop stops.DiskFault)) c.1),
     c.2,
   )
-  more_fails faults.NoMemory c = more_broken faults.NoMemory (more_stops v faults.NoMemory n k s c.0 c.1 c.2 c.3)
+  more_fails (faults.Stop stops.NoMemory) c = more_broken _ (more_stops v _ n k s c.0 c.1 c.2 c.3)
   more_fails faults.Io c = more_broken faults.Io (more_stops v faults.Io n k s c.0 c.1 c.2 c.3)
 
 -- THE BYTES OF A LINE
@@ -170,8 +171,8 @@ module _ {C : Type 0} (v : View C) (k n : ℕ) (bytes : List ℕ) (r s : Run) (g
       )
 
   pub text_fails : (fault : CallFault) → Flowed v (Err fault) rest_flow s → GivenOnce v (Err fault) k n bytes r
-  text_fails faults.DiskFault f = (f.0, reaches f.0 false f.1, f.2)
-  text_fails faults.NoMemory f = text_stops faults.NoMemory f
+  text_fails (faults.Stop stops.DiskFault) f = (f.0, reaches f.0 false f.1, f.2)
+  text_fails (faults.Stop stops.NoMemory) f = text_stops _ f
   text_fails faults.Io f = text_stops faults.Io f
 
 came_stops : {C : Type 0} (v : View C) (fault : CallFault) (k n : ℕ) (bytes : List ℕ) (r s : Run) (o : Outcome)
@@ -187,9 +188,9 @@ came_stops v fault k n bytes r s o some c at = (
 
 pub came_fails : {C : Type 0} (v : View C) (fault : CallFault) (k n : ℕ) (bytes : List ℕ) (r : Run) → (bytes ≡ [] → ⊥)
     → Called v (Err fault) n (Came n bytes) r → GivenOnce v (Err fault) k n bytes r
-came_fails v faults.DiskFault k n bytes r some c =
+came_fails v (faults.Stop stops.DiskFault) k n bytes r some c =
     (c.0, came_reaches k n bytes r c.0 (Refused (errors.Stop stops.DiskFault)) some c.1, c.2)
-came_fails v faults.NoMemory k n bytes r some c = came_stops v faults.NoMemory k n bytes r c.0 c.1 some c.2 c.3
+came_fails v (faults.Stop stops.NoMemory) k n bytes r some c = came_stops v _ k n bytes r c.0 c.1 some c.2 c.3
 came_fails v faults.Io k n bytes r some c = came_stops v faults.Io k n bytes r c.0 c.1 some c.2 c.3
 
 pub came_refused : {C : Type 0} (v : View C) (k n : ℕ) (bytes : List ℕ) (r : Run) → (bytes ≡ [] → ⊥)
@@ -200,14 +201,14 @@ came_refused v k n bytes r some c = (c.0, came_reaches k n bytes r c.0 (Refused 
 pub went_after : {C : Type 0} (v : View C) (result : Result (Unit {0}) CallFault) (f g : Run → Run) (r s : Run)
     → Reaches f r g s → Went v result g s → Went v result f r
 went_after v (Ok x) f g r s p q = (q.0, reach_both f g (λ x. x) r s q.0 p q.1, q.2)
-went_after v (Err faults.DiskFault) f g r s p q = (q.0, reach_both f g (λ x. x) r s q.0 p q.1, q.2)
-went_after v (Err faults.NoMemory) f g r s p q = stops_after v faults.NoMemory run_past f g r s p q
+went_after v (Err (faults.Stop stops.DiskFault)) f g r s p q = (q.0, reach_both f g (λ x. x) r s q.0 p q.1, q.2)
+went_after v (Err (faults.Stop stops.NoMemory)) f g r s p q = stops_after v _ run_past f g r s p q
 went_after v (Err faults.Io) f g r s p q = stops_after v faults.Io run_past f g r s p q
 
 pub once_fails : {C : Type 0} (v : View C) (fault : CallFault) (k n : ℕ) (bytes : List ℕ) (r : Run)
     → GivenOnce v (Err fault) k n bytes r → Went v (Err fault) (give_within (suc k) n bytes) r
-once_fails v faults.DiskFault k n bytes r p = p
-once_fails v faults.NoMemory k n bytes r p = p
+once_fails v (faults.Stop stops.DiskFault) k n bytes r p = p
+once_fails v (faults.Stop stops.NoMemory) k n bytes r p = p
 once_fails v faults.Io k n bytes r p = p
 
 -- nothing is left to be given, or no call is

@@ -1,11 +1,12 @@
 -- What is written where the disk is known to be honest is the history's own output.
 use Rattle.std.proofs.Common.{◌≡◌, ℕ, true, List, [], ◌∷◌, ◌++◌, drop, inl, inr, ⊎_elim, ap, sym, ◌∙◌}
+use Rattle.common.specs.declared.stop.Stop.TheVariants.{NoMemory, DiskFault}
 use Rattle.tus_action.proofs.Pieces.{all_appended}
 use Rattle.tus_session.specs.History.{State, Marked, Outcome, Gave, Done, Refused, step, history, conn_in}
 use Rattle.gateway_script.specs.Script.{written}
 use Rattle.gateway_script.specs.Outputs.{WritesAs, LastOutput, Outputs, BreaksOff, WroteMost, last_output, output_of}
 use Rattle.gateway_script.specs.declared.faults.CallFault.{CallFault}
-use Rattle.gateway_script.specs.declared.faults.CallFault.TheVariants.{NoMemory, DiskFault, Io}
+use Rattle.gateway_script.specs.declared.faults.CallFault.TheVariants.{Stop, Io}
 
 writes_sure : (n : ℕ) (o : Outcome) (text out : List ℕ) → WritesAs true n o text out → out ≡ written n o
 writes_sure n (Gave bytes taken closes more) text out wrote =
@@ -27,9 +28,9 @@ outputs_sure st (e ∷ past) out wrote =
 pub breaks_sure : (fault : CallFault) (st : State) (past : List Marked) (out : List ℕ)
     → BreaksOff true fault st past out
     → WroteMost fault st past out
-breaks_sure NoMemory st past out wrote =
+breaks_sure (Stop NoMemory) st past out wrote =
     ⊎_elim (λ all. inl (outputs_sure st past out all)) (λ rest. inr (outputs_sure st (drop 1 past) out rest)) wrote
-breaks_sure DiskFault st past out wrote = absurd wrote
+breaks_sure (Stop DiskFault) st past out wrote = absurd wrote
 breaks_sure Io st past out wrote = (
   wrote.1,
   wrote.2,

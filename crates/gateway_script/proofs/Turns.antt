@@ -53,14 +53,14 @@ surely {v = v} {r = r} at known = subst (λ b. v.u.stands v.now b r.state) known
 -- what a call has to write is written, or nothing for want of memory, or a prefix
 abbrev Writes : Option (List ℕ) → Option (List ℕ) → Result (Unit {0}) CallFault → List ℕ → Type 0
 Writes old new (Ok x) last = Appends old new last
-Writes old new (Err faults.DiskFault) last = ⊥
-Writes old new (Err faults.NoMemory) last = new ≡ old
+Writes old new (Err (faults.Stop stops.DiskFault)) last = ⊥
+Writes old new (Err (faults.Stop stops.NoMemory)) last = new ≡ old
 Writes old new (Err faults.Io) last = AppendsPart old new last
 
 -- where the run is after it
 abbrev Lands : {C : Type 0} → View C → Result (Unit {0}) CallFault → Run → Type 0
 Lands v (Ok x) s = IsAt v s
-Lands v (Err faults.DiskFault) s = IsDown v s
+Lands v (Err (faults.Stop stops.DiskFault)) s = IsDown v s
 Lands v (Err fault) s = IsStopped v fault s
 
 went_lands : {C : Type 0} (v : View C) (r : Run) (n : ℕ) (e : Event) (m : Mark) (result : Result (Unit {0}) CallFault)
@@ -70,8 +70,8 @@ went_lands v r n e m result lands =
     (λ x. first_same x.past) in
     elim result as (λ result. Lands v result (stepped r n e m) → Went v result (λ x. (call x n e).run) r) [
       | Ok x ↦ λ lands. (stepped r n e m, leads r n e m, lands)
-      | Err faults.DiskFault ↦ λ lands. (stepped r n e m, leads r n e m, lands)
-      | Err faults.NoMemory ↦ λ lands. (stepped r n e m, passes, lands)
+      | Err (faults.Stop stops.DiskFault) ↦ λ lands. (stepped r n e m, leads r n e m, lands)
+      | Err (faults.Stop stops.NoMemory) ↦ λ lands. (stepped r n e m, passes, lands)
       | Err faults.Io ↦ λ lands. (stepped r n e m, passes, lands)
     ] lands
 
@@ -87,8 +87,8 @@ module _ {C : Type 0} (v : View C) (now : C) (held : Option (List ℕ)) (r : Run
     up = ap is_fault is ∙ up;
     history = history_on v now held r e m at.history leaves;
   }
-  landed o last (Err faults.DiskFault) stands is up whole wrote = absurd wrote
-  landed o last (Err faults.NoMemory) stands is up whole wrote = record {
+  landed o last (Err (faults.Stop stops.DiskFault)) stands is up whole wrote = absurd wrote
+  landed o last (Err (faults.Stop stops.NoMemory)) stands is up whole wrote = record {
     keeps = stands;
     out = at.wrote.out;
     wrote = rw wrote at.wrote.wrote;
@@ -124,7 +124,7 @@ module _ {C : Type 0} (v : View C) (now : C) (held : Option (List ℕ)) (r : Run
         → Refuses v.held held result (conn_in e) f
         → Lands (current_after v now held) result (stepped r (conn_in e) e m)
     refused_at (Ok x) durable fell refuses = refused_so (Ok x) refuses.1 refuses.0
-    refused_at (Err faults.DiskFault) durable fell refuses =
+    refused_at (Err (faults.Stop stops.DiskFault)) durable fell refuses =
         let down : (step r.state e m).outcome ≡ Refused (errors.Stop stops.DiskFault) = is ∙ ap Refused refuses.0 in
         record {
           wrote = written_on v held r e m at.history at.wrote ([], rw down refl, rw refuses.1 (appends_nothing v.held));
@@ -133,7 +133,8 @@ module _ {C : Type 0} (v : View C) (now : C) (held : Option (List ℕ)) (r : Run
           history = history_on v now held r e m at.history leaves;
           last = shows_last v now held r e m at.history durable leaves;
         }
-    refused_at (Err faults.NoMemory) durable fell refuses = refused_so (Err faults.NoMemory) refuses.1 refuses.0
+    refused_at (Err (faults.Stop stops.NoMemory)) durable fell refuses =
+        refused_so (Err (faults.Stop stops.NoMemory)) refuses.1 refuses.0
     refused_at (Err faults.Io) durable fell refuses = refused_so (Err faults.Io) refuses.1 refuses.0
 
 -- A CALL THAT GIVES NOTHING
@@ -178,8 +179,8 @@ module _ {C : Type 0} (v : View C) (now : C) (held : Option (List ℕ)) (r : Run
       elim result as (λ result. Tells v.held held result (conn_in e) given a.closes
       → Called (current_after v now held) (answered_as (Some a) result) (conn_in e) e r) [
         | Ok x ↦ λ tells. (s, gives.0, c, lands (Ok x) tells)
-        | Err faults.DiskFault ↦ λ tells. absurd tells
-        | Err faults.NoMemory ↦ λ tells. (s, o, c, lands (Err faults.NoMemory) tells)
+        | Err (faults.Stop stops.DiskFault) ↦ λ tells. absurd tells
+        | Err (faults.Stop stops.NoMemory) ↦ λ tells. (s, o, c, lands (Err (faults.Stop stops.NoMemory)) tells)
         | Err faults.Io ↦ λ tells. (s, o, c, lands (Err faults.Io) tells)
       ] tells
 
@@ -197,8 +198,9 @@ module _ {C : Type 0} (v : View C) (now : C) (held : Option (List ℕ)) (r : Run
       elim result as (λ result. Refuses v.held held result (conn_in e) f
       → Called (current_after v now held) (answered_as None result) (conn_in e) e r) [
         | Ok x ↦ λ refuses. (s, f, c, lands (Ok x) refuses)
-        | Err faults.DiskFault ↦ λ refuses.
-            (s, rw (← refuses.0) c, lands (Err faults.DiskFault) refuses)
-        | Err faults.NoMemory ↦ λ refuses. (s, Refused f, c, lands (Err faults.NoMemory) refuses)
+        | Err (faults.Stop stops.DiskFault) ↦ λ refuses.
+            (s, rw (← refuses.0) c, lands (Err (faults.Stop stops.DiskFault)) refuses)
+        | Err (faults.Stop stops.NoMemory) ↦ λ refuses.
+            (s, Refused f, c, lands (Err (faults.Stop stops.NoMemory)) refuses)
         | Err faults.Io ↦ λ refuses. (s, Refused f, c, lands (Err faults.Io) refuses)
       ] refuses

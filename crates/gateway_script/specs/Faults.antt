@@ -5,6 +5,5 @@ use Rattle.gateway_script.specs.declared.faults.ScriptFault.{ScriptFault}
 use Rattle.gateway_script.specs.declared.faults.ScriptFault.TheVariants as scripts
 
 abbrev pub script_fault : CallFault → ScriptFault
-script_fault calls.NoMemory = scripts.NoMemory
-script_fault calls.DiskFault = scripts.DiskFault
+script_fault (calls.Stop stop) = scripts.Stop stop
 script_fault calls.Io = scripts.Io

@@ -2,11 +2,12 @@
 use Rattle.std.specs.Prelude.{◌≡◌, ◌⊎◌, ℕ, Bool, List, [], ◌∷◌, ◌++◌, drop, codes, Option, Result, Ok, Err}
 use Rattle.std.specs.Fmt.{decimal}
 use Rattle.std.specs.Io.KnownBytes.{Appends}
+use Rattle.common.specs.declared.stop.Stop.TheVariants.{NoMemory, DiskFault}
 use Rattle.tus_action.specs.Serves.{Appends as Given}
 use Rattle.tus_session.specs.History.{State, Marked, Outcome, Gave, step, history, conn_in}
 use Rattle.gateway_script.specs.Script.{written}
 use Rattle.gateway_script.specs.declared.faults.CallFault.{CallFault}
-use Rattle.gateway_script.specs.declared.faults.CallFault.TheVariants.{NoMemory, DiskFault, Io}
+use Rattle.gateway_script.specs.declared.faults.CallFault.TheVariants.{Stop, Io}
 
 -- THE OUTPUT of the latest event
 abbrev pub last_output : State → List Marked → List ℕ
@@ -45,19 +46,19 @@ IsFirst first all = (later : List Marked) × (all ≡ later ++ first)
 -- What was written of these events by a run that was broken off: all, or nothing of the latest, where it was out of
 -- memory; and of the latest a prefix, where the writer failed
 abbrev pub BreaksOff : Bool → CallFault → State → List Marked → List ℕ → Type 0
-BreaksOff sure NoMemory st past out = Outputs sure st past out ⊎ Outputs sure st (drop 1 past) out
+BreaksOff sure (Stop NoMemory) st past out = Outputs sure st past out ⊎ Outputs sure st (drop 1 past) out
 BreaksOff sure Io st past out =
     (before : List ℕ) × (part : List ℕ) × (missing : List ℕ) × Outputs sure st (drop 1 past) before
     × LastOutput sure st past (part ++ missing) × (out ≡ before ++ part)
-BreaksOff sure DiskFault st past out = ⊥
+BreaksOff sure (Stop DiskFault) st past out = ⊥
 
 -- the same by the history's own output
 abbrev pub WroteMost : CallFault → State → List Marked → List ℕ → Type 0
-WroteMost NoMemory st past out = (out ≡ output_of st past) ⊎ (out ≡ output_of st (drop 1 past))
+WroteMost (Stop NoMemory) st past out = (out ≡ output_of st past) ⊎ (out ≡ output_of st (drop 1 past))
 WroteMost Io st past out =
     (part : List ℕ) × (missing : List ℕ) × (last_output st past ≡ part ++ missing) × (out ≡ output_of st
     (drop 1 past) ++ part)
-WroteMost DiskFault st past out = ⊥
+WroteMost (Stop DiskFault) st past out = ⊥
 
 -- a prefix part of the bytes was put after what was there
 abbrev pub AppendsPart : Option (List ℕ) → Option (List ℕ) → List ℕ → Type 0

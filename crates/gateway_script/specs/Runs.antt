@@ -14,7 +14,7 @@ use Rattle.gateway_script.specs.Script.{Run, Flow, flow, call, give_within, cut_
 use Rattle.gateway_script.specs.Script.{AtLine, is_fault, written, written_bytes, written_close, written_refusal}
 use Rattle.gateway_script.specs.Outputs.{IsFirst, output_of, Outputs, BreaksOff, AppendsPart}
 use Rattle.gateway_script.specs.declared.faults.CallFault.{CallFault}
-use Rattle.gateway_script.specs.declared.faults.CallFault.TheVariants.{DiskFault, NoMemory, Io}
+use Rattle.gateway_script.specs.declared.faults.CallFault.TheVariants.{Stop, Io}
 use Rattle.gateway_script.specs.declared.faults.ScriptFault.{ScriptFault}
 use Rattle.gateway_script.specs.declared.faults.ScriptFault.TheVariants as runs
 
@@ -108,20 +108,20 @@ Stops v fault past_of f r = (s : Run) × Passes past_of f r s × IsStopped v fau
 -- What a part of a script did to a run.
 abbrev pub Went : {C : Type 0} → View C → Result (Unit {0}) CallFault → (Run → Run) → Run → Type 0
 Went v (Ok x) f r = (s : Run) × Leads f r s × IsAt v s
-Went v (Err DiskFault) f r = (s : Run) × Leads f r s × IsDown v s
+Went v (Err (Stop stops.DiskFault)) f r = (s : Run) × Leads f r s × IsDown v s
 Went v (Err e) f r = Stops v e run_past f r
 
 -- the same of a part after which the line goes on or doesn't
 abbrev pub Flowed : {C : Type 0} → View C → Result Bool CallFault → (Run → Flow) → Run → Type 0
 Flowed v (Ok b) f r = (s : Run) × LeadsOn f r s b × IsAt v s
-Flowed v (Err DiskFault) f r = (s : Run) × LeadsOn f r s false × IsDown v s
+Flowed v (Err (Stop stops.DiskFault)) f r = (s : Run) × LeadsOn f r s false × IsDown v s
 Flowed v (Err e) f r = Stops v e flow_past f r
 
 -- a refusal is written; of the disk fault nothing
 abbrev pub Refuses : Option (List ℕ) → Option (List ℕ) → Result (Unit {0}) CallFault → ℕ → SessionError → Type 0
 Refuses old new (Ok x) n error = Appends old new (written_refusal n error) × (error ≡ errors.Stop stops.DiskFault → ⊥)
-Refuses old new (Err DiskFault) n error = (error ≡ errors.Stop stops.DiskFault) × (new ≡ old)
-Refuses old new (Err NoMemory) n error = (new ≡ old) × (error ≡ errors.Stop stops.DiskFault → ⊥)
+Refuses old new (Err (Stop stops.DiskFault)) n error = (error ≡ errors.Stop stops.DiskFault) × (new ≡ old)
+Refuses old new (Err (Stop stops.NoMemory)) n error = (new ≡ old) × (error ≡ errors.Stop stops.DiskFault → ⊥)
 Refuses old new (Err Io) n error =
     AppendsPart old new (written_refusal n error) × (error ≡ errors.Stop stops.DiskFault → ⊥)
 
@@ -148,14 +148,15 @@ abbrev pub Called : {C : Type 0} → View C → Result (Option Answer) CallFault
 Called v (Ok (Some a)) n e r = (s : Run) × (bytes : List ℕ) × Calls r n e s (Gave bytes a.taken a.closes a.more)
     × IsAt v s
 Called v (Ok None) n e r = (s : Run) × (f : SessionError) × Calls r n e s (Refused f) × IsAt v s
-Called v (Err DiskFault) n e r = (s : Run) × Calls r n e s (Refused (errors.Stop stops.DiskFault)) × IsDown v s
+Called v (Err (Stop stops.DiskFault)) n e r =
+    (s : Run) × Calls r n e s (Refused (errors.Stop stops.DiskFault)) × IsDown v s
 Called v (Err f) n e r = (s : Run) × (o : Outcome) × Calls r n e s o × IsStopped v f s
 
 -- what was given is written
 abbrev pub Tells : Option (List ℕ) → Option (List ℕ) → Result (Unit {0}) CallFault → ℕ → List ℕ → Bool → Type 0
 Tells old new (Ok x) n bytes closes = Appends old new (written_bytes n bytes ++ written_close n closes)
-Tells old new (Err DiskFault) n bytes closes = ⊥
-Tells old new (Err NoMemory) n bytes closes = new ≡ old
+Tells old new (Err (Stop stops.DiskFault)) n bytes closes = ⊥
+Tells old new (Err (Stop stops.NoMemory)) n bytes closes = new ≡ old
 Tells old new (Err Io) n bytes closes = AppendsPart old new (written_bytes n bytes ++ written_close n closes)
 
 -- One call with bytes of a line, and what follows it: the rest goes on after what was taken, or is dropped
@@ -163,7 +164,7 @@ abbrev pub GivenOnce : {C : Type 0} → View C → Result (Option ℕ) CallFault
 GivenOnce v (Ok (Some taken)) k n bytes r =
     (s : Run) × Reaches (give_within (suc k) n bytes) r (give_within k n (drop taken bytes)) s × IsAt v s
 GivenOnce v (Ok None) k n bytes r = (s : Run) × Leads (give_within (suc k) n bytes) r s × IsAt v s
-GivenOnce v (Err DiskFault) k n bytes r = (s : Run) × Leads (give_within (suc k) n bytes) r s × IsDown v s
+GivenOnce v (Err (Stop stops.DiskFault)) k n bytes r = (s : Run) × Leads (give_within (suc k) n bytes) r s × IsDown v s
 GivenOnce v (Err e) k n bytes r = Stops v e run_past (give_within (suc k) n bytes) r
 
 -- whether the line goes on after an answer: not told where a text is still to be given
@@ -174,15 +175,15 @@ settles (Some a) = if a.closes then Some false else if a.more then None else Som
 -- one of the open connections that are cut at the script's end, with so many after it
 abbrev pub CutOne : {C : Type 0} → View C → Result (Unit {0}) CallFault → ℕ → ℕ → Run → Type 0
 CutOne v (Ok x) k n r = (s : Run) × Reaches (cut_from (suc k) n) r (cut_from k (n + 1)) s × IsAt v s
-CutOne v (Err DiskFault) k n r = (s : Run) × Leads (cut_from (suc k) n) r s × IsDown v s
+CutOne v (Err (Stop stops.DiskFault)) k n r = (s : Run) × Leads (cut_from (suc k) n) r s × IsDown v s
 CutOne v (Err e) k n r = Stops v e run_past (cut_from (suc k) n) r
 
 -- how the lines end: all of them ran, or the disk failed, or a line is none, or the run was broken off
 abbrev pub Ends : {C : Type 0} → View C → Result (Unit {0}) ScriptFault → (Run → script.Result) → Run → Type 0
 Ends v (Ok x) f r = (s : Run) × Reaches f r (λ x. ended_as x Ran) s × IsAt v s
-Ends v (Err runs.DiskFault) f r = (s : Run) × Reaches f r (λ x. ended_as x Faulted) s × IsDown v s
+Ends v (Err (runs.Stop stops.DiskFault)) f r = (s : Run) × Reaches f r (λ x. ended_as x Faulted) s × IsDown v s
 Ends v (Err (runs.Script n)) f r = (s : Run) × Reaches f r (λ x. ended_as x (AtLine n)) s × IsAt v s
-Ends v (Err runs.NoMemory) f r = Stops v NoMemory script_past f r
+Ends v (Err (runs.Stop stops.NoMemory)) f r = Stops v (Stop stops.NoMemory) script_past f r
 Ends v (Err runs.Io) f r = Stops v Io script_past f r
 
 -- one line, with these after it

@@ -27,7 +27,7 @@ pub(crate) fn refused<W: CountedWrite>(
         SessionError::TooMany => 29,
         SessionError::Closed => 30,
         SessionError::Down => 31,
-        SessionError::Stop(Stop::DiskFault) => return Err(CallFault::DiskFault),
+        SessionError::Stop(Stop::DiskFault) => return Err(CallFault::Stop(Stop::DiskFault)),
     };
     let mut out = Vec::new(alloc);
     report_refusal(alloc, conn, number, &mut out)?;
@@ -61,7 +61,8 @@ pub(crate) fn open<C: Connections, W: CountedWrite>(
         → IsAt (view C.Connections sure before core.old st (W.contents writer.old) prefix) r
         → Went (view C.Connections sure before core.new st (W.contents writer.new) prefix) result
         (λ x. (call x conn (Opened conn)).run) r }
-    ensures counts { Counts (IsErrOf result CallFault.DiskFault) (C.failures core.old) (C.failures core.new) }
+    ensures counts { Counts (IsErrOf result (CallFault.Stop Stop.DiskFault)) (C.failures core.old)
+        (C.failures core.new) }
     ensures io { Counts (IsErrOf result CallFault.Io) (W.refusals writer.old) (W.refusals writer.new) }
 {
     match core.opened(conn) {
@@ -81,7 +82,8 @@ pub(crate) fn cut<C: Connections, W: CountedWrite>(
         → IsAt (view C.Connections sure before core.old st (W.contents writer.old) prefix) r
         → Went (view C.Connections sure before core.new st (W.contents writer.new) prefix) result
         (λ x. (call x conn (Ended conn)).run) r }
-    ensures counts { Counts (IsErrOf result CallFault.DiskFault) (C.failures core.old) (C.failures core.new) }
+    ensures counts { Counts (IsErrOf result (CallFault.Stop Stop.DiskFault)) (C.failures core.old)
+        (C.failures core.new) }
     ensures io { Counts (IsErrOf result CallFault.Io) (W.refusals writer.old) (W.refusals writer.new) }
 {
     match core.ended(conn) {
@@ -102,7 +104,8 @@ pub(crate) fn came<C: Connections, W: CountedWrite>(
         → IsAt (view C.Connections sure before core.old st (W.contents writer.old) prefix) r
         → Called (view C.Connections sure before core.new st (W.contents writer.new) prefix) result conn
         (Came conn bytes.now) r }
-    ensures counts { Counts (IsErrOf result CallFault.DiskFault) (C.failures core.old) (C.failures core.new) }
+    ensures counts { Counts (IsErrOf result (CallFault.Stop Stop.DiskFault)) (C.failures core.old)
+        (C.failures core.new) }
     ensures io { Counts (IsErrOf result CallFault.Io) (W.refusals writer.old) (W.refusals writer.new) }
 {
     let mut out = Vec::new(alloc);
@@ -128,7 +131,8 @@ pub(crate) fn more<C: Connections, W: CountedWrite>(
     ensures does { (sure : Bool) (before : C) (st : State) (r : Run) (prefix : Option (List ℕ))
         → IsAt (view C.Connections sure before core.old st (W.contents writer.old) prefix) r
         → Called (view C.Connections sure before core.new st (W.contents writer.new) prefix) result conn (More conn) r }
-    ensures counts { Counts (IsErrOf result CallFault.DiskFault) (C.failures core.old) (C.failures core.new) }
+    ensures counts { Counts (IsErrOf result (CallFault.Stop Stop.DiskFault)) (C.failures core.old)
+        (C.failures core.new) }
     ensures io { Counts (IsErrOf result CallFault.Io) (W.refusals writer.old) (W.refusals writer.new) }
 {
     let mut out = Vec::new(alloc);

@@ -3,15 +3,14 @@ ghost use Rattle.std.specs.Prelude.{◌≡◌};
 ghost use Rattle.gateway_script.specs.Faults.{script_fault};
 
 use crate::streams::Refused;
+use common::Stop;
 use std::alloc::AllocError;
 
 /// Why a call of a script's line isn't done.
 #[derive(Clone, Copy, Debug, PartialEq, Eq, Drop)]
 pub enum CallFault {
-    /// Out of memory outside the calls of the connections.
-    NoMemory,
-    /// The disk failed.
-    DiskFault,
+    /// Out of memory outside the calls of the connections, or the disk failed.
+    Stop(Stop),
     /// The writer refused.
     Io,
 }
@@ -19,10 +18,8 @@ pub enum CallFault {
 /// Why a run over uploads ends before its script does.
 #[derive(Clone, Copy, Debug, PartialEq, Eq, Drop)]
 pub enum ScriptFault {
-    /// Out of memory outside the calls of the connections.
-    NoMemory,
-    /// The disk failed.
-    DiskFault,
+    /// Out of memory outside the calls of the connections, or the disk failed.
+    Stop(Stop),
     /// The line of this number, counted from 1, is no line of a script, or it or the script is too long.
     Script(u64),
     /// The reader or the writer refused.
@@ -30,12 +27,13 @@ pub enum ScriptFault {
 }
 
 impl From<AllocError> for CallFault {
+    ghost use Rattle.common.specs.declared.stop.Stop.{Stop};
     ghost use Rattle.gateway_script.specs.declared.faults.CallFault.{CallFault};
 
-    ghost from_gives = { λ _ fault. fault ≡ CallFault.NoMemory };
+    ghost from_gives = { λ _ fault. fault ≡ CallFault.Stop Stop.NoMemory };
 
     fn from(_error: AllocError) -> CallFault {
-        CallFault::NoMemory
+        CallFault::Stop(Stop::NoMemory)
     }
 }
 
@@ -50,12 +48,13 @@ impl From<Refused> for ScriptFault {
 }
 
 impl From<AllocError> for ScriptFault {
+    ghost use Rattle.common.specs.declared.stop.Stop.{Stop};
     ghost use Rattle.gateway_script.specs.declared.faults.ScriptFault.{ScriptFault};
 
-    ghost from_gives = { λ _ fault. fault ≡ ScriptFault.NoMemory };
+    ghost from_gives = { λ _ fault. fault ≡ ScriptFault.Stop Stop.NoMemory };
 
     fn from(_error: AllocError) -> ScriptFault {
-        ScriptFault::NoMemory
+        ScriptFault::Stop(Stop::NoMemory)
     }
 }
 
@@ -64,8 +63,7 @@ impl From<CallFault> for ScriptFault {
 
     fn from(fault: CallFault) -> ScriptFault {
         match fault {
-            CallFault::NoMemory => ScriptFault::NoMemory,
-            CallFault::DiskFault => ScriptFault::DiskFault,
+            CallFault::Stop(stop) => ScriptFault::Stop(stop),
             CallFault::Io => ScriptFault::Io,
         }
     }

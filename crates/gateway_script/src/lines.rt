@@ -1,5 +1,6 @@
 //! The bytes of a line, given until all are taken.
 ghost use Rattle.std.specs.Prelude.{◌≡◌, ℕ, Bool, Option, List, [], length, drop, IsErrOf};
+ghost use Rattle.common.specs.declared.stop.Stop.{Stop};
 ghost use Rattle.upload_rules.specs.Answers.{Counts};
 ghost use Rattle.tus_session.specs.History.{State, Gave};
 ghost use Rattle.gateway_script.specs.Script.{Run, mores, mores_after, most_calls, give_within};
@@ -35,7 +36,8 @@ fn give_text<C: Connections, W: CountedWrite>(
         → Flowed (view C.Connections sure before core.new st (W.contents writer.new) prefix) result
         (mores most_calls conn)
         r }
-    ensures counts { Counts (IsErrOf result CallFault.DiskFault) (C.failures core.old) (C.failures core.new) }
+    ensures counts { Counts (IsErrOf result (CallFault.Stop Stop.DiskFault)) (C.failures core.old)
+        (C.failures core.new) }
     ensures io { Counts (IsErrOf result CallFault.Io) (W.refusals writer.old) (W.refusals writer.new) }
 {
     let mut left = u64::MAX;
@@ -62,7 +64,8 @@ fn go_on<C: Connections, W: CountedWrite>(
         → Flowed (view C.Connections sure before core.new st (W.contents writer.new) prefix) result
         (λ x. mores_after (mores most_calls conn)
         (record { run = x; outcome = Gave given answer.taken answer.closes answer.more })) r }
-    ensures counts { Counts (IsErrOf result CallFault.DiskFault) (C.failures core.old) (C.failures core.new) }
+    ensures counts { Counts (IsErrOf result (CallFault.Stop Stop.DiskFault)) (C.failures core.old)
+        (C.failures core.new) }
     ensures io { Counts (IsErrOf result CallFault.Io) (W.refusals writer.old) (W.refusals writer.new) }
 {
     match goes_on(Some(answer)) {
@@ -84,7 +87,8 @@ fn give_once<C: Connections, W: CountedWrite>(
         → IsAt (view C.Connections sure before core.old st (W.contents writer.old) prefix) r
         → GivenOnce (view C.Connections sure before core.new st
         (W.contents writer.new) prefix) result k conn bytes.now r }
-    ensures counts { Counts (IsErrOf result CallFault.DiskFault) (C.failures core.old) (C.failures core.new) }
+    ensures counts { Counts (IsErrOf result (CallFault.Stop Stop.DiskFault)) (C.failures core.old)
+        (C.failures core.new) }
     ensures io { Counts (IsErrOf result CallFault.Io) (W.refusals writer.old) (W.refusals writer.new) }
 {
     let Some(answer) = came(alloc, core, writer, conn, bytes)? else {
@@ -119,7 +123,8 @@ pub(crate) fn give<C: Connections, W: CountedWrite>(
         → IsAt (view C.Connections sure before core.old st (W.contents writer.old) prefix) r
         → Went (view C.Connections sure before core.new st (W.contents writer.new) prefix) result
         (give_within (length bytes.now) conn bytes.now) r }
-    ensures counts { Counts (IsErrOf result CallFault.DiskFault) (C.failures core.old) (C.failures core.new) }
+    ensures counts { Counts (IsErrOf result (CallFault.Stop Stop.DiskFault)) (C.failures core.old)
+        (C.failures core.new) }
     ensures io { Counts (IsErrOf result CallFault.Io) (W.refusals writer.old) (W.refusals writer.new) }
 {
     let mut rest = bytes;

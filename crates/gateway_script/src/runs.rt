@@ -1,6 +1,7 @@
 //! The lines of a script, one after another, and its end.
 ghost use Rattle.std.specs.Prelude.{◌≡◌, ◌≤◌, ℕ, Bool, Option, List, length, IsErrOf};
 ghost use Rattle.std.specs.Io.BufRead.{take_through};
+ghost use Rattle.common.specs.declared.stop.Stop.{Stop};
 ghost use Rattle.upload_rules.specs.Answers.{Counts};
 ghost use Rattle.tus_session.specs.History.{State};
 ghost use Rattle.gateway_script.specs.Script.{Run, obeyed, cut_from, run_lines, script_lines, is_long, is_bad};
@@ -36,7 +37,8 @@ fn obey<C: Connections, W: CountedWrite>(
         → IsAt (view C.Connections sure before core.old st (W.contents writer.old) prefix) r
         → Went (view C.Connections sure before core.new st (W.contents writer.new) prefix) result
         (obeyed (order_shown order.now)) r }
-    ensures counts { Counts (IsErrOf result CallFault.DiskFault) (C.failures core.old) (C.failures core.new) }
+    ensures counts { Counts (IsErrOf result (CallFault.Stop Stop.DiskFault)) (C.failures core.old)
+        (C.failures core.new) }
     ensures io { Counts (IsErrOf result CallFault.Io) (W.refusals writer.old) (W.refusals writer.new) }
 {
     match order {
@@ -57,7 +59,8 @@ fn cut_open<C: Connections, W: CountedWrite>(
     ensures does { (sure : Bool) (before : C) (st : State) (r : Run) (prefix : Option (List ℕ)) (k : ℕ)
         → IsAt (view C.Connections sure before core.old st (W.contents writer.old) prefix) r
         → CutOne (view C.Connections sure before core.new st (W.contents writer.new) prefix) result k conn r }
-    ensures counts { Counts (IsErrOf result CallFault.DiskFault) (C.failures core.old) (C.failures core.new) }
+    ensures counts { Counts (IsErrOf result (CallFault.Stop Stop.DiskFault)) (C.failures core.old)
+        (C.failures core.new) }
     ensures io { Counts (IsErrOf result CallFault.Io) (W.refusals writer.old) (W.refusals writer.new) }
 {
     match core.ended(conn) {
@@ -123,7 +126,8 @@ fn run_line<C: Connections, W: CountedWrite>(
         → LineRan (view C.Connections sure before core.new st
         (W.contents writer.new) prefix) result number start line.now
         lines r }
-    ensures counts { Counts (IsErrOf result ScriptFault.DiskFault) (C.failures core.old) (C.failures core.new) }
+    ensures counts { Counts (IsErrOf result (ScriptFault.Stop Stop.DiskFault)) (C.failures core.old)
+        (C.failures core.new) }
     ensures io { Counts (IsErrOf result ScriptFault.Io) (W.refusals writer.old) (W.refusals writer.new) }
 {
     if too_long(start, line) {
@@ -147,7 +151,8 @@ fn cut_all<C: Connections, W: CountedWrite>(
         → IsAt (view C.Connections sure before core.old st (W.contents writer.old) prefix) r
         → Went (view C.Connections sure before core.new st (W.contents writer.new) prefix) result
         (cut_from MOST_OPEN 0) r }
-    ensures counts { Counts (IsErrOf result CallFault.DiskFault) (C.failures core.old) (C.failures core.new) }
+    ensures counts { Counts (IsErrOf result (CallFault.Stop Stop.DiskFault)) (C.failures core.old)
+        (C.failures core.new) }
     ensures io { Counts (IsErrOf result CallFault.Io) (W.refusals writer.old) (W.refusals writer.new) }
 {
     let mut left = MOST_OPEN;
@@ -169,7 +174,8 @@ pub fn run_script<C: Connections, W: CountedWrite>(
         → IsAt (view C.Connections sure before core.old st (W.contents writer.old) prefix) r
         → Ends (view C.Connections sure before core.new st (W.contents writer.new) prefix) result
         (run_lines 1 0 (script_lines script.now)) r }
-    ensures counts { Counts (IsErrOf result ScriptFault.DiskFault) (C.failures core.old) (C.failures core.new) }
+    ensures counts { Counts (IsErrOf result (ScriptFault.Stop Stop.DiskFault)) (C.failures core.old)
+        (C.failures core.new) }
     ensures io { Counts (IsErrOf result ScriptFault.Io) (W.refusals writer.old) (W.refusals writer.new) }
 {
     let digits = HexDigits::new();

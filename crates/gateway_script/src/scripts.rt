@@ -1,6 +1,7 @@
 //! Reading a script.
 ghost use Rattle.std.specs.Prelude.{◌≡◌, ◌≤◌, ◌<◌, vec_len, IfOk, IfErr, IsErrOf, ◌⊎◌};
 ghost use Rattle.std.specs.Io.KnownBytes.{Consumes, IsAtEnd};
+ghost use Rattle.common.specs.declared.stop.Stop.{Stop};
 ghost use Rattle.upload_rules.specs.Answers.{Counts};
 ghost use Rattle.gateway_script.specs.Inputs.{TakesMost};
 ghost use Rattle.gateway_script.specs.Script.{IsScript};
@@ -19,12 +20,12 @@ const PIECE: usize = 8192;
 ///
 /// # Errors
 ///
-/// `NoMemory` when out of memory, and `Io` exactly where a read is.
+/// `Stop(NoMemory)` when out of memory, and `Io` exactly where a read is.
 pub fn read_script<R: CountedRead>(alloc: Global, reader: &mut R) -> Result<Vec<u8>, ScriptFault>
     ensures ok { IfOk result (λ script. IsScript (R.remaining reader.old) script.items) }
     ensures most { IfOk result (λ script. vec_len script ≤ 1073741825) }
     ensures taken { TakesMost 1073741825 (R.remaining reader.old) (R.remaining reader.new) }
-    ensures err { IfErr result (λ fault. (fault ≡ ScriptFault.NoMemory) ⊎ (fault ≡ ScriptFault.Io)) }
+    ensures err { IfErr result (λ fault. (fault ≡ ScriptFault.Stop Stop.NoMemory) ⊎ (fault ≡ ScriptFault.Io)) }
     ensures io { Counts (IsErrOf result ScriptFault.Io) (R.refusals reader.old) (R.refusals reader.new) }
 {
     read_up_to(alloc, reader, MOST_READ)
@@ -40,7 +41,7 @@ fn read_up_to<R: CountedRead>(
     ensures end { IfOk result (λ read. vec_len read < most → IsAtEnd (R.remaining reader.new)) }
     ensures most { IfOk result (λ read. vec_len read ≤ most) }
     ensures taken { TakesMost most (R.remaining reader.old) (R.remaining reader.new) }
-    ensures err { IfErr result (λ fault. (fault ≡ ScriptFault.NoMemory) ⊎ (fault ≡ ScriptFault.Io)) }
+    ensures err { IfErr result (λ fault. (fault ≡ ScriptFault.Stop Stop.NoMemory) ⊎ (fault ≡ ScriptFault.Io)) }
     ensures io { Counts (IsErrOf result ScriptFault.Io) (R.refusals reader.old) (R.refusals reader.new) }
 {
     let mut read = Vec::new(alloc);

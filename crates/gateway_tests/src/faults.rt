@@ -6,7 +6,9 @@ use crate::stories::{
     ONE_WINNER, PATCH_OF_A_DELETED,
 };
 use crate::talks::{Files, Step, Talk, put_upload, with_files};
+use common::Stop;
 use enc_index::Kind;
+use gateway_engine::ScriptFault;
 use gateway_rounds::RunFault;
 use spool_disk::{Crash, FuseDisk, HiccupDisk, MemoryDisk};
 use spool_image::{OpenFault, Spool};
@@ -120,7 +122,7 @@ fn stopped(rt: &impl Abort, alloc: Global, disk: MemoryDisk, calls: u64) -> Memo
     match Spool::open(alloc, FuseDisk::new(disk, calls)) {
         Ok(_spool) => panic!(rt; "opened with {calls} calls"),
         Err((disk, fault)) => {
-            assert_eq!(rt; fault, OpenFault::DiskFault);
+            assert_eq!(rt; fault, OpenFault::Stop(Stop::DiskFault));
             disk.into_inner()
         }
     }
@@ -130,8 +132,8 @@ fn stopped(rt: &impl Abort, alloc: Global, disk: MemoryDisk, calls: u64) -> Memo
 fn is_disk_fault(rt: &impl Abort, fault: Option<RunFault>, call: u64) -> bool {
     match fault {
         Some(fault) => {
-            let device = fault == RunFault::DiskFault
-                || fault == RunFault::Open(OpenFault::DiskFault);
+            let device = fault == RunFault::Script(ScriptFault::Stop(Stop::DiskFault))
+                || fault == RunFault::Open(OpenFault::Stop(Stop::DiskFault));
             assert!(rt; device, "at {call}");
             true
         }

@@ -11,6 +11,7 @@ use crate::talks::{Files, Talk, fresh, with_files};
 use common::{MOST_LENGTH, SLOTS};
 use enc_index::Kind;
 use enc_model::Encoding;
+use gateway_engine::ScriptFault;
 use gateway_files::list_on;
 use gateway_rounds::RunFault;
 use std::alloc::Global;
@@ -490,7 +491,7 @@ fn line_that_is_none_ends_a_script(rt: HostRuntime) {
     let steps = [Line("came 4 00"), Line("opne 1"), Told("! 4 30")];
     let talk = Talk::new(&rt, rt.alloc(), &steps);
     let disk = fresh(&rt, rt.alloc(), 32, None);
-    let refused = Some(RunFault::Script(2));
+    let refused = Some(RunFault::Script(ScriptFault::Script(2)));
     drop(ends(&rt, rt.alloc(), "a line", &talk, disk, refused));
 }
 

@@ -1,6 +1,7 @@
 //! Runs of scripts over spools in memory, and openings of such spools.
 
 use crate::talks::Talk;
+use common::Stop;
 use gateway_engine::{Gateway, run};
 use gateway_rounds::RunFault;
 use spool_disk::{Disk, FuseDisk, MemoryDisk};
@@ -70,7 +71,7 @@ pub(crate) fn calls_of_opening(rt: &impl Abort, alloc: Global, disk: MemoryDisk)
         match Spool::open(alloc, FuseDisk::new(disk, calls)) {
             Ok(spool) => disk = spool.into_disk().into_inner(),
             Err((left, fault)) => {
-                assert_eq!(rt; fault, OpenFault::DiskFault);
+                assert_eq!(rt; fault, OpenFault::Stop(Stop::DiskFault));
                 disk = left.into_inner();
                 few = calls;
             }

@@ -1,5 +1,6 @@
 //! The program's messages and exit statuses.
 
+use common::Stop;
 use enc_index::ReadError;
 use gateway_files::{Failure, Fault, Noted, ended};
 use std::alloc::Global;
@@ -46,7 +47,7 @@ fn failures_are_told(rt: HostRuntime) {
         (Fault::AlreadySpool, 2, "refused: 13 AlreadySpool\n"),
         (Fault::InUse, 2, "refused: 38 InUse\n"),
         (Fault::CannotOpen, 2, "refused: 39 CannotOpen\n"),
-        (Fault::DiskFault, 3, "device fault\n"),
+        (Fault::Stop(Stop::DiskFault), 3, "device fault\n"),
     ] {
         tells(&rt, alloc, Failure::from(fault), status, said);
     }

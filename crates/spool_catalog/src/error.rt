@@ -1,6 +1,7 @@
 //! Why a spool is not opened, and why what was read is not kept.
 ghost use Rattle.std.specs.Prelude.{◌≡◌};
 
+use common::Stop;
 use spool_disk::DiskFault;
 use spool_journal::RecoverError;
 use spool_pages::Damaged;
@@ -14,27 +15,25 @@ pub enum OpenFault {
     /// shorter than its layout.
     #[error("the disk is no spool")]
     NotASpool,
-    /// The disk failed in this call.
-    #[error("the disk failed")]
-    DiskFault,
     /// The bytes are none that are ever written to a spool.
     #[error("the spool is damaged")]
     Damaged,
     /// The spool has another version.
     #[error("the spool has another version")]
     Version,
-    /// Out of memory.
-    #[error("no memory is left")]
-    NoMemory,
+    /// Out of memory, or a disk fault.
+    #[error(transparent)]
+    Stop(Stop),
 }
 
 impl From<DiskFault> for OpenFault {
+    ghost use Rattle.common.specs.declared.stop.Stop.{Stop};
     ghost use Rattle.spool_catalog.specs.declared.error.OpenFault.{OpenFault};
 
-    ghost from_gives = { λ _ fault. fault ≡ OpenFault.DiskFault };
+    ghost from_gives = { λ _ fault. fault ≡ OpenFault.Stop Stop.DiskFault };
 
     fn from(_fault: DiskFault) -> OpenFault {
-        OpenFault::DiskFault
+        OpenFault::Stop(Stop::DiskFault)
     }
 }
 
@@ -45,7 +44,7 @@ impl From<RecoverError> for OpenFault {
 
     fn from(error: RecoverError) -> OpenFault {
         match error {
-            RecoverError::DiskFault => OpenFault::DiskFault,
+            RecoverError::DiskFault => OpenFault::Stop(Stop::DiskFault),
             RecoverError::Damaged => OpenFault::Damaged,
         }
     }

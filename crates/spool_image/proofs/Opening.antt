@@ -1,8 +1,9 @@
 -- From the answer of an opening to that of what opens.
 use Rattle.std.proofs.Common.{ℕ, None, Some}
+use Rattle.common.specs.declared.stop.Stop.TheVariants.{NoMemory}
 use Rattle.spool_catalog.specs.Holding.{Holding}
 use Rattle.spool_catalog.specs.declared.error.OpenFault.{OpenFault}
-use Rattle.spool_catalog.specs.declared.error.OpenFault.TheVariants.{NotASpool, Damaged, Version, NoMemory}
+use Rattle.spool_catalog.specs.declared.error.OpenFault.TheVariants.{NotASpool, Damaged, Version, Stop}
 use Rattle.spool_load.specs.Loaded.{OpenedFrom}
 use Rattle.spool_load.specs.Refusals.{IsNoSpool, HasOtherVersion, IsDamaged, RefusedFor}
 use Rattle.spool_image.specs.Opening.{IsRefusedAs, OpensExactly}
@@ -35,7 +36,7 @@ module _ {size : ℕ} {current : ℕ → ℕ} where
   -- it was opened, and then memory ran out
   pub exhausted_exactly : (IsNoSpool size current → ⊥) → (HasOtherVersion size current → ⊥)
       → (IsDamaged size current → ⊥)
-      → OpensExactly size current (Some NoMemory)
+      → OpensExactly size current (Some (Stop NoMemory))
   exhausted_exactly spool known whole =
-      refused_exactly NoMemory tt (λ no. absurd (spool no)) (λ other. absurd (known other))
+      refused_exactly (Stop NoMemory) tt (λ no. absurd (spool no)) (λ other. absurd (known other))
       (λ damaged. absurd (whole damaged))

@@ -1,10 +1,11 @@
 -- At most one reason of a refusal holds, and none of a valid spool.
 use Rattle.std.proofs.Common.{◌≡◌, ◌⊎◌, inl, inr, ℕ, refl, subst, ap, arith}
+use Rattle.common.specs.declared.stop.Stop.TheVariants.{NoMemory, DiskFault}
 use Rattle.spool_journal.specs.declared.TheConstants.{PAGE}
 use Rattle.spool_journal.specs.Image.{overlaid}
 use Rattle.spool_pages.specs.View.{state_place, version_number}
 use Rattle.spool_catalog.specs.declared.error.OpenFault.{OpenFault}
-use Rattle.spool_catalog.specs.declared.error.OpenFault.TheVariants.{NotASpool, DiskFault, Damaged, Version, NoMemory}
+use Rattle.spool_catalog.specs.declared.error.OpenFault.TheVariants.{NotASpool, Damaged, Version, Stop}
 use Rattle.spool_catalog.specs.Holding.{Holding}
 use Rattle.spool_load.specs.Loaded.{OpenedFrom}
 use Rattle.spool_load.specs.Reads.{SaysBlocks}
@@ -19,12 +20,12 @@ use Rattle.spool_load.proofs.Refused.{known_stands, says_one, version_one, versi
 
 -- the error is this fault, `NoMemory` or `DiskFault`, if each other error would be this fault
 told_as : (e fault : OpenFault) → (e ≡ NotASpool → e ≡ fault) → (e ≡ Version → e ≡ fault) → (e ≡ Damaged → e ≡ fault)
-    → (e ≡ fault) ⊎ (e ≡ NoMemory) ⊎ (e ≡ DiskFault)
+    → (e ≡ fault) ⊎ (e ≡ Stop NoMemory) ⊎ (e ≡ Stop DiskFault)
 told_as NotASpool fault no_spool version damaged = inl (no_spool refl)
 told_as Version fault no_spool version damaged = inl (version refl)
 told_as Damaged fault no_spool version damaged = inl (damaged refl)
-told_as NoMemory fault no_spool version damaged = inr (inl refl)
-told_as DiskFault fault no_spool version damaged = inr (inr refl)
+told_as (Stop NoMemory) fault no_spool version damaged = inr (inl refl)
+told_as (Stop DiskFault) fault no_spool version damaged = inr (inr refl)
 
 module _ (size : ℕ) (current : ℕ → ℕ) where
   -- the version of a disk doesn't depend on how its number of blocks is named
@@ -76,20 +77,20 @@ module _ (size : ℕ) (current : ℕ → ℕ) where
   given e fault reason is = subst (RefusedFor size current) is reason
 
   pub told_no_spool : (e : OpenFault) → RefusedFor size current e → IsNoSpool size current
-      → (e ≡ NotASpool) ⊎ (e ≡ NoMemory) ⊎ (e ≡ DiskFault)
+      → (e ≡ NotASpool) ⊎ (e ≡ Stop NoMemory) ⊎ (e ≡ Stop DiskFault)
   told_no_spool e reason none =
       told_as e NotASpool (λ is. is)
       (λ is. let other = given e Version reason is in absurd (none other.blocks other.says))
       (λ is. let damaged = given e Damaged reason is in absurd (none damaged.blocks damaged.says))
 
   pub told_version : (e : OpenFault) → RefusedFor size current e → HasOtherVersion size current
-      → (e ≡ Version) ⊎ (e ≡ NoMemory) ⊎ (e ≡ DiskFault)
+      → (e ≡ Version) ⊎ (e ≡ Stop NoMemory) ⊎ (e ≡ Stop DiskFault)
   told_version e reason other =
       told_as e Version (λ is. absurd (given e NotASpool reason is other.blocks other.says)) (λ is. is)
       (λ is. absurd (other_not_damaged other (given e Damaged reason is)))
 
   pub told_damaged : (e : OpenFault) → RefusedFor size current e → IsDamaged size current
-      → (e ≡ Damaged) ⊎ (e ≡ NoMemory) ⊎ (e ≡ DiskFault)
+      → (e ≡ Damaged) ⊎ (e ≡ Stop NoMemory) ⊎ (e ≡ Stop DiskFault)
   told_damaged e reason damaged =
       told_as e Damaged (λ is. absurd (given e NotASpool reason is damaged.blocks damaged.says))
       (λ is. absurd (other_not_damaged (given e Version reason is) damaged)) (λ is. is)
@@ -98,9 +99,10 @@ module _ (size : ℕ) (current : ℕ → ℕ) where
 
   -- it is refused so, or for memory or by the disk
   abbrev pub Upgrades : UpgradeError → UpgradeError → Type 0
-  Upgrades e error = (e ≡ error) ⊎ (e ≡ Open NoMemory) ⊎ (e ≡ Open DiskFault)
+  Upgrades e error = (e ≡ error) ⊎ (e ≡ Open (Stop NoMemory)) ⊎ (e ≡ Open (Stop DiskFault))
 
-  opens : (e fault : OpenFault) → (e ≡ fault) ⊎ (e ≡ NoMemory) ⊎ (e ≡ DiskFault) → Upgrades (Open e) (Open fault)
+  opens : (e fault : OpenFault) → (e ≡ fault) ⊎ (e ≡ Stop NoMemory) ⊎ (e ≡ Stop DiskFault)
+      → Upgrades (Open e) (Open fault)
   opens e fault (inl is) = inl (ap Open is)
   opens e fault (inr (inl is)) = inr (inl (ap Open is))
   opens e fault (inr (inr is)) = inr (inr (ap Open is))
@@ -109,8 +111,7 @@ module _ (size : ℕ) (current : ℕ → ℕ) where
   plain_reason NotASpool is = is
   plain_reason Version is = is
   plain_reason Damaged is = is.0
-  plain_reason NoMemory is = tt
-  plain_reason DiskFault is = tt
+  plain_reason (Stop stop) is = tt
 
   new_is_known : IsAlreadyNew size current → HasOtherVersion size current → ⊥
   new_is_known new other =
@@ -137,5 +138,5 @@ module _ (size : ℕ) (current : ℕ → ℕ) where
   upgrade_new (Open NotASpool) reason new = absurd (reason new.blocks new.says)
   upgrade_new (Open Version) reason new = absurd (new_is_known new reason)
   upgrade_new (Open Damaged) reason new = absurd (reason.1 new)
-  upgrade_new (Open NoMemory) reason new = inr (inl refl)
-  upgrade_new (Open DiskFault) reason new = inr (inr refl)
+  upgrade_new (Open (Stop NoMemory)) reason new = inr (inl refl)
+  upgrade_new (Open (Stop DiskFault)) reason new = inr (inr refl)

@@ -4,6 +4,7 @@ use Rattle.std.proofs.Common.{⊎_elim, length}
 use Rattle.std.specs.Result.{IsErrAnd, result_err}
 use Rattle.std.proofs.lemmas.Option.{same_Some}
 use Rattle.std.proofs.Common.{arith}
+use Rattle.common.specs.declared.stop.Stop.TheVariants.{NoMemory, DiskFault}
 use Rattle.spool_journal.specs.declared.TheConstants.{PAGE}
 use Rattle.spool_disk.specs.Disk.{IsImage}
 use Rattle.spool_disk.specs.Views.{Lasts}
@@ -21,7 +22,7 @@ use Rattle.spool_pages.specs.declared.version.Version.TheVariants.{One, Two}
 use Rattle.spool_pages.proofs.Resting.{rests_image, shut_is}
 use Rattle.spool_catalog.specs.Shows.{ImageShows, IsValid}
 use Rattle.spool_catalog.specs.declared.error.OpenFault.{OpenFault}
-use Rattle.spool_catalog.specs.declared.error.OpenFault.TheVariants.{NotASpool, DiskFault, Damaged, NoMemory}
+use Rattle.spool_catalog.specs.declared.error.OpenFault.TheVariants.{NotASpool, Damaged, Stop}
 use Rattle.spool_catalog.specs.declared.error.OpenFault.TheVariants as faults
 use Rattle.spool_catalog.specs.Loads.{LoadsAs}
 use Rattle.spool_catalog.proofs.Upgraded.{upgraded_shows}
@@ -149,8 +150,7 @@ pub old_reason : (size : ℕ) (current : ℕ → ℕ) (e : OpenFault) → (e ≡
 old_reason size current NotASpool old is = is
 old_reason size current faults.Version old is = is
 old_reason size current Damaged old is = (is, old refl)
-old_reason size current NoMemory old is = tt
-old_reason size current DiskFault old is = tt
+old_reason size current (Stop stop) old is = tt
 
 -- nor is why it isn't found another one
 pub unfound_upgrade : (size : ℕ) (current : ℕ → ℕ) (e : OpenFault) → NotFoundFor size current e
@@ -162,23 +162,23 @@ unfound_upgrade size current Damaged why = (
   λ new. why.bad (subst (λ (k : ℕ). HasJournal k current)
       (says_one size current new.blocks why.blocks new.says why.says) new.journal),
 )
-unfound_upgrade size current NoMemory why = absurd why
-unfound_upgrade size current DiskFault why = tt
+unfound_upgrade size current (Stop NoMemory) why = absurd why
+unfound_upgrade size current (Stop DiskFault) why = tt
 
 -- a spool that a read shows is found, unless the disk fails
 pub unfound_disk_fault : {T : Type 0} (size : ℕ) (current : ℕ → ℕ) (e : OpenFault) (P : T → Type 0)
-    → LoadsAs {T = T} (Err e) P → NotFoundFor size current e → e ≡ DiskFault
+    → LoadsAs {T = T} (Err e) P → NotFoundFor size current e → e ≡ Stop DiskFault
 unfound_disk_fault size current NotASpool P h why = absurd h
 unfound_disk_fault size current faults.Version P h why = absurd h
 unfound_disk_fault size current Damaged P h why = absurd h
-unfound_disk_fault size current NoMemory P h why = absurd why
-unfound_disk_fault size current DiskFault P h why = refl
+unfound_disk_fault size current (Stop NoMemory) P h why = absurd why
+unfound_disk_fault size current (Stop DiskFault) P h why = refl
 
 pub loads_upgrades : {T : Type 0} (U : Type 0) (version : Version) (e : OpenFault) (P : T → Type 0)
     → LoadsAs {T = T} (Err e) P
     → UpgradesOf {T = U} version (Err (Open e))
-loads_upgrades U version NoMemory P h = inr (inl refl)
-loads_upgrades U version DiskFault P h = inr (inr refl)
+loads_upgrades U version (Stop NoMemory) P h = inr (inl refl)
+loads_upgrades U version (Stop DiskFault) P h = inr (inr refl)
 loads_upgrades U version NotASpool P h = absurd h
 loads_upgrades U version Damaged P h = absurd h
 loads_upgrades U version faults.Version P h = absurd h
@@ -190,9 +190,9 @@ other_old Two not = absurd (not refl)
 -- after an upgrade each image shows the same, unless the disk failed
 pub after_shows : {D : Type 0} (disk : Ghosts D) (d' : D) (n : ℕ) (m : Store) (v : View)
     (r : Result (Unit {0}) UpgradeError) → v.blocks ≡ n → disk.honest d' → PAGE * all_pages n ≤ disk.size d'
-    → (r ≡ Err (Open DiskFault) → ⊥)
+    → (r ≡ Err (Open (Stop DiskFault)) → ⊥)
     → OnOk r (Rests (upgraded v) (disk.current d') (disk.unsynced d'))
-    → IfErr r (λ e. (e ≡ Open DiskFault → ⊥) → Rests v (disk.current d') (disk.unsynced d'))
+    → IfErr r (λ e. (e ≡ Open (Stop DiskFault) → ⊥) → Rests v (disk.current d') (disk.unsynced d'))
     → ((image : ℕ → ℕ) → IsViewOf image v → ImageShows n image m)
     → ((image : ℕ → ℕ) → IsViewOf image (upgraded v) → ImageShows n image m) → AllShow disk d' n m
 after_shows disk d' n m v (Ok t) same honest room fine done stays old new =

@@ -1,10 +1,11 @@
 -- Opening a disk, whatever is on it.
 use Rattle.std.specs.Prelude.{◌≡◌, ◌⊎◌, ℕ, ◌*◌, ◌≤◌, Option, None, Some, IfSome, Result, Ok, Err}
+use Rattle.common.specs.declared.stop.Stop.TheVariants.{NoMemory, DiskFault}
 use Rattle.spool_journal.specs.declared.TheConstants.{PAGE}
 use Rattle.spool_journal.specs.Image.{all_pages}
 use Rattle.spool_catalog.specs.Shows.{IsValid}
 use Rattle.spool_catalog.specs.declared.error.OpenFault.{OpenFault}
-use Rattle.spool_catalog.specs.declared.error.OpenFault.TheVariants.{NotASpool, DiskFault, Damaged, Version, NoMemory}
+use Rattle.spool_catalog.specs.declared.error.OpenFault.TheVariants.{NotASpool, Damaged, Version, Stop}
 pub use Rattle.spool_load.specs.Recovered.{ReadsSame, Unwritten}
 use Rattle.spool_load.specs.Refusals.{IsNoSpool, HasOtherVersion, IsDamaged, RefusedFor}
 use Rattle.spool_pages.specs.View.{View, IsViewOf}
@@ -26,7 +27,7 @@ refusal_of (Err e) = Some e.1
 -- The error is this one, or out of memory, or a disk fault.
 abbrev pub IsRefusedAs : Option OpenFault → OpenFault → Type 0
 IsRefusedAs None fault = ⊥
-IsRefusedAs (Some e) fault = (e ≡ fault) ⊎ (e ≡ NoMemory) ⊎ (e ≡ DiskFault)
+IsRefusedAs (Some e) fault = (e ≡ fault) ⊎ (e ≡ Stop NoMemory) ⊎ (e ≡ Stop DiskFault)
 
 -- What is opened is a valid spool, each error has its reason, and each reason leads to its error, unless memory or the
 -- disk refuses.

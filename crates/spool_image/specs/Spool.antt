@@ -1,8 +1,9 @@
 -- An opened spool, and what it stands for.
 use Rattle.std.specs.Prelude.{◌≡◌, ◌⊎◌, ℕ, Bool, Result, Ok, Err}
+use Rattle.common.specs.declared.stop.Stop.TheVariants.{NoMemory, DiskFault}
 use Rattle.spool_disk.specs.declared.disk.Disk.{Ghosts}
 use Rattle.spool_catalog.specs.declared.error.OpenFault.{OpenFault}
-use Rattle.spool_catalog.specs.declared.error.OpenFault.TheVariants.{DiskFault, NoMemory}
+use Rattle.spool_catalog.specs.declared.error.OpenFault.TheVariants.{Stop}
 use Rattle.spool_image.specs.declared.spool.Spool.{Spool}
 use Rattle.spool_load.specs.Loaded.{OpenedFrom}
 use Rattle.spool_pages.specs.View.{View}
@@ -39,7 +40,7 @@ disk_after (Err e) = e.0
 -- There was a disk fault.
 abbrev pub IsFault : {D S : Type 0} → Result S (D × OpenFault) → Type 0
 IsFault (Ok s) = ⊥
-IsFault (Err e) = e.1 ≡ DiskFault
+IsFault (Err e) = e.1 ≡ Stop DiskFault
 
 -- It is opened, or refused when out of memory or at a disk fault.
 abbrev pub OpensAs : {D S : Type 0} → Result S (D × OpenFault) → (S → Type 0) → Type 0
@@ -49,4 +50,4 @@ OpensAs {S = S} (Err e) done = LoadsAs {T = S} (Err e.1) done
 -- It is refused with this error, or when out of memory, or at a disk fault.
 abbrev pub RefusesAs : {D S : Type 0} → Result S (D × OpenFault) → OpenFault → Type 0
 RefusesAs (Ok s) fault = ⊥
-RefusesAs (Err e) fault = (e.1 ≡ fault) ⊎ (e.1 ≡ NoMemory) ⊎ (e.1 ≡ DiskFault)
+RefusesAs (Err e) fault = (e.1 ≡ fault) ⊎ (e.1 ≡ Stop NoMemory) ⊎ (e.1 ≡ Stop DiskFault)

@@ -1,10 +1,11 @@
 -- The upgrade to version 2: its effect and its errors.
 use Rattle.std.specs.Prelude.{◌≡◌, ◌⊎◌, ℕ, ◌*◌, ◌≤◌, List, length, Result, Ok, Err}
+use Rattle.common.specs.declared.stop.Stop.TheVariants.{NoMemory, DiskFault}
 use Rattle.spool_journal.specs.declared.TheConstants.{PAGE}
 use Rattle.spool_journal.specs.Image.{all_pages, journal_pages, laid, overlaid, InArea}
 use Rattle.spool_journal.specs.Phases.{Settled}
 use Rattle.spool_catalog.specs.Shows.{IsValid}
-use Rattle.spool_catalog.specs.declared.error.OpenFault.TheVariants.{DiskFault, Damaged, NoMemory}
+use Rattle.spool_catalog.specs.declared.error.OpenFault.TheVariants.{Damaged, Stop}
 use Rattle.spool_load.specs.Reads.{SaysBlocks}
 use Rattle.spool_load.specs.Refusals.{HasJournal, IsDamaged, NamesVersion, RefusedFor}
 use Rattle.spool_pages.specs.Changes.{Changes, upgraded}
@@ -56,14 +57,14 @@ UpgradeRefusedFor size current (Open fault) = RefusedFor size current fault
 -- It is refused with this error, or when out of memory, or at a disk fault.
 abbrev pub RefusesUpgradeAs : {T : Type 0} → Result T UpgradeError → UpgradeError → Type 0
 RefusesUpgradeAs (Ok t) error = ⊥
-RefusesUpgradeAs (Err e) error = (e ≡ error) ⊎ (e ≡ Open NoMemory) ⊎ (e ≡ Open DiskFault)
+RefusesUpgradeAs (Err e) error = (e ≡ error) ⊎ (e ≡ Open (Stop NoMemory)) ⊎ (e ≡ Open (Stop DiskFault))
 
 -- Version 1 is upgraded and version 2 refused, unless memory or the disk refuses.
 abbrev pub UpgradesOf : {T : Type 0} → Version → Result T UpgradeError → Type 0
 UpgradesOf version (Ok t) = version ≡ One
 UpgradesOf version (Err e) =
-    ((version ≡ Two) × (e ≡ AlreadyNew)) ⊎ (e ≡ Open NoMemory) ⊎ (e ≡ Open DiskFault)
+    ((version ≡ Two) × (e ≡ AlreadyNew)) ⊎ (e ≡ Open (Stop NoMemory)) ⊎ (e ≡ Open (Stop DiskFault))
 
 -- It is refused when out of memory or at a disk fault.
 abbrev pub IsLateRefusal : UpgradeError → Type 0
-IsLateRefusal e = (e ≡ Open NoMemory) ⊎ (e ≡ Open DiskFault)
+IsLateRefusal e = (e ≡ Open (Stop NoMemory)) ⊎ (e ≡ Open (Stop DiskFault))

@@ -1,6 +1,7 @@
 //! The errors of formatting and upgrading.
 ghost use Rattle.std.specs.Prelude.{◌≡◌};
 
+use common::Stop;
 use spool_catalog::OpenFault;
 use spool_disk::DiskFault;
 use spool_load::LoadError;
@@ -64,23 +65,25 @@ impl From<LoadError> for UpgradeError {
 }
 
 impl From<DiskFault> for UpgradeError {
-    ghost use Rattle.spool_image.specs.declared.error.UpgradeError.{UpgradeError};
+    ghost use Rattle.common.specs.declared.stop.Stop.{Stop};
     ghost use Rattle.spool_catalog.specs.declared.error.OpenFault.{OpenFault};
+    ghost use Rattle.spool_image.specs.declared.error.UpgradeError.{UpgradeError};
 
-    ghost from_gives = { λ _ error. error ≡ UpgradeError.Open OpenFault.DiskFault };
+    ghost from_gives = { λ _ error. error ≡ UpgradeError.Open (OpenFault.Stop Stop.DiskFault) };
 
     fn from(_fault: DiskFault) -> UpgradeError {
-        UpgradeError::Open(OpenFault::DiskFault)
+        UpgradeError::Open(OpenFault::Stop(Stop::DiskFault))
     }
 }
 
 impl From<AllocError> for UpgradeError {
-    ghost use Rattle.spool_image.specs.declared.error.UpgradeError.{UpgradeError};
+    ghost use Rattle.common.specs.declared.stop.Stop.{Stop};
     ghost use Rattle.spool_catalog.specs.declared.error.OpenFault.{OpenFault};
+    ghost use Rattle.spool_image.specs.declared.error.UpgradeError.{UpgradeError};
 
-    ghost from_gives = { λ _ error. error ≡ UpgradeError.Open OpenFault.NoMemory };
+    ghost from_gives = { λ _ error. error ≡ UpgradeError.Open (OpenFault.Stop Stop.NoMemory) };
 
     fn from(_error: AllocError) -> UpgradeError {
-        UpgradeError::Open(OpenFault::NoMemory)
+        UpgradeError::Open(OpenFault::Stop(Stop::NoMemory))
     }
 }

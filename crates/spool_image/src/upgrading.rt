@@ -1,5 +1,6 @@
 //! Upgrading a spool to version 2.
 ghost use Rattle.std.specs.Prelude.{◌≡◌, ◌⊎◌, ◌≤◌, ◌*◌, ◌↔◌, ℕ, Err, IfOk, IfErr, OnOk};
+ghost use Rattle.common.specs.declared.stop.Stop.{Stop};
 ghost use Rattle.spool_disk.specs.Disk.{Counts, IsImage, Keeps};
 ghost use Rattle.spool_disk.specs.Views.{Lasts};
 ghost use Rattle.spool_journal.specs.Image.{all_pages, journal_pages, overlaid};
@@ -32,7 +33,7 @@ use std::alloc::Global;
 fn load_old<D: Disk>(alloc: Global, disk: &mut D) -> Result<Kept, UpgradeError>
     ensures size { D.size disk.new ≡ D.size disk.old }
     ensures honest { D.honest disk.old ↔ D.honest disk.new }
-    ensures counts { Counts (result ≡ Err (UpgradeError.Open Fault.DiskFault)) (D.failures disk.old)
+    ensures counts { Counts (result ≡ Err (UpgradeError.Open (Fault.Stop Stop.DiskFault))) (D.failures disk.old)
         (D.failures disk.new) }
     ensures room { IfOk result (λ kept. PAGE * all_pages kept.layout ≤ D.size disk.old) }
     ensures said { D.honest disk.old → OfView (D.size disk.old) (D.current disk.old)
@@ -45,13 +46,13 @@ fn load_old<D: Disk>(alloc: Global, disk: &mut D) -> Result<Kept, UpgradeError>
     ensures settled { D.honest disk.old → IfOk result (λ kept.
         Recovered D.Disk kept.layout disk.old disk.new) }
     ensures stays { D.honest disk.old → OfView (D.size disk.old) (D.current disk.old)
-        (λ v. IfErr result (λ e. (e ≡ UpgradeError.Open Fault.DiskFault → ⊥)
+        (λ v. IfErr result (λ e. (e ≡ UpgradeError.Open (Fault.Stop Stop.DiskFault) → ⊥)
         → Rests v (D.current disk.new) (D.unsynced disk.new))) }
     ensures lasts { D.honest disk.old → OfView (D.size disk.old) (D.current disk.old)
         (λ v. LeavesRead D.Disk v.blocks disk.old disk.new) }
     ensures unwritten { D.honest disk.old → Unwritten D.Disk disk.old disk.new }
     ensures same { D.honest disk.old → ReadsSame D.Disk disk.old disk.new
-        (result ≡ Err (UpgradeError.Open Fault.DiskFault)) }
+        (result ≡ Err (UpgradeError.Open (Fault.Stop Stop.DiskFault))) }
 {
     let found = find(disk)?;
     if found.version == Version::Two {
@@ -66,7 +67,7 @@ fn rewrite<D: Disk>(alloc: Global, disk: &mut D, kept: &Kept) -> Result<(), Upgr
     requires { PAGE * all_pages kept.now.layout ≤ D.size disk.old }
     ensures size { D.size disk.new ≡ D.size disk.old }
     ensures honest { D.honest disk.old ↔ D.honest disk.new }
-    ensures counts { Counts (result ≡ Err (UpgradeError.Open Fault.DiskFault)) (D.failures disk.old)
+    ensures counts { Counts (result ≡ Err (UpgradeError.Open (Fault.Stop Stop.DiskFault))) (D.failures disk.old)
         (D.failures disk.new) }
     ensures done { D.honest disk.old → (v : View) → KeepsView kept.now v
         → Rests v (D.current disk.old) (D.unsynced disk.old)
@@ -78,7 +79,8 @@ fn rewrite<D: Disk>(alloc: Global, disk: &mut D, kept: &Kept) -> Result<(), Upgr
     ensures lasts { D.honest disk.old → (v : View) → KeepsView kept.now v
         → Rests v (D.current disk.old) (D.unsynced disk.old)
         → Lasts D.Disk disk.old disk.new (λ image. IsViewOf image v ⊎ IsViewOf image (upgraded v)) }
-    ensures untouched { IfErr result (λ e. (e ≡ UpgradeError.Open Fault.DiskFault → ⊥) → disk.new ≡ disk.old) }
+    ensures untouched { IfErr result (λ e. (e ≡ UpgradeError.Open (Fault.Stop Stop.DiskFault) → ⊥)
+        → disk.new ≡ disk.old) }
 {
     let pages = kept.pages_of_upgrade(alloc)?;
     change(disk, kept.layout(), &pages)?;
@@ -91,12 +93,12 @@ fn rewrite<D: Disk>(alloc: Global, disk: &mut D, kept: &Kept) -> Result<(), Upgr
 /// # Errors
 ///
 /// `Open(NotASpool)`; then those of `recover`; then `Open(Version)`; then `AlreadyNew` if the spool has version 2; then
-/// `Open(Damaged)`: each as in `Spool::open`. `Open(NoMemory)` when out of memory, and `Open(DiskFault)` at a disk
-/// fault. Without a disk fault an error changes nothing except by the recovery.
+/// `Open(Damaged)`: each as in `Spool::open`. `Open(Stop)` when out of memory or at a disk fault.
+/// Without a disk fault an error changes nothing except by the recovery.
 pub fn upgrade<D: Disk>(alloc: Global, disk: &mut D) -> Result<(), UpgradeError>
     ensures size { D.size disk.new ≡ D.size disk.old }
     ensures honest { D.honest disk.old ↔ D.honest disk.new }
-    ensures counts { Counts (result ≡ Err (UpgradeError.Open Fault.DiskFault)) (D.failures disk.old)
+    ensures counts { Counts (result ≡ Err (UpgradeError.Open (Fault.Stop Stop.DiskFault))) (D.failures disk.old)
         (D.failures disk.new) }
 
     // If a read gives a valid spool of version 1, it is upgraded, unless memory or the disk refuses.
@@ -121,15 +123,15 @@ pub fn upgrade<D: Disk>(alloc: Global, disk: &mut D) -> Result<(), UpgradeError>
 
     // An error leaves what a read gives, in the old version.
     ensures stays { D.honest disk.old → OfView (D.size disk.old) (D.current disk.old)
-        (λ v. IfErr result (λ e. (e ≡ UpgradeError.Open Fault.DiskFault → ⊥)
+        (λ v. IfErr result (λ e. (e ≡ UpgradeError.Open (Fault.Stop Stop.DiskFault) → ⊥)
         → Rests v (D.current disk.new) (D.unsynced disk.new))) }
 
     // An error writes nothing if no journal has to be replayed, whatever is on the disk.
     ensures unwritten { D.honest disk.old → (NeedsReplay (D.size disk.old) (D.current disk.old) → ⊥)
-        → IfErr result (λ e. (e ≡ UpgradeError.Open Fault.DiskFault → ⊥)
+        → IfErr result (λ e. (e ≡ UpgradeError.Open (Fault.Stop Stop.DiskFault) → ⊥)
         → Lasts D.Disk disk.old disk.new (IsImage (D.current disk.old) (D.unsynced disk.old))) }
     ensures same { D.honest disk.old → (NeedsReplay (D.size disk.old) (D.current disk.old) → ⊥)
-        → IfErr result (λ e. (e ≡ UpgradeError.Open Fault.DiskFault → ⊥)
+        → IfErr result (λ e. (e ≡ UpgradeError.Open (Fault.Stop Stop.DiskFault) → ⊥)
         → Keeps (D.current disk.old) (D.current disk.new) (D.unsynced disk.old) (D.unsynced disk.new)) }
 
     // A crash leaves an image of before, or the same view in the old version or in version 2.
@@ -143,7 +145,7 @@ pub fn upgrade<D: Disk>(alloc: Global, disk: &mut D) -> Result<(), UpgradeError>
 
     // Afterwards every crash image shows them, unless there was a disk fault.
     ensures shows { (n : ℕ) (m : Store) → IsSpool D.Disk disk.old n m
-        → (result ≡ Err (UpgradeError.Open Fault.DiskFault) → ⊥) → AllShow D.Disk disk.new n m }
+        → (result ≡ Err (UpgradeError.Open (Fault.Stop Stop.DiskFault)) → ⊥) → AllShow D.Disk disk.new n m }
 {
     let kept = load_old(alloc, disk)?;
     rewrite(alloc, disk, &kept)

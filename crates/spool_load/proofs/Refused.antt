@@ -5,6 +5,7 @@ use Rattle.std.specs.Option.{ok_or}
 use Rattle.std.proofs.Common.{refl, sym, ◌∙◌, ap, subst, arith}
 use Rattle.std.specs.Int.{to_be_bytes, from_be_bytes, w32}
 use Rattle.std.proofs.lemmas.Nat.{from_be_bytes-to_be_bytes_4}
+use Rattle.common.specs.declared.stop.Stop.TheVariants.{NoMemory, DiskFault}
 use Rattle.spool_journal.specs.declared.TheConstants.{PAGE}
 use Rattle.spool_journal.specs.Image.{journal_pages, all_pages, byte_of, overlaid}
 use Rattle.spool_journal.specs.Phases.{Settled}
@@ -14,9 +15,8 @@ use Rattle.spool_pages.specs.declared.version.Version.TheVariants.{One, Two}
 use Rattle.spool_pages.proofs.Numbers.{four_at}
 use Rattle.spool_pages.proofs.RecordBytes.{stands_prefix, stands_beyond}
 use Rattle.spool_pages.proofs.Says.{says_same, some_journal}
-use Rattle.spool_catalog.specs.declared.error.CheckError.TheVariants as checks
 use Rattle.spool_catalog.specs.declared.error.OpenFault.{OpenFault}
-use Rattle.spool_catalog.specs.declared.error.OpenFault.TheVariants.{NotASpool, DiskFault, Damaged, Version, NoMemory}
+use Rattle.spool_catalog.specs.declared.error.OpenFault.TheVariants.{NotASpool, Damaged, Version, Stop}
 use Rattle.spool_catalog.specs.Holding.{Holding}
 use Rattle.spool_catalog.specs.Loads.{LoadsAs}
 use Rattle.spool_catalog.specs.Shows.{IsValid}
@@ -223,8 +223,8 @@ found_reason size current n (Err NotASpool) says refused = absurd refused
 found_reason size current n (Err Version) says refused =
     record { blocks = n; says = says; journal = refused.0; other = refused.1 }
 found_reason size current n (Err Damaged) says refused = record { blocks = n; says = says; bad = refused }
-found_reason size current n (Err NoMemory) says refused = absurd refused
-found_reason size current n (Err DiskFault) says refused = tt
+found_reason size current n (Err (Stop NoMemory)) says refused = absurd refused
+found_reason size current n (Err (Stop DiskFault)) says refused = tt
 
 -- why it isn't found is why it isn't opened
 pub unfound_reason : (size : ℕ) (current : ℕ → ℕ) (e : OpenFault) → NotFoundFor size current e
@@ -237,21 +237,19 @@ unfound_reason size current Damaged why = record {
   version = λ form. absurd (why.bad form);
   no_view = λ v valid is e. why.bad (subst (λ (k : ℕ). HasJournal k current) e is.form);
 }
-unfound_reason size current NoMemory why = absurd why
-unfound_reason size current DiskFault why = tt
+unfound_reason size current (Stop NoMemory) why = absurd why
+unfound_reason size current (Stop DiskFault) why = tt
 
 -- and so is why what was found isn't read
 pub read_reason : (size : ℕ) (current : ℕ → ℕ) (found : Found) (e : LoadError) → FoundOn size current found
     → ((v : View) → IsValid v → IsViewOf current v → PAGE * all_pages v.blocks ≤ size → TellsNothing e)
     → RefusedFor size current (load_fault e)
-read_reason size current found loads.DiskFault is said = tt
-read_reason size current found (loads.Check checks.NoMemory) is said = tt
-read_reason size current found (loads.Check checks.Damaged) is said = record {
+read_reason size current found (loads.Stop stop) is said = tt
+read_reason size current found loads.Damaged is said = record {
   blocks = found.layout;
   says = is.says;
   version = λ form. known_stands (overlaid current) (state_place found.layout) 12 found.version found.next (omega arith)
       is.state.fields;
   no_view = λ v valid view e.
-      let nothing = said v valid view (subst (λ (k : ℕ). PAGE * all_pages k ≤ size) (sym e) is.says.room) in
-      absurd (cc);
+      said v valid view (subst (λ (k : ℕ). PAGE * all_pages k ≤ size) (sym e) is.says.room);
 }

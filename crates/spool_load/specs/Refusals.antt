@@ -2,10 +2,11 @@
 -- hold, and none holds if the plain reading gives a valid view.
 use Rattle.std.specs.Prelude.{◌≡◌, ℕ}
 use Rattle.std.specs.Int.{to_be_bytes, w32}
+use Rattle.common.specs.declared.stop.Stop.TheVariants.{NoMemory, DiskFault}
 use Rattle.spool_journal.specs.declared.TheConstants.{PAGE}
 use Rattle.spool_journal.specs.Image.{journal_pages, InForm, count, number, overlaid}
 use Rattle.spool_catalog.specs.declared.error.OpenFault.{OpenFault}
-use Rattle.spool_catalog.specs.declared.error.OpenFault.TheVariants.{NotASpool, DiskFault, Damaged, Version, NoMemory}
+use Rattle.spool_catalog.specs.declared.error.OpenFault.TheVariants.{NotASpool, Damaged, Version, Stop}
 use Rattle.spool_catalog.specs.Shows.{IsValid}
 use Rattle.spool_pages.specs.View.{View, Stands, IsViewOf, state_place, version_number}
 use Rattle.spool_pages.specs.declared.version.Version.{Version as Known}
@@ -61,21 +62,20 @@ abbrev pub RefusedAt : ℕ → (ℕ → ℕ) → OpenFault → Type 0
 RefusedAt n current NotASpool = ⊥
 RefusedAt n current Version = HasJournal n current × (HasKnownVersion n (overlaid current) → ⊥)
 RefusedAt n current Damaged = HasJournal n current → ⊥
-RefusedAt n current NoMemory = ⊥
-RefusedAt n current DiskFault = Unit {0}
+RefusedAt n current (Stop NoMemory) = ⊥
+RefusedAt n current (Stop DiskFault) = Unit {0}
 
 -- The reason for an error of `find`.
 abbrev pub NotFoundFor : ℕ → (ℕ → ℕ) → OpenFault → Type 0
 NotFoundFor size current NotASpool = IsNoSpool size current
 NotFoundFor size current Version = HasOtherVersion size current
 NotFoundFor size current Damaged = HasBadJournal size current
-NotFoundFor size current NoMemory = ⊥
-NotFoundFor size current DiskFault = Unit {0}
+NotFoundFor size current (Stop NoMemory) = ⊥
+NotFoundFor size current (Stop DiskFault) = Unit {0}
 
 -- The reason for an error of `load`.
 abbrev pub RefusedFor : ℕ → (ℕ → ℕ) → OpenFault → Type 0
 RefusedFor size current NotASpool = IsNoSpool size current
 RefusedFor size current Version = HasOtherVersion size current
 RefusedFor size current Damaged = IsDamaged size current
-RefusedFor size current NoMemory = Unit {0}
-RefusedFor size current DiskFault = Unit {0}
+RefusedFor size current (Stop stop) = Unit {0}

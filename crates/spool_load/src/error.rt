@@ -1,6 +1,7 @@
 //! The errors of reading a spool.
 ghost use Rattle.std.specs.Prelude.{◌≡◌};
 
+use common::Stop;
 use spool_catalog::{CheckError, OpenFault};
 use spool_disk::DiskFault;
 use spool_pages::Damaged;
@@ -10,53 +11,56 @@ use thiserror::Error;
 /// Why a spool that was found can't be read.
 #[derive(Clone, Copy, Debug, PartialEq, Eq, Drop, Error)]
 pub enum LoadError {
-    /// A disk fault.
-    #[error("the disk failed")]
-    DiskFault,
-    /// What was read fails a check, or there is no memory for it.
+    /// Out of memory, or a disk fault.
     #[error(transparent)]
-    Check(CheckError),
+    Stop(Stop),
+    /// What was read is not what a spool may say.
+    #[error("the spool is damaged")]
+    Damaged,
 }
 
 impl From<DiskFault> for LoadError {
+    ghost use Rattle.common.specs.declared.stop.Stop.{Stop};
     ghost use Rattle.spool_load.specs.declared.error.LoadError.{LoadError};
 
-    ghost from_gives = { λ _ error. error ≡ LoadError.DiskFault };
+    ghost from_gives = { λ _ error. error ≡ LoadError.Stop Stop.DiskFault };
 
     fn from(_fault: DiskFault) -> LoadError {
-        LoadError::DiskFault
+        LoadError::Stop(Stop::DiskFault)
     }
 }
 
 impl From<CheckError> for LoadError {
-    ghost use Rattle.spool_load.specs.declared.error.LoadError.{LoadError};
+    ghost use Rattle.spool_load.specs.Faults.{check_fault};
 
-    ghost from_gives = { λ check error. error ≡ LoadError.Check check };
+    ghost from_gives = { λ check error. error ≡ check_fault check };
 
     fn from(check: CheckError) -> LoadError {
-        LoadError::Check(check)
+        match check {
+            CheckError::Damaged => LoadError::Damaged,
+            CheckError::NoMemory => LoadError::Stop(Stop::NoMemory),
+        }
     }
 }
 
 impl From<Damaged> for LoadError {
-    ghost use Rattle.spool_catalog.specs.declared.error.CheckError.{CheckError};
     ghost use Rattle.spool_load.specs.declared.error.LoadError.{LoadError};
 
-    ghost from_gives = { λ _ error. error ≡ LoadError.Check CheckError.Damaged };
+    ghost from_gives = { λ _ error. error ≡ LoadError.Damaged };
 
     fn from(_damaged: Damaged) -> LoadError {
-        LoadError::Check(CheckError::Damaged)
+        LoadError::Damaged
     }
 }
 
 impl From<AllocError> for LoadError {
-    ghost use Rattle.spool_catalog.specs.declared.error.CheckError.{CheckError};
+    ghost use Rattle.common.specs.declared.stop.Stop.{Stop};
     ghost use Rattle.spool_load.specs.declared.error.LoadError.{LoadError};
 
-    ghost from_gives = { λ _ error. error ≡ LoadError.Check CheckError.NoMemory };
+    ghost from_gives = { λ _ error. error ≡ LoadError.Stop Stop.NoMemory };
 
     fn from(_error: AllocError) -> LoadError {
-        LoadError::Check(CheckError::NoMemory)
+        LoadError::Stop(Stop::NoMemory)
     }
 }
 
@@ -67,9 +71,8 @@ impl From<LoadError> for OpenFault {
 
     fn from(error: LoadError) -> OpenFault {
         match error {
-            LoadError::DiskFault => OpenFault::DiskFault,
-            LoadError::Check(CheckError::Damaged) => OpenFault::Damaged,
-            LoadError::Check(CheckError::NoMemory) => OpenFault::NoMemory,
+            LoadError::Stop(stop) => OpenFault::Stop(stop),
+            LoadError::Damaged => OpenFault::Damaged,
         }
     }
 }

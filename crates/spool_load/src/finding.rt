@@ -1,6 +1,7 @@
 //! Finding a spool on a disk, and recovering it.
 ghost use Rattle.std.specs.Prelude.{◌≡◌, ◌⊎◌, ◌≤◌, ◌<◌, ◌*◌, ◌^◌, ◌↔◌};
 ghost use Rattle.std.specs.Prelude.{ℕ, Err, IsErr, IfOk, IfErr, IfSome, IsNone, IsSomeAnd, IsTrue, MatchOption, get_or};
+ghost use Rattle.common.specs.declared.stop.Stop.{Stop};
 ghost use Rattle.spool_disk.specs.Disk.{IsImage, Counts, Keeps};
 ghost use Rattle.spool_disk.specs.Views.{Lasts};
 ghost use Rattle.spool_journal.specs.Image.{journal_pages, all_pages, byte_of, overlaid};
@@ -123,7 +124,7 @@ fn restore<D: Disk>(disk: &mut D, layout: Layout) -> Result<Found, OpenFault>
     requires { PAGE * all_pages layout ≤ D.size disk.old }
     ensures size { D.size disk.new ≡ D.size disk.old }
     ensures honest { D.honest disk.old ↔ D.honest disk.new }
-    ensures counts { Counts (result ≡ Err OpenFault.DiskFault) (D.failures disk.old) (D.failures disk.new) }
+    ensures counts { Counts (result ≡ Err (OpenFault.Stop Stop.DiskFault)) (D.failures disk.old) (D.failures disk.new) }
     ensures layout { IfOk result (λ found. found.layout ≡ layout) }
     ensures said { D.honest disk.old → (v : View) → IsValid v → v.blocks ≡ layout → IsViewOf (D.current disk.old) v
         → LoadsAs result (IsFoundOf v) }
@@ -135,7 +136,8 @@ fn restore<D: Disk>(disk: &mut D, layout: Layout) -> Result<Found, OpenFault>
     ensures lasts { D.honest disk.old → LeavesRead D.Disk layout disk.old disk.new }
     ensures unwritten { D.honest disk.old → (D.current disk.old PAGE ≡ 165 → ⊥)
         → Lasts D.Disk disk.old disk.new (IsImage (D.current disk.old) (D.unsynced disk.old)) }
-    ensures same { D.honest disk.old → (D.current disk.old PAGE ≡ 165 → ⊥) → (result ≡ Err OpenFault.DiskFault → ⊥)
+    ensures same { D.honest disk.old → (D.current disk.old PAGE ≡ 165 → ⊥)
+        → (result ≡ Err (OpenFault.Stop Stop.DiskFault) → ⊥)
         → Keeps (D.current disk.old) (D.current disk.new) (D.unsynced disk.old) (D.unsynced disk.new) }
 {
     recover(disk, &layout)?;
@@ -151,7 +153,7 @@ fn restore<D: Disk>(disk: &mut D, layout: Layout) -> Result<Found, OpenFault>
 pub fn find<D: Disk>(disk: &mut D) -> Result<Found, OpenFault>
     ensures size { D.size disk.new ≡ D.size disk.old }
     ensures honest { D.honest disk.old ↔ D.honest disk.new }
-    ensures counts { Counts (result ≡ Err OpenFault.DiskFault) (D.failures disk.old) (D.failures disk.new) }
+    ensures counts { Counts (result ≡ Err (OpenFault.Stop Stop.DiskFault)) (D.failures disk.old) (D.failures disk.new) }
     ensures room { IfOk result (λ found. PAGE * all_pages found.layout ≤ D.size disk.old) }
 
     // If a read gives a valid spool, that one is found, unless there is a disk fault.
@@ -172,7 +174,8 @@ pub fn find<D: Disk>(disk: &mut D) -> Result<Found, OpenFault>
 
     // Without a journal to replay nothing is written: every crash image is one of before, and a read gives the same.
     ensures unwritten { D.honest disk.old → Unwritten D.Disk disk.old disk.new }
-    ensures same { D.honest disk.old → ReadsSame D.Disk disk.old disk.new (result ≡ Err OpenFault.DiskFault) }
+    ensures same { D.honest disk.old → ReadsSame D.Disk disk.old disk.new
+        (result ≡ Err (OpenFault.Stop Stop.DiskFault)) }
 {
     match find_layout(disk)? {
         Some(layout) => restore(disk, layout),

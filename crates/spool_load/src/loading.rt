@@ -1,6 +1,7 @@
 //! Reading a spool into memory.
 ghost use Rattle.std.specs.Prelude.{◌≡◌, ◌≤◌, ◌<◌, ◌*◌, ◌-◌};
 ghost use Rattle.std.specs.Prelude.{ℕ, None, false, replicate, length, get_or, IfOk, IsErrOf};
+ghost use Rattle.common.specs.declared.stop.Stop.{Stop};
 ghost use Rattle.spool_disk.specs.Disk.{Counts};
 ghost use Rattle.spool_journal.specs.Image.{all_pages, journal_pages};
 ghost use Rattle.spool_journal.specs.Phases.{Still};
@@ -23,14 +24,14 @@ use spool_blocks::Blocks;
 use spool_catalog::{Kept, KeptRecord, are_rows_valid, are_valid};
 use spool_disk::Disk;
 use spool_journal::{Layout, PAGE};
-use spool_pages::Damaged;
 use std::alloc::Global;
 
 // Checks the rest of page 0, and reads the index files.
 fn load_fields<D: Disk>(alloc: Global, disk: &mut D, layout: &Layout) -> Result<IndexSet, LoadError>
     requires { PAGE * all_pages layout.now ≤ D.size disk.old }
     ensures reads { OnlyReads D.Disk disk.old disk.new }
-    ensures counts { Counts (IsErrOf result LoadError.DiskFault) (D.failures disk.old) (D.failures disk.new) }
+    ensures counts { Counts (IsErrOf result (LoadError.Stop Stop.DiskFault)) (D.failures disk.old)
+        (D.failures disk.new) }
     ensures said { D.honest disk.old → (bytes : ℕ → ℕ) → Still bytes (D.current disk.old) (D.unsynced disk.old)
         → (v : View) → IsValid v → v.blocks ≡ layout.now → Says bytes v
         → Loads result (λ indexes. indexes ≡ v.indexes) }
@@ -54,7 +55,8 @@ fn load_blocks<D: Disk>(
     ensures long { IfOk result (λ blocks. length blocks.rows ≡ layout.now) }
     ensures fits { IfOk result (λ blocks. (b : ℕ) → FitsRow (get_or blocks.rows b None)) }
     ensures reads { OnlyReads D.Disk disk.old disk.new }
-    ensures counts { Counts (IsErrOf result LoadError.DiskFault) (D.failures disk.old) (D.failures disk.new) }
+    ensures counts { Counts (IsErrOf result (LoadError.Stop Stop.DiskFault)) (D.failures disk.old)
+        (D.failures disk.new) }
     ensures said { D.honest disk.old → (bytes : ℕ → ℕ) → Still bytes (D.current disk.old) (D.unsynced disk.old)
         → (v : View) → IsValid v → v.blocks ≡ layout.now → Says bytes v → slots.now ≡ v.slots
         → Loads result (λ blocks. (blocks.rows ≡ v.rows) × (blocks.reserved ≡ replicate v.blocks false)) }
@@ -65,7 +67,7 @@ fn load_blocks<D: Disk>(
 {
     let rows = load_rows(alloc, disk, layout)?;
     if !are_rows_valid(slots, &rows) {
-        return Err(LoadError::from(Damaged));
+        return Err(LoadError::Damaged);
     }
     let _few = layout.blocks();
     let blocks = Blocks::of(alloc, rows)?;
@@ -76,11 +78,12 @@ fn load_blocks<D: Disk>(
 ///
 /// # Errors
 ///
-/// `Check(Damaged)` if the spool is invalid; `Check(NoMemory)` when out of memory; `DiskFault` at a disk fault.
+/// `Damaged` if the spool is invalid; `Stop` when out of memory or at a disk fault.
 pub fn read<D: Disk>(alloc: Global, disk: &mut D, found: Found) -> Result<Kept, LoadError>
     requires { PAGE * all_pages found.layout ≤ D.size disk.old }
     ensures reads { OnlyReads D.Disk disk.old disk.new }
-    ensures counts { Counts (IsErrOf result LoadError.DiskFault) (D.failures disk.old) (D.failures disk.new) }
+    ensures counts { Counts (IsErrOf result (LoadError.Stop Stop.DiskFault)) (D.failures disk.old)
+        (D.failures disk.new) }
     ensures layout { IfOk result (λ kept. kept.layout ≡ found.layout) }
     ensures version { IfOk result (λ kept. kept.version ≡ found.version) }
 
@@ -98,12 +101,12 @@ pub fn read<D: Disk>(alloc: Global, disk: &mut D, found: Found) -> Result<Kept, 
         → IfOk result (LoadedFrom bytes found.layout) }
 {
     if !found.is_rest_blank {
-        return Err(LoadError::from(Damaged));
+        return Err(LoadError::Damaged);
     }
     let indexes = load_fields(alloc, disk, &found.layout)?;
     let slots = load_slots(alloc, disk, &found.layout, found.version)?;
     if !are_valid(&slots, found.next) {
-        return Err(LoadError::from(Damaged));
+        return Err(LoadError::Damaged);
     }
     let blocks = load_blocks(alloc, disk, &found.layout, &slots)?;
     let kept = Kept::of(

@@ -1,6 +1,7 @@
 //! Finding, recovering and reading a spool.
 ghost use Rattle.std.specs.Prelude.{◌≡◌, ◌⊎◌, ◌≤◌, ◌*◌, ◌↔◌};
 ghost use Rattle.std.specs.Prelude.{Err, IfOk, IfErr};
+ghost use Rattle.common.specs.declared.stop.Stop.{Stop};
 ghost use Rattle.spool_disk.specs.Disk.{IsImage, Counts, Keeps};
 ghost use Rattle.spool_disk.specs.Views.{Lasts};
 ghost use Rattle.spool_journal.specs.Image.{journal_pages, all_pages, overlaid};
@@ -30,7 +31,7 @@ use std::alloc::Global;
 pub fn load<D: Disk>(alloc: Global, disk: &mut D) -> Result<Kept, OpenFault>
     ensures size { D.size disk.new ≡ D.size disk.old }
     ensures honest { D.honest disk.old ↔ D.honest disk.new }
-    ensures counts { Counts (result ≡ Err OpenFault.DiskFault) (D.failures disk.old) (D.failures disk.new) }
+    ensures counts { Counts (result ≡ Err (OpenFault.Stop Stop.DiskFault)) (D.failures disk.old) (D.failures disk.new) }
     ensures room { IfOk result (λ kept. PAGE * all_pages kept.layout ≤ D.size disk.old) }
 
     // If a read gives a valid spool, that one is read into memory, unless memory or the disk refuses.
@@ -54,7 +55,8 @@ pub fn load<D: Disk>(alloc: Global, disk: &mut D) -> Result<Kept, OpenFault>
 
     // Without a journal to replay nothing is written: every crash image is one of before, and a read gives the same.
     ensures unwritten { D.honest disk.old → Unwritten D.Disk disk.old disk.new }
-    ensures same { D.honest disk.old → ReadsSame D.Disk disk.old disk.new (result ≡ Err OpenFault.DiskFault) }
+    ensures same { D.honest disk.old → ReadsSame D.Disk disk.old disk.new
+        (result ≡ Err (OpenFault.Stop Stop.DiskFault)) }
 {
     let found = find(disk)?;
     let kept = read(alloc, disk, found)?;

@@ -12,11 +12,11 @@ ghost use Rattle.spool_load.specs.Reads.{OnlyReads, IsReadAt, StandsArea};
 ghost use Rattle.spool_pages.specs.View.{Stands, first_page, index_place};
 
 use crate::LoadError;
+use common::Stop;
 use enc_index::{AreaError, IndexSet};
-use spool_catalog::CheckError;
 use spool_disk::{Disk, DiskFault};
 use spool_journal::{Layout, PAGE};
-use spool_pages::{Damaged, index_place, is_blank_after_fields};
+use spool_pages::{index_place, is_blank_after_fields};
 use std::alloc::Global;
 
 /// Fills the buffer from a place on.
@@ -34,7 +34,8 @@ pub(crate) fn read_at<D: Disk>(disk: &mut D, place: u64, buf: &mut [u8]) -> Resu
 pub(crate) fn check_prefix<D: Disk>(disk: &mut D, layout: &Layout) -> Result<(), LoadError>
     requires { PAGE * all_pages layout.now ≤ D.size disk.old }
     ensures reads { OnlyReads D.Disk disk.old disk.new }
-    ensures counts { Counts (IsErrOf result LoadError.DiskFault) (D.failures disk.old) (D.failures disk.new) }
+    ensures counts { Counts (IsErrOf result (LoadError.Stop Stop.DiskFault)) (D.failures disk.old)
+        (D.failures disk.new) }
     ensures said { D.honest disk.old → (bytes : ℕ → ℕ) → Still bytes (D.current disk.old) (D.unsynced disk.old)
         → (n : ℕ) → Stands bytes 0 PAGE (first_page n) → Loads result (λ done. Unit {0}) }
     ensures valid { D.honest disk.old → (bytes : ℕ → ℕ) → Still bytes (D.current disk.old) (D.unsynced disk.old)
@@ -46,7 +47,7 @@ pub(crate) fn check_prefix<D: Disk>(disk: &mut D, layout: &Layout) -> Result<(),
     if is_blank_after_fields(&page) {
         Ok(())
     } else {
-        Err(LoadError::from(Damaged))
+        Err(LoadError::Damaged)
     }
 }
 
@@ -60,7 +61,8 @@ fn push_area_page<D: Disk>(
     requires room { PAGE * all_pages layout.now ≤ D.size disk.old }
     requires page { page < 22 }
     ensures reads { OnlyReads D.Disk disk.old disk.new }
-    ensures counts { Counts (IsErrOf result LoadError.DiskFault) (D.failures disk.old) (D.failures disk.new) }
+    ensures counts { Counts (IsErrOf result (LoadError.Stop Stop.DiskFault)) (D.failures disk.old)
+        (D.failures disk.new) }
     ensures others { Loads result (λ done. length area.new.items ≡ length area.old.items + PAGE) }
     ensures pushed { D.honest disk.old → (bytes : ℕ → ℕ) → Still bytes (D.current disk.old) (D.unsynced disk.old)
         → IsReadAt bytes (index_place layout.now) area.old.items → length area.old.items ≡ PAGE * page
@@ -76,7 +78,8 @@ fn push_area_page<D: Disk>(
 fn load_area<D: Disk>(alloc: Global, disk: &mut D, layout: &Layout) -> Result<Vec<u8>, LoadError>
     requires { PAGE * all_pages layout.now ≤ D.size disk.old }
     ensures reads { OnlyReads D.Disk disk.old disk.new }
-    ensures counts { Counts (IsErrOf result LoadError.DiskFault) (D.failures disk.old) (D.failures disk.new) }
+    ensures counts { Counts (IsErrOf result (LoadError.Stop Stop.DiskFault)) (D.failures disk.old)
+        (D.failures disk.new) }
     ensures long { Loads result (λ area. length area.items ≡ 90112) }
     ensures read { D.honest disk.old → (bytes : ℕ → ℕ) → Still bytes (D.current disk.old) (D.unsynced disk.old)
         → IfOk result (λ area. IsReadAt bytes (index_place layout.now) area.items) }
@@ -96,7 +99,8 @@ pub(crate) fn load_indexes<D: Disk>(
 ) -> Result<IndexSet, LoadError>
     requires { PAGE * all_pages layout.now ≤ D.size disk.old }
     ensures reads { OnlyReads D.Disk disk.old disk.new }
-    ensures counts { Counts (IsErrOf result LoadError.DiskFault) (D.failures disk.old) (D.failures disk.new) }
+    ensures counts { Counts (IsErrOf result (LoadError.Stop Stop.DiskFault)) (D.failures disk.old)
+        (D.failures disk.new) }
     ensures said { D.honest disk.old → (bytes : ℕ → ℕ) → Still bytes (D.current disk.old) (D.unsynced disk.old)
         → (x : Indexes) → IsIndexSet x
         → ((i : ℕ) → i < 90112 → bytes (index_place layout.now + i) ≡ area_byte x i)
@@ -107,7 +111,7 @@ pub(crate) fn load_indexes<D: Disk>(
     let area = load_area(alloc, disk, layout)?;
     match IndexSet::from_area(alloc, &area) {
         Ok(set) => Ok(set),
-        Err(AreaError::NoMemory) => Err(LoadError::Check(CheckError::NoMemory)),
-        Err(AreaError::Damaged) => Err(LoadError::Check(CheckError::Damaged)),
+        Err(AreaError::NoMemory) => Err(LoadError::Stop(Stop::NoMemory)),
+        Err(AreaError::Damaged) => Err(LoadError::Damaged),
     }
 }

@@ -13,7 +13,7 @@ ghost use Rattle.spool_pages.specs.View.{SlotRecord as Said, Stands, slot_bytes,
 
 use crate::LoadError;
 use crate::reading::read_at;
-use common::SLOTS;
+use common::{SLOTS, Stop};
 use spool_catalog::{CheckError, KeptRecord};
 use spool_disk::Disk;
 use spool_journal::{Layout, PAGE};
@@ -51,7 +51,8 @@ fn load_slot<D: Disk>(
     requires room { PAGE * all_pages layout.now ≤ D.size disk.old }
     requires slot { slot < SLOTS }
     ensures reads { OnlyReads D.Disk disk.old disk.new }
-    ensures counts { Counts (IsErrOf result LoadError.DiskFault) (D.failures disk.old) (D.failures disk.new) }
+    ensures counts { Counts (IsErrOf result (LoadError.Stop Stop.DiskFault)) (D.failures disk.old)
+        (D.failures disk.new) }
     ensures said { D.honest disk.old → (bytes : ℕ → ℕ) → Still bytes (D.current disk.old) (D.unsynced disk.old)
         → (said : Option Said) → FitsKept said
         → Stands bytes (slot_place layout.now slot) 2048 (slot_bytes version said)
@@ -77,7 +78,8 @@ fn push_slot<D: Disk>(
     requires room { PAGE * all_pages layout.now ≤ D.size disk.old }
     requires slot { slot < SLOTS }
     ensures reads { OnlyReads D.Disk disk.old disk.new }
-    ensures counts { Counts (IsErrOf result LoadError.DiskFault) (D.failures disk.old) (D.failures disk.new) }
+    ensures counts { Counts (IsErrOf result (LoadError.Stop Stop.DiskFault)) (D.failures disk.old)
+        (D.failures disk.new) }
     ensures long { OnOk result (length slots.new.items ≡ length slots.old.items + 1) }
     ensures said { D.honest disk.old → (bytes : ℕ → ℕ) → Still bytes (D.current disk.old) (D.unsynced disk.old)
         → (said : List (Option Said)) → length said ≡ SLOTS → FitsKept (get_or said slot None)
@@ -91,7 +93,7 @@ fn push_slot<D: Disk>(
     let kept = load_slot(alloc, disk, layout, version, slot)?;
     match slots.push(kept) {
         Ok(()) => Ok(()),
-        Err(_) => Err(LoadError::Check(CheckError::NoMemory)),
+        Err(_) => Err(LoadError::Stop(Stop::NoMemory)),
     }
 }
 
@@ -104,7 +106,8 @@ pub(crate) fn load_slots<D: Disk>(
 ) -> Result<Vec<Option<KeptRecord>>, LoadError>
     requires { PAGE * all_pages layout.now ≤ D.size disk.old }
     ensures reads { OnlyReads D.Disk disk.old disk.new }
-    ensures counts { Counts (IsErrOf result LoadError.DiskFault) (D.failures disk.old) (D.failures disk.new) }
+    ensures counts { Counts (IsErrOf result (LoadError.Stop Stop.DiskFault)) (D.failures disk.old)
+        (D.failures disk.new) }
     ensures long { IfOk result (λ slots. length slots.items ≡ SLOTS) }
     ensures said { D.honest disk.old → (bytes : ℕ → ℕ) → Still bytes (D.current disk.old) (D.unsynced disk.old)
         → (said : List (Option Said)) → length said ≡ SLOTS → ((s : ℕ) → FitsKept (get_or said s None))

@@ -3,6 +3,7 @@
 use crate::images::{byte_at, put};
 use crate::resumes::stops;
 use crate::uploads::{calls_of_opening, fresh, has_text, opened, plain};
+use common::Stop;
 use spool_disk::{Crash, Disk, FuseDisk, HiccupDisk, MemoryDisk};
 use spool_image::{OpenFault, Spool};
 use std::alloc::Global;
@@ -65,7 +66,7 @@ fn refused<D: Disk>(rt: &impl Abort, alloc: Global, disk: D) -> D {
     match Spool::open(alloc, disk) {
         Ok(_spool) => panic!(rt; "it is opened"),
         Err((disk, fault)) => {
-            assert_eq!(rt; fault, OpenFault::DiskFault);
+            assert_eq!(rt; fault, OpenFault::Stop(Stop::DiskFault));
             disk
         }
     }

@@ -4,6 +4,7 @@ use crate::images::{byte_at, put, refused};
 use crate::uploads::{
     POWERS, calls_of_opening, declared, deferred, fresh, has_text, opened, patched, plain,
 };
+use common::Stop;
 use spool_disk::{Crash, Disk, FuseDisk, MemoryDisk};
 use spool_image::{OpenFault, Spool, UpgradeError, upgrade};
 use std::alloc::Global;
@@ -144,7 +145,7 @@ fn is_new(all: u64, calls: u64, kind: Crash) -> bool {
 
 /// Lets the upgrade stop at each call from `first` on, and the disk crash.
 fn stop_within(rt: &impl Abort, alloc: Global, first: u64, kind: Crash) {
-    let stopped = Err(UpgradeError::Open(OpenFault::DiskFault));
+    let stopped = Err(UpgradeError::Open(OpenFault::Stop(Stop::DiskFault)));
     let all = calls_of_upgrade(rt, alloc);
     let mut disk = old_spool(rt, alloc);
     for calls in first..all {

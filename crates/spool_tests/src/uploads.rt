@@ -3,6 +3,7 @@
 ghost use Rattle.std.specs.Prelude.{◌≡◌};
 ghost use Rattle.upload_rules.specs.Records.{IsWellFormed};
 
+use common::Stop;
 use enc_index::IndexSet;
 use enc_model::{Encoding, Mode};
 use spool_disk::{Disk, FuseDisk, MemoryDisk};
@@ -67,7 +68,7 @@ pub(crate) fn calls_of_opening(rt: &impl Abort, alloc: Global, disk: MemoryDisk)
         match Spool::open(alloc, FuseDisk::new(disk, calls)) {
             Ok(spool) => disk = spool.into_disk().into_inner(),
             Err((left, fault)) => {
-                assert_eq!(rt; fault, OpenFault::DiskFault);
+                assert_eq!(rt; fault, OpenFault::Stop(Stop::DiskFault));
                 disk = left.into_inner();
                 few = calls;
             }

@@ -1,4 +1,5 @@
 use Rattle.std.proofs.Common.{[], Ok, Err, inl, refl, sym, subst}
+use Rattle.common.specs.declared.stop.Stop.TheVariants.{NoMemory}
 use Rattle.upload_rules.specs.World.{at_rest}
 use Rattle.tus_session.specs.History.{beginning}
 use Rattle.tus_session.specs.Images.{stores_of}
@@ -36,11 +37,11 @@ returns-in-Err-new-clause-output g c = λ sure m blocks stands.
     let script = c.in-Ok.script.items in (
       script,
       c.in-Ok.ensures.ok,
-      subst (λ s. HasRun g.U.Uploads sure c.args.store (Err (s, runs.NoMemory)) held held st script)
+      subst (λ s. HasRun g.U.Uploads sure c.args.store (Err (s, runs.Stop NoMemory)) held held st script)
           (sym c.in-Err-new.ensures.back)
           (unbegun g.U.Uploads sure c.args.store held st script stands
           (λ known ms among. g.met.U.Uploads.durable c.args.store (at_rest m blocks) ms
-          (subst (λ b. g.U.Uploads.stands c.args.store b (at_rest m blocks)) known stands) among) runs.NoMemory
+          (subst (λ b. g.U.Uploads.stands c.args.store b (at_rest m blocks)) known stands) among) (runs.Stop NoMemory)
           (inl refl)),
     )
 

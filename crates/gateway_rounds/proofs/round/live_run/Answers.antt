@@ -2,7 +2,7 @@ use Rattle.std.proofs.Common.{◌≤◌, ◌*◌, ◌∙◌, ℕ, List, None, So
 use Rattle.spool_journal.specs.Image.{all_pages}
 use Rattle.spool_image.specs.Spool.{disk_of}
 use Rattle.gateway_engine.proofs.OnDisk.{view_room}
-use Rattle.gateway_rounds.specs.Faults.{run_fault}
+use Rattle.gateway_rounds.specs.declared.faults.RunFault.TheVariants.{Script}
 use Rattle.gateway_rounds.specs.Rounds.{Passes, read_of}
 use Rattle.gateway_rounds.proofs.Passing.{counts_ran, counts_told_of, counts_unopened, is_spool, ran, read_opens}
 use Rattle.gateway_rounds.proofs.Passing.{refusals_done, refusals_none, refusals_told, still_shown, told, unopened}
@@ -82,7 +82,7 @@ returns-in-Err-run g c n before all =
         opened = m.1;
         out = lived.2;
         written = lived.3;
-        passes = subst (λ (bytes : List ℕ). Passes n m.0 bytes (Some (run_fault fault)) lived.2 before lived.0)
+        passes = subst (λ (bytes : List ℕ). Passes n m.0 bytes (Some (Script fault)) lived.2 before lived.0)
             (has.1 ∙ ap read_of (c.new-script.ensures ∙ c.as_slice.ensures.value)) lived.4;
         counts = counts_told_of back fault c.in-Ok.ensures.counts c.in-Err-run.ensures.counts;
         refusals = refusals_told back fault _ _ c.in-Err-run.ensures.io;

@@ -1,10 +1,11 @@
 use Rattle.std.proofs.Common.{◌≡◌, ◌∙◌, inl, inr, ℕ, ◌*◌, ◌≤◌, sym, subst, rules, ⊎_elim}
+use Rattle.common.specs.declared.stop.Stop.TheVariants.{DiskFault}
 use Rattle.spool_journal.specs.declared.TheConstants.{PAGE}
 use Rattle.spool_disk.specs.Disk.{IsImage, Keeps}
 use Rattle.spool_disk.specs.Views.{Lasts}
 use Rattle.spool_disk.proofs.Firm.{lasts_on, lasts_more}
 use Rattle.spool_journal.specs.Image.{all_pages, journal_pages, overlaid, Outside}
-use Rattle.spool_catalog.specs.declared.error.OpenFault.TheVariants.{DiskFault}
+use Rattle.spool_catalog.specs.declared.error.OpenFault.TheVariants.{Stop}
 use Rattle.spool_pages.specs.Rests.{Rests}
 use Rattle.spool_load.proofs.Looks.{ok_no_fault}
 use Rattle.spool_image.specs.declared.error.UpgradeError.TheVariants.{Open}
@@ -122,7 +123,7 @@ pub returns-clause-stays : goal.returns-clause-stays
 returns-clause-stays g c honest v valid is room =
     let keeps = (c.in_ok-kept.ensures.kept honest v valid is room).0 in
     let rests = settled_rests v c.in_ok-kept.kept.layout keeps.blocks (c.in_ok-kept.ensures.settled honest) is in
-    untouched_on (λ d. Rests v (g.D.Disk.current d) (g.D.Disk.unsynced d)) (Open DiskFault) c.load_old.new.disk
+    untouched_on (λ d. Rests v (g.D.Disk.current d) (g.D.Disk.unsynced d)) (Open (Stop DiskFault)) c.load_old.new.disk
     c.rewrite.new.disk c.rewrite.result rests c.rewrite.ensures.untouched
 
 pub returns-clause-lasts : goal.returns-clause-lasts
@@ -154,18 +155,18 @@ returns-clause-shows g c n m is fine =
     let back = c.rewrite.new.disk in
     after_shows g.D.Disk back n m v c.rewrite.result is.shows.blocks (c.rewrite.ensures.honest.0 mid) wide fine
     (c.rewrite.ensures.done mid v keeps rests)
-    (untouched_on (λ d. Rests v (g.D.Disk.current d) (g.D.Disk.unsynced d)) (Open DiskFault) c.load_old.new.disk back
-    c.rewrite.result rests c.rewrite.ensures.untouched)
+    (untouched_on (λ d. Rests v (g.D.Disk.current d) (g.D.Disk.unsynced d)) (Open (Stop DiskFault)) c.load_old.new.disk
+    back c.rewrite.result rests c.rewrite.ensures.untouched)
     (λ image here. view_shows n m was image is.shows here)
     (λ image here. upgraded_view_shows n m was image is.shows here)
 
 pub returns-in_err-kept-clause-same : goal.returns-in_err-kept-clause-same
 returns-in_err-kept-clause-same g c honest none =
-    let same : (c.in_err-kept.field-0.0 ≡ Open DiskFault → ⊥)
+    let same : (c.in_err-kept.field-0.0 ≡ Open (Stop DiskFault) → ⊥)
     → Keeps (g.D.Disk.current c.args.disk.now) (g.D.Disk.current c.load_old.new.disk)
     (g.D.Disk.unsynced c.args.disk.now)
     (g.D.Disk.unsynced c.load_old.new.disk) =
-    λ fine. c.load_old.ensures.same honest none (other_err _ _ (Open DiskFault) c.in_err-kept.was fine) in
+    λ fine. c.load_old.ensures.same honest none (other_err _ _ (Open (Stop DiskFault)) c.in_err-kept.was fine) in
     if_err c.from_residual.result (λ e. e ≡ c.in_err-kept.field-0.0) _ c.from_residual.ensures.1
     (λ e is fine. same (λ bad. fine (is ∙ bad)))
 
@@ -174,7 +175,7 @@ returns-clause-unwritten g c honest none =
     untouched_on
     (λ d. Lasts g.D.Disk c.args.disk.now d
     (IsImage (g.D.Disk.current c.args.disk.now) (g.D.Disk.unsynced c.args.disk.now)))
-    (Open DiskFault) c.load_old.new.disk c.rewrite.new.disk c.rewrite.result
+    (Open (Stop DiskFault)) c.load_old.new.disk c.rewrite.new.disk c.rewrite.result
     (c.load_old.ensures.unwritten honest none) c.rewrite.ensures.untouched
 
 pub returns-clause-same : goal.returns-clause-same
@@ -182,5 +183,5 @@ returns-clause-same g c honest none =
     untouched_on
     (λ d. Keeps (g.D.Disk.current c.args.disk.now) (g.D.Disk.current d) (g.D.Disk.unsynced c.args.disk.now)
     (g.D.Disk.unsynced d))
-    (Open DiskFault) c.load_old.new.disk c.rewrite.new.disk c.rewrite.result
+    (Open (Stop DiskFault)) c.load_old.new.disk c.rewrite.new.disk c.rewrite.result
     (c.load_old.ensures.same honest none (ok_no_fault _ _ c.in_ok-kept.was)) c.rewrite.ensures.untouched

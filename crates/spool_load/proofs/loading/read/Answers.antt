@@ -4,6 +4,7 @@ use Rattle.spool_disk.proofs.Firm.{counts_on}
 use Rattle.spool_pages.specs.View.{SlotRecord}
 use Rattle.spool_catalog.specs.Checks.{RecordsPass}
 use Rattle.spool_load.proofs.ValidViews.{slots_said, valid_passes, read_loaded}
+use Rattle.spool_load.proofs.Faults.{check_sound, check_told}
 use Rattle.spool_load.proofs.Looks.{reads_on, ok_no_fault}
 use Rattle.spool_journal.proofs.Steps.{no_failure}
 use Rattle.spool_load.proofs.loading.read.Goals as goal
@@ -95,7 +96,8 @@ returns-in_err-kept-clause-said g c honest bytes still v valid is says =
     says
     (search rules) in
     let told =
-    c.in_err-kept.ensures.said v valid (sym is.blocks) is.state.version is.state.next indexes slots held.0 held.1 in
+    check_told c.in_err-kept.field-0.0
+    (c.in_err-kept.ensures.said v valid (sym is.blocks) is.state.version is.state.next indexes slots held.0 held.1) in
     search rules
 
 pub returns-in_err-slots-clause-counts : goal.returns-in_err-slots-clause-counts
@@ -142,6 +144,7 @@ returns-in_err-kept-clause-counts g c =
     let first = no_failure c.load_fields.ensures.counts (ok_no_fault _ _ c.in_ok-indexes.was) in
     let second = no_failure c.load_slots.ensures.counts (ok_no_fault _ _ c.in_ok-slots.was) in
     let third = no_failure c.load_blocks.ensures.counts (ok_no_fault _ _ c.in_ok-blocks.was) in
+    let sound = check_sound c.in_err-kept.field-0.0 in
     search rules
 
 pub returns-clause-view : goal.returns-clause-view
