@@ -34,11 +34,6 @@ as_last sure m files mid now [] job is one = subst (λ before. ExportedAs sure m
 as_last sure m files mid now (first ∷ jobs) job is one =
     (is.0, is.1, as_last sure m (exported_as files first.1 is.0) mid now jobs job is.2 one)
 
--- an export of no job
-pub as_none : (sure : Bool) (holds : Files → Type 0) (m : Store) (files : Files) → holds files
-    → ExportsAs sure holds m [] files
-as_none sure holds m files held = record { now = files; held = held; are = refl }
-
 -- an export that came so far
 pub as_some : (sure : Bool) (holds : Files → Type 0) (m : Store) (files : Files) (jobs : List code.Job) (i : ℕ)
     → ExportsAs sure holds m (map job_shown (take i jobs)) files → ExportsSomeAs sure holds m (map job_shown jobs) files
@@ -60,7 +55,8 @@ module _ (sure : Bool) (was holds : Files → Type 0) (m : Store) (files : Files
   }
 
   -- that was broken off in one
-  pub as_either : ExportsOneAs sure holds m (job_shown job) is.now → ExportsSomeAs sure holds m (map job_shown jobs) files
+  pub as_either : ExportsOneAs sure holds m (job_shown job) is.now
+      → ExportsSomeAs sure holds m (map job_shown jobs) files
   as_either (inl held) =
       as_some sure holds m files jobs i (record { now = is.now; held = held; are = is.are })
   as_either (inr one) = as_some sure holds m files jobs (i + 1) (as_more one)
@@ -87,11 +83,6 @@ pub no_name : (files : Files) (name : Option (List ℕ)) (bytes : List ℕ) → 
 no_name files None bytes none = refl
 no_name files (Some name) bytes none = absurd (cc)
 
-pub there_already : (files : Files) (name : List ℕ) (there : Option (List ℕ)) (len : ℕ) (bytes : List ℕ)
-    → Some len ≡ option_map length there → new_file there files name bytes ≡ files
-there_already files name None len bytes some = absurd (cc)
-there_already files name (Some there) len bytes some = refl
-
 -- WHERE IT IS SURE the files are those of the store's texts
 surely : (m : Store) (jobs : List Job) (files now : Files) → ExportedAs true m jobs files now
     → now ≡ exported m files jobs
@@ -113,7 +104,7 @@ surely_some holds m jobs files is = record {
 }
 
 -- WHETHER A FILE DIFFERS is told by the lengths of files, which are those of the store's texts
-AsLong : Files → Files → Type 0
+abbrev AsLong : Files → Files → Type 0
 AsLong files now = (name : List ℕ) → option_map length (files name) ≡ option_map length (now name)
 
 if_long : (new : Bool) (there there' : Option (List ℕ)) (bytes bytes' : List ℕ) → length bytes ≡ length bytes'

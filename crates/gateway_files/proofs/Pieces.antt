@@ -1,8 +1,8 @@
 -- A text that is written piece by piece.
-use Rattle.std.proofs.Common.{◌≡◌, ◌∙◌, ap, arith, refl, subst, sym, ℕ, ◌+◌, ◌-◌, ◌≤◌, Bool, List, [], ◌++◌}
+use Rattle.std.proofs.Common.{◌≡◌, ◌∙◌, ap, arith, refl, subst, sym, ℕ, ◌+◌, ◌-◌, ◌≤◌, Bool, List, ◌++◌}
 use Rattle.std.proofs.Common.{length, take, drop, Option}
 use Rattle.std.proofs.lemmas.List.{drop-take, length-append, take-append-drop, take-take, take_all}
-use Rattle.std.proofs.KnownBytes.{Appends-nil, Appends-trans}
+use Rattle.std.proofs.KnownBytes.{Appends-trans}
 use Rattle.upload_rules.specs.Answers.{Quiet}
 use Rattle.upload_rules.specs.Store.{Store}
 use Rattle.gateway_files.specs.Changing.{LimitsTo}
@@ -17,19 +17,12 @@ take_on n m xs =
 pub are_same : (sure : Bool) (text : List ℕ) → AreOf sure text text
 are_same sure text = record { size = refl; same = λ e. refl }
 
-are_both : (sure : Bool) (as bs xs ys : List ℕ) → AreOf sure as xs → AreOf sure bs ys
-    → AreOf sure (as ++ bs) (xs ++ ys)
-are_both sure as bs xs ys a b = record {
-  size = length-append as bs
-      ∙ (ap (λ n. n + length bs) a.size ∙ (ap (λ n. length xs + n) b.size ∙ sym (length-append xs ys)));
-  same = λ e. ap (λ zs. zs ++ bs) (a.same e) ∙ ap (λ zs. xs ++ zs) (b.same e);
-}
-
-pub none_written : (sure : Bool) (text : List ℕ) (a : Option (List ℕ)) → text ≡ [] → AppendsOf sure a a text
-none_written sure text a none = record {
-  bytes = [];
-  are = rw none (are_same sure []);
-  wrote = Appends-nil a;
+are_both : (sure : Bool) (xs' ys' xs ys : List ℕ) → AreOf sure xs' xs → AreOf sure ys' ys
+    → AreOf sure (xs' ++ ys') (xs ++ ys)
+are_both sure xs' ys' xs ys a b = record {
+  size = length-append xs' ys'
+      ∙ (ap (λ n. n + length ys') a.size ∙ (ap (λ n. length xs + n) b.size ∙ sym (length-append xs ys)));
+  same = λ e. ap (λ zs. zs ++ ys') (a.same e) ∙ ap (λ zs. xs ++ zs) (b.same e);
 }
 
 -- one piece more was written

@@ -28,8 +28,8 @@ pub record ExportsSome (holds : Files → Type 0) (m : Store) (jobs : List Job) 
   pub count : ℕ
   pub held : holds (exported m before (take count jobs))
 
--- THE FILES AFTER AN EXPORT, WHATEVER THE DISK: under the name of each upload as many bytes as its text has, and these
--- very bytes if that is sure
+-- THE FILES AFTER AN EXPORT, WHATEVER THE DISK: in place of each text some bytes, as many as it has, and the text itself
+-- if that is sure
 abbrev pub ExportedAs : Bool → Store → List Job → Files → Files → Type 0
 ExportedAs sure m [] before now = now ≡ before
 ExportedAs sure m (job ∷ jobs) before now =
@@ -37,15 +37,15 @@ ExportedAs sure m (job ∷ jobs) before now =
     × ExportedAs sure m jobs (exported_as before job.1 bytes) now
 
 -- such files are held
-pub record ExportsAs (sure : Bool) (holds : Files → Type 0) (m : Store) (jobs : List Job) (before : Files) : Type 0
-    where
+pub record ExportsAs (sure : Bool) (holds : Files → Type 0) (m : Store) (jobs : List Job)
+    (before : Files) : Type 0 where
   pub now : Files
   pub held : holds now
   pub are : ExportedAs sure m jobs before now
 
 -- or those after the first so many jobs
-pub record ExportsSomeAs (sure : Bool) (holds : Files → Type 0) (m : Store) (jobs : List Job) (before : Files) : Type 0
-    where
+pub record ExportsSomeAs (sure : Bool) (holds : Files → Type 0) (m : Store) (jobs : List Job)
+    (before : Files) : Type 0 where
   pub count : ℕ
   pub some : ExportsAs sure holds m (take count jobs) before
 

@@ -1,15 +1,15 @@
-use Rattle.std.proofs.Common.{◌∙◌, arith}
+use Rattle.std.proofs.Common.{◌∙◌, ◌≤◌, arith, subst}
 use Rattle.upload_rules.specs.Reading.{text_at}
 use Rattle.upload_rules.specs.Store.{upload_of}
 use Rattle.gateway_files.proofs.Deletions.{unfailed}
-use Rattle.gateway_files.proofs.Pieces.{more_written, quiet_both}
+use Rattle.gateway_files.proofs.Pieces.{all_written, more_written, quiet_both}
 use Rattle.gateway_files.proofs.copies.copy_bytes.Goals as goal
 
-pub loop-at-init : goal.loop-at-init
-loop-at-init g c = ?
-
 pub returns-clause-copied : goal.returns-clause-copied
-returns-clause-copied g c = ?
+returns-clause-copied g c sure w stands len =
+    all_written sure (text_at w.store (upload_of w.store c.args.number)) c.loop-at.at
+    (g.W.Write.contents c.args.writer.now) (g.W.Write.contents c.loop-at.writer)
+    (subst (λ n. n ≤ c.loop-at.at) len c.loop-at-test.false) ((c.loop-at.invariant.3 sure w stands).1 len)
 
 pub loop-at-preserved : goal.loop-at-preserved
 loop-at-preserved g c =

@@ -1,9 +1,9 @@
-use Rattle.std.proofs.Common.{◌∙◌, ◌||◌, ap, map, refl, subst, sym, take}
+use Rattle.std.proofs.Common.{◌∙◌, ◌||◌, ap, map, subst, sym, take}
 use Rattle.std.proofs.lemmas.List.{take_all}
 use Rattle.gateway_files.specs.Exporting.{ExportsAs, some_differ}
 use Rattle.gateway_files.specs.Planning.{job_shown}
 use Rattle.gateway_files.proofs.Deletions.{unfailed}
-use Rattle.gateway_files.proofs.Exported.{as_either, as_more, as_none, as_some, differ_more, holds_both}
+use Rattle.gateway_files.proofs.Exported.{as_either, as_more, as_some, differ_more, holds_both}
 use Rattle.gateway_files.proofs.Pieces.{quiet_both}
 use Rattle.gateway_files.proofs.exporting.do_jobs.Goals as goal
 
@@ -35,9 +35,6 @@ returns-clause-differs g c sure w stands files held =
     sym (c.loop-job.invariant.3 sure w stands files held).1
     ∙ ap (λ jobs. some_differ w.store files (map job_shown jobs))
     (take_all c.loop-job.job-index c.args.jobs.now c.loop-job-test.false)
-
-pub loop-job-init : goal.loop-job-init
-loop-job-init g c = ?
 
 pub loop-job-preserved : goal.loop-job-preserved
 loop-job-preserved g c =
