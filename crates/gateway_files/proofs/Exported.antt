@@ -2,7 +2,7 @@
 use Rattle.std.proofs.Common.{◌≡◌, ◌∙◌, ◌⊎◌, ap, arith, inl, inr, refl, subst, sym, ℕ, ◌+◌, ◌<◌}
 use Rattle.std.proofs.Common.{Bool, true, false, ◌||◌, List, [], ◌∷◌, ◌++◌, get_or, length, map, take, if◌then◌else◌}
 use Rattle.std.proofs.Common.{Option, Some, None, Result, Ok, Err, OnOk}
-use Rattle.std.specs.Prelude.{bytes_eq, not, option_map, ◌==◌}
+use Rattle.std.specs.Prelude.{bytes_eq, option_map}
 use Rattle.std.proofs.lemmas.List.{map-append, take-map, take_more}
 use Rattle.std.proofs.Math.Bool.{or-false, or_assoc}
 use Rattle.std.proofs.lemmas.Slice.Eq.{bytes_eq-Decides}
@@ -80,8 +80,7 @@ module _ (sure : Bool) (holds : Files → Type 0) (m : Store) (files : Files) (j
 
 pub no_name : (files : Files) (name : Option (List ℕ)) (bytes : List ℕ) → name ≡ None
     → exported_as files name bytes ≡ files
-no_name files None bytes none = refl
-no_name files (Some name) bytes none = absurd (cc)
+no_name files name bytes none = grind arith
 
 -- WHERE IT IS SURE the files are those of the store's texts
 surely : (m : Store) (jobs : List Job) (files now : Files) → ExportedAs true m jobs files now
@@ -107,20 +106,10 @@ surely_some holds m jobs files is = record {
 abbrev AsLong : Files → Files → Type 0
 AsLong files now = (name : List ℕ) → option_map length (files name) ≡ option_map length (now name)
 
-if_long : (new : Bool) (there there' : Option (List ℕ)) (bytes bytes' : List ℕ) → length bytes ≡ length bytes'
-    → option_map length there ≡ option_map length there'
-    → option_map length (if new then Some bytes else there) ≡ option_map length (if new then Some bytes' else there')
-if_long true there there' bytes bytes' size long = ap (λ n. Some n) size
-if_long false there there' bytes bytes' size long = long
-
 new_long : (there there' : Option (List ℕ)) (files now : Files) (name bytes bytes' : List ℕ)
     → option_map length there ≡ option_map length there' → length bytes ≡ length bytes' → AsLong files now
     → AsLong (new_file there files name bytes) (new_file there' now name bytes')
-new_long None None files now name bytes bytes' same size long = λ other.
-    if_long (bytes_eq other name) (files other) (now other) bytes bytes' size (long other)
-new_long (Some x) (Some y) files now name bytes bytes' same size long = long
-new_long None (Some y) files now name bytes bytes' same size long = absurd (cc)
-new_long (Some x) None files now name bytes bytes' same size long = absurd (cc)
+new_long there there' files now name bytes bytes' same size long = λ other. grind (arith, long other)
 
 as_long : (files now : Files) (job : Option (List ℕ)) (bytes bytes' : List ℕ) → length bytes ≡ length bytes'
     → AsLong files now → AsLong (exported_as files job bytes) (exported_as now job bytes')
@@ -137,16 +126,11 @@ all_long sure m files before now (job ∷ jobs) long is =
 
 there_long : (there there' : Option (List ℕ)) (text : List ℕ) → option_map length there ≡ option_map length there'
     → differs_from there text ≡ differs_from there' text
-there_long None None text long = refl
-there_long (Some x) (Some y) text long =
-    let same : length x ≡ length y = cc in ap (λ n. not (n == length text)) same
-there_long None (Some y) text long = absurd (cc)
-there_long (Some x) None text long = absurd (cc)
+there_long there there' text long = grind arith
 
 one_long : (files now : Files) (job : Option (List ℕ)) (text : List ℕ) → AsLong files now
     → differs_as files job text ≡ differs_as now job text
-one_long files now None text long = refl
-one_long files now (Some name) text long = there_long (files name) (now name) text (long name)
+one_long files now job text long = grind (arith, there_long)
 
 differ_last : (m : Store) (files : Files) (jobs : List Job) (job : Job)
     → some_differ m files (jobs ++ job ∷ []) ≡ (some_differ m files jobs || differs_one m (exported m files jobs) job)
