@@ -2,25 +2,23 @@
 use Rattle.std.proofs.Common.{◌≡◌, ◌∙◌, ◌⊎◌, ap, arith, inl, inr, refl, subst, sym, ℕ, ◌+◌, ◌<◌}
 use Rattle.std.proofs.Common.{Bool, true, false, ◌||◌, List, [], ◌∷◌, ◌++◌, get_or, length, map, take, if◌then◌else◌}
 use Rattle.std.proofs.Common.{Option, Some, None, Result, Ok, Err, OnOk}
-use Rattle.std.specs.Prelude.{bytes_eq}
+use Rattle.std.specs.Prelude.{bytes_eq, option_map}
 use Rattle.std.proofs.lemmas.List.{map-append, take-map, take_more}
 use Rattle.std.proofs.Math.Bool.{or-false, or_assoc}
 use Rattle.std.proofs.lemmas.Slice.Eq.{bytes_eq-Decides}
 use Rattle.tus_request.proofs.LineLemmas.{true_or_false}
 use Rattle.upload_rules.specs.Reading.{text_at}
 use Rattle.upload_rules.specs.Store.{Store, Upload, is_complete, upload_of}
-use Rattle.gateway_files.specs.Exporting.{Exports, ExportsSome, HoldsTexts, IsJob, differs_one, exported, exported_as}
-use Rattle.gateway_files.specs.Exporting.{exported_one, some_differ}
+use Rattle.gateway_files.specs.Copies.{AreOf}
+use Rattle.gateway_files.specs.Exporting.{ExportedAs, Exports, ExportsAs, ExportsOneAs, ExportsSome, ExportsSomeAs}
+use Rattle.gateway_files.specs.Exporting.{HoldsTexts, IsJob, differs_as, differs_from, differs_one, exported}
+use Rattle.gateway_files.specs.Exporting.{exported_as, exported_one, some_differ}
 use Rattle.gateway_files.specs.Folders.{Files, HoldsAll, HoldsEither, Keeps, new_file}
 use Rattle.gateway_files.specs.Naming.{given_name}
 use Rattle.gateway_files.specs.Planning.{Job, file_name, is_name, is_used, job_shown, jobs_from, jobs_of}
+use Rattle.gateway_files.proofs.Pieces.{are_same}
 use Rattle.gateway_files.proofs.Named.{AllFit, FitsName, Rises, all_last, all_more, new_name}
 use Rattle.gateway_files.specs.declared.planning.Job as code
-
-exported_last : (m : Store) (files : Files) (jobs : List Job) (job : Job)
-    → exported m files (jobs ++ job ∷ []) ≡ exported_one m (exported m files jobs) job
-exported_last m files [] job = refl
-exported_last m files (first ∷ jobs) job = exported_last m (exported_one m files first) jobs job
 
 -- one job more
 jobs_more : (jobs : List code.Job) (i : ℕ) (job : code.Job) → i < length jobs → job ≡ get_or jobs i job
@@ -29,15 +27,111 @@ jobs_more jobs i job lt is =
     sym (ap (λ js. map job_shown js) (take_more jobs i job lt)
     ∙ (ap (λ x. map job_shown (take i jobs ++ x ∷ [])) (sym is) ∙ map-append job_shown (take i jobs) (job ∷ [])))
 
-pub exported_more : (m : Store) (files : Files) (jobs : List code.Job) (i : ℕ) (job : code.Job) → i < length jobs
-    → job ≡ get_or jobs i job
-    → exported_one m (exported m files (map job_shown (take i jobs))) (job_shown job)
-    ≡ exported m files (map job_shown (take (i + 1) jobs))
-exported_more m files jobs i job lt is =
-    sym (exported_last m files (map job_shown (take i jobs)) (job_shown job))
-    ∙ ap (λ js. exported m files js) (jobs_more jobs i job lt is)
+as_last : (sure : Bool) (m : Store) (files mid now : Files) (jobs : List Job) (job : Job)
+    → ExportedAs sure m jobs files mid → ExportedAs sure m (job ∷ []) mid now
+    → ExportedAs sure m (jobs ++ job ∷ []) files now
+as_last sure m files mid now [] job is one = subst (λ before. ExportedAs sure m (job ∷ []) before now) is one
+as_last sure m files mid now (first ∷ jobs) job is one =
+    (is.0, is.1, as_last sure m (exported_as files first.1 is.0) mid now jobs job is.2 one)
 
--- whether a file differs, for one job more
+-- an export that came so far
+pub as_some : (sure : Bool) (holds : Files → Type 0) (m : Store) (files : Files) (jobs : List code.Job) (i : ℕ)
+    → ExportsAs sure holds m (map job_shown (take i jobs)) files → ExportsSomeAs sure holds m (map job_shown jobs) files
+as_some sure holds m files jobs i is = record {
+  count = i;
+  some = subst (λ js. ExportsAs sure holds m js files) (sym (take-map job_shown i jobs)) is;
+}
+
+module _ (sure : Bool) (was holds : Files → Type 0) (m : Store) (files : Files) (jobs : List code.Job) (i : ℕ)
+    (job : code.Job) (lt : i < length jobs) (same : job ≡ get_or jobs i job)
+    (is : ExportsAs sure was m (map job_shown (take i jobs)) files) where
+  pub as_more : ExportsAs sure holds m (job_shown job ∷ []) is.now
+      → ExportsAs sure holds m (map job_shown (take (i + 1) jobs)) files
+  as_more one = record {
+    now = one.now;
+    held = one.held;
+    are = subst (λ js. ExportedAs sure m js files one.now) (jobs_more jobs i job lt same)
+        (as_last sure m files is.now one.now (map job_shown (take i jobs)) (job_shown job) is.are one.are);
+  }
+
+  -- that was broken off in one
+  pub as_either : ExportsOneAs sure holds m (job_shown job) is.now
+      → ExportsSomeAs sure holds m (map job_shown jobs) files
+  as_either (inl held) =
+      as_some sure holds m files jobs i (record { now = is.now; held = held; are = is.are })
+  as_either (inr one) = as_some sure holds m files jobs (i + 1) (as_more one)
+
+-- ONE JOB: where its text is to be written and where not
+module _ (sure : Bool) (holds : Files → Type 0) (m : Store) (files : Files) (job : Job) where
+  pub as_left : ((bytes : List ℕ) → exported_as files job.1 bytes ≡ files) → holds files
+      → ExportsAs sure holds m (job ∷ []) files
+  as_left left held =
+      let text = text_at m (upload_of m job.0) in
+      record { now = files; held = held; are = (text, are_same sure text, sym (left text)) }
+
+  pub as_new : (bytes : List ℕ) → AreOf sure bytes (text_at m (upload_of m job.0))
+      → holds (exported_as files job.1 bytes) → ExportsAs sure holds m (job ∷ []) files
+  as_new bytes are held = record { now = exported_as files job.1 bytes; held = held; are = (bytes, are, refl) }
+
+  pub as_ended : (bytes : List ℕ) → AreOf sure bytes (text_at m (upload_of m job.0))
+      → HoldsEither holds files (exported_as files job.1 bytes) → ExportsOneAs sure holds m job files
+  as_ended bytes are (inl held) = inl held
+  as_ended bytes are (inr held) = inr (as_new bytes are held)
+
+pub no_name : (files : Files) (name : Option (List ℕ)) (bytes : List ℕ) → name ≡ None
+    → exported_as files name bytes ≡ files
+no_name files name bytes none = grind arith
+
+-- WHERE IT IS SURE the files are those of the store's texts
+surely : (m : Store) (jobs : List Job) (files now : Files) → ExportedAs true m jobs files now
+    → now ≡ exported m files jobs
+surely m [] files now is = is
+surely m (job ∷ jobs) files now is =
+    surely m jobs (exported_as files job.1 is.0) now is.2
+    ∙ ap (λ bytes. exported m (exported_as files job.1 bytes) jobs) (is.1.same refl)
+
+pub surely_all : {T E : Type 0} (result : Result T E) (holds : Files → Type 0) (m : Store) (jobs : List Job)
+    (files : Files) → OnOk result (ExportsAs true holds m jobs files) → OnOk result (holds (exported m files jobs))
+surely_all (Err e) holds m jobs files is = tt
+surely_all (Ok t) holds m jobs files is = subst holds (surely m jobs files is.now is.are) is.held
+
+pub surely_some : (holds : Files → Type 0) (m : Store) (jobs : List Job) (files : Files)
+    → ExportsSomeAs true holds m jobs files → ExportsSome holds m jobs files
+surely_some holds m jobs files is = record {
+  count = is.count;
+  held = subst holds (surely m (take is.count jobs) files is.some.now is.some.are) is.some.held;
+}
+
+-- WHETHER A FILE DIFFERS is told by the lengths of files, which are those of the store's texts
+abbrev AsLong : Files → Files → Type 0
+AsLong files now = (name : List ℕ) → option_map length (files name) ≡ option_map length (now name)
+
+new_long : (there there' : Option (List ℕ)) (files now : Files) (name bytes bytes' : List ℕ)
+    → option_map length there ≡ option_map length there' → length bytes ≡ length bytes' → AsLong files now
+    → AsLong (new_file there files name bytes) (new_file there' now name bytes')
+new_long there there' files now name bytes bytes' same size long = λ other. grind (arith, long other)
+
+as_long : (files now : Files) (job : Option (List ℕ)) (bytes bytes' : List ℕ) → length bytes ≡ length bytes'
+    → AsLong files now → AsLong (exported_as files job bytes) (exported_as now job bytes')
+as_long files now None bytes bytes' size long = long
+as_long files now (Some name) bytes bytes' size long =
+    new_long (files name) (now name) files now name bytes bytes' (long name) size long
+
+all_long : (sure : Bool) (m : Store) (files before now : Files) (jobs : List Job) → AsLong files before
+    → ExportedAs sure m jobs before now → AsLong (exported m files jobs) now
+all_long sure m files before now [] long is = subst (λ after. AsLong files after) (sym is) long
+all_long sure m files before now (job ∷ jobs) long is =
+    all_long sure m (exported_one m files job) (exported_as before job.1 is.0) now jobs
+    (as_long files before job.1 (text_at m (upload_of m job.0)) is.0 (sym is.1.size) long) is.2
+
+there_long : (there there' : Option (List ℕ)) (text : List ℕ) → option_map length there ≡ option_map length there'
+    → differs_from there text ≡ differs_from there' text
+there_long there there' text long = grind arith
+
+one_long : (files now : Files) (job : Option (List ℕ)) (text : List ℕ) → AsLong files now
+    → differs_as files job text ≡ differs_as now job text
+one_long files now job text long = grind (arith, there_long)
+
 differ_last : (m : Store) (files : Files) (jobs : List Job) (job : Job)
     → some_differ m files (jobs ++ job ∷ []) ≡ (some_differ m files jobs || differs_one m (exported m files jobs) job)
 differ_last m files [] job = or-false (differs_one m files job)
@@ -46,32 +140,16 @@ differ_last m files (first ∷ jobs) job =
     ∙ sym (or_assoc (differs_one m files first) (some_differ m (exported_one m files first) jobs)
     (differs_one m (exported m files (first ∷ jobs)) job))
 
-pub differ_more : (m : Store) (files : Files) (jobs : List code.Job) (i : ℕ) (job : code.Job) → i < length jobs
-    → job ≡ get_or jobs i job
-    → (some_differ m files (map job_shown (take i jobs))
-    || differs_one m (exported m files (map job_shown (take i jobs))) (job_shown job))
+pub differ_more : (sure : Bool) (m : Store) (files now : Files) (jobs : List code.Job) (i : ℕ) (job : code.Job)
+    → i < length jobs → job ≡ get_or jobs i job → ExportedAs sure m (map job_shown (take i jobs)) files now
+    → (some_differ m files (map job_shown (take i jobs)) || differs_one m now (job_shown job))
     ≡ some_differ m files (map job_shown (take (i + 1) jobs))
-differ_more m files jobs i job lt is =
-    sym (differ_last m files (map job_shown (take i jobs)) (job_shown job))
-    ∙ ap (λ js. some_differ m files js) (jobs_more jobs i job lt is)
-
--- an export that came so far
-pub exports_some : (holds : Files → Type 0) (m : Store) (files : Files) (jobs : List code.Job) (i : ℕ)
-    → holds (exported m files (map job_shown (take i jobs))) → ExportsSome holds m (map job_shown jobs) files
-exports_some holds m files jobs i held = record {
-  count = i;
-  held = rw (take-map job_shown i jobs) held;
-}
-
--- and that was broken off in one
-pub exports_either : (holds : Files → Type 0) (m : Store) (files : Files) (jobs : List code.Job) (i : ℕ)
-    (job : code.Job) → i < length jobs → job ≡ get_or jobs i job
-    → HoldsEither holds (exported m files (map job_shown (take i jobs)))
-    (exported_one m (exported m files (map job_shown (take i jobs))) (job_shown job))
-    → ExportsSome holds m (map job_shown jobs) files
-exports_either holds m files jobs i job lt is (inl held) = exports_some holds m files jobs i held
-exports_either holds m files jobs i job lt is (inr held) =
-    exports_some holds m files jobs (i + 1) (rw (exported_more m files jobs i job lt is) at held)
+differ_more sure m files now jobs i job lt same is =
+    let done : List Job = map job_shown (take i jobs) in
+    let it : Job = job_shown job in
+    ap (λ (b : Bool). some_differ m files done || b) (sym (one_long (exported m files done) now it.1
+    (text_at m (upload_of m it.0)) (all_long sure m files files now done (λ name. refl) is)))
+    ∙ (sym (differ_last m files done it) ∙ ap (λ js. some_differ m files js) (jobs_more jobs i job lt same))
 
 -- WHAT AN EXPORT LEAVES
 
@@ -129,6 +207,11 @@ job_of (first ∷ jobs) job it (inr later) = elim (job_of jobs job it later) [
   | inl among ↦ inl (inr among)
   | inr same ↦ inr same
 ]
+
+exported_last : (m : Store) (files : Files) (jobs : List Job) (job : Job)
+    → exported m files (jobs ++ job ∷ []) ≡ exported_one m (exported m files jobs) job
+exported_last m files [] job = refl
+exported_last m files (first ∷ jobs) job = exported_last m (exported_one m files first) jobs job
 
 -- one job more, of a name that is new
 texts_more : (m : Store) (files : Files) (jobs : List Job) (job : Job)

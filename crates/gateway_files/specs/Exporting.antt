@@ -3,6 +3,7 @@ use Rattle.std.specs.Prelude.{◌≡◌, ◌⊎◌, ◌||◌, ◌==◌, ℕ, Boo
 use Rattle.std.specs.Prelude.{Option, Some, None, length, take}
 use Rattle.upload_rules.specs.Reading.{text_at}
 use Rattle.upload_rules.specs.Store.{Store, upload_of}
+use Rattle.gateway_files.specs.Copies.{AreOf}
 use Rattle.gateway_files.specs.Folders.{Files, Keeps, new_file}
 use Rattle.gateway_files.specs.Planning.{Job}
 use Rattle.gateway_files.specs.declared.exporting.Outcome.{Outcome}
@@ -26,6 +27,31 @@ exported m files (job ∷ jobs) = exported m (exported_one m files job) jobs
 pub record ExportsSome (holds : Files → Type 0) (m : Store) (jobs : List Job) (before : Files) : Type 0 where
   pub count : ℕ
   pub held : holds (exported m before (take count jobs))
+
+-- THE FILES AFTER AN EXPORT, WHATEVER THE DISK: in place of each text some bytes, as many as it has, and the text itself
+-- if that is sure
+abbrev pub ExportedAs : Bool → Store → List Job → Files → Files → Type 0
+ExportedAs sure m [] before now = now ≡ before
+ExportedAs sure m (job ∷ jobs) before now =
+    (bytes : List ℕ) × AreOf sure bytes (text_at m (upload_of m job.0))
+    × ExportedAs sure m jobs (exported_as before job.1 bytes) now
+
+-- such files are held
+pub record ExportsAs (sure : Bool) (holds : Files → Type 0) (m : Store) (jobs : List Job)
+    (before : Files) : Type 0 where
+  pub now : Files
+  pub held : holds now
+  pub are : ExportedAs sure m jobs before now
+
+-- or those after the first so many jobs
+pub record ExportsSomeAs (sure : Bool) (holds : Files → Type 0) (m : Store) (jobs : List Job)
+    (before : Files) : Type 0 where
+  pub count : ℕ
+  pub some : ExportsAs sure holds m (take count jobs) before
+
+-- or those before or after one job
+abbrev pub ExportsOneAs : Bool → (Files → Type 0) → Store → Job → Files → Type 0
+ExportsOneAs sure holds m job before = holds before ⊎ ExportsAs sure holds m (job ∷ []) before
 
 -- a file that is there has another length than the text
 abbrev pub differs_from : Option (List ℕ) → List ℕ → Bool

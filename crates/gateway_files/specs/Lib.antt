@@ -14,6 +14,7 @@ pub mod Folders
 pub mod SpoolFiles
 pub mod Upgrading
 pub mod Listed
+pub mod Copies
 pub mod Exporting
 pub mod Surveying
 pub mod Transcoding

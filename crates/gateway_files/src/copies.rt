@@ -1,6 +1,5 @@
 //! Texts of uploads, copied to writers.
-ghost use Rattle.std.specs.Prelude.{◌≡◌, ◌<◌, ◌≤◌, ◌+◌, ◌-◌, IfErr, IfOk, IsErrOf, OnOk, drop, length, min, take, true};
-ghost use Rattle.std.specs.Io.KnownBytes.{Appends};
+ghost use Rattle.std.specs.Prelude.{◌≡◌, ◌<◌, ◌≤◌, ◌+◌, ◌-◌, Bool, IfErr, IfOk, IsErrOf, OnOk, drop, length, min, take};
 ghost use Rattle.common.specs.declared.stop.Stop.{Stop};
 ghost use Rattle.upload_rules.specs.Answers.{Counts, Quiet};
 ghost use Rattle.upload_rules.specs.Reading.{text_at};
@@ -8,6 +7,7 @@ ghost use Rattle.upload_rules.specs.Store.{upload_of};
 ghost use Rattle.upload_rules.specs.World.{World};
 ghost use Rattle.gateway_files.specs.declared.faults.Fault.{Fault};
 ghost use Rattle.gateway_files.specs.Changing.{IsChangeFault};
+ghost use Rattle.gateway_files.specs.Copies.{AppendsOf, AreOf};
 
 use crate::faults::Fault;
 use std::io::Write;
@@ -22,12 +22,14 @@ pub fn copy_text<W: Write, U: Uploads>(
     uploads: &mut U,
     number: u64,
 ) -> Result<(), Fault>
-    // What was written is exactly the text.
-    ensures copied { (w : World) → U.stands uploads.old true w → OnOk result (Appends (W.contents writer.old)
-        (W.contents writer.new) (text_at w.store (upload_of w.store number))) }
+    // Whatever the disk, as many bytes were written as the text has, and exactly the text if the store is sure of it.
+    ensures copied { (sure : Bool) (w : World) → U.stands uploads.old sure w
+        → OnOk result (AppendsOf sure (W.contents writer.old) (W.contents writer.new)
+        (text_at w.store (upload_of w.store number))) }
 
     // The uploads stay as they are, and whatever a crash may leave.
-    ensures stands { (w : World) → U.stands uploads.old true w → OnOk result (U.stands uploads.new true w) }
+    ensures stands { (sure : Bool) (w : World) → U.stands uploads.old sure w
+        → OnOk result (U.stands uploads.new sure w) }
     ensures crash { Quiet (U.moment uploads.old) (U.moment uploads.new) (U.left_only uploads.old)
         (U.left_only uploads.new) }
     ensures refused { IfErr result IsChangeFault }
@@ -48,11 +50,12 @@ fn copy_bytes<W: Write, U: Uploads>(
     number: u64,
     len: u64,
 ) -> Result<(), Fault>
-    ensures copied { (w : World) → U.stands uploads.old true w
+    ensures copied { (sure : Bool) (w : World) → U.stands uploads.old sure w
         → len ≡ length (text_at w.store (upload_of w.store number))
-        → OnOk result (Appends (W.contents writer.old) (W.contents writer.new)
+        → OnOk result (AppendsOf sure (W.contents writer.old) (W.contents writer.new)
         (text_at w.store (upload_of w.store number))) }
-    ensures stands { (w : World) → U.stands uploads.old true w → OnOk result (U.stands uploads.new true w) }
+    ensures stands { (sure : Bool) (w : World) → U.stands uploads.old sure w
+        → OnOk result (U.stands uploads.new sure w) }
     ensures crash { Quiet (U.moment uploads.old) (U.moment uploads.new) (U.left_only uploads.old)
         (U.left_only uploads.new) }
     ensures refused { IfErr result IsChangeFault }
@@ -76,11 +79,12 @@ fn copy_piece<W: Write, U: Uploads>(
 ) -> Result<u64, Fault>
     requires { at < len }
     ensures next { IfOk result (λ next. next ≡ at + min (len - at) 4096) }
-    ensures copied { (w : World) → U.stands uploads.old true w
+    ensures copied { (sure : Bool) (w : World) → U.stands uploads.old sure w
         → len ≡ length (text_at w.store (upload_of w.store number))
-        → IfOk result (λ next. Appends (W.contents writer.old) (W.contents writer.new)
+        → IfOk result (λ next. AppendsOf sure (W.contents writer.old) (W.contents writer.new)
         (take (next - at) (drop at (text_at w.store (upload_of w.store number))))) }
-    ensures stands { (w : World) → U.stands uploads.old true w → OnOk result (U.stands uploads.new true w) }
+    ensures stands { (sure : Bool) (w : World) → U.stands uploads.old sure w
+        → OnOk result (U.stands uploads.new sure w) }
     ensures crash { Quiet (U.moment uploads.old) (U.moment uploads.new) (U.left_only uploads.old)
         (U.left_only uploads.new) }
     ensures refused { IfErr result IsChangeFault }
@@ -97,10 +101,12 @@ fn copy_piece<W: Write, U: Uploads>(
 
 // Reads as many bytes of a text as the piece has, where there are so many.
 fn read_at<U: Uploads>(uploads: &mut U, number: u64, at: u64, piece: &mut [u8]) -> Result<(), Fault>
-    ensures read { (w : World) → U.stands uploads.old true w
+    ensures read { (sure : Bool) (w : World) → U.stands uploads.old sure w
         → at + length piece.old ≤ length (text_at w.store (upload_of w.store number))
-        → OnOk result (piece.new ≡ take (length piece.old) (drop at (text_at w.store (upload_of w.store number)))) }
-    ensures stands { (w : World) → U.stands uploads.old true w → OnOk result (U.stands uploads.new true w) }
+        → OnOk result (AreOf sure piece.new
+        (take (length piece.old) (drop at (text_at w.store (upload_of w.store number))))) }
+    ensures stands { (sure : Bool) (w : World) → U.stands uploads.old sure w
+        → OnOk result (U.stands uploads.new sure w) }
     ensures crash { Quiet (U.moment uploads.old) (U.moment uploads.new) (U.left_only uploads.old)
         (U.left_only uploads.new) }
     ensures refused { IfErr result IsChangeFault }

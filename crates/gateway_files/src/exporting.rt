@@ -1,6 +1,6 @@
 //! The texts of a spool's uploads, written into files.
-ghost use Rattle.std.specs.Prelude.{◌≡◌, [], ◌∷◌, ℕ, List, Err, IfErr, IfOk, IsErrOf, IsOk, None, OnErr, OnOk, Some};
-ghost use Rattle.std.specs.Prelude.{◌||◌, ◌==◌, length, map, not, true};
+ghost use Rattle.std.specs.Prelude.{◌≡◌, [], ◌∷◌, ℕ, Bool, Err, IfErr, IfOk, IsErrOf, IsOk, None, OnErr, OnOk, Some};
+ghost use Rattle.std.specs.Prelude.{◌||◌, ◌==◌, length, map, not};
 ghost use Rattle.std.specs.Io.KnownBytes.{Appends};
 ghost use Rattle.common.specs.declared.stop.Stop.{Stop};
 ghost use Rattle.spool_load.specs.Refusals.{HasOtherVersion, IsDamaged, IsNoSpool};
@@ -11,9 +11,10 @@ ghost use Rattle.upload_rules.specs.World.{World};
 ghost use Rattle.spool_image.specs.LeftOnly.{AllShow, IsSpool};
 ghost use Rattle.gateway_files.specs.declared.faults.Fault.{Fault};
 ghost use Rattle.gateway_files.specs.Changing.{Changes, IsChangeFault};
-ghost use Rattle.gateway_files.specs.Exporting.{Exports, ExportsSome, differs_as, differs_one, exported, exported_as};
-ghost use Rattle.gateway_files.specs.Exporting.{exported_one, is_other, outcome_line, some_differ, summary_line};
-ghost use Rattle.gateway_files.specs.Folders.{Files, HoldsAll, HoldsEither, new_file, with_file};
+ghost use Rattle.gateway_files.specs.Exporting.{Exports, ExportsAs, ExportsOneAs, ExportsSome, ExportsSomeAs};
+ghost use Rattle.gateway_files.specs.Exporting.{differs_one, exported, is_other, outcome_line, some_differ};
+ghost use Rattle.gateway_files.specs.Exporting.{summary_line};
+ghost use Rattle.gateway_files.specs.Folders.{Files, HoldsAll};
 ghost use Rattle.gateway_files.specs.Leaving.{LeavesOne};
 ghost use Rattle.gateway_files.specs.Lines.{IsInOrder};
 ghost use Rattle.gateway_files.specs.Listing.{ListRefusedFor, RefusesListAs};
@@ -110,23 +111,36 @@ pub fn export_on<D: Disk + Drop, F: Folder, W: Write>(
     }
 }
 
-// Writes the texts of the uploads into files, and a line for each upload. The names are made before the first file.
-fn export_uploads<W: Write, F: Folder, U: Uploads>(
+/// Writes the text of each complete upload, or of all, into a file of a folder, and a line for each upload. The names
+/// are made before the first file.
+///
+/// Refused with `NoMemory`, `DiskFault` or `Io` at one of them: the files of those before it are written.
+pub fn export_uploads<W: Write, F: Folder, U: Uploads>(
     alloc: Global,
     writer: &mut W,
     folder: &mut F,
     uploads: &mut U,
     all: bool,
 ) -> Result<Done, Fault>
-    ensures files { (w : World) → U.stands uploads.old true w → IsInOrder w.store → (files : Files)
-        → F.holds folder.old files → OnOk result (F.holds folder.new (exported w.store files (jobs_of all w.store))) }
-    ensures whole { (w : World) → U.stands uploads.old true w → IsInOrder w.store → (files : Files)
-        → F.holds folder.old files → ExportsSome (F.holds folder.new) w.store (jobs_of all w.store) files }
-    ensures differs { (w : World) → U.stands uploads.old true w → IsInOrder w.store → (files : Files)
+    // Whatever the disk, for the uploads that they stand for: the folder holds a file of each text that is to be
+    // written, where there was none of its name. It has as many bytes as the text, and is the text if that is sure.
+    ensures files { (sure : Bool) (w : World) → U.stands uploads.old sure w → IsInOrder w.store → (files : Files)
+        → F.holds folder.old files
+        → OnOk result (ExportsAs sure (F.holds folder.new) w.store (jobs_of all w.store) files) }
+
+    // However it ends, the folder holds what it does after some of the uploads, and each file that was there.
+    ensures whole { (sure : Bool) (w : World) → U.stands uploads.old sure w → IsInOrder w.store → (files : Files)
+        → F.holds folder.old files → ExportsSomeAs sure (F.holds folder.new) w.store (jobs_of all w.store) files }
+    ensures keeps { (files : Files) → F.holds folder.old files → HoldsAll (F.holds folder.new) files }
+
+    // It is told whether a file that was there has another length than its upload's text.
+    ensures differs { (sure : Bool) (w : World) → U.stands uploads.old sure w → IsInOrder w.store → (files : Files)
         → F.holds folder.old files
         → IfOk result (λ done. done.differs ≡ some_differ w.store files (jobs_of all w.store)) }
-    ensures keeps { (files : Files) → F.holds folder.old files → HoldsAll (F.holds folder.new) files }
-    ensures stands { (w : World) → U.stands uploads.old true w → OnOk result (U.stands uploads.new true w) }
+
+    // The uploads stay as they are, and whatever a crash may leave.
+    ensures stands { (sure : Bool) (w : World) → U.stands uploads.old sure w
+        → OnOk result (U.stands uploads.new sure w) }
     ensures crash { Quiet (U.moment uploads.old) (U.moment uploads.new) (U.left_only uploads.old)
         (U.left_only uploads.new) }
     ensures refused { IfErr result IsChangeFault }
@@ -157,14 +171,18 @@ fn do_jobs<W: Write, F: Folder, U: Uploads>(
     uploads: &mut U,
     jobs: &[Job],
 ) -> Result<Done, Fault>
-    ensures files { (w : World) → U.stands uploads.old true w → (files : Files) → F.holds folder.old files
-        → OnOk result (F.holds folder.new (exported w.store files (map job_shown jobs.now))) }
-    ensures whole { (w : World) → U.stands uploads.old true w → (files : Files) → F.holds folder.old files
-        → ExportsSome (F.holds folder.new) w.store (map job_shown jobs.now) files }
-    ensures differs { (w : World) → U.stands uploads.old true w → (files : Files) → F.holds folder.old files
+    ensures files { (sure : Bool) (w : World) → U.stands uploads.old sure w → (files : Files)
+        → F.holds folder.old files
+        → OnOk result (ExportsAs sure (F.holds folder.new) w.store (map job_shown jobs.now) files) }
+    ensures whole { (sure : Bool) (w : World) → U.stands uploads.old sure w → (files : Files)
+        → F.holds folder.old files
+        → ExportsSomeAs sure (F.holds folder.new) w.store (map job_shown jobs.now) files }
+    ensures differs { (sure : Bool) (w : World) → U.stands uploads.old sure w → (files : Files)
+        → F.holds folder.old files
         → IfOk result (λ done. done.differs ≡ some_differ w.store files (map job_shown jobs.now)) }
     ensures keeps { (files : Files) → F.holds folder.old files → HoldsAll (F.holds folder.new) files }
-    ensures stands { (w : World) → U.stands uploads.old true w → OnOk result (U.stands uploads.new true w) }
+    ensures stands { (sure : Bool) (w : World) → U.stands uploads.old sure w
+        → OnOk result (U.stands uploads.new sure w) }
     ensures crash { Quiet (U.moment uploads.old) (U.moment uploads.new) (U.left_only uploads.old)
         (U.left_only uploads.new) }
     ensures refused { IfErr result IsChangeFault }
@@ -222,14 +240,18 @@ fn do_job<'j, W: Write, F: Folder, U: Uploads>(
     uploads: &mut U,
     job: &'j Job,
 ) -> Result<Outcome<'j>, Fault>
-    ensures files { (w : World) → U.stands uploads.old true w → (files : Files) → F.holds folder.old files
-        → OnOk result (F.holds folder.new (exported_one w.store files (job_shown job.now))) }
-    ensures failed { (w : World) → U.stands uploads.old true w → (files : Files) → F.holds folder.old files
-        → OnErr result (HoldsEither (F.holds folder.new) files (exported_one w.store files (job_shown job.now))) }
-    ensures differs { (w : World) → U.stands uploads.old true w → (files : Files) → F.holds folder.old files
+    ensures files { (sure : Bool) (w : World) → U.stands uploads.old sure w → (files : Files)
+        → F.holds folder.old files
+        → OnOk result (ExportsAs sure (F.holds folder.new) w.store (job_shown job.now ∷ []) files) }
+    ensures failed { (sure : Bool) (w : World) → U.stands uploads.old sure w → (files : Files)
+        → F.holds folder.old files
+        → OnErr result (ExportsOneAs sure (F.holds folder.new) w.store (job_shown job.now) files) }
+    ensures differs { (sure : Bool) (w : World) → U.stands uploads.old sure w → (files : Files)
+        → F.holds folder.old files
         → IfOk result (λ outcome. is_other outcome ≡ differs_one w.store files (job_shown job.now)) }
     ensures keeps { (files : Files) → F.holds folder.old files → HoldsAll (F.holds folder.new) files }
-    ensures stands { (w : World) → U.stands uploads.old true w → OnOk result (U.stands uploads.new true w) }
+    ensures stands { (sure : Bool) (w : World) → U.stands uploads.old sure w
+        → OnOk result (U.stands uploads.new sure w) }
     ensures crash { Quiet (U.moment uploads.old) (U.moment uploads.new) (U.left_only uploads.old)
         (U.left_only uploads.new) }
     ensures refused { IfErr result IsChangeFault }
@@ -257,14 +279,18 @@ fn export_job<'j, F: Folder, U: Uploads>(
     uploads: &mut U,
     job: &'j Job,
 ) -> Result<Outcome<'j>, Fault>
-    ensures files { (w : World) → U.stands uploads.old true w → (files : Files) → F.holds folder.old files
-        → OnOk result (F.holds folder.new (exported_one w.store files (job_shown job.now))) }
-    ensures failed { (w : World) → U.stands uploads.old true w → (files : Files) → F.holds folder.old files
-        → OnErr result (HoldsEither (F.holds folder.new) files (exported_one w.store files (job_shown job.now))) }
-    ensures differs { (w : World) → U.stands uploads.old true w → (files : Files) → F.holds folder.old files
+    ensures files { (sure : Bool) (w : World) → U.stands uploads.old sure w → (files : Files)
+        → F.holds folder.old files
+        → OnOk result (ExportsAs sure (F.holds folder.new) w.store (job_shown job.now ∷ []) files) }
+    ensures failed { (sure : Bool) (w : World) → U.stands uploads.old sure w → (files : Files)
+        → F.holds folder.old files
+        → OnErr result (ExportsOneAs sure (F.holds folder.new) w.store (job_shown job.now) files) }
+    ensures differs { (sure : Bool) (w : World) → U.stands uploads.old sure w → (files : Files)
+        → F.holds folder.old files
         → IfOk result (λ outcome. is_other outcome ≡ differs_one w.store files (job_shown job.now)) }
     ensures keeps { (files : Files) → F.holds folder.old files → HoldsAll (F.holds folder.new) files }
-    ensures stands { (w : World) → U.stands uploads.old true w → OnOk result (U.stands uploads.new true w) }
+    ensures stands { (sure : Bool) (w : World) → U.stands uploads.old sure w
+        → OnOk result (U.stands uploads.new sure w) }
     ensures crash { Quiet (U.moment uploads.old) (U.moment uploads.new) (U.left_only uploads.old)
         (U.left_only uploads.new) }
     ensures refused { IfErr result IsChangeFault }
@@ -283,7 +309,7 @@ fn export_job<'j, F: Folder, U: Uploads>(
 
 // What there is of an upload's text: a file of this name and of so many bytes.
 fn found<'j, U: Uploads>(uploads: &U, number: u64, name: &'j str, len: u64) -> Outcome<'j>
-    ensures { (w : World) → U.stands uploads.now true w
+    ensures { (sure : Bool) (w : World) → U.stands uploads.now sure w
         → is_other result ≡ not (len == length (text_at w.store (upload_of w.store number))) }
 {
     let text = match uploads.record(number) {
@@ -304,14 +330,15 @@ fn write_text<F: Folder, U: Uploads>(
     number: u64,
     name: &str,
 ) -> Result<(), Fault>
-    ensures files { (w : World) → U.stands uploads.old true w → (files : Files) → F.holds folder.old files
-        → OnOk result ((files name.now ≡ None)
-        × F.holds folder.new (with_file files name.now (text_at w.store (upload_of w.store number)))) }
-    ensures failed { (w : World) → U.stands uploads.old true w → (files : Files) → F.holds folder.old files
-        → OnErr result (HoldsEither (F.holds folder.new) files
-        (new_file (files name.now) files name.now (text_at w.store (upload_of w.store number)))) }
+    ensures files { (sure : Bool) (w : World) → U.stands uploads.old sure w → (files : Files)
+        → F.holds folder.old files → OnOk result ((files name.now ≡ None)
+        × ExportsAs sure (F.holds folder.new) w.store ((number, Some name.now) ∷ []) files) }
+    ensures failed { (sure : Bool) (w : World) → U.stands uploads.old sure w → (files : Files)
+        → F.holds folder.old files
+        → OnErr result (ExportsOneAs sure (F.holds folder.new) w.store (number, Some name.now) files) }
     ensures keeps { (files : Files) → F.holds folder.old files → HoldsAll (F.holds folder.new) files }
-    ensures stands { (w : World) → U.stands uploads.old true w → OnOk result (U.stands uploads.new true w) }
+    ensures stands { (sure : Bool) (w : World) → U.stands uploads.old sure w
+        → OnOk result (U.stands uploads.new sure w) }
     ensures crash { Quiet (U.moment uploads.old) (U.moment uploads.new) (U.left_only uploads.old)
         (U.left_only uploads.new) }
     ensures refused { IfErr result IsChangeFault }

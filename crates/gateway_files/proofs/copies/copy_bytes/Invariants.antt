@@ -1,9 +1,9 @@
-use Rattle.std.proofs.Common.{◌≡◌, ◌≤◌, ◌-◌, length, take, true}
-use Rattle.std.specs.Io.KnownBytes.{Appends}
+use Rattle.std.proofs.Common.{◌≡◌, ◌≤◌, ◌-◌, length, take, Bool}
 use Rattle.upload_rules.specs.Answers.{Quiet}
 use Rattle.upload_rules.specs.Reading.{text_at}
 use Rattle.upload_rules.specs.Store.{upload_of}
 use Rattle.upload_rules.specs.World.{World}
+use Rattle.gateway_files.specs.Copies.{AppendsOf}
 use Rattle.gateway_files.proofs.copies.copy_bytes.Given as goal
 
 abbrev pub invariant-loop-at : goal.invariant-loop-at
@@ -12,9 +12,9 @@ invariant-loop-at g l =
     × (g.U.Uploads.failures l.uploads ≡ g.U.Uploads.failures l.fn.uploads)
     × Quiet (g.U.Uploads.moment l.fn.uploads) (g.U.Uploads.moment l.uploads) (g.U.Uploads.left_only l.fn.uploads)
     (g.U.Uploads.left_only l.uploads)
-    × ((w : World) → g.U.Uploads.stands l.fn.uploads true w → g.U.Uploads.stands l.uploads true w
+    × ((sure : Bool) (w : World) → g.U.Uploads.stands l.fn.uploads sure w → g.U.Uploads.stands l.uploads sure w
     × (l.len ≡ length (text_at w.store (upload_of w.store l.number))
-    → Appends (g.W.Write.contents l.fn.writer) (g.W.Write.contents l.writer)
+    → AppendsOf sure (g.W.Write.contents l.fn.writer) (g.W.Write.contents l.writer)
     (take l.at (text_at w.store (upload_of w.store l.number)))))
 
 abbrev pub decreases-loop-at : goal.decreases-loop-at

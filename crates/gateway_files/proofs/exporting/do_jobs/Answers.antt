@@ -1,19 +1,19 @@
 use Rattle.std.proofs.Common.{◌∙◌, ◌||◌, ap, map, subst, sym, take}
 use Rattle.std.proofs.lemmas.List.{take_all}
-use Rattle.gateway_files.specs.Exporting.{exported, some_differ}
+use Rattle.gateway_files.specs.Exporting.{ExportsAs, some_differ}
 use Rattle.gateway_files.specs.Planning.{job_shown}
 use Rattle.gateway_files.proofs.Deletions.{unfailed}
-use Rattle.gateway_files.proofs.Exported.{differ_more, exported_more, exports_either, exports_some, holds_both}
+use Rattle.gateway_files.proofs.Exported.{as_either, as_more, as_some, differ_more, holds_both}
 use Rattle.gateway_files.proofs.Pieces.{quiet_both}
 use Rattle.gateway_files.proofs.exporting.do_jobs.Goals as goal
 
 pub returns-in_err-outcome-clause-whole : goal.returns-in_err-outcome-clause-whole
-returns-in_err-outcome-clause-whole g c w stands files held =
+returns-in_err-outcome-clause-whole g c sure w stands files held =
     let is = c.loop-job.invariant in
-    exports_either (g.F.Folder.holds c.do_job.new.folder) w.store files c.args.jobs.now c.loop-job.job-index
-    c.job-item.result c.loop-job-test.true c.job-item.is
-    (c.in_err-outcome.ensures.failed w (is.2 w stands)
-    (exported w.store files (map job_shown (take c.loop-job.job-index c.args.jobs.now))) (is.3 w stands files held))
+    let so_far = (is.3 sure w stands files held).0 in
+    as_either sure (g.F.Folder.holds c.loop-job.folder) (g.F.Folder.holds c.do_job.new.folder) w.store files
+    c.args.jobs.now c.loop-job.job-index c.job-item.result c.loop-job-test.true c.job-item.is so_far
+    (c.in_err-outcome.ensures.failed sure w (is.2 sure w stands) so_far.now so_far.held)
 
 pub returns-in_err-outcome-clause-keeps : goal.returns-in_err-outcome-clause-keeps
 returns-in_err-outcome-clause-keeps g c files held =
@@ -21,18 +21,18 @@ returns-in_err-outcome-clause-keeps g c files held =
     (c.loop-job.invariant.4 files held) c.in_err-outcome.ensures.keeps
 
 pub returns-clause-files : goal.returns-clause-files
-returns-clause-files g c w stands files held =
+returns-clause-files g c sure w stands files held =
     rw (take_all c.loop-job.job-index c.args.jobs.now c.loop-job-test.false)
-    at (c.loop-job.invariant.3 w stands files held)
+    at (c.loop-job.invariant.3 sure w stands files held).0
 
 pub returns-clause-whole : goal.returns-clause-whole
-returns-clause-whole g c w stands files held =
-    exports_some (g.F.Folder.holds c.loop-job.folder) w.store files c.args.jobs.now c.loop-job.job-index
-    (c.loop-job.invariant.3 w stands files held)
+returns-clause-whole g c sure w stands files held =
+    as_some sure (g.F.Folder.holds c.loop-job.folder) w.store files c.args.jobs.now c.loop-job.job-index
+    (c.loop-job.invariant.3 sure w stands files held).0
 
 pub returns-clause-differs : goal.returns-clause-differs
-returns-clause-differs g c w stands files held =
-    sym (c.loop-job.invariant.5 w stands files held)
+returns-clause-differs g c sure w stands files held =
+    sym (c.loop-job.invariant.3 sure w stands files held).1
     ∙ ap (λ jobs. some_differ w.store files (map job_shown jobs))
     (take_all c.loop-job.job-index c.args.jobs.now c.loop-job-test.false)
 
@@ -41,20 +41,19 @@ loop-job-preserved g c =
     let is = c.loop-job.invariant in (
       unfailed _ _ _ (λ f. absurd (cc)) c.in_ok-outcome.ensures.counts ∙ is.0,
       quiet_both _ _ _ _ _ _ is.1 c.in_ok-outcome.ensures.crash,
-      λ w stands. c.in_ok-outcome.ensures.stands w (is.2 w stands),
-      λ w stands files held.
-          rw (exported_more w.store files c.args.jobs.now c.loop-job.job-index c.job-item.result c.loop-job-test.true
-          c.job-item.is) at (c.in_ok-outcome.ensures.files w (is.2 w stands)
-          (exported w.store files (map job_shown (take c.loop-job.job-index c.args.jobs.now)))
-          (is.3 w stands files held)),
+      λ sure w stands. c.in_ok-outcome.ensures.stands sure w (is.2 sure w stands),
+      λ sure w stands files held.
+          let both = is.3 sure w stands files held in
+          let so_far = both.0 in (
+            as_more sure (g.F.Folder.holds c.loop-job.folder) (g.F.Folder.holds c.do_job.new.folder) w.store files
+                c.args.jobs.now c.loop-job.job-index c.job-item.result c.loop-job-test.true c.job-item.is so_far
+                (c.in_ok-outcome.ensures.files sure w (is.2 sure w stands) so_far.now so_far.held),
+            sym (differ_more sure w.store files so_far.now c.args.jobs.now c.loop-job.job-index c.job-item.result
+                c.loop-job-test.true c.job-item.is so_far.are)
+                ∙ rw (both.1, c.and-done.ensures) (sym (ap (λ b. c.loop-job.done.differs || b)
+                (c.in_ok-outcome.ensures.differs sure w (is.2 sure w stands) so_far.now so_far.held))),
+          ),
       λ files held.
           holds_both (g.F.Folder.holds c.loop-job.folder) (g.F.Folder.holds c.do_job.new.folder) files
           (is.4 files held) c.in_ok-outcome.ensures.keeps,
-      λ w stands files held.
-          sym (differ_more w.store files c.args.jobs.now c.loop-job.job-index c.job-item.result c.loop-job-test.true
-          c.job-item.is)
-          ∙ rw (is.5 w stands files held, c.and-done.ensures) (sym (ap (λ b. c.loop-job.done.differs || b)
-          (c.in_ok-outcome.ensures.differs w (is.2 w stands)
-          (exported w.store files (map job_shown (take c.loop-job.job-index c.args.jobs.now)))
-          (is.3 w stands files held)))),
     )

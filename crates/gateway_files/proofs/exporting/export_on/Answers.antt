@@ -4,7 +4,8 @@ use Rattle.spool_image.specs.Spool.{disk_of, size_of}
 use Rattle.spool_image.specs.contracts.spool.SpoolUploads.TheImpl.Laws.{durable-law}
 use Rattle.upload_rules.specs.World.{at_rest}
 use Rattle.gateway_files.specs.Leaving.{LastsOver}
-use Rattle.gateway_files.proofs.Exported.{exports}
+use Rattle.gateway_files.specs.Planning.{jobs_of}
+use Rattle.gateway_files.proofs.Exported.{exports, surely_all, surely_some}
 use Rattle.gateway_files.proofs.InOrder.{in_order}
 use Rattle.gateway_files.proofs.Named.{spool_rises}
 use Rattle.gateway_files.proofs.Lasting.{all_show, lasts_over, when_ok}
@@ -13,9 +14,11 @@ use Rattle.gateway_files.proofs.Refusals.{is_damaged, other_version}
 use Rattle.gateway_files.proofs.exporting.export_on.Goals as goal
 
 pub returns-in-Ok-clause-files : goal.returns-in-Ok-clause-files
-returns-in-Ok-clause-files g c n m is =
-    c.export_uploads-exported.ensures.files (at_rest m (Some n)) (c.in-Ok.ensures.stands n m is)
-    (in_order g.D.Disk c.args.disk n m is)
+returns-in-Ok-clause-files g c n m is files held =
+    surely_all c.export_uploads-exported.result (g.F.Folder.holds c.export_uploads-exported.new.folder) m
+    (jobs_of c.args.all m) files
+    (c.export_uploads-exported.ensures.files true (at_rest m (Some n)) (c.in-Ok.ensures.stands n m is)
+    (in_order g.D.Disk c.args.disk n m is) files held)
 
 pub returns-in-Ok-clause-texts : goal.returns-in-Ok-clause-texts
 returns-in-Ok-clause-texts g c n m is files held =
@@ -23,13 +26,14 @@ returns-in-Ok-clause-texts g c n m is files held =
     (spool_rises g.D.Disk c.args.disk n m is) (returns-in-Ok-clause-files g c n m is files held)
 
 pub returns-in-Ok-clause-whole : goal.returns-in-Ok-clause-whole
-returns-in-Ok-clause-whole g c n m is =
-    c.export_uploads-exported.ensures.whole (at_rest m (Some n)) (c.in-Ok.ensures.stands n m is)
-    (in_order g.D.Disk c.args.disk n m is)
+returns-in-Ok-clause-whole g c n m is files held =
+    surely_some (g.F.Folder.holds c.export_uploads-exported.new.folder) m (jobs_of c.args.all m) files
+    (c.export_uploads-exported.ensures.whole true (at_rest m (Some n)) (c.in-Ok.ensures.stands n m is)
+    (in_order g.D.Disk c.args.disk n m is) files held)
 
 pub returns-in-Ok-clause-differs : goal.returns-in-Ok-clause-differs
 returns-in-Ok-clause-differs g c n m is =
-    c.export_uploads-exported.ensures.differs (at_rest m (Some n)) (c.in-Ok.ensures.stands n m is)
+    c.export_uploads-exported.ensures.differs true (at_rest m (Some n)) (c.in-Ok.ensures.stands n m is)
     (in_order g.D.Disk c.args.disk n m is)
 
 pub returns-in-Ok-clause-version : goal.returns-in-Ok-clause-version
@@ -39,7 +43,7 @@ pub returns-in-Ok-clause-shows : goal.returns-in-Ok-clause-shows
 returns-in-Ok-clause-shows g c n m is ok =
     let s = c.export_uploads-exported.new.uploads in
     let stands = when_ok c.export_uploads-exported.result _ ok
-    (c.export_uploads-exported.ensures.stands (at_rest m (Some n)) (c.in-Ok.ensures.stands n m is)) in
+    (c.export_uploads-exported.ensures.stands true (at_rest m (Some n)) (c.in-Ok.ensures.stands n m is)) in
     rw c.into_disk.ensures.same
     (all_show g.D.Disk (disk_of s) (size_of s) n m (g.met.D.Disk.counts_now (disk_of s))
     (durable-law g.row.D g.D.Disk g.D.Disk-dict
