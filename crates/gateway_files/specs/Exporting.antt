@@ -28,8 +28,8 @@ pub record ExportsSome (holds : Files → Type 0) (m : Store) (jobs : List Job) 
   pub count : ℕ
   pub held : holds (exported m before (take count jobs))
 
--- THE FILES AFTER AN EXPORT, WHATEVER THE DISK: in place of each text some bytes, as many as it has, and the text itself
--- if that is sure
+-- THE FILES AFTER AN EXPORT, WHATEVER THE DISK: in place of each text some bytes, as many as it has, and the text
+-- itself if that is sure
 abbrev pub ExportedAs : Bool → Store → List Job → Files → Files → Type 0
 ExportedAs sure m [] before now = now ≡ before
 ExportedAs sure m (job ∷ jobs) before now =
