@@ -1,5 +1,5 @@
 use Rattle.std.proofs.Common.{◌≡◌, ◌≢◌, ◌<◌, ◌≤◌, ◌+◌, ℕ, length, get_or, true, false}
-use Rattle.spool_texts.proofs.draft_text.DraftText.give_back.Given as goal
+use Rattle.spool_texts.proofs.block_text.BlockText.give_back.Given as goal
 
 abbrev pub invariant-loop-given : goal.invariant-loop-given
 invariant-loop-given l = record {

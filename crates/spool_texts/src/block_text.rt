@@ -1,7 +1,7 @@
 //! The new text of a draft.
-ghost use Rattle.std.specs.Prelude.{◌≡◌, ◌≤◌, ◌<◌, ◌≢◌, ◌*◌, ◌+◌, ◌-◌, ◌/◌, ◌%◌, ◌++◌, ◌^◌, ◌↔◌, ℕ, [], length};
-ghost use Rattle.std.specs.Prelude.{take, drop, replicate, min, get_or, IsOk, IsErr, IsErrOf, IfOk, OnOk, OnErr};
-ghost use Rattle.std.specs.Prelude.{vec_len, vec_capacity};
+ghost use Rattle.std.specs.Prelude.{◌≡◌, ◌≤◌, ◌<◌, ◌≢◌, ◌*◌, ◌+◌, ◌-◌, ◌/◌, ◌%◌, ◌++◌, ◌^◌, ◌↔◌, ◌⊎◌, ℕ, List, []};
+ghost use Rattle.std.specs.Prelude.{length, take, drop, replicate, min, get_or, None, Some, IsOk, IsErr, IsErrOf, IfOk};
+ghost use Rattle.std.specs.Prelude.{OnOk, OnErr, vec_len, vec_capacity};
 ghost use Rattle.common.specs.declared.limits.TheConstants.{MOST_BLOCKS};
 ghost use Rattle.spool_journal.specs.declared.TheConstants.{PAGE};
 ghost use Rattle.spool_blocks.specs.Blocks.{IsFree};
@@ -10,9 +10,11 @@ ghost use Rattle.spool_disk.specs.Views.{Lasts};
 ghost use Rattle.spool_journal.specs.Image.{journal_pages, all_pages, text_page};
 ghost use Rattle.spool_journal.specs.Phases.{Idle};
 ghost use Rattle.spool_texts.specs.Drafts.{Draft, full_count, held_count, content_on, bytes_with, IsReserved, Takes};
-ghost use Rattle.spool_texts.specs.Drafts.{GivesBack, prefix_on, tail_list};
+ghost use Rattle.spool_texts.specs.Drafts.{GivesBack, prefix_on, tail_list, tail_on, len_of, bytes_of, count_with};
+ghost use Rattle.spool_texts.specs.Drafts.{without_block, IsNothingAfter};
 ghost use Rattle.spool_texts.specs.TextOn.{text_on, AllBelow};
 ghost use Rattle.spool_texts.specs.Written.{WritesIn, IsImageBut, aside_blocks};
+ghost use Rattle.spool_texts.specs.declared.block_text.Unread.{Unread};
 
 use crate::{DraftError, read_text};
 use common::{MOST_BLOCKS, Stop};
@@ -22,70 +24,65 @@ use spool_journal::{Layout, PAGE};
 use std::alloc::{AllocError, Global};
 use std::marker::Model;
 
-/// The new text of a draft: the blocks that it reserved, and the bytes of its unfinished block in memory. If it is
-/// dropped without `give_back` or `into_list`, its blocks stay reserved.
+/// The new text of a draft, which follows a committed text. Before its first byte it has neither memory nor blocks. If
+/// it is dropped without `give_back` or `into_list`, its blocks stay reserved.
 #[derive(Drop)]
-pub struct DraftText {
+pub struct BlockText {
+    // The bytes that come first, until they are in memory.
+    unread: Option<Unread>,
     blocks: Vec<BlockNo>,
-    // A page with the bytes of the unfinished block at its start.
+    // A page with the bytes of the unfinished block at its start; nothing before the first byte.
     page: Vec<u8>,
     filled: usize,
 }
 
-impl Model for DraftText {
-    ghost Value = { Draft };
-
-    ghost view = { λ d. record
-        { blocks = d.blocks.items; unfinished = take d.filled d.page.items; room = vec_capacity d.blocks } };
-
-    ghost invariant = { λ d. (length d.page.items ≡ PAGE) × (d.filled < PAGE) × (length d.blocks.items ≤ MOST_BLOCKS) };
+/// The committed text's bytes after its last full block.
+#[derive(Clone, Copy, Drop)]
+struct Unread {
+    // Their block. Without one, zeros take their place.
+    block: Option<BlockNo>,
+    len: usize,
 }
 
-impl DraftText {
-    /// The new text of a draft before its first byte. It begins with the first `len` bytes of a block, which are read
-    /// into memory: those of the committed text's unfinished block. With the first new byte they move to a block that
-    /// the draft reserves. Without a block, zeros take their place, and nothing is read.
-    ///
-    /// # Errors
-    ///
-    /// `NoMemory`, `DiskFault`.
-    pub fn begin<D: Disk>(
-        alloc: Global,
-        disk: &mut D,
-        layout: &Layout,
-        tail: Option<BlockNo>,
-        len: usize,
-    ) -> Result<Self, Stop>
-        requires room { PAGE * all_pages layout.now ≤ D.size disk.old }
-        requires below { AllBelow layout.now (tail_list tail) }
-        requires few { len < PAGE }
-        ensures size { D.size disk.new ≡ D.size disk.old }
-        ensures honest { D.honest disk.old ↔ D.honest disk.new }
-        ensures counts { Counts (IsErrOf result Stop.DiskFault) (D.failures disk.old) (D.failures disk.new) }
-        ensures unread { tail_list tail ≡ [] → disk.new ≡ disk.old }
-        ensures none { IfOk result (λ text. text.blocks ≡ []) }
-        ensures tail { D.honest disk.old
-            → IfOk result (λ text. text.unfinished ≡ prefix_on (D.current disk.old) (text_page layout.now) tail len) }
-        ensures tail_size { IfOk result (λ text. length text.unfinished ≡ len) }
-        ensures keeps { D.honest disk.old → Keeps (D.current disk.old) (D.current disk.new) (D.unsynced disk.old)
-            (D.unsynced disk.new) }
-        ensures lasts { D.honest disk.old → Lasts D.Disk disk.old disk.new
-            (IsImage (D.current disk.old) (D.unsynced disk.old)) }
+impl Model for BlockText {
+    ghost Value = { Draft };
+
+    ghost view = { λ d. record {
+      unread = d.unread;
+      blocks = d.blocks.items;
+      unfinished = take d.filled d.page.items;
+      room = vec_capacity d.blocks;
+    } };
+
+    ghost invariant = { λ d. (d.unread ≡ None → length d.page.items ≡ PAGE)
+        × ((u : Unread) → d.unread ≡ Some u → (u.len < PAGE) × (length d.blocks.items ≡ 0) × (d.filled ≡ 0))
+        × (d.filled < PAGE) × (length d.blocks.items ≤ MOST_BLOCKS) };
+}
+
+impl BlockText {
+    /// Nothing yet, after a text of this length on the listed blocks. It takes no memory.
+    pub fn after(alloc: Global, committed_len: u64, list: &[BlockNo]) -> Self
+        requires { committed_len ≤ PAGE * length list.now }
+        ensures { IsNothingAfter committed_len list.now result }
     {
-        let mut page = vec![in alloc; 0; PAGE]?;
-        read_tail(disk, layout, tail, len, &mut page)?;
-        Ok(DraftText {
+        let len = (committed_len % PAGE as u64) as usize;
+        let block = if len == 0 {
+            None
+        } else {
+            Some(list[(committed_len / PAGE as u64) as usize])
+        };
+        BlockText {
+            unread: Some(Unread { block, len }),
             blocks: Vec::new(alloc),
-            page,
-            filled: len,
-        })
+            page: Vec::new(alloc),
+            filled: 0,
+        }
     }
 
     /// The reserved blocks. The first has the ordinal of the committed text's unfinished block.
     pub fn list(&self) -> &[BlockNo]
         ensures blocks { result.now ≡ self.now.blocks }
         ensures few { length self.now.blocks ≤ MOST_BLOCKS }
-        ensures unfinished { length self.now.unfinished < PAGE }
     {
         self.blocks.as_slice()
     }
@@ -94,7 +91,8 @@ impl DraftText {
     pub fn into_list(self) -> Vec<BlockNo>
         ensures { result.items ≡ self.blocks }
     {
-        let DraftText {
+        let BlockText {
+            unread: _,
             blocks,
             page: _,
             filled: _,
@@ -102,21 +100,42 @@ impl DraftText {
         blocks
     }
 
-    /// How many bytes the draft has, with those of the committed text's unfinished block.
-    pub fn len(&self) -> u64
-        ensures { result ≡ held_count self.now }
+    /// The length of the whole text after a committed one of `committed_len` bytes. The last bytes have yet to be
+    /// written.
+    pub fn len_with(&self, committed_len: u64, last: &[u8]) -> u64
+        requires few { committed_len ≤ PAGE * MOST_BLOCKS }
+        requires fits { 1 ≤ length self.now.blocks → (length last.now + 4095) / PAGE ≤ length self.now.blocks }
+        ensures nothing { length self.now.blocks ≡ 0 → result ≡ committed_len }
+        ensures more { 0 < length self.now.blocks
+            → result ≡ PAGE * (committed_len / PAGE) + count_with self.now.blocks last.now }
     {
-        let full = self.blocks.len().saturating_sub(self.filled.div_ceil(PAGE));
-        PAGE as u64 * full as u64 + self.filled as u64
+        let count = self.blocks.len();
+        if count == 0 {
+            return committed_len;
+        }
+        let full = committed_len / PAGE as u64 + (count - last.len().div_ceil(PAGE)) as u64;
+        PAGE as u64 * full + last.len() as u64
     }
 
-    /// Appends bytes. A block is reserved with its first byte, and written, without a sync, with its last one.
+    /// Forgets the block with the committed text's last bytes. If they aren't in memory, zeros take their place.
+    pub fn forget_tail(&mut self)
+        ensures forgets { self.new ≡ record self.old { unread = without_block self.old.unread } }
+        ensures same { 1 ≤ length self.old.blocks → self.new ≡ self.old }
+    {
+        if let Some(unread) = &mut self.unread {
+            unread.block = None;
+        }
+    }
+
+    /// Appends bytes. A block is reserved with its first byte, and written, without a sync, with its last one. The text
+    /// begins with the committed one's last bytes, which move to a block that it reserves.
     ///
     /// # Errors
     ///
     /// `NoMemory`, with nothing done; `DiskFault`; `Full` if the bytes need another block and none is free.
     pub fn put<D: Disk>(
         &mut self,
+        alloc: Global,
         disk: &mut D,
         layout: &Layout,
         blocks: &mut Blocks,
@@ -125,29 +144,31 @@ impl DraftText {
         requires room { PAGE * all_pages layout.now ≤ D.size disk.old }
         requires blocks { length blocks.old.rows ≡ layout.now }
         requires reserved { IsReserved blocks.old self.old.blocks }
+        requires below { AllBelow layout.now (tail_on self.old.unread) }
         ensures size { D.size disk.new ≡ D.size disk.old }
         ensures honest { D.honest disk.old ↔ D.honest disk.new }
         ensures counts { Counts (IsErrOf result (DraftError.Stop Stop.DiskFault)) (D.failures disk.old)
             (D.failures disk.new) }
         ensures nothing { length bytes.now ≡ 0
             → (self.new ≡ self.old) × (disk.new ≡ disk.old) × (blocks.new ≡ blocks.old) × IsOk result }
-        ensures held { OnOk result (held_count self.new ≡ held_count self.old + length bytes.now) }
+        ensures tail { (self.new.unread ≡ self.old.unread) ⊎ (self.new.unread ≡ None) }
+        ensures len { OnOk result (len_of self.new ≡ len_of self.old + length bytes.now) }
         ensures content { D.honest disk.old → OnOk result
-            (content_on (D.current disk.new) (text_page layout.now) self.new
-            ≡ content_on (D.current disk.old) (text_page layout.now) self.old ++ bytes.now) }
+            (bytes_of (D.current disk.new) (text_page layout.now) self.new
+            ≡ bytes_of (D.current disk.old) (text_page layout.now) self.old ++ bytes.now) }
 
         // Out of memory, nothing is done.
-        ensures memory { IsErrOf result (DraftError.Stop Stop.NoMemory)
-            → (self.new ≡ self.old) × (disk.new ≡ disk.old) × (blocks.new ≡ blocks.old) }
+        ensures memory { IsErrOf result (DraftError.Stop Stop.NoMemory) → (self.new ≡ record self.old
+            { room = self.new.room }) × (disk.new ≡ disk.old) × (blocks.new ≡ blocks.old) }
 
         // It reserves no more blocks than its bytes need, and keeps them when it is refused.
         ensures listed { OnOk result
-            (1 ≤ length bytes.now → length self.new.blocks ≡ (held_count self.new + 4095) / PAGE) }
+            (1 ≤ length bytes.now → length self.new.blocks ≡ (len_of self.new + 4095) / PAGE) }
         ensures takes { Takes blocks.old blocks.new self.old.blocks self.new.blocks }
         ensures reserved { IsReserved blocks.new self.new.blocks }
         ensures full { IsErrOf result DraftError.Full → (b : ℕ) → IsFree blocks.new b → ⊥ }
         ensures scarce { IsErrOf result DraftError.Full → length
-            self.new.blocks < (held_count self.old + length bytes.now + 4095) / PAGE }
+            self.new.blocks < (len_of self.old + length bytes.now + 4095) / PAGE }
 
         // It writes only its own blocks; apart from them, every crash image is one of before.
         ensures writes { D.honest disk.old → WritesIn (text_page layout.now) self.new.blocks
@@ -165,6 +186,7 @@ impl DraftText {
             return Ok(());
         }
         self.make_room(bytes.len())?;
+        self.open(alloc, disk, layout)?;
         let mut done = 0;
         while done < bytes.len() {
             done += self.put_some(disk, layout, blocks, &bytes[done..])?;
@@ -175,13 +197,51 @@ impl DraftText {
     // Makes room in the list for the blocks of `len` more bytes.
     fn make_room(&mut self, len: usize) -> Result<(), AllocError>
         requires { len < 2 ^ 63 }
-        ensures blocks { self.new.blocks ≡ self.old.blocks }
-        ensures unfinished { self.new.unfinished ≡ self.old.unfinished }
-        ensures same { OnErr result (self.new ≡ self.old) }
-        ensures room { OnOk result (held_count self.old + len ≤ PAGE * self.new.room) }
+        ensures same { self.new ≡ record self.old { room = self.new.room } }
+        ensures room { OnOk result (len_of self.old + len ≤ PAGE * self.new.room) }
     {
-        let more = (self.filled + len).div_ceil(PAGE);
-        self.blocks.reserve(more)
+        self.blocks.reserve(1 + len.div_ceil(PAGE))
+    }
+
+    // Begins the text: takes its memory and reads the committed text's last bytes into it.
+    fn open<D: Disk>(
+        &mut self,
+        alloc: Global,
+        disk: &mut D,
+        layout: &Layout,
+    ) -> Result<(), DraftError>
+        requires room { PAGE * all_pages layout.now ≤ D.size disk.old }
+        requires below { AllBelow layout.now (tail_on self.old.unread) }
+        ensures size { D.size disk.new ≡ D.size disk.old }
+        ensures honest { D.honest disk.old ↔ D.honest disk.new }
+        ensures counts { Counts (IsErrOf result (DraftError.Stop Stop.DiskFault)) (D.failures disk.old)
+            (D.failures disk.new) }
+        ensures unread { tail_on self.old.unread ≡ [] → disk.new ≡ disk.old }
+        ensures not_full { IsErrOf result DraftError.Full → ⊥ }
+        ensures memory { IsErrOf result (DraftError.Stop Stop.NoMemory) → disk.new ≡ disk.old }
+        ensures same { OnErr result (self.new ≡ self.old) }
+        ensures begun { OnOk result (self.new.unread ≡ None) }
+        ensures list { self.new.blocks ≡ self.old.blocks }
+        ensures space { self.new.room ≡ self.old.room }
+        ensures len { len_of self.new ≡ len_of self.old }
+        ensures few { OnOk result (length self.new.unfinished < PAGE) }
+        ensures content { D.honest disk.old → OnOk result
+            (bytes_of (D.current disk.new) (text_page layout.now) self.new
+            ≡ bytes_of (D.current disk.old) (text_page layout.now) self.old) }
+        ensures keeps { D.honest disk.old → Keeps (D.current disk.old) (D.current disk.new) (D.unsynced disk.old)
+            (D.unsynced disk.new) }
+        ensures lasts { D.honest disk.old → Lasts D.Disk disk.old disk.new
+            (IsImage (D.current disk.old) (D.unsynced disk.old)) }
+    {
+        let Some(unread) = self.unread else {
+            return Ok(());
+        };
+        let mut page = vec![in alloc; 0; PAGE]?;
+        read_tail(disk, layout, unread.block, unread.len, &mut page)?;
+        self.page = page;
+        self.filled = unread.len;
+        self.unread = None;
+        Ok(())
     }
 
     // Appends as many bytes as the unfinished block has room for, and returns their count.
@@ -197,6 +257,8 @@ impl DraftText {
         requires reserved { IsReserved blocks.old self.old.blocks }
         requires some { 1 ≤ length bytes.now }
         requires space { held_count self.old + length bytes.now ≤ PAGE * self.old.room }
+        requires begun { self.old.unread ≡ None }
+        ensures begun { self.new.unread ≡ None }
         ensures size { D.size disk.new ≡ D.size disk.old }
         ensures honest { D.honest disk.old ↔ D.honest disk.new }
         ensures counts { Counts (IsErrOf result (DraftError.Stop Stop.DiskFault)) (D.failures disk.old)
@@ -234,40 +296,62 @@ impl DraftText {
     }
 
     /// Appends the last bytes, in memory: reserves the blocks for them and returns what `write_last` has to write, the
-    /// bytes of the unfinished block and these. Afterwards the draft can only be given back or owned.
+    /// bytes of the unfinished block and these. Afterwards the text can only be given back or owned. If it didn't begin,
+    /// it has no blocks, and nothing is returned.
     ///
     /// # Errors
     ///
-    /// `NoMemory`, with nothing done; `Full`.
-    pub fn end(
+    /// `NoMemory`; `DiskFault`; `Full`.
+    pub fn end<D: Disk>(
         &mut self,
         alloc: Global,
+        disk: &mut D,
+        layout: &Layout,
         blocks: &mut Blocks,
         bytes: &[u8],
     ) -> Result<Vec<u8>, DraftError>
+        requires room { PAGE * all_pages layout.now ≤ D.size disk.old }
         requires reserved { IsReserved blocks.old self.old.blocks }
-        ensures no_disk_fault { IsErrOf result (DraftError.Stop Stop.DiskFault) → ⊥ }
-        ensures nothing { length bytes.now ≡ 0 → (self.new ≡ self.old) × (blocks.new ≡ blocks.old) }
+        requires below { AllBelow layout.now (tail_on self.old.unread) }
+        ensures size { D.size disk.new ≡ D.size disk.old }
+        ensures honest { D.honest disk.old ↔ D.honest disk.new }
+        ensures counts { Counts (IsErrOf result (DraftError.Stop Stop.DiskFault)) (D.failures disk.old)
+            (D.failures disk.new) }
+        ensures tail { (self.new.unread ≡ self.old.unread) ⊎ (self.new.unread ≡ None) }
+        ensures nothing { length bytes.now ≡ 0 → (self.new.blocks ≡ self.old.blocks) × (blocks.new ≡ blocks.old) }
         ensures memory { IsErrOf result (DraftError.Stop Stop.NoMemory)
-            → (self.new ≡ self.old) × (blocks.new ≡ blocks.old) }
+            → (self.new.blocks ≡ self.old.blocks) × (blocks.new ≡ blocks.old) }
         ensures some { IsErrOf result DraftError.Full → 1 ≤ length bytes.now }
 
         // The bytes on its blocks and the returned ones are all that it had, and the last bytes.
-        ensures content { (current : ℕ → ℕ) (first : ℕ) → IfOk result
-            (λ last. bytes_with current first self.new.blocks last.items ≡ content_on current first self.old ++
-            bytes.now) }
+        ensures len { IfOk result (λ last. 1 ≤ length self.new.blocks
+            → count_with self.new.blocks last.items ≡ len_of self.old + length bytes.now) }
+        ensures content { D.honest disk.old → IfOk result (λ last. 1 ≤ length self.new.blocks
+            → bytes_with (D.current disk.new) (text_page layout.now) self.new.blocks last.items
+            ≡ bytes_of (D.current disk.old) (text_page layout.now) self.old ++ bytes.now) }
         ensures fits { IfOk result
             (λ last. 1 ≤ length self.new.blocks → (length last.items + 4095) / PAGE ≤ length self.new.blocks) }
 
         // As in `put`, it reserves no more blocks than its bytes need.
         ensures listed { OnOk result
-            (1 ≤ length bytes.now → length self.new.blocks ≡ (held_count self.old + length bytes.now + 4095) / PAGE) }
+            (1 ≤ length bytes.now → length self.new.blocks ≡ (len_of self.old + length bytes.now + 4095) / PAGE) }
         ensures takes { Takes blocks.old blocks.new self.old.blocks self.new.blocks }
         ensures reserved { IsReserved blocks.new self.new.blocks }
         ensures full { IsErrOf result DraftError.Full → (b : ℕ) → IsFree blocks.new b → ⊥ }
         ensures scarce { IsErrOf result DraftError.Full → length
-            self.new.blocks < (held_count self.old + length bytes.now + 4095) / PAGE }
+            self.new.blocks < (len_of self.old + length bytes.now + 4095) / PAGE }
+
+        // Nothing is written. Nothing is read either if the committed text has no unfinished block.
+        ensures unread { tail_on self.old.unread ≡ [] → disk.new ≡ disk.old }
+        ensures keeps { D.honest disk.old → Keeps (D.current disk.old) (D.current disk.new) (D.unsynced disk.old)
+            (D.unsynced disk.new) }
+        ensures lasts { D.honest disk.old → Lasts D.Disk disk.old disk.new
+            (IsImage (D.current disk.old) (D.unsynced disk.old)) }
     {
+        if bytes.is_empty() && self.unread.is_some() {
+            return Ok(Vec::new(alloc));
+        }
+        self.open(alloc, disk, layout)?;
         let last = self.unfinished_with(alloc, bytes)?;
         if bytes.is_empty() {
             return Ok(last);
@@ -304,6 +388,8 @@ impl DraftText {
     fn open_block(&mut self, blocks: &mut Blocks) -> Result<(), DraftError>
         requires reserved { IsReserved blocks.old self.old.blocks }
         requires space { full_count self.old + 1 ≤ self.old.room }
+        requires begun { self.old.unread ≡ None }
+        ensures begun { self.new.unread ≡ None }
         ensures takes { Takes blocks.old blocks.new self.old.blocks self.new.blocks }
         ensures reserved { IsReserved blocks.new self.new.blocks }
         ensures unfinished { self.new.unfinished ≡ self.old.unfinished }

@@ -2,7 +2,7 @@ use Rattle.std.proofs.Common.{rules, ◌≡◌, ◌≢◌, ◌<◌, ◌-◌, ◌
 use Rattle.std.proofs.lemmas.Grind.{get_or_default_zero}
 use Rattle.spool_blocks.specs.Blocks.{Held}
 use Rattle.spool_texts.proofs.GivenBack.{given_from, others_same, still_reserved}
-use Rattle.spool_texts.proofs.draft_text.DraftText.give_back.Goals as goal
+use Rattle.spool_texts.proofs.block_text.BlockText.give_back.Goals as goal
 
 pub loop-given-preserved : goal.loop-given-preserved
 loop-given-preserved c =

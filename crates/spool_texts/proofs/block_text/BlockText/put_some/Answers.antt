@@ -3,7 +3,7 @@ use Rattle.spool_journal.specs.declared.TheConstants.{PAGE}
 use Rattle.spool_journal.specs.Image.{text_page}
 use Rattle.spool_texts.specs.Drafts.{Draft}
 use Rattle.spool_texts.proofs.Contents.{full_written, page_filled}
-use Rattle.spool_texts.proofs.draft_text.DraftText.put_some.Goals as goal
+use Rattle.spool_texts.proofs.block_text.BlockText.put_some.Goals as goal
 
 pub returns-clause-content : goal.returns-clause-content
 returns-clause-content g c honest =
@@ -28,6 +28,7 @@ returns-clause-content g c honest =
     ∙ unfinished_is) in
     let text = rw c.deref.ensures.value at (c.in_ok-write_prefix.ensures.text honest) in
     full_written current current' first c.args.self.now record {
+      unread = c.self.inside.unread;
       blocks = c.self.inside.blocks.items;
       unfinished = [];
       room = c.args.self.now.room;

@@ -1,11 +1,11 @@
-use Rattle.std.proofs.Common.{arith, ◌-◌, ◌*◌, inl, take, drop, refl, ◌∙◌}
+use Rattle.std.proofs.Common.{arith, ◌-◌, ◌*◌, inl, take, drop, refl}
 use Rattle.spool_journal.specs.declared.TheConstants.{PAGE}
 use Rattle.spool_disk.proofs.Firm.{lasts_on, lasts_more, no_calls, one_call}
 use Rattle.spool_journal.specs.Image.{text_page}
 use Rattle.spool_journal.proofs.Steps.{no_failure}
 use Rattle.spool_texts.proofs.Prefixes.{writes_none}
 use Rattle.spool_texts.proofs.Lasts.{none_yet, one_more, writes_prefix, but_prefix}
-use Rattle.spool_texts.proofs.draft_text.write_last.Goals as goal
+use Rattle.spool_texts.proofs.block_text.write_last.Goals as goal
 
 pub loop-at-init : goal.loop-at-init
 loop-at-init g c = record {
