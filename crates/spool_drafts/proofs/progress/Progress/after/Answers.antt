@@ -1,6 +1,6 @@
 use Rattle.std.proofs.Common.{[], subst}
 use Rattle.upload_rules.specs.Texts.{HoldsText}
-use Rattle.spool_drafts.proofs.fresh.Fresh.after.Goals as goal
+use Rattle.spool_drafts.proofs.progress.Progress.after.Goals as goal
 
 pub returns-in-Growing-clause-stands : goal.returns-in-Growing-clause-stands
 returns-in-Growing-clause-stands c x n u tells none valid =
