@@ -1,25 +1,25 @@
 -- A draft with a piece more of its body.
-use Rattle.std.proofs.Common.{◌≡◌, inl, inr, ◌≤◌, ◌<◌, ◌+◌, ◌-◌, ◌%◌, ◌^◌, ◌++◌, ℕ, Bool, true, false, List, [], ◌∷◌}
-use Rattle.std.proofs.Common.{length, min, eqb, None, refl, sym, ◌∙◌, ap, subst, arith, length-append, ⊎_elim}
-use Rattle.std.proofs.lemmas.Bool.{both_ways}
+use Rattle.std.proofs.Common.{◌≡◌, inl, inr, ◌≤◌, ◌<◌, ◌+◌, ◌-◌, ◌/◌, ◌%◌, ◌^◌, ◌++◌, ℕ, Bool, true, false, List, [], ◌∷◌}
+use Rattle.std.proofs.Common.{length, min, eqb, None, Some, refl, sym, ◌∙◌, ap, subst, arith, length-append}
+use Rattle.std.proofs.lemmas.Bool.{both_ways, cases_eq}
 use Rattle.spool_journal.specs.declared.TheConstants.{PAGE}
 use Rattle.enc_model.specs.Indexes.{IndexSet}
+use Rattle.enc_stream.specs.Standing.{Standing}
 use Rattle.spool_blocks.specs.Blocks.{Held}
+use Rattle.spool_texts.specs.Drafts.{Draft, len_of}
 use Rattle.upload_rules.specs.Room.{need_of, wants, need}
-use Rattle.upload_rules.specs.Store.{text_with, is_complete}
+use Rattle.upload_rules.specs.Store.{is_complete}
 use Rattle.upload_rules.specs.World.{Patch, is_there, patch_text}
-use Rattle.spool_drafts.specs.Drafts.{Holds, IsKept, IsLonger, open_text, with_piece, shortened}
+use Rattle.upload_rules.proofs.Transcoders.{without_fault}
+use Rattle.spool_drafts.specs.Drafts.{Holds, IsLonger, open_text, with_piece, shortened}
 use Rattle.spool_drafts.specs.Effect.{RunsShort}
-use Rattle.spool_drafts.specs.Fresh.{StandsAt, Adds, Reads}
-use Rattle.spool_drafts.specs.Growth.{HoldsLen, GrowsTo, list_on}
+use Rattle.spool_drafts.specs.Progress.{StandsAt, Reads, HoldsLen, IsStored, IsGrowing, blocks_in, transcoder_in}
 use Rattle.spool_drafts.specs.declared.draft.SpoolDraft.{SpoolDraft}
-use Rattle.spool_drafts.specs.declared.fresh.Fresh.{Fresh}
-use Rattle.spool_drafts.specs.declared.fresh.Fresh.TheVariants.{Growing, Unencodable, Complete}
-use Rattle.spool_drafts.specs.declared.growth.Growth.{Growth}
-use Rattle.spool_drafts.proofs.Lengths.{is_open}
-use Rattle.spool_drafts.proofs.Patches.{committed_first, fine_before, need_fault, need_roomy, need_short, no_fault}
-use Rattle.spool_drafts.proofs.Patches.{open_grows, patch_text_is, wants_of}
-use Rattle.spool_drafts.proofs.Standings.{value_of}
+use Rattle.spool_drafts.specs.declared.progress.Progress.{Progress}
+use Rattle.spool_drafts.specs.declared.progress.Progress.TheVariants.{Text, OutOfRoom, Unencodable, Complete}
+use Rattle.spool_drafts.proofs.Lengths.{is_open, need_some}
+use Rattle.spool_drafts.proofs.Patches.{committed_first, fine_before, need_fault, need_roomy, need_short, open_grows}
+use Rattle.spool_drafts.proofs.Patches.{patch_text_is, wants_of}
 
 -- a list that isn't empty
 some_of : (piece : List ℕ) (empty : Bool) → empty ≡ eqb (length piece) 0 → empty ≡ false → 0 < length piece
@@ -27,15 +27,38 @@ some_of [] empty is not = absurd (both_ways empty not is)
 some_of (b ∷ piece) empty is not = omega arith
 
 -- the draft after a piece
-abbrev pub gone_on : SpoolDraft → Growth → Fresh → ℕ → SpoolDraft
-gone_on d growth fresh count = record {
-  number = d.number;
-  offset = d.offset;
-  came = min (d.came + count) (2 ^ 64 - 1);
-  declare = d.declare;
-  fresh = fresh;
-  growth = growth;
-  spare = tt;
+abbrev pub gone_on : SpoolDraft → Progress → ℕ → SpoolDraft
+gone_on d s count = record d { progress = s; came = min (d.came + count) (2 ^ 64 - 1) }
+
+-- where bytes may come and no text is stored, the draft is short of blocks
+pub short_of : (short : Bool) (len n : ℕ) (s : Progress) → ((t : Standing) (text : Draft) → s ≡ Text t text → ⊥)
+    → IsGrowing (transcoder_in s) → IsStored short len n s → short ≡ true
+short_of short len n (Text t text) other growing stored = absurd (other t text refl)
+short_of short len n (OutOfRoom t) other growing stored = stored
+short_of short len n Unencodable other growing stored = absurd growing
+short_of short len n Complete other growing stored = absurd growing
+
+-- and has none
+pub none_of : (s : Progress) → ((t : Standing) (text : Draft) → s ≡ Text t text → ⊥) → blocks_in s ≡ []
+none_of (Text t text) other = absurd (other t text refl)
+none_of (OutOfRoom t) other = refl
+none_of Unencodable other = refl
+none_of Complete other = refl
+
+-- a text with k bytes more
+pub holds_more : (len n k : ℕ) (old new : Draft) → HoldsLen len old n → (k ≡ 0 → new.blocks ≡ old.blocks)
+    → (1 ≤ k → length new.blocks ≡ (len_of new + 4095) / PAGE) → len_of new ≡ len_of old + k → HoldsLen len new (n + k)
+holds_more len n k old new holds same listed grown = record {
+  some = omega (arith, holds.some);
+  listed = elim (cases_eq k 0) [
+    | inl none ↦
+        ap length (same none) ∙ holds.listed
+        ∙ ap (λ (m : ℕ). need_of len (m - len % PAGE)) (omega (arith, none))
+    | inr some ↦
+        listed (omega (arith, some))
+        ∙ omega (arith, grown, holds.count, need_some len (n + k) (omega (arith, holds.some, some)))
+  ];
+  count = omega (arith, grown, holds.count);
 }
 
 module _ (x : IndexSet) (p : Patch) (d : SpoolDraft) (held : Holds x p d) (piece : List ℕ)
@@ -49,13 +72,11 @@ module _ (x : IndexSet) (p : Patch) (d : SpoolDraft) (held : Holds x p d) (piece
       is_open p.began p.declare p.count (omega (arith, some_of piece empty is not, fits)) held.within
 
   -- what stays
-  with_growth : (short : Bool) (growth : Growth) (fresh : Fresh) → growth.short ≡ short
-      → growth.text_len ≡ d.growth.text_len → StandsAt x p.began (p.body ++ piece) fresh
-      → length (list_on growth.on) ≡ need x (record longer { short = short }) false
-      → (IsKept x (record longer { short = short }) (gone_on d growth fresh (length piece))
-      → HoldsLen growth (length (open_text x (record longer { short = short }) false)))
-      → Holds x (record longer { short = short }) (gone_on d growth fresh (length piece))
-  with_growth short growth fresh is len stands needs kept = record {
+  went_on : (short : Bool) (s : Progress) → StandsAt x p.began (p.body ++ piece) (transcoder_in s)
+      → length (blocks_in s) ≡ need x (record longer { short = short }) false
+      → IsStored short d.committed_len (length (open_text x (record longer { short = short }) false)) s
+      → Holds x (record longer { short = short }) (gone_on d s (length piece))
+  went_on short s stands needs stored = record {
     number = held.number;
     offset = held.offset;
     came = omega (arith, held.came, held.within, held.fits, fits, length-append p.body piece);
@@ -64,82 +85,66 @@ module _ (x : IndexSet) (p : Patch) (d : SpoolDraft) (held : Holds x p d) (piece
     small = held.small;
     within = held.within;
     fits = held.fits;
-    committed = len ∙ held.committed;
-    short = is;
+    committed = held.committed;
     stands = stands;
     needs = needs;
-    kept = kept;
+    stored = stored;
   }
 
-  pub no_value : StandsAt x p.began (p.body ++ piece) Unencodable → (patch_text x longer false).fault ≡ None → ⊥
-  no_value stands none = both_ways (is_there (patch_text x longer false).fault) (no_fault _ none)
-      (ap (λ r. is_there r.fault) (patch_text_is x longer false) ∙ stands)
-
   -- a character without a code
-  pub longer_fault : (growth : Growth) → growth.on ≡ None → growth.short ≡ d.growth.short
-      → growth.text_len ≡ d.growth.text_len → StandsAt x p.began (p.body ++ piece) Unencodable
-      → Holds x longer (gone_on d growth Unencodable (length piece))
-  longer_fault growth none short len stands =
-      let there : is_there (patch_text x longer false).fault ≡ true =
-      ap (λ r. is_there r.fault) (patch_text_is x longer false) ∙ stands in
-      with_growth p.short growth Unencodable (short ∙ held.short) len stands
-      (ap (λ o. length (list_on o)) none ∙ sym (need_fault x longer false there))
-      (λ kept. absurd (both_ways (is_there (patch_text x longer false).fault) (no_fault _ kept.encodable) there))
+  pub longer_fault : is_complete p.began ≡ false → StandsAt x p.began (p.body ++ piece) None
+      → Holds x longer (gone_on d Unencodable (length piece))
+  longer_fault still stands =
+      went_on p.short Unencodable stands
+      (sym (need_fault x longer false (ap (λ r. is_there r.fault) (patch_text_is x longer false) ∙ stands still))) tt
 
-  module _ (fresh : Fresh) (text : List ℕ) (still : is_complete p.began ≡ false)
-      (other : fresh ≡ Unencodable → ⊥) (reads : Reads x p.began p.body piece fresh text) where
-    pub encodable_after : (patch_text x longer false).fault ≡ None
+  -- no room, as before
+  pub longer_short : (next : Standing) → StandsAt x p.began (p.body ++ piece) (Some next) → p.short ≡ true
+      → Holds x longer (gone_on d (OutOfRoom next) (length piece))
+  longer_short next stands short = went_on p.short (OutOfRoom next) stands (sym (need_short x longer false short)) short
+
+  module _ (next : Standing) (added : List ℕ) (still : is_complete p.began ≡ false)
+      (reads : Reads x p.began p.body piece (Some next) added) where
+    encodable_after : (patch_text x longer false).fault ≡ None
     encodable_after = ap (λ r. r.fault) (patch_text_is x longer false)
-        ∙ value_of x p.began (p.body ++ piece) fresh still other reads.stands
+        ∙ without_fault x p.began (p.body ++ piece) next reads.stands
 
-    pub encodable_before : (patch_text x p false).fault ≡ None
-    encodable_before = fine_before x p piece false encodable_after
+    pub open_longer : open_text x longer false ≡ open_text x p false ++ added
+    open_longer = open_grows x p piece added false false
+        (committed_first x p false still (fine_before x p piece false encodable_after)) reads.adds
 
-    added_is : (f : Fresh) → (f ≡ Unencodable → ⊥) → StandsAt x p.began (p.body ++ piece) f
-        → Adds x p.began p.body piece f text
-        → (text_with x p.began p.body false).bytes ++ text ≡ (text_with x p.began (p.body ++ piece) false).bytes
-    added_is (Growing t) away here is = is
-    added_is Unencodable away here is = absurd (away refl)
-    added_is Complete away here is = absurd (both_ways (is_complete p.began) still here)
+    module _ (old : Draft) (stored : (p.short ≡ false) × HoldsLen d.committed_len old (length (open_text x p false)))
+      where
+        size : length (open_text x p false) + length added ≡ length (open_text x longer false)
+        size = sym (ap length open_longer ∙ length-append (open_text x p false) added)
 
-    pub open_longer : open_text x longer false ≡ open_text x p false ++ text
-    open_longer = open_grows x p piece text false false (committed_first x p false still encodable_before)
-        (added_is fresh other reads.stands reads.adds)
+        wanted : need_of d.committed_len
+            ((length (open_text x p false) + length added) - d.committed_len % PAGE) ≡ wants x longer false
+        wanted = wants_of x longer false d.committed_len (length (open_text x p false) + length added) held.committed size
+            encodable_after
 
-    pub kept_before : d.growth.short ≡ false → IsKept x p d
-    kept_before roomy = record { roomy = roomy; encodable = encodable_before; incomplete = still }
+        pub longer_text : (new : Draft) → (length added ≡ 0 → new.blocks ≡ old.blocks)
+            → (1 ≤ length added → length new.blocks ≡ (len_of new + 4095) / PAGE)
+            → len_of new ≡ len_of old + length added → Holds x longer (gone_on d (Text next new) (length piece))
+        longer_text new same listed grown =
+            let holds = holds_more d.committed_len (length (open_text x p false)) (length added) old new stored.1 same
+            listed grown in
+            went_on p.short (Text next new) reads.stands
+            (holds.listed ∙ wanted ∙ sym (need_roomy x longer false stored.0))
+            (stored.0, subst (HoldsLen d.committed_len new) size holds)
 
-    pub longer_short : (growth : Growth) → growth ≡ d.growth → d.growth.short ≡ true
-        → Holds x longer (gone_on d growth fresh (length piece))
-    longer_short growth same short =
-        let is_short : p.short ≡ true = sym held.short ∙ short in
-        with_growth p.short growth fresh (ap (λ (g : Growth). g.short) same ∙ held.short)
-        (ap (λ (g : Growth). g.text_len) same) reads.stands
-        (ap (λ (g : Growth). length (list_on g.on)) same ∙ held.needs ∙ need_short x p false is_short
-        ∙ sym (need_short x longer false is_short))
-        (λ kept. absurd (both_ways growth.short kept.roomy (ap (λ (g : Growth). g.short) same ∙ short)))
-
-    pub longer_put : (growth : Growth) (blocks blocks' : Held) → d.growth.short ≡ false
-        → growth.text_len ≡ d.growth.text_len
-        → GrowsTo (length (open_text x p false) + length text) d.growth growth blocks blocks'
-        → IsLonger x longer d (gone_on d growth fresh (length piece)) blocks blocks'
-    longer_put growth blocks blocks' roomy len grows =
-        let size : length (open_text x p false) + length text ≡ length (open_text x longer false) =
-        sym (ap length open_longer ∙ length-append (open_text x p false) text) in
-        let p_roomy : p.short ≡ false = sym held.short ∙ roomy in
-        let wanted : need_of d.growth.text_len
-        ((length (open_text x p false) + length text) - d.growth.text_len % PAGE) ≡ wants x longer false =
-        wants_of x longer false d.growth.text_len (length (open_text x p false) + length text) held.committed size
-        encodable_after in
-        ⊎_elim
-        (λ holds. inl (with_growth p.short growth fresh (holds.roomy ∙ sym p_roomy) len reads.stands
-        (holds.listed ∙ ap (λ (t : ℕ). need_of t ((length (open_text x p false) + length text) - t % PAGE)) len ∙ wanted
-        ∙ sym (need_roomy x longer false p_roomy))
-        (λ kept. subst (HoldsLen growth) size holds)))
-        (λ ran. inr (
-          with_growth true growth fresh ran.0.short len reads.stands
-              (ap (λ o. length (list_on o)) ran.0.none ∙ sym (need_short x (shortened longer) false refl))
-              (λ kept. absurd (both_ways growth.short kept.roomy ran.0.short)),
-          subst (RunsShort blocks blocks' (list_on d.growth.on)) wanted ran.1,
-        ))
-        grows
+        -- no block was free
+        pub longer_full : (blocks blocks' : Held) → 1 ≤ length added
+            → ((wanted : ℕ) → (len_of old + length added + 4095) / PAGE ≡ wanted
+            → RunsShort blocks blocks' (blocks_in d.progress) wanted)
+            → IsLonger x longer d (gone_on d (OutOfRoom next) (length piece)) blocks blocks'
+        longer_full blocks blocks' some ran = inr (
+          went_on true (OutOfRoom next) reads.stands (sym (need_short x (shortened longer) false refl)) refl,
+          ran (wants x longer false) (omega (
+            arith,
+            wanted,
+            stored.1.count,
+            need_some d.committed_len (length (open_text x p false) + length added)
+                (omega (arith, stored.1.some, some)),
+          )),
+        )

@@ -1,27 +1,34 @@
 -- The draft that `begin` makes.
 use Rattle.std.proofs.Common.{◌≡◌, inl, inr, ◌≤◌, ◌<◌, ◌+◌, ◌-◌, ◌*◌, ◌/◌, ◌%◌, ◌^◌, ◌++◌, ℕ, Bool, true, false, List}
-use Rattle.std.proofs.Common.{[], length, drop, Option, None, refl, sym, ◌∙◌, ap, subst, arith, append-nil}
+use Rattle.std.proofs.Common.{[], length, drop, Option, None, refl, sym, ◌∙◌, ap, arith, append-nil}
 use Rattle.std.proofs.Common.{length-append, length-drop, length-take}
 use Rattle.std.proofs.lemmas.Bool.{cases_Bool}
 use Rattle.std.proofs.Math.Seq.{drop-append_seam}
 use Rattle.spool_journal.specs.declared.TheConstants.{PAGE}
 use Rattle.enc_model.specs.Indexes.{IndexSet, tables}
 use Rattle.upload_rules.specs.Calls.{first_patch}
-use Rattle.upload_rules.specs.Lengths.{is_too_large, known_or, longest}
+use Rattle.upload_rules.specs.Lengths.{is_length, is_too_large, known_or, longest}
 use Rattle.upload_rules.specs.Records.{Keeps}
 use Rattle.upload_rules.specs.Room.{need_of, need}
 use Rattle.upload_rules.specs.Store.{Upload, text_of, text_with, is_complete}
 use Rattle.upload_rules.specs.World.{Patch, patch_text}
 use Rattle.upload_rules.specs.declared.records.Record.{Record}
 use Rattle.upload_rules.proofs.TextGrows.{text_after}
+use Rattle.spool_texts.specs.Drafts.{bytes_of}
 use Rattle.spool_texts.specs.TextOn.{blocks_on, text_on}
 use Rattle.spool_texts.proofs.Shown.{length-blocks_on}
 use Rattle.spool_drafts.specs.Drafts.{Holds, open_text}
-use Rattle.spool_drafts.specs.Fresh.{StandsAt}
-use Rattle.spool_drafts.specs.Growth.{HoldsCount, list_on}
-use Rattle.spool_drafts.specs.declared.fresh.Fresh.{Fresh}
-use Rattle.spool_drafts.specs.declared.growth.Growth.{Growth}
+use Rattle.spool_drafts.specs.Progress.{HasBytes, IsGrowing, IsStored, StandsAt, Starts, blocks_in, transcoder_in}
+use Rattle.spool_drafts.specs.declared.progress.Progress.{Progress}
+use Rattle.spool_drafts.specs.declared.progress.Progress.TheVariants.{Text, OutOfRoom, Unencodable, Complete}
 use Rattle.spool_drafts.proofs.Patches.{fault_cases, need_fault, need_roomy, patch_text_is, wants_is}
+
+-- no block is reserved yet
+pub starts_none : (len : ℕ) (list : List ℕ) (s : Progress) → Starts len list s → blocks_in s ≡ []
+starts_none len list (Text t text) starts = starts.none
+starts_none len list (OutOfRoom t) starts = absurd starts
+starts_none len list Unencodable starts = refl
+starts_none len list Complete starts = refl
 
 module _ (x : IndexSet) (u : Upload) (n count : ℕ) (declare : Option ℕ) where
   abbrev first : Patch
@@ -77,20 +84,26 @@ module _ (x : IndexSet) (u : Upload) (n count : ℕ) (declare : Option ℕ) wher
         (patch_text x first false).bytes,
   )
 
-  pub begins : (r : Record) (offset : ℕ) (growth : Growth) (fresh : Fresh) → Keeps x n r u
+  pub open_still : (r : Record) → Keeps x n r u → is_length r.declared r.accepted ≡ false → is_complete u ≡ false
+  open_still r keeps still =
+      sym (ap (λ (known : Option ℕ). is_length known r.accepted) keeps.tells.declared
+      ∙ ap (is_length u.declared) keeps.tells.accepted) ∙ still
+
+  pub begins : (r : Record) (list : List ℕ) (offset : ℕ) (s : Progress) → Keeps x n r u
       → (r.accepted ≡ offset) × (offset + count ≤ longest (known_or r.declared declare))
-      × (longest (known_or r.declared declare) < 2 ^ 64) → is_too_large declare ≡ false → StandsAt x u [] fresh
-      → growth.text_len ≡ r.text_len → growth.on ≡ None → growth.short ≡ false → Holds x first (record {
+      × (longest (known_or r.declared declare) < 2 ^ 64) → is_too_large declare ≡ false
+      → StandsAt x u [] (transcoder_in s) → (IsGrowing (transcoder_in s) → is_complete u ≡ false)
+      → Starts r.text_len list s → Holds x first (record {
         number = r.number;
         offset = offset;
         came = 0;
         declare = declare;
-        fresh = fresh;
-        growth = growth;
+        committed_len = r.text_len;
+        progress = s;
         spare = tt;
       })
-  begins r offset growth fresh keeps room small stands len none roomy =
-      let committed : growth.text_len ≡ length (text_of x u) = len ∙ keeps.tells.text_len in
+  begins r list offset s keeps room small stands is_open starts =
+      let committed = keeps.tells.text_len in
       let same_longest = ap (λ (known : Option ℕ). longest (known_or known declare)) keeps.tells.declared in
       record {
         number = keeps.tells.number_is;
@@ -102,23 +115,30 @@ module _ (x : IndexSet) (u : Upload) (n count : ℕ) (declare : Option ℕ) wher
         within = omega (arith, room.0, room.1, keeps.tells.accepted, same_longest);
         fits = omega (arith, room.2, same_longest);
         committed = committed;
-        short = roomy;
         stands = stands;
-        needs = ap (λ o. length (list_on o)) none ∙ sym first_need;
-        kept = λ kept.
-            let size = first_len kept.incomplete in
-            let rest : length (open_text x first false) - growth.text_len % PAGE ≡ 0 =
-            omega (arith, size, ap (λ (t : ℕ). t % PAGE) committed) in
-            record {
-              roomy = roomy;
-              some = omega (arith, size, ap (λ (t : ℕ). t % PAGE) committed);
-              listed = ap (λ o. length (list_on o)) none ∙ sym (ap (need_of growth.text_len) rest);
-              count = subst (λ o. HoldsCount o (length (open_text x first false))) (sym none) tt;
-            };
+        needs = ap length (starts_none r.text_len list s starts) ∙ sym first_need;
+        stored = stored s is_open starts;
       }
+    where
+      stored : (s : Progress) → (IsGrowing (transcoder_in s) → is_complete u ≡ false) → Starts r.text_len list s
+          → IsStored false r.text_len (length (open_text x first false)) s
+      stored (Text t text) is_open starts =
+          let size : length (open_text x first false) ≡ r.text_len % PAGE =
+          first_len (is_open tt) ∙ ap (λ (k : ℕ). k % PAGE) (sym keeps.tells.text_len) in
+          let rest : length (open_text x first false) - r.text_len % PAGE ≡ 0 = omega (arith, size) in (
+            refl,
+            record {
+              some = omega (arith, size);
+              listed = ap length starts.none ∙ sym (ap (need_of r.text_len) rest);
+              count = starts.count ∙ sym size;
+            },
+          )
+      stored (OutOfRoom t) is_open starts = absurd starts
+      stored Unencodable is_open starts = tt
+      stored Complete is_open starts = tt
 
   -- the committed text's last bytes, where the list has it
-  pub begins_bytes : (current : ℕ → ℕ) (page len : ℕ) (list tail : List ℕ) → len ≤ PAGE * length list
+  begins_bytes : (current : ℕ → ℕ) (page len : ℕ) (list tail : List ℕ) → len ≤ PAGE * length list
       → text_on current page list (PAGE * (len / PAGE)) ++ tail ≡ text_on current page list len
       → text_on current page list len ≡ text_of x u → len ≡ length (text_of x u)
       → is_complete u ≡ false → tail ≡ open_text x first false
@@ -135,3 +155,13 @@ module _ (x : IndexSet) (u : Upload) (n count : ℕ) (declare : Option ℕ) wher
       sym (drop-append_seam prefix tail)
       ∙ ap (λ (m : ℕ). drop m (prefix ++ tail)) (k ∙ ap (λ (t : ℕ). PAGE * (t / PAGE)) size)
       ∙ ap (drop (PAGE * (length (text_of x u) / PAGE))) (both ∙ is ∙ sym (same_text still))
+
+  pub begins_carries : (current : ℕ → ℕ) (page len : ℕ) (list : List ℕ) (s : Progress) → len ≤ PAGE * length list
+      → Starts len list s → text_on current page list len ≡ text_of x u → len ≡ length (text_of x u)
+      → (IsGrowing (transcoder_in s) → is_complete u ≡ false) → HasBytes current page (open_text x first false) s
+  begins_carries current page len list (Text t text) long starts is size is_open =
+      begins_bytes current page len list (bytes_of current page text) long (starts.bytes current page) is size
+      (is_open tt)
+  begins_carries current page len list (OutOfRoom t) long starts is size is_open = tt
+  begins_carries current page len list Unencodable long starts is size is_open = tt
+  begins_carries current page len list Complete long starts is size is_open = tt

@@ -1,5 +1,5 @@
 -- What calls leave, one after another.
-use Rattle.std.proofs.Common.{◌≡◌, ◌⊎◌, ◌↔◌, inl, inr, ℕ, ◌++◌, List, [], refl, sym, ◌∙◌, subst, arith}
+use Rattle.std.proofs.Common.{◌≡◌, inl, inr, ℕ, ◌++◌, List, [], refl, sym, ◌∙◌, subst, arith}
 use Rattle.std.proofs.Common.{append-nil, ⊎_elim}
 use Rattle.spool_blocks.specs.Blocks.{Held}
 use Rattle.spool_disk.specs.Disk.{IsImage, Keeps}
@@ -9,7 +9,8 @@ use Rattle.spool_disk.proofs.Firm.{lasts_on, lasts_more}
 use Rattle.spool_texts.specs.Drafts.{IsReserved, Takes, GivesBack}
 use Rattle.spool_texts.specs.Written.{WritesIn, IsImageBut, aside_blocks}
 use Rattle.spool_texts.proofs.Asides.{aside_blocks_else, image_aside}
-use Rattle.spool_texts.proofs.Prefixes.{writes_none, writes_on, idle_in, image_in, but_more, but_on}
+use Rattle.spool_texts.proofs.Prefixes.{writes_keeps, writes_none, writes_on, idle_in, image_in, but_image}
+use Rattle.spool_texts.proofs.Prefixes.{but_more, but_on}
 use Rattle.spool_texts.proofs.Reserves.{takes_none}
 use Rattle.spool_drafts.specs.Effect.{Effect, Regrasps, OnlyWrites}
 use Rattle.spool_journal.specs.Image.{area_end}
@@ -20,10 +21,6 @@ but_aside : {current image : ℕ → ℕ} {unsynced : ℕ → Type 0} {first : �
 but_aside {current = current} {image = image} {first = first} {own = own} is = record {
   same = λ p away is_synced. sym (aside_blocks_else first own current image p away) ∙ is.same p is_synced;
 }
-
-writes_keeps : {current current' : ℕ → ℕ} {unsynced unsynced' : ℕ → Type 0} (first : ℕ) (own : List ℕ)
-    → Keeps current current' unsynced unsynced' → WritesIn first own current current' unsynced unsynced'
-writes_keeps first own keeps = record { outside = λ p away. keeps.same p; unsyncs = λ p l. inl (keeps.unsyncs p l) }
 
 -- BLOCKS
 
@@ -72,8 +69,7 @@ module _ {D : Type 0} {disk : Ghosts D} {j : ℕ} where
       → Keeps (disk.current old) (disk.current new) (disk.unsynced old) (disk.unsynced new)
       → Lasts disk old new (IsImage (disk.current old) (disk.unsynced old)) → OnlyWrites disk j own old new
   only_read own keeps lasts =
-      only (writes_keeps _ _ keeps) (lasts_more lasts
-      (λ image is. record { same = λ p away is_synced. is.same p is_synced }))
+      only (writes_keeps _ _ keeps) (lasts_more lasts (λ image is. but_image is))
 
   -- one call and then another
   pub only_on : {own own' : List ℕ} {old mid new : D} (more : List ℕ) → own' ≡ own ++ more
@@ -118,24 +114,3 @@ module _ {D : Type 0} {disk : Ghosts D} {j : ℕ} where
     grasp = grasp;
     writes = λ honest. only_read own (keeps honest) (lasts honest);
   }
-
-  -- the disk is read; then free blocks are reserved, and these are written; at last they may all be given back
-  pub effect_put : {blocks held blocks' : Held} {list list' own : List ℕ} {old mid new : D} (begun : List ℕ)
-      → begun ≡ list → Takes blocks held begun own → IsReserved held own
-      → ((held ≡ blocks') × (list' ≡ own)) ⊎ (GivesBack held blocks' own × (list' ≡ []))
-      → (disk.honest old ↔ disk.honest mid)
-      → (disk.honest old → Keeps (disk.current old) (disk.current mid) (disk.unsynced old) (disk.unsynced mid))
-      → (disk.honest old → Lasts disk old mid (IsImage (disk.current old) (disk.unsynced old)))
-      → (disk.honest mid → OnlyWrites disk j own mid new) → Effect disk j list list' old new blocks blocks'
-  effect_put {blocks = blocks} {held = held} {own = own} begun same takes reserved holds honest keeps lasts writes =
-      record {
-        own = own;
-        grasp =
-            record {
-              held = held;
-              takes = subst (λ (list : List ℕ). Takes blocks held list own) same takes;
-              reserved = reserved;
-              holds = holds;
-            };
-        writes = λ is. only_on [] (sym (append-nil own)) (only_read own (keeps is) (lasts is)) (writes (honest.0 is));
-      }

@@ -1,6 +1,5 @@
 pub mod Effects
 pub mod Lengths
-pub mod Contents
 pub mod Standings
 pub mod Patches
 pub mod Appends

@@ -1,5 +1,5 @@
 -- The state of transcoding after an upload's bytes.
-use Rattle.std.proofs.Common.{◌≡◌, ℕ, Bool, false, List, [], ◌++◌, None, Ok, Err, IsErrOf, Result, refl, sym, ◌∙◌}
+use Rattle.std.proofs.Common.{◌≡◌, ℕ, Bool, false, List, [], ◌++◌, None, Some, Ok, Err, IsErrOf, Result, refl, sym, ◌∙◌}
 use Rattle.std.proofs.Common.{ap, subst, append_assoc, append-nil, Vec, Global}
 use Rattle.enc_model.specs.Indexes.{IndexSet, tables}
 use Rattle.enc_model.specs.Transcode.{IsAt, added}
@@ -14,10 +14,8 @@ use Rattle.upload_rules.specs.States.{transcoder_over, state_with}
 use Rattle.upload_rules.specs.Store.{Upload, text_with, is_complete}
 use Rattle.upload_rules.specs.Texts.{IsEnded, IsReading, IsRest}
 use Rattle.upload_rules.specs.World.{is_there}
-use Rattle.upload_rules.proofs.Transcoders.{further, without_fault}
-use Rattle.spool_drafts.specs.Fresh.{StandsAt, Reads, FinishesAs}
-use Rattle.spool_drafts.specs.declared.fresh.Fresh.{Fresh}
-use Rattle.spool_drafts.specs.declared.fresh.Fresh.TheVariants.{Growing, Unencodable, Complete}
+use Rattle.upload_rules.proofs.Transcoders.{further}
+use Rattle.spool_drafts.specs.Progress.{Reads, FinishesAs}
 
 -- an upload with these bytes accepted, of a length that isn't known
 abbrev pub after : Upload → List ℕ → Upload
@@ -57,7 +55,7 @@ module _ (x : IndexSet) (u : Upload) (bytes : List ℕ) where
   pub fed : (piece old text : List ℕ) (t next : Standing) → IsReading x u bytes t → old ≡ []
       → (added (tables x) t.transcoder piece).fault ≡ None → next ≡ stepped_on (tables x) t piece
       → text ≡ old ++ (added (tables x) t.transcoder piece).bytes
-      → Reads x u bytes piece (Growing next) text
+      → Reads x u bytes piece (Some next) text
   fed piece old text t next here none ok is grown =
       let both : IsReading x (after u bytes) piece next × IsRest x (after u bytes) piece false text =
       further x (after u bytes) [] t (reads_after t here) piece old text next (nothing_yet old none) ok is grown in
@@ -92,10 +90,3 @@ module _ (x : IndexSet) (u : Upload) (bytes : List ℕ) where
         ap (λ r. is_there r.fault) (sym (same_text done))
             ∙ subst (λ (r : UploadRefusal). IsEnded x (after u bytes) [] done (Err (Refused r))) is ended,
       )
-
--- a text without an unmappable character has no fault
-pub value_of : (x : IndexSet) (u : Upload) (bytes : List ℕ) (f : Fresh) → is_complete u ≡ false
-    → (f ≡ Unencodable → ⊥) → StandsAt x u bytes f → (text_with x u bytes false).fault ≡ None
-value_of x u bytes (Growing t) still other here = without_fault x u bytes t here
-value_of x u bytes Unencodable still other here = absurd (other refl)
-value_of x u bytes Complete still other here = absurd cc

@@ -1,48 +1,26 @@
 -- What a draft carries, where other blocks are written, or none.
-use Rattle.std.proofs.Common.{◌≡◌, ◌≤◌, ◌*◌, ◌%◌, ◌++◌, ℕ, List, [], ◌∷◌, Option, None, Some, take, refl, sym, ◌∙◌, ap}
-use Rattle.std.proofs.Common.{arith, length-take}
-use Rattle.std.proofs.lemmas.List.{get_or-take}
+use Rattle.std.proofs.Common.{◌≡◌, ◌≤◌, ◌*◌, ℕ, List, ◌∙◌}
 use Rattle.spool_journal.specs.declared.TheConstants.{PAGE}
-use Rattle.spool_texts.specs.Drafts.{Draft, full_count, prefix_on, tail_list}
 use Rattle.spool_texts.specs.Written.{NoneOf, SameOutside}
-use Rattle.spool_texts.proofs.Prefixes.{blocks_kept, blocks_same}
-use Rattle.spool_drafts.specs.Growth.{list_on, bytes_on}
-use Rattle.spool_drafts.specs.declared.growth.Growth.{Growth}
+use Rattle.spool_texts.proofs.Stays.{bytes_kept, bytes_same}
+use Rattle.spool_drafts.specs.Progress.{HasBytes, blocks_in, tail_in}
+use Rattle.spool_drafts.specs.declared.progress.Progress.{Progress}
+use Rattle.spool_drafts.specs.declared.progress.Progress.TheVariants.{Text, OutOfRoom, Unencodable, Complete}
 
--- the committed text's last bytes
-prefix_kept : (current current' : ℕ → ℕ) (first : ℕ) (blocks : List ℕ) (tail : Option ℕ) (n : ℕ)
-    → SameOutside first blocks current current' → NoneOf (tail_list tail) blocks
-    → prefix_on current' first tail n ≡ prefix_on current first tail n
-prefix_kept current current' first blocks None n same away = refl
-prefix_kept current current' first blocks (Some block) n same away =
-    ap (λ (xs : List ℕ). take n xs) (blocks_kept current current' first (block ∷ []) blocks same away)
+module _ (current current' : ℕ → ℕ) (first : ℕ) (bytes : List ℕ) where
+  pub has_kept : (blocks : List ℕ) (s : Progress) → SameOutside first blocks current current'
+      → NoneOf (blocks_in s) blocks → NoneOf (tail_in s) blocks
+      → HasBytes current first bytes s → HasBytes current' first bytes s
+  has_kept blocks (Text t text) same apart away has =
+      bytes_kept current current' first blocks same text apart away ∙ has
+  has_kept blocks (OutOfRoom t) same apart away has = tt
+  has_kept blocks Unencodable same apart away has = tt
+  has_kept blocks Complete same apart away has = tt
 
-pub bytes_kept : (current current' : ℕ → ℕ) (first : ℕ) (blocks : List ℕ) (g : Growth) (on : Option Draft)
-    → SameOutside first blocks current current' → NoneOf (list_on on) blocks → NoneOf (tail_list g.tail) blocks
-    → bytes_on current' first g on ≡ bytes_on current first g on
-bytes_kept current current' first blocks g None same apart away =
-    prefix_kept current current' first blocks g.tail (g.text_len % PAGE) same away
-bytes_kept current current' first blocks g (Some text) same apart away =
-    ap (λ (xs : List ℕ). xs ++ text.unfinished)
-    (blocks_kept current current' first (take (full_count text) text.blocks) blocks same (λ i k lt lt' e.
-    apart i k (omega (arith, lt, length-take (full_count text) text.blocks)) lt'
-    (sym (get_or-take (full_count text) text.blocks i 0
-    (omega (arith, lt, length-take (full_count text) text.blocks))) ∙ e)))
-
--- NO TEXT BLOCK IS ANOTHER
-
-prefix_same : (current current' : ℕ → ℕ) (first : ℕ) (tail : Option ℕ) (n : ℕ)
-    → ((p : ℕ) → PAGE * first ≤ p → current' p ≡ current p)
-    → prefix_on current' first tail n ≡ prefix_on current first tail n
-prefix_same current current' first None n same = refl
-prefix_same current current' first (Some block) n same =
-    ap (λ (xs : List ℕ). take n xs) (blocks_same current' current first (block ∷ []) (λ i p lt e. same p (omega
-    (arith, e))))
-
-pub bytes_same : (current current' : ℕ → ℕ) (first : ℕ) (g : Growth) (on : Option Draft)
-    → ((p : ℕ) → PAGE * first ≤ p → current' p ≡ current p)
-    → bytes_on current' first g on ≡ bytes_on current first g on
-bytes_same current current' first g None same = prefix_same current current' first g.tail (g.text_len % PAGE) same
-bytes_same current current' first g (Some text) same =
-    ap (λ (xs : List ℕ). xs ++ text.unfinished)
-    (blocks_same current' current first (take (full_count text) text.blocks) (λ i p lt e. same p (omega (arith, e))))
+  -- no text block is another
+  pub has_same : (s : Progress) → ((p : ℕ) → PAGE * first ≤ p → current' p ≡ current p)
+      → HasBytes current first bytes s → HasBytes current' first bytes s
+  has_same (Text t text) same has = bytes_same current current' first same text ∙ has
+  has_same (OutOfRoom t) same has = tt
+  has_same Unencodable same has = tt
+  has_same Complete same has = tt

@@ -1,10 +1,13 @@
 -- Open drafts, and the patches that they represent.
 use Rattle.std.specs.Prelude.{◌≡◌, ◌⊎◌, ◌≤◌, ◌<◌, ◌*◌, ◌+◌, ◌/◌, ◌^◌, ◌++◌, ℕ, Bool, true, false, List, Option, None}
 use Rattle.std.specs.Prelude.{Some, length, drop, Result, Ok, Err}
+use Rattle.common.specs.declared.limits.TheConstants.{MOST_BLOCKS}
 use Rattle.spool_journal.specs.declared.TheConstants.{PAGE}
 use Rattle.enc_model.specs.Indexes.{IndexSet}
+use Rattle.enc_stream.specs.Standing.{Standing}
 use Rattle.enc_stream.specs.StateBytes.{IsValid}
 use Rattle.spool_blocks.specs.Blocks.{Held}
+use Rattle.spool_texts.specs.TextOn.{AllBelow}
 use Rattle.upload_rules.specs.Calls.{begin_refusal_at, first_patch}
 use Rattle.upload_rules.specs.declared.errors.UploadError.{UploadError}
 use Rattle.upload_rules.specs.declared.errors.UploadError.TheVariants.{Stop, Refused}
@@ -13,15 +16,13 @@ use Rattle.upload_rules.specs.declared.errors.UploadRefusal.TheVariants as refus
 use Rattle.upload_rules.specs.Lengths.{is_too_large, known_or, longest}
 use Rattle.upload_rules.specs.Room.{blocks_of, wants, need}
 use Rattle.upload_rules.specs.States.{SameEncodings, state_with, transcoder_with}
-use Rattle.upload_rules.specs.Store.{Upload, text_of, is_complete}
+use Rattle.upload_rules.specs.Store.{Upload, text_of}
 use Rattle.upload_rules.specs.World.{Patch, is_there, patch_text}
 use Rattle.spool_drafts.specs.Effect.{RunsShort}
-use Rattle.spool_drafts.specs.Fresh.{StandsAt, GoesOn, IsGrowing}
-use Rattle.spool_texts.specs.Drafts.{tail_list}
-use Rattle.spool_drafts.specs.Growth.{list_on, bytes_on, IsTailed, HoldsLen}
+use Rattle.spool_drafts.specs.Progress.{StandsAt, GoesOn, IsGrowing, IsStored, HasBytes, blocks_in, tail_in}
+use Rattle.spool_drafts.specs.Progress.{transcoder_in}
 use Rattle.spool_drafts.specs.declared.draft.DraftEnd.{DraftEnd}
 use Rattle.spool_drafts.specs.declared.draft.SpoolDraft.{SpoolDraft}
-use Rattle.spool_drafts.specs.declared.fresh.Fresh.{Fresh}
 
 -- The upload's number.
 abbrev pub number_of : SpoolDraft → ℕ
@@ -41,32 +42,34 @@ declare_of d = d.declare
 
 -- The reserved blocks. The first has the ordinal of the committed text's unfinished block.
 abbrev pub list_of : SpoolDraft → List ℕ
-list_of d = list_on d.growth.on
+list_of d = blocks_in d.progress
 
--- The block with the committed text's last bytes, if it isn't full. None once the draft forgot it.
+-- The block with the committed text's last bytes, if it isn't full. None once the draft forgot it or has the bytes, or
+-- where it stores no text.
 abbrev pub tail_of : SpoolDraft → List ℕ
-tail_of d = tail_list d.growth.tail
+tail_of d = tail_in d.progress
 
 -- The length of the committed text.
 abbrev pub committed_len_of : SpoolDraft → ℕ
-committed_len_of d = d.growth.text_len
+committed_len_of d = d.committed_len
 
--- The state of transcoding.
-abbrev pub fresh_of : SpoolDraft → Fresh
-fresh_of d = d.fresh
+-- The transcoder, if bytes may come.
+abbrev pub transcoder_of : SpoolDraft → Option Standing
+transcoder_of d = transcoder_in d.progress
 
 -- Properties that hold whatever the disk answers.
 
--- The committed text's unfinished block, if there is one, is one of this many.
-abbrev pub IsPlaced : ℕ → SpoolDraft → Type 0
-IsPlaced blocks d = IsTailed blocks d.growth
+-- The committed text's unfinished block, if the draft needs it, is one of this many.
+pub record IsPlaced (blocks : ℕ) (d : SpoolDraft) : Type 0 where
+  pub below : AllBelow blocks (tail_of d)
+  pub few : committed_len_of d ≤ PAGE * MOST_BLOCKS
 
 -- The draft began after a text of this length with these state bytes. If bytes may still come, the encodings and the
 -- mode are unchanged, and the offset isn't the greatest number.
 pub record IsAfter (len : ℕ) (state : List ℕ) (d : SpoolDraft) : Type 0 where
   pub committed : committed_len_of d ≡ len
-  pub goes_on : GoesOn state (fresh_of d)
-  pub room : IsGrowing (fresh_of d) → offset_of d + 1 < 2 ^ 64
+  pub goes_on : GoesOn state (transcoder_of d)
+  pub room : IsGrowing (transcoder_of d) → offset_of d + 1 < 2 ^ 64
 
 -- The end extends that text: on these blocks, or without blocks if nothing was added, and with the same encodings.
 pub record EndsAfter (len : ℕ) (state list : List ℕ) (e : DraftEnd) : Type 0 where
@@ -80,12 +83,6 @@ pub record EndsAfter (len : ℕ) (state list : List ℕ) (e : DraftEnd) : Type 0
 abbrev pub open_text : IndexSet → Patch → Bool → List ℕ
 open_text x p done = drop (PAGE * (length (text_of x p.began) / PAGE)) (patch_text x p done).bytes
 
--- The draft's text is stored: there is room, no character is unmappable, and bytes may come.
-pub record IsKept (x : IndexSet) (p : Patch) (d : SpoolDraft) : Type 0 where
-  pub roomy : d.growth.short ≡ false
-  pub encodable : (patch_text x p false).fault ≡ None
-  pub incomplete : is_complete p.began ≡ false
-
 -- The draft represents the patch, whatever the disk has.
 pub record Holds (x : IndexSet) (p : Patch) (d : SpoolDraft) : Type 0 where
   pub number : number_of d ≡ p.number
@@ -97,14 +94,13 @@ pub record Holds (x : IndexSet) (p : Patch) (d : SpoolDraft) : Type 0 where
   pub within : length p.began.accepted + p.count ≤ longest (known_or p.began.declared p.declare)
   pub fits : longest (known_or p.began.declared p.declare) < 2 ^ 64
   pub committed : committed_len_of d ≡ length (text_of x p.began)
-  pub short : d.growth.short ≡ p.short
-  pub stands : StandsAt x p.began p.body d.fresh
+  pub stands : StandsAt x p.began p.body (transcoder_of d)
   pub needs : length (list_of d) ≡ need x p false
-  pub kept : IsKept x p d → HoldsLen d.growth (length (open_text x p false))
+  pub stored : IsStored p.short (committed_len_of d) (length (open_text x p false)) d.progress
 
--- The disk has the patch's text after the full blocks of the committed one.
+-- If the draft stores its text, the disk has the patch's text after the full blocks of the committed one.
 abbrev pub Carries : IndexSet → (ℕ → ℕ) → ℕ → Patch → SpoolDraft → Type 0
-Carries x current first p d = IsKept x p d → bytes_on current first d.growth d.growth.on ≡ open_text x p false
+Carries x current first p d = HasBytes current first (open_text x p false) d.progress
 
 -- A draft of the upload as it is, or the refusal of the rules.
 abbrev pub IsBegun : IndexSet → ℕ → ℕ → ℕ → Option ℕ → Upload → Result SpoolDraft UploadRefusal → Type 0

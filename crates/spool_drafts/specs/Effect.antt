@@ -1,5 +1,5 @@
 -- The effect of a call on one draft on the blocks and the disk.
-use Rattle.std.specs.Prelude.{◌≡◌, ◌⊎◌, ◌<◌, ℕ, List, [], length}
+use Rattle.std.specs.Prelude.{◌≡◌, ◌⊎◌, ◌<◌, ℕ, List, [], length, get_or}
 use Rattle.spool_blocks.specs.Blocks.{Held, IsFree}
 use Rattle.spool_disk.specs.Disk.{IsImage}
 use Rattle.spool_disk.specs.Views.{Lasts}
@@ -8,6 +8,12 @@ use Rattle.spool_journal.specs.Phases.{Idle}
 use Rattle.spool_texts.specs.Drafts.{IsReserved, Takes, GivesBack}
 use Rattle.spool_texts.specs.Written.{WritesIn, aside_blocks}
 use Rattle.spool_journal.specs.Image.{area_end}
+
+-- The block is listed.
+pub record IsIn (list : List ℕ) (b : ℕ) : Type 0 where
+  pub at : ℕ
+  pub below : at < length list
+  pub here : get_or list at 0 ≡ b
 
 -- The draft reserved free blocks after its list. It has them all then, or it gave them all back.
 pub record Regrasps (old new : Held) (list list' own : List ℕ) : Type 0 where

@@ -1,4 +1,3 @@
 pub mod Effect
-pub mod Growth
-pub mod Fresh
+pub mod Progress
 pub mod Drafts

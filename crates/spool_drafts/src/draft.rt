@@ -14,20 +14,18 @@ ghost use Rattle.upload_rules.specs.Store.{Upload, text_of, is_complete};
 ghost use Rattle.upload_rules.specs.World.{Patch};
 ghost use Rattle.upload_rules.specs.declared.errors.UploadRefusal.{UploadRefusal as Refusal};
 ghost use Rattle.spool_drafts.specs.Effect.{Effect};
-ghost use Rattle.spool_drafts.specs.Growth.{list_on};
 ghost use Rattle.spool_drafts.specs.Drafts.{Holds, Carries, EndsAs, EndsAfter, IsBegun, IsAfter, IsLonger, IsPlaced};
 ghost use Rattle.spool_drafts.specs.Drafts.{with_piece, open_text, number_of, offset_of, came_of, list_of};
-ghost use Rattle.spool_drafts.specs.Drafts.{declare_of, committed_len_of, fresh_of, tail_of};
+ghost use Rattle.spool_drafts.specs.Drafts.{declare_of, committed_len_of, transcoder_of, tail_of};
 
-use crate::fresh::Fresh;
-use crate::growth::Growth;
+use crate::progress::Progress;
 use crate::spare::Spare;
 use common::{MOST_BLOCKS, Stop};
 use enc_index::IndexSet;
 use spool_blocks::{BlockNo, Blocks};
 use spool_disk::Disk;
 use spool_journal::{Layout, PAGE};
-use spool_texts::DraftText;
+use spool_texts::DraftError;
 use std::alloc::Global;
 use upload_rules::{Record, UploadError, UploadRefusal};
 
@@ -39,9 +37,9 @@ pub struct SpoolDraft {
     offset: u64,
     came: u64,
     declare: Option<u64>,
-    // The state of transcoding.
-    fresh: Fresh,
-    growth: Growth,
+    // The length of the committed text in bytes.
+    committed_len: u64,
+    progress: Progress,
     spare: Spare,
 }
 
@@ -89,7 +87,7 @@ impl SpoolDraft {
         ensures after { IfOk result (IsAfter upload.now.text_len upload.now.state) }
     {
         upload.admits(offset, count, declare)?;
-        let Some(fresh) = Fresh::after(alloc, upload) else {
+        let Some(progress) = Progress::after(alloc, upload, list) else {
             return Err(UploadRefusal::NoSuch);
         };
         Ok(SpoolDraft {
@@ -97,8 +95,8 @@ impl SpoolDraft {
             offset,
             came: 0,
             declare,
-            fresh,
-            growth: Growth::after(upload.text_len, list),
+            committed_len: upload.text_len,
+            progress,
             spare: Spare::new(alloc),
         })
     }
@@ -136,7 +134,7 @@ impl SpoolDraft {
     pub fn committed_len(&self) -> u64
         ensures { result ≡ committed_len_of self.now }
     {
-        self.growth.text_len
+        self.committed_len
     }
 
     /// The reserved blocks. The first has the ordinal of the committed text's unfinished block.
@@ -144,7 +142,13 @@ impl SpoolDraft {
         ensures blocks { result.now ≡ list_of self.now }
         ensures few { length (list_of self.now) ≤ MOST_BLOCKS }
     {
-        self.growth.list()
+        match &self.progress {
+            Progress::Text {
+                transcoder: _,
+                text,
+            } => text.list(),
+            _ => &[],
+        }
     }
 
     /// Appends bytes to the body, without a sync. If a character is unmappable or no block is free, the draft gives its
@@ -175,7 +179,7 @@ impl SpoolDraft {
         // The draft's fields, blocks and writes, whatever the result.
         ensures same { (number_of self.new ≡ number_of self.old) × (offset_of self.new ≡ offset_of self.old)
             × (declare_of self.new ≡ declare_of self.old) × (committed_len_of self.new ≡ committed_len_of self.old)
-            × (tail_of self.new ≡ tail_of self.old) }
+            × ((tail_of self.new ≡ tail_of self.old) ⊎ (tail_of self.new ≡ [])) }
         ensures after { (len : ℕ) (state : List ℕ) → IsAfter len state self.old → IsAfter len state self.new }
         ensures placed { IsPlaced layout.now self.new }
         ensures rows { blocks.new.rows ≡ blocks.old.rows }
@@ -202,19 +206,49 @@ impl SpoolDraft {
         if piece.is_empty() {
             return Ok(());
         }
-        let mut text = self.spare.take(alloc);
-        let Ok(fresh) = self.fresh.read_on(indexes, piece, &mut text) else {
+        let mut added = self.spare.take(alloc);
+        let Ok(next) = self.progress.fed(indexes, piece, &mut added) else {
             return Err(Stop::NoMemory);
         };
-        if let Fresh::Unencodable = fresh {
-            self.growth.give_back(blocks);
-            self.go_on(Fresh::Unencodable, piece.len());
+        let Some(next) = next else {
+            self.leave(Progress::Unencodable, blocks, piece.len());
             return Ok(());
+        };
+        let Progress::Text { transcoder, text } = &mut self.progress else {
+            self.leave(
+                Progress::OutOfRoom { transcoder: next },
+                blocks,
+                piece.len(),
+            );
+            return Ok(());
+        };
+        match text.put(alloc, disk, layout, blocks, &added) {
+            Ok(()) => {
+                *transcoder = next;
+                self.spare.give_back(added);
+                self.came = self.came.saturating_add(piece.len() as u64);
+                Ok(())
+            }
+            Err(DraftError::Stop(stop)) => Err(stop),
+            Err(DraftError::Full) => {
+                self.leave(
+                    Progress::OutOfRoom { transcoder: next },
+                    blocks,
+                    piece.len(),
+                );
+                Ok(())
+            }
         }
-        self.growth.put(alloc, disk, layout, blocks, &text)?;
-        self.spare.give_back(text);
-        self.go_on(fresh, piece.len());
-        Ok(())
+    }
+
+    // Goes over to progress without a text after a piece of `count` bytes.
+    fn leave(&mut self, next: Progress, blocks: &mut Blocks, count: usize)
+        requires { IsReserved blocks.old (list_of self.old) }
+        ensures gives { GivesBack blocks.old blocks.new (list_of self.old) }
+        ensures next { self.new ≡ record self.old { progress = next; came = min (self.old.came + count) (2 ^ 64 - 1) } }
+    {
+        self.progress.leave(next, blocks);
+        self.came = self.came.saturating_add(count as u64);
     }
 
     /// Ends the text in memory. If the patch completes the upload, the text includes what the decoder and the encoder
@@ -244,7 +278,8 @@ impl SpoolDraft {
         // The draft's fields, blocks and writes, whatever the result.
         ensures same { (number_of self.new ≡ number_of self.old) × (offset_of self.new ≡ offset_of self.old)
             × (came_of self.new ≡ came_of self.old) × (declare_of self.new ≡ declare_of self.old)
-            × (committed_len_of self.new ≡ committed_len_of self.old) × (tail_of self.new ≡ tail_of self.old) }
+            × (committed_len_of self.new ≡ committed_len_of self.old)
+            × ((tail_of self.new ≡ tail_of self.old) ⊎ (tail_of self.new ≡ [])) }
         ensures rows { blocks.new.rows ≡ blocks.old.rows }
         ensures reserved { IsReserved blocks.new (list_of self.new) }
         ensures effect { Effect D.Disk (journal_pages layout.now) (list_of self.old) (list_of self.new) disk.old
@@ -277,22 +312,27 @@ impl SpoolDraft {
             → bytes_with (D.current disk.new) (text_page layout.now) (list_of self.new) end.last.items
             ≡ open_text indexes.now p completes) }
     {
-        let (state, text) = self.fresh.ended(alloc, indexes, completes)?;
-        let last = self.growth.end(alloc, disk, layout, blocks, &text)?;
-        let text_len = self.growth.len_with(&last);
-        Ok(DraftEnd {
-            state,
-            text_len,
-            last,
-        })
-    }
-
-    // Counts the bytes of a piece.
-    fn go_on(&mut self, fresh: Fresh, count: usize)
-        ensures { self.new ≡ record self.old { fresh = fresh; came = min (self.old.came + count) (2 ^ 64 - 1) } }
-    {
-        self.fresh = fresh;
-        self.came = self.came.saturating_add(count as u64);
+        let (state, added) = self.progress.ended(alloc, indexes, completes)?;
+        let Progress::Text { transcoder, text } = &mut self.progress else {
+            return Err(UploadError::Refused(UploadRefusal::Full));
+        };
+        match text.end(alloc, disk, layout, blocks, &added) {
+            Ok(last) => {
+                let text_len = text.len_with(self.committed_len, &last);
+                Ok(DraftEnd {
+                    state,
+                    text_len,
+                    last,
+                })
+            }
+            Err(DraftError::Stop(stop)) => Err(UploadError::Stop(stop)),
+            Err(DraftError::Full) => {
+                let transcoder = transcoder.copy();
+                self.progress
+                    .leave(Progress::OutOfRoom { transcoder }, blocks);
+                Err(UploadError::Refused(UploadRefusal::Full))
+            }
+        }
     }
 
     /// Forgets the block with the upload's last bytes, since the upload was deleted. If the new text hasn't begun,
@@ -302,7 +342,7 @@ impl SpoolDraft {
         ensures same { (number_of self.new ≡ number_of self.old) × (offset_of self.new ≡ offset_of self.old)
             × (came_of self.new ≡ came_of self.old) × (declare_of self.new ≡ declare_of self.old)
             × (committed_len_of self.new ≡ committed_len_of self.old) × (list_of self.new ≡ list_of self.old)
-            × (fresh_of self.new ≡ fresh_of self.old) }
+            × (transcoder_of self.new ≡ transcoder_of self.old) }
         ensures placed { (blocks : ℕ) → IsPlaced blocks self.old → IsPlaced blocks self.new }
         ensures after { (len : ℕ) (state : List ℕ) → IsAfter len state self.old → IsAfter len state self.new }
         ensures holds { (x : Indexes) (p : Patch) → Holds x p self.old → Holds x p self.new }
@@ -312,7 +352,13 @@ impl SpoolDraft {
             → 1 ≤ length (list_of self.old)
             → Carries x current first p self.old → Carries x current first p self.new }
     {
-        self.growth.tail = None;
+        if let Progress::Text {
+            transcoder: _,
+            text,
+        } = &mut self.progress
+        {
+            text.forget_tail();
+        }
     }
 
     /// Gives the reserved blocks back. It uses neither memory nor the disk.
@@ -320,16 +366,20 @@ impl SpoolDraft {
         requires { IsReserved blocks.old (list_of self) }
         ensures { GivesBack blocks.old blocks.new (list_of self) }
     {
-        self.growth.give_back(blocks);
+        self.progress.leave(Progress::Unencodable, blocks);
     }
 
     /// The reserved blocks, which the caller has to own or give back.
-    pub fn into_list(mut self, alloc: Global) -> Vec<BlockNo>
+    pub fn into_list(self, alloc: Global) -> Vec<BlockNo>
         ensures { result.items ≡ list_of self }
     {
-        match self.growth.on.take() {
-            Some(text) => text.into_list(),
-            None => Vec::new(alloc),
+        let progress = self.progress;
+        match progress {
+            Progress::Text {
+                transcoder: _,
+                text,
+            } => text.into_list(),
+            _ => Vec::new(alloc),
         }
     }
 }

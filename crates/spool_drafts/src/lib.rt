@@ -5,9 +5,8 @@
 #![tactic(auto)]
 
 mod draft;
-mod fresh;
-mod growth;
 mod laws;
+mod progress;
 mod spare;
 
 pub use draft::{DraftEnd, SpoolDraft};

@@ -1,11 +1,13 @@
 -- What a draft holds.
-use Rattle.std.proofs.Common.{◌≡◌, ℕ, ◌+◌, ◌-◌, ◌*◌, ◌≤◌, ◌++◌, List, [], length, take, drop, sym, ◌∙◌, ap, arith}
+use Rattle.std.proofs.Common.{◌≡◌, ℕ, ◌+◌, ◌-◌, ◌*◌, ◌≤◌, ◌++◌, List, [], Option, None, length, take, drop, sym, ◌∙◌, ap, arith}
 use Rattle.std.proofs.lemmas.List.{take_all, append-nil, append_assoc, nil_from_length, take-append-le, take_at}
 use Rattle.std.proofs.lemmas.List.{take-take}
 use Rattle.std.proofs.Math.Seq.{take-add}
 use Rattle.spool_journal.specs.declared.TheConstants.{PAGE}
 use Rattle.spool_texts.specs.TextOn.{blocks_on, text_on}
-use Rattle.spool_texts.specs.Drafts.{Draft, full_count, held_count, content_on}
+use Rattle.spool_texts.specs.Drafts.{Draft, bytes_of, content_on, full_count, held_count, len_of, unread_count}
+use Rattle.spool_texts.specs.Drafts.{unread_on}
+use Rattle.spool_texts.specs.declared.block_text.Unread.{Unread}
 use Rattle.spool_texts.proofs.Shown.{text_prefix}
 
 -- nothing is unfinished
@@ -71,10 +73,11 @@ content_more new mid old bytes done n rest le is before =
     ∙ append_assoc old (take done bytes) (take n (drop done bytes))
     ∙ ap (λ (xs : List ℕ). old ++ xs) (sym (take-add done n bytes))
 
--- what a draft holds is given by its blocks and unfinished bytes
-pub same_held : (d e : Draft) → e.blocks ≡ d.blocks → e.unfinished ≡ d.unfinished → held_count e ≡ held_count d
-same_held d e blocks unfinished = omega (arith, ap length blocks, ap length unfinished)
+-- once a text has begun, all its bytes are on blocks or in memory
+pub begun_held : (d : Draft) → d.unread ≡ None → len_of d ≡ held_count d
+begun_held d begun = omega (arith, ap unread_count begun)
 
-pub same_content : (current : ℕ → ℕ) (first : ℕ) (d e : Draft) → e.blocks ≡ d.blocks → e.unfinished ≡ d.unfinished
-    → content_on current first e ≡ content_on current first d
-same_content current first d e blocks unfinished = rw (blocks, unfinished)
+pub begun_content : (current : ℕ → ℕ) (first : ℕ) (d : Draft) → d.unread ≡ None
+    → bytes_of current first d ≡ content_on current first d
+begun_content current first d begun =
+    ap (λ (o : Option Unread). unread_on current first o ++ content_on current first d) begun

@@ -8,3 +8,5 @@ pub mod Reserves
 pub mod Contents
 pub mod Lasts
 pub mod GivenBack
+pub mod Befores
+pub mod Stays

@@ -3,7 +3,7 @@ use Rattle.std.proofs.Common.{◌≡◌, ◌≢◌, inl, inr, ℕ, zero, suc, �
 use Rattle.std.proofs.Common.{length, get_or, take, refl, sym, ◌∙◌, ap, arith, ⊎_elim, length-append, length-take}
 use Rattle.std.proofs.lemmas.List.{take_more, take_all, append-nil, get_or-take, get_or_append_left}
 use Rattle.spool_journal.specs.declared.TheConstants.{PAGE}
-use Rattle.spool_disk.specs.Disk.{span, In, IsImage, Writes}
+use Rattle.spool_disk.specs.Disk.{span, In, IsImage, Keeps, Writes}
 use Rattle.spool_disk.proofs.Span.{span_same}
 use Rattle.spool_journal.specs.Phases.{Idle}
 use Rattle.spool_texts.specs.TextOn.{blocks_on, text_on}
@@ -92,6 +92,14 @@ pub writes_none : {current : ℕ → ℕ} {unsynced : ℕ → Type 0} (first : �
     → WritesIn first blocks current current unsynced unsynced
 writes_none first blocks = record { outside = λ p away. refl; unsyncs = λ p l. inl l }
 
+-- nothing is written where the disk is only read
+pub writes_keeps : {current current' : ℕ → ℕ} {unsynced unsynced' : ℕ → Type 0} (first : ℕ) (blocks : List ℕ)
+    → Keeps current current' unsynced unsynced' → WritesIn first blocks current current' unsynced unsynced'
+writes_keeps first blocks keeps = record {
+  outside = λ p away. keeps.same p;
+  unsyncs = λ p l. inl (keeps.unsyncs p l);
+}
+
 pub idle_in : {j : ℕ} {current current' : ℕ → ℕ} {unsynced unsynced' : ℕ → Type 0} {blocks : List ℕ}
     → Idle j current unsynced
     → WritesIn (area_end j) blocks current current' unsynced unsynced' → Idle j current' unsynced'
@@ -129,6 +137,11 @@ writes_on more grown a b = record {
   unsyncs = λ p l. ⊎_elim (λ m. ⊎_elim inl (λ within. inr (in_append more grown within)) (a.unsyncs p m)) inr
       (b.unsyncs p l);
 }
+
+-- a crash image is one apart from any blocks
+pub but_image : {first : ℕ} {blocks : List ℕ} {current image : ℕ → ℕ} {unsynced : ℕ → Type 0}
+    → IsImage current unsynced image → IsImageBut first blocks current unsynced image
+but_image is = record { same = λ p away is_synced. is.same p is_synced }
 
 pub but_more : {first : ℕ} {list list' : List ℕ} {current image : ℕ → ℕ} {unsynced : ℕ → Type 0} (more : List ℕ)
     → list' ≡ list ++ more → IsImageBut first list current unsynced image

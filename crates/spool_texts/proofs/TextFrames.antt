@@ -1,6 +1,6 @@
 -- A change of a block that no row owns.
 use Rattle.std.proofs.Common.{◌≡◌, ℕ, zero, suc, ◌+◌, ◌*◌, ◌/◌, ◌≤◌, Bool, true, false, cond, List, [], ◌∷◌}
-use Rattle.std.proofs.Common.{Option, None, Some, length, get_or, take, refl, sym, ◌∙◌, ap, arith, ⊎_elim}
+use Rattle.std.proofs.Common.{Option, None, Some, get_or, take, refl, sym, ◌∙◌, ap, arith, ⊎_elim}
 use Rattle.std.proofs.lemmas.Bool.{cases_eq}
 use Rattle.spool_disk.proofs.Span.{span_same}
 use Rattle.spool_texts.specs.Texts.{owns, block_at, block_bytes, joined, aside, SameBut, Frame}

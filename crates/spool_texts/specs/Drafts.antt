@@ -1,13 +1,15 @@
--- The new text of a draft: its reserved blocks, and the bytes of its unfinished block in memory.
-use Rattle.std.specs.Prelude.{◌≡◌, ◌≢◌, ℕ, ◌+◌, ◌*◌, ◌-◌, ◌/◌, ◌<◌, ◌++◌, List, [], ◌∷◌}
+-- The new text of a draft.
+use Rattle.std.specs.Prelude.{◌≡◌, ◌≢◌, ℕ, ◌+◌, ◌*◌, ◌-◌, ◌/◌, ◌%◌, ◌<◌, ◌++◌, List, [], ◌∷◌}
 use Rattle.std.specs.Prelude.{Option, None, Some, true, false, length, get_or, replicate, take}
 use Rattle.spool_journal.specs.declared.TheConstants.{PAGE}
 use Rattle.spool_blocks.specs.Blocks.{Held, IsFree}
 use Rattle.spool_texts.specs.TextOn.{blocks_on, text_on}
+use Rattle.spool_texts.specs.declared.block_text.Unread.{Unread}
 
--- The blocks by ordinal, from the committed text's unfinished block on; the bytes that aren't on a full block; and how
--- many blocks fit the list before it grows.
+-- The committed text's bytes after its last full block, until they are in memory; the blocks by ordinal, from that one
+-- on; the bytes in memory, which aren't on a full block; and how many blocks fit the list before it grows.
 pub record Draft : Type 0 where
+  pub unread : Option Unread
   pub blocks : List ℕ
   pub unfinished : List ℕ
   pub room : ℕ
@@ -16,23 +18,63 @@ pub record Draft : Type 0 where
 abbrev pub full_count : Draft → ℕ
 full_count d = length d.blocks - (length d.unfinished + 4095) / PAGE
 
--- How many bytes the draft has.
+-- How many bytes are on full blocks or in memory.
 abbrev pub held_count : Draft → ℕ
 held_count d = PAGE * full_count d + length d.unfinished
 
--- The bytes of the draft. The text blocks begin at page `first`.
+-- Those bytes. The text blocks begin at page `first`.
 abbrev pub content_on : (ℕ → ℕ) → ℕ → Draft → List ℕ
 content_on current first d = blocks_on current first (take (full_count d) d.blocks) ++ d.unfinished
 
--- The block with the committed text's last bytes, if it isn't full and the upload isn't deleted.
+-- The listed block, if there is one.
 abbrev pub tail_list : Option ℕ → List ℕ
 tail_list None = []
 tail_list (Some block) = block ∷ []
 
--- The committed text's last n bytes: those on the block, or zeros without one.
+-- The first n bytes of the block, or zeros without one.
 abbrev pub prefix_on : (ℕ → ℕ) → ℕ → Option ℕ → ℕ → List ℕ
 prefix_on current first None n = replicate n 0
 prefix_on current first (Some block) n = text_on current first (block ∷ []) n
+
+-- The block of the committed text's last bytes. None if they are in memory, there are none, or the upload is deleted.
+abbrev pub tail_on : Option Unread → List ℕ
+tail_on None = []
+tail_on (Some u) = tail_list u.block
+
+-- They are zeros.
+abbrev pub without_block : Option Unread → Option Unread
+without_block None = None
+without_block (Some u) = Some (record u { block = None })
+
+-- How many they are.
+abbrev pub unread_count : Option Unread → ℕ
+unread_count None = 0
+unread_count (Some u) = u.len
+
+abbrev pub unread_on : (ℕ → ℕ) → ℕ → Option Unread → List ℕ
+unread_on current first None = []
+unread_on current first (Some u) = prefix_on current first u.block u.len
+
+-- How many bytes the draft has, from the committed text's unfinished block on.
+abbrev pub len_of : Draft → ℕ
+len_of d = unread_count d.unread + held_count d
+
+-- The bytes of the draft.
+abbrev pub bytes_of : (ℕ → ℕ) → ℕ → Draft → List ℕ
+bytes_of current first d = unread_on current first d.unread ++ content_on current first d
+
+-- Nothing was added yet to the text of this length on the listed blocks.
+pub record IsNothingAfter (len : ℕ) (list : List ℕ) (d : Draft) : Type 0 where
+  pub none : d.blocks ≡ []
+  pub count : len_of d ≡ len % PAGE
+  pub tail : (i : ℕ) → i < length (tail_on d.unread)
+      → (len / PAGE < length list) × (get_or (tail_on d.unread) i 0 ≡ get_or list (len / PAGE) 0)
+  pub bytes : (current : ℕ → ℕ) (first : ℕ)
+      → text_on current first list (PAGE * (len / PAGE)) ++ bytes_of current first d ≡ text_on current first list len
+
+-- How many bytes are on the listed blocks, with the last ones, which have yet to be written.
+abbrev pub count_with : List ℕ → List ℕ → ℕ
+count_with list last = PAGE * (length list - (length last + 4095) / PAGE) + length last
 
 -- The bytes on the listed blocks, followed by the last ones, which have yet to be written to the last of these blocks.
 abbrev pub bytes_with : (ℕ → ℕ) → ℕ → List ℕ → List ℕ → List ℕ

@@ -2,7 +2,7 @@
 ghost use Rattle.std.specs.Prelude.{◌≡◌, ◌≤◌, ◌+◌, ◌*◌, ◌/◌, ◌++◌, ℕ, List, Option, length, take};
 ghost use Rattle.spool_journal.specs.Image.{journal_pages, text_page};
 ghost use Rattle.spool_texts.specs.Texts.{text_shown};
-ghost use Rattle.spool_texts.specs.Drafts.{Draft, content_on};
+ghost use Rattle.spool_texts.specs.Drafts.{Draft, bytes_of, tail_on};
 ghost use Rattle.spool_texts.specs.TextOn.{text_on, IsListed};
 ghost use Rattle.spool_texts.specs.Written.{FrameBlocks, NoneOf, SameOutside, aside_blocks};
 
@@ -24,9 +24,9 @@ pub fn kept_texts()
     ensures text { (current current' : ℕ → ℕ) (first len : ℕ) (list blocks : List ℕ)
         → SameOutside first blocks current current'
         → NoneOf list blocks → text_on current' first list len ≡ text_on current first list len }
-    ensures content { (current current' : ℕ → ℕ) (first : ℕ) (draft : Draft) (blocks : List ℕ)
-        → SameOutside first blocks current current' → NoneOf draft.blocks blocks
-        → content_on current' first draft ≡ content_on current first draft }
+    ensures bytes { (current current' : ℕ → ℕ) (first : ℕ) (draft : Draft) (blocks : List ℕ)
+        → SameOutside first blocks current current' → NoneOf draft.blocks blocks → NoneOf (tail_on draft.unread) blocks
+        → bytes_of current' first draft ≡ bytes_of current first draft }
 {}
 
 /// An image shows the same texts if blocks that no row owns are set back, and nothing outside the blocks reads

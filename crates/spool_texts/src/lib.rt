@@ -6,12 +6,12 @@
 //! again.
 #![tactic(auto)]
 
-mod draft_text;
+mod block_text;
 mod error;
 mod laws;
 mod reads;
 
-pub use draft_text::{DraftText, write_last};
+pub use block_text::{BlockText, write_last};
 pub use error::DraftError;
 pub use laws::{kept_texts, same_but_blocks, shown_texts};
 pub use reads::read_text;

@@ -1,15 +1,16 @@
-use Rattle.std.proofs.Common.{◌≡◌, ◌+◌, ◌++◌, ℕ, List, [], false, length, inl, inr, refl, sym, ◌∙◌, ap}
-use Rattle.std.proofs.Common.{subst}
-use Rattle.std.proofs.lemmas.Bool.{cases_Bool, both_ways}
+use Rattle.std.proofs.Common.{◌≤◌, ◌+◌, ◌++◌, ℕ, List, false, length, inl, inr, refl, rules, arith, sym, ◌∙◌}
+use Rattle.std.proofs.Common.{ap, subst, Err}
+use Rattle.std.proofs.lemmas.Bool.{cases_eq}
 use Rattle.spool_journal.specs.Image.{text_page}
-use Rattle.spool_drafts.specs.Drafts.{IsAfter, IsLonger, with_piece, list_of, open_text}
-use Rattle.spool_drafts.specs.Fresh.{StandsAt}
-use Rattle.spool_drafts.specs.Growth.{bytes_on, GrowsTo}
+use Rattle.spool_texts.specs.Drafts.{Draft, Takes, bytes_of, len_of}
+use Rattle.spool_drafts.specs.Drafts.{Carries, Holds, IsAfter, IsLonger, IsPlaced, committed_len_of, declare_of, list_of}
+use Rattle.spool_drafts.specs.Drafts.{number_of, offset_of, open_text, tail_of, with_piece}
+use Rattle.spool_drafts.specs.Progress.{GoesOn, HasBytes, IsGrowing, IsStored, Reads, StandsAt, blocks_in}
 use Rattle.spool_drafts.specs.declared.draft.SpoolDraft.{SpoolDraft}
-use Rattle.spool_drafts.specs.declared.growth.Growth.{Growth}
-use Rattle.spool_drafts.proofs.Appends.{gone_on, incomplete, no_value, longer_fault, longer_short, longer_put}
-use Rattle.spool_drafts.proofs.Appends.{open_longer, kept_before}
-use Rattle.spool_drafts.proofs.Effects.{effect_none, only_none, grasp_gives}
+use Rattle.spool_drafts.specs.declared.progress.Progress.TheVariants.{Text}
+use Rattle.spool_drafts.proofs.Appends.{incomplete, longer_fault, longer_full, longer_short, longer_text}
+use Rattle.spool_drafts.proofs.Appends.{open_longer, short_of}
+use Rattle.spool_drafts.proofs.Effects.{effect_none, grasp_gives, only_none}
 use Rattle.spool_texts.proofs.Reserves.{takes_none}
 use Rattle.spool_drafts.proofs.draft.SpoolDraft.append.Goals as goal
 
@@ -19,49 +20,120 @@ returns-then-is_empty-clause-effect g c = effect_none _ c.requires.reserved
 pub returns-in_default-clause-effect : goal.returns-in_default-clause-effect
 returns-in_default-clause-effect g c = effect_none _ c.requires.reserved
 
-pub returns-in-Unencodable-clause-effect : goal.returns-in-Unencodable-clause-effect
-returns-in-Unencodable-clause-effect g c =
-    let list = list_of c.args.self.now in
-    let none : list_of c.go_on.new.self ≡ [] =
-    ap list_of c.go_on.ensures ∙ ap
-    (λ (growth : Growth). list_of (gone_on c.args.self.now growth c.args.self.now.fresh 0))
-    c.give_back.ensures.none in
+pub returns-in_default-next-clause-effect : goal.returns-in_default-next-clause-effect
+returns-in_default-next-clause-effect g c = record {
+  own = list_of c.args.self.now;
+  grasp = grasp_gives _ (takes_none _ _ _ refl) c.requires.reserved c.leave.ensures.gives
+      (ap list_of c.leave.ensures.next);
+  writes = λ honest. only_none _ _;
+}
+
+pub returns-in_default-next-clause-answer : goal.returns-in_default-next-clause-answer
+returns-in_default-next-clause-answer g c p held fits =
+    let x = c.args.indexes.now in
+    let d = c.args.self.now in
+    let piece = c.args.piece.now in
+    let still = incomplete x p d held piece fits c.is_empty.result c.is_empty.ensures c.if-is_empty.false in
+    let stands = subst (StandsAt x p.began (p.body ++ piece)) c.in_default-next.is
+    (c.in-Ok.ensures.reads p.began p.body still held.stands).stands in
+    subst (λ (e : SpoolDraft). IsLonger x (with_piece p piece) d e c.args.blocks.now c.leave.new.blocks)
+    (sym c.leave.ensures.next) (inl (longer_fault x p d held piece fits still stands))
+
+pub returns-in_default-progress : goal.returns-in_default-progress
+returns-in_default-progress g c =
+    let x = c.args.indexes.now in
+    let d = c.args.self.now in
+    let piece = c.args.piece.now in
+    let next = c.leave-in_default-progress.ensures.next in
+    let gives = c.leave-in_default-progress.ensures.gives in
+    let none = ap list_of next in
     record {
-      own = list;
-      grasp = grasp_gives _ (takes_none _ list list refl) c.requires.reserved c.give_back.ensures.gives none;
-      writes = λ honest. only_none _ _;
+      size = refl;
+      honest = (λ h. h, λ h. h);
+      counts = search rules;
+      nothing = search rules;
+      same = (ap number_of next, ap offset_of next, ap declare_of next, ap committed_len_of next, inr (ap tail_of next));
+      after = λ len state is. subst (IsAfter len state) (sym next) record {
+        committed = is.committed;
+        goes_on = subst (GoesOn state) c.in-Some.is (c.in-Ok.ensures.goes_on state is.goes_on);
+        room = λ growing. is.room (c.in-Ok.ensures.growing (subst IsGrowing (sym c.in-Some.is) growing));
+      };
+      placed = subst (IsPlaced c.args.layout.now) (sym next) record {
+        below = λ i lt. absurd (omega (arith, lt));
+        few = c.requires.placed.few;
+      };
+      rows = gives.rows;
+      reserved = search rules;
+      effect = record {
+        own = list_of d;
+        grasp = grasp_gives _ (takes_none _ _ _ refl) c.requires.reserved gives none;
+        writes = λ honest. only_none _ _;
+      };
+      answer = λ p held fits.
+          let still = incomplete x p d held piece fits c.is_empty.result c.is_empty.ensures c.if-is_empty.false in
+          let reads = subst (λ n. Reads x p.began p.body piece n c.fed.new.out.items) c.in-Some.is
+          (c.in-Ok.ensures.reads p.began p.body still held.stands) in
+          subst (λ (e : SpoolDraft). IsLonger x (with_piece p piece) d e c.args.blocks.now
+          c.leave-in_default-progress.new.blocks) (sym next)
+          (inl (longer_short x p d held piece fits c.in-Some.next reads.stands
+          (short_of p.short _ _ d.progress c.in_default-progress.not-Text
+          (c.in-Ok.ensures.growing (subst IsGrowing (sym c.in-Some.is) tt)) held.stored)));
+      content = λ p honest held fits carries. subst (Carries x _ _ (with_piece p piece)) (sym next) tt;
+      memory = λ e. cc;
+      holds_on = λ p held e. cc;
+      content_on = λ p honest e carries. cc;
     }
 
-pub returns-in-Unencodable-clause-answer : goal.returns-in-Unencodable-clause-answer
-returns-in-Unencodable-clause-answer g c p held fits =
-    let x = c.args.indexes.now in
-    let d = c.args.self.now in
-    let piece = c.args.piece.now in
-    let still = incomplete x p d held piece fits c.is_empty.result c.is_empty.ensures c.if-is_empty.false in
-    let stands = subst (StandsAt x p.began (p.body ++ piece)) c.in-Unencodable.is
-    (c.in-Ok.ensures.reads p.began p.body still held.stands).stands in
-    let growth_is = c.give_back.ensures.none in
-    subst (λ (e : SpoolDraft). IsLonger x (with_piece p piece) d e c.args.blocks.now c.give_back.new.blocks)
-    (sym c.go_on.ensures)
-    (inl (longer_fault x p d held piece fits c.give_back.new.self (ap (λ (h : Growth). h.on) growth_is)
-    (ap (λ (h : Growth). h.short) growth_is) (ap (λ (h : Growth). h.text_len) growth_is) stands))
+pub returns-in-Ok-put-clause-after : goal.returns-in-Ok-put-clause-after
+returns-in-Ok-put-clause-after g c len state is = record {
+  committed = is.committed;
+  goes_on = subst (GoesOn state) c.in-Some.is (c.in-Ok.ensures.goes_on state is.goes_on);
+  room = λ growing. is.room (c.in-Ok.ensures.growing (subst IsGrowing (sym c.in-Some.is) growing));
+}
 
-pub returns-in-Unencodable-clause-content : goal.returns-in-Unencodable-clause-content
-returns-in-Unencodable-clause-content g c p honest held fits carries kept =
+pub returns-in-Ok-put-clause-answer : goal.returns-in-Ok-put-clause-answer
+returns-in-Ok-put-clause-answer g c p held fits =
     let x = c.args.indexes.now in
     let d = c.args.self.now in
     let piece = c.args.piece.now in
+    let added = c.fed.new.out.items in
     let still = incomplete x p d held piece fits c.is_empty.result c.is_empty.ensures c.if-is_empty.false in
-    let stands = subst (StandsAt x p.began (p.body ++ piece)) c.in-Unencodable.is
-    (c.in-Ok.ensures.reads p.began p.body still held.stands).stands in
-    absurd (no_value x p d held piece fits stands kept.encodable)
+    let reads = subst (λ n. Reads x p.began p.body piece n added) c.in-Some.is
+    (c.in-Ok.ensures.reads p.began p.body still held.stands) in
+    let stored = subst (IsStored p.short d.committed_len (length (open_text x p false))) c.in-Text.is held.stored in
+    let value = c.deref.ensures.value in
+    inl (subst (λ (came : ℕ). Holds x (with_piece p piece) (record d {
+      progress = Text c.in-Some.next c.put.new.self;
+      came = came;
+    })) (sym c.saturating_add-self.ensures)
+    (longer_text x p d held piece fits c.in-Some.next added still reads c.in-Text.text stored c.put.new.self
+    (λ none. ap (λ (t : Draft). t.blocks) (c.in-Ok-put.ensures.nothing (ap length value ∙ none)).0)
+    (λ some. c.in-Ok-put.ensures.listed (omega (arith, some, ap length value)))
+    (c.in-Ok-put.ensures.len ∙ ap (λ (xs : List ℕ). len_of c.in-Text.text + length xs) value)))
+
+pub returns-in-Ok-put-clause-content : goal.returns-in-Ok-put-clause-content
+returns-in-Ok-put-clause-content g c p honest held fits carries =
+    let x = c.args.indexes.now in
+    let d = c.args.self.now in
+    let piece = c.args.piece.now in
+    let current = g.D.Disk.current c.args.disk.now in
+    let first = text_page c.args.layout.now in
+    let added = c.fed.new.out.items in
+    let still = incomplete x p d held piece fits c.is_empty.result c.is_empty.ensures c.if-is_empty.false in
+    let reads = subst (λ n. Reads x p.began p.body piece n added) c.in-Some.is
+    (c.in-Ok.ensures.reads p.began p.body still held.stands) in
+    let before = subst (HasBytes current first (open_text x p false)) c.in-Text.is carries in
+    c.in-Ok-put.ensures.content honest
+    ∙ ap (λ (xs : List ℕ). bytes_of current first c.in-Text.text ++ xs) c.deref.ensures.value
+    ∙ ap (λ (xs : List ℕ). xs ++ added) before
+    ∙ sym (open_longer x p d held piece fits c.in-Some.next added still reads)
 
 pub returns-clause-after : goal.returns-clause-after
 returns-clause-after g c len state is =
-    subst (IsAfter len state) (sym c.go_on-2.ensures) record {
-      committed = c.put.ensures.same.0 ∙ is.committed;
-      goes_on = c.in-Ok.ensures.goes_on state is.goes_on;
-      room = λ growing. is.room (c.in-Ok.ensures.growing growing);
+    subst (IsAfter len state) (sym c.leave-in-Err-Full.ensures.next) record {
+      committed = is.committed;
+      goes_on = subst (GoesOn state) c.in-Some.is (c.in-Ok.ensures.goes_on state is.goes_on);
+      room = λ growing. is.room (c.in-Ok.ensures.growing (subst IsGrowing (sym c.in-Some.is) growing));
     }
 
 pub returns-clause-answer : goal.returns-clause-answer
@@ -69,46 +141,28 @@ returns-clause-answer g c p held fits =
     let x = c.args.indexes.now in
     let d = c.args.self.now in
     let piece = c.args.piece.now in
+    let added = c.fed.new.out.items in
     let still = incomplete x p d held piece fits c.is_empty.result c.is_empty.ensures c.if-is_empty.false in
-    let reads = c.in-Ok.ensures.reads p.began p.body still held.stands in
-    let other = c.in_default-fresh.not-Unencodable in
-    subst (λ (e : SpoolDraft). IsLonger x (with_piece p piece) d e c.args.blocks.now c.put.new.blocks)
-    (sym c.go_on-2.ensures)
-    (elim (cases_Bool d.growth.short) [
-      | inl short ↦ inl (longer_short x p d held piece fits c.in-Ok.fresh c.read_on.new.out.items still other reads
-          c.put.new.self (c.put.ensures.nothing short).0 short)
-      | inr roomy ↦
-          let grows = c.in_ok-put.ensures.holds (length (open_text x p false))
-          (held.kept (kept_before x p d held piece fits c.in-Ok.fresh c.read_on.new.out.items still other reads
-          roomy)) in
-          longer_put x p d held piece fits c.in-Ok.fresh c.read_on.new.out.items still other reads c.put.new.self
-          c.args.blocks.now c.put.new.blocks roomy c.put.ensures.same.0
-          (subst (λ (text : List ℕ). GrowsTo (length (open_text x p false) + length text) d.growth c.put.new.self
-          c.args.blocks.now c.put.new.blocks) c.deref.ensures.value grows)
-    ])
-
-pub returns-clause-content : goal.returns-clause-content
-returns-clause-content g c p honest held fits carries kept =
-    let x = c.args.indexes.now in
-    let d = c.args.self.now in
-    let piece = c.args.piece.now in
-    let current = g.D.Disk.current c.args.disk.now in
-    let current' = g.D.Disk.current c.put.new.disk in
-    let first = text_page c.args.layout.now in
-    let still = incomplete x p d held piece fits c.is_empty.result c.is_empty.ensures c.if-is_empty.false in
-    let reads = c.in-Ok.ensures.reads p.began p.body still held.stands in
-    let other = c.in_default-fresh.not-Unencodable in
-    let roomy : c.put.new.self.short ≡ false =
-    ap (λ (e : SpoolDraft). e.growth.short) (sym c.go_on-2.ensures) ∙ kept.roomy in
-    let was_roomy : d.growth.short ≡ false = elim (cases_Bool d.growth.short) [
-      | inl short ↦ absurd (both_ways c.put.new.self.short roomy
-          (ap (λ (h : Growth). h.short) (c.put.ensures.nothing short).0 ∙ short))
-      | inr apart ↦ apart
+    let reads = subst (λ n. Reads x p.began p.body piece n added) c.in-Some.is
+    (c.in-Ok.ensures.reads p.began p.body still held.stands) in
+    let stored = subst (IsStored p.short d.committed_len (length (open_text x p false))) c.in-Text.is held.stored in
+    let size = ap length c.deref.ensures.value in
+    let some : 1 ≤ length added = elim (cases_eq (length added) 0) [
+      | inl none ↦ let ok = (c.put.ensures.nothing (size ∙ none)).3 in
+          let wrong = rw c.in-Err-Full.is at ok in cc
+      | inr there ↦ omega (arith, there)
     ] in
-    let before = carries (kept_before x p d held piece fits c.in-Ok.fresh c.read_on.new.out.items still other reads
-    was_roomy) in
-    ap (λ (e : SpoolDraft). bytes_on current' first e.growth e.growth.on) c.go_on-2.ensures
-    ∙ c.in_ok-put.ensures.content honest roomy
-    ∙ ap (λ (text : List ℕ). bytes_on current first d.growth d.growth.on ++ text) c.deref.ensures.value
-    ∙ ap (λ (bytes : List ℕ). bytes ++ c.read_on.new.out.items) before
-    ∙ sym (open_longer x p d held piece fits c.in-Ok.fresh c.read_on.new.out.items still other reads)
+    let is_full = ap (λ e. Err e) c.in-Err-Full.field-0-is in
+    subst (λ (e : SpoolDraft). IsLonger x (with_piece p piece) d e c.args.blocks.now c.leave-in-Err-Full.new.blocks)
+    (sym c.leave-in-Err-Full.ensures.next)
+    (longer_full x p d held piece fits c.in-Some.next added still reads c.in-Text.text stored c.args.blocks.now
+    c.leave-in-Err-Full.new.blocks some (λ wanted e. record {
+      held = c.put.new.blocks;
+      own = c.put.new.self.blocks;
+      takes = subst (λ (list : List ℕ). Takes c.args.blocks.now c.put.new.blocks list c.put.new.self.blocks)
+          (sym (ap blocks_in c.in-Text.is)) c.put.ensures.takes;
+      reserved = c.put.ensures.reserved;
+      full = c.in-Err-Full.ensures.full is_full;
+      scarce = omega (arith, c.in-Err-Full.ensures.scarce is_full, size, e);
+      gives = c.leave-in-Err-Full.ensures.gives;
+    }))

@@ -1,8 +1,7 @@
 use Rattle.std.proofs.Common.{Err, refl, sym, ap, subst, ◌∙◌}
 use Rattle.std.proofs.lemmas.Result.{err_from_is_err_and}
 use Rattle.spool_drafts.specs.Drafts.{IsBegun}
-use Rattle.spool_drafts.specs.Growth.{bytes_on}
-use Rattle.spool_drafts.proofs.Begins.{begins, begins_bytes}
+use Rattle.spool_drafts.proofs.Begins.{begins, begins_carries, open_still}
 use Rattle.spool_drafts.proofs.draft.SpoolDraft.begin.Goals as goal
 
 pub returns-in_err-admits-clause-begun : goal.returns-in_err-admits-clause-begun
@@ -14,14 +13,15 @@ returns-in_err-admits-clause-begun c x n u keeps =
 pub returns-clause-begun : goal.returns-clause-begun
 returns-clause-begun c x n u keeps = (
   c.in_ok-admits.ensures.rules x n u keeps.tells,
-  begins x u n c.args.count c.args.declare c.args.upload.now c.args.offset c.after-2.result c.in-Some.fresh keeps
+  begins x u n c.args.count c.args.declare c.args.upload.now c.args.list.now c.args.offset c.in-Some.progress keeps
       (c.in_ok-admits.ensures.room refl) (c.in_ok-admits.ensures.small refl)
-      (c.in-Some.ensures.stands x n u keeps.tells keeps.encodable keeps.valid) c.after-2.ensures.len
-      c.after-2.ensures.none c.after-2.ensures.roomy,
+      (c.in-Some.ensures.stands x n u keeps.tells keeps.encodable keeps.valid)
+      (λ growing. open_still x u n c.args.count c.args.declare c.args.upload.now keeps (c.in-Some.ensures.room growing))
+      c.in-Some.ensures.starts,
 )
 
 pub returns-clause-content : goal.returns-clause-content
-returns-clause-content c x n u current first keeps same kept =
-    ap (bytes_on current first c.after-2.result) c.after-2.ensures.none
-    ∙ begins_bytes x u n c.args.count c.args.declare current first c.args.upload.now.text_len c.args.list.now _
-    c.requires.long (c.after-2.ensures.bytes current first) same keeps.tells.text_len kept.incomplete
+returns-clause-content c x n u current first keeps same =
+    begins_carries x u n c.args.count c.args.declare current first c.args.upload.now.text_len c.args.list.now
+    c.in-Some.progress c.requires.long c.in-Some.ensures.starts same keeps.tells.text_len
+    (λ growing. open_still x u n c.args.count c.args.declare c.args.upload.now keeps (c.in-Some.ensures.room growing))

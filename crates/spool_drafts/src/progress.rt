@@ -1,0 +1,149 @@
+//! The progress of a draft: the state of transcoding, and the new text.
+ghost use Rattle.std.specs.Prelude.{◌≡◌, ◌≤◌, ◌*◌, ◌++◌, ℕ, false, None, List, [], length, MatchOption, IfOk, IfSome};
+ghost use Rattle.std.specs.Prelude.{IsErrOf, IsOk};
+ghost use Rattle.enc_model.specs.Indexes.{IndexSet as Indexes};
+ghost use Rattle.enc_stream.specs.StateBytes.{IsValid};
+ghost use Rattle.spool_texts.specs.Drafts.{IsReserved, GivesBack};
+ghost use Rattle.upload_rules.specs.Lengths.{is_length};
+ghost use Rattle.upload_rules.specs.Records.{Tells};
+ghost use Rattle.upload_rules.specs.Store.{Upload, text_with, is_complete};
+ghost use Rattle.upload_rules.specs.States.{IsState, SameEncodings, transcoder_with};
+ghost use Rattle.upload_rules.specs.declared.errors.UploadRefusal.{UploadRefusal as Refusal};
+ghost use Rattle.spool_drafts.specs.Progress.{StandsAt, Reads, GoesOn, IsGrowing, FinishesAs, Starts};
+ghost use Rattle.spool_drafts.specs.Progress.{blocks_in, transcoder_in};
+ghost use Rattle.common.specs.declared.stop.Stop.{Stop};
+
+use enc_index::IndexSet;
+use enc_stream::{TranscodeError, Transcoder};
+use spool_blocks::{BlockNo, Blocks};
+use spool_journal::PAGE;
+use spool_texts::BlockText;
+use std::alloc::{AllocError, Global};
+use std::mem;
+use upload_rules::{NewText, Record, UploadError, UploadRefusal};
+
+/// What a draft has after its bytes.
+#[derive(Drop)]
+pub(crate) enum Progress {
+    /// More bytes may come, and their text is stored.
+    Text {
+        transcoder: Transcoder,
+        text: BlockText,
+    },
+    /// More bytes may come, but no block was free for their text: it isn't stored.
+    OutOfRoom {
+        transcoder: Transcoder,
+    },
+    /// A character is unmappable: the append can only be refused.
+    Unencodable,
+    /// The upload is complete, so no bytes may come.
+    Complete,
+}
+
+impl Progress {
+    /// The progress before the first byte of an append to this upload, whose text is on the listed blocks. None if the
+    /// record's state bytes aren't a state.
+    pub(crate) fn after(alloc: Global, upload: &Record, list: &[BlockNo]) -> Option<Self>
+        requires { upload.now.text_len ≤ PAGE * length list.now }
+        ensures stands { (x : Indexes) (n : ℕ) (u : Upload) → Tells x n upload.now u
+            → (text_with x u [] (is_complete u)).fault ≡ None
+            → IsValid (transcoder_with x u [] (is_complete u))
+            → MatchOption result ⊥ (λ p. StandsAt x u [] (transcoder_in p)) }
+        ensures goes_on { IfSome result (λ p. GoesOn upload.now.state (transcoder_in p)) }
+        ensures room { IfSome result (λ p. IsGrowing (transcoder_in p)
+            → is_length upload.now.declared upload.now.accepted ≡ false) }
+        ensures starts { IfSome result (Starts upload.now.text_len list.now) }
+    {
+        match NewText::after(alloc, upload)? {
+            NewText::Growing {
+                transcoder,
+                text: _text,
+            } => Some(Progress::Text {
+                transcoder,
+                text: BlockText::after(alloc, upload.text_len, list),
+            }),
+            NewText::Unencodable => Some(Progress::Unencodable),
+            NewText::Complete => Some(Progress::Complete),
+        }
+    }
+
+    // A copy of the transcoder, if bytes may come.
+    fn transcoder(&self) -> Option<Transcoder>
+        ensures { result ≡ transcoder_in self.now }
+    {
+        match self {
+            Progress::Text {
+                transcoder,
+                text: _,
+            } => Some(transcoder.copy()),
+            Progress::OutOfRoom { transcoder } => Some(transcoder.copy()),
+            Progress::Unencodable => None,
+            Progress::Complete => None,
+        }
+    }
+
+    /// The transcoder after another piece. What the piece adds to the text is put into `out`. None if a character is
+    /// unmappable, or no bytes may come.
+    pub(crate) fn fed(
+        &self,
+        indexes: &IndexSet,
+        piece: &[u8],
+        out: &mut Vec<u8>,
+    ) -> Result<Option<Transcoder>, AllocError>
+        requires { out.old.items ≡ [] }
+        ensures reads { (u : Upload) (bytes : List ℕ) → is_complete u ≡ false
+            → StandsAt indexes.now u bytes (transcoder_in self.now)
+            → IfOk result (λ next. Reads indexes.now u bytes piece.now next out.new.items) }
+        ensures goes_on { (state : List ℕ) → GoesOn state (transcoder_in self.now) → IfOk result (GoesOn state) }
+        ensures growing { IfOk result (λ next. IsGrowing next → IsGrowing (transcoder_in self.now)) }
+    {
+        let Some(mut next) = self.transcoder() else {
+            return Ok(None);
+        };
+        match next.feed(indexes, piece, out) {
+            Ok(()) => Ok(Some(next)),
+            Err(TranscodeError::Unencodable(_)) => Ok(None),
+            Err(_) => Err(AllocError),
+        }
+    }
+
+    /// The state bytes after the body. If the patch completes the upload, also what the end adds to the text.
+    pub(crate) fn ended(
+        &self,
+        alloc: Global,
+        indexes: &IndexSet,
+        completes: bool,
+    ) -> Result<([u8; 32], Vec<u8>), UploadError>
+        ensures finished { (u : Upload) (bytes : List ℕ) → is_complete u ≡ false
+            → StandsAt indexes.now u bytes (transcoder_in self.now) → FinishesAs indexes.now u bytes completes result }
+        ensures same { (state : List ℕ) → IsState state → GoesOn state (transcoder_in self.now)
+            → IfOk result (λ end. SameEncodings state end.0) }
+        ensures growing { IsOk result → IsGrowing (transcoder_in self.now) }
+        ensures no_disk_fault { IsErrOf result (UploadError.Stop Stop.DiskFault) → ⊥ }
+        ensures refusal { (e : Refusal) → IsErrOf result (UploadError.Refused e) → e ≡ UploadRefusal.Unencodable }
+    {
+        let Some(transcoder) = self.transcoder() else {
+            return Err(UploadError::Refused(UploadRefusal::Unencodable));
+        };
+        let text = NewText::Growing {
+            transcoder,
+            text: Vec::new(alloc),
+        };
+        text.ended(indexes, completes)
+    }
+
+    /// Goes over to other progress, and gives the blocks back that the text reserved.
+    pub(crate) fn leave(&mut self, next: Progress, blocks: &mut Blocks)
+        requires { IsReserved blocks.old (blocks_in self.old) }
+        ensures next { self.new ≡ next }
+        ensures gives { GivesBack blocks.old blocks.new (blocks_in self.old) }
+    {
+        if let Progress::Text {
+            transcoder: _,
+            text,
+        } = mem::replace(self, next)
+        {
+            text.give_back(blocks);
+        }
+    }
+}
