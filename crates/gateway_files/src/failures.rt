@@ -218,7 +218,11 @@ impl<'a> Failure<'a> {
         ensures { fault_in result ≡ fault }
     {
         match (fault, error) {
-            (Fault::Stop(Stop::DiskFault), Some(error)) => Failure::new(fault, Task::UseSpool(path), error),
+            (Fault::Stop(Stop::DiskFault), Some(error)) => Failure::new(
+                fault,
+                Task::UseSpool(path),
+                error,
+            ),
             _ => Failure::from(fault),
         }
     }

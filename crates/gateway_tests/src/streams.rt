@@ -70,7 +70,11 @@ fn writes(rt: &impl Abort, story: &Story<'_>, step: usize, calls: usize) -> usiz
     let (disk, fault) = ran_between(story.alloc, script, &mut writer, story.disk(rt));
     story.check(rt, disk, &writer.bytes);
     let whole = writer.bytes.len() == talk.wanted.len();
-    let refused = if whole { None } else { Some(RunFault::Script(ScriptFault::Io)) };
+    let refused = if whole {
+        None
+    } else {
+        Some(RunFault::Script(ScriptFault::Io))
+    };
     assert_eq!(rt; fault, refused, "at {step}, {calls}");
     writer.bytes.len()
 }
@@ -106,7 +110,11 @@ fn read_fails(rt: &impl Abort, story: &Story<'_>, calls: usize) -> bool {
         story.check(rt, disk, &written);
         return false;
     }
-    assert_eq!(rt; fault, Some(RunFault::Script(ScriptFault::Io)), "at {calls}");
+    assert_eq!(rt;
+        fault,
+        Some(RunFault::Script(ScriptFault::Io)),
+        "at {calls}"
+    );
     assert!(rt; written.is_empty(), "at {calls}");
     assert!(rt; told(rt, story.alloc, disk).is_empty(), "at {calls}");
     true
