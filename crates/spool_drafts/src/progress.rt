@@ -55,10 +55,7 @@ impl Progress {
         ensures starts { IfSome result (Starts upload.now.text_len list.now) }
     {
         match NewText::after(alloc, upload)? {
-            NewText::Growing {
-                transcoder,
-                text: _text,
-            } => Some(Progress::Text {
+            NewText::Growing { transcoder, .. } => Some(Progress::Text {
                 transcoder,
                 text: BlockText::after(alloc, upload.text_len, list),
             }),
@@ -72,13 +69,9 @@ impl Progress {
         ensures { result ≡ transcoder_in self.now }
     {
         match self {
-            Progress::Text {
-                transcoder,
-                text: _,
-            } => Some(transcoder.copy()),
+            Progress::Text { transcoder, .. } => Some(transcoder.copy()),
             Progress::OutOfRoom { transcoder } => Some(transcoder.copy()),
-            Progress::Unencodable => None,
-            Progress::Complete => None,
+            _ => None,
         }
     }
 
@@ -138,11 +131,7 @@ impl Progress {
         ensures next { self.new ≡ next }
         ensures gives { GivesBack blocks.old blocks.new (blocks_in self.old) }
     {
-        if let Progress::Text {
-            transcoder: _,
-            text,
-        } = mem::replace(self, next)
-        {
+        if let Progress::Text { text, .. } = mem::replace(self, next) {
             text.give_back(blocks);
         }
     }

@@ -91,12 +91,7 @@ impl BlockText {
     pub fn into_list(self) -> Vec<BlockNo>
         ensures { result.items ≡ self.blocks }
     {
-        let BlockText {
-            unread: _,
-            blocks,
-            page: _,
-            filled: _,
-        } = self;
+        let BlockText { blocks, .. } = self;
         blocks
     }
 
