@@ -55,7 +55,10 @@ impl Progress {
         ensures starts { IfSome result (Starts upload.now.text_len list.now) }
     {
         match NewText::after(alloc, upload)? {
-            NewText::Growing { transcoder, .. } => Some(Progress::Text {
+            NewText::Growing {
+                transcoder,
+                text: _text,
+            } => Some(Progress::Text {
                 transcoder,
                 text: BlockText::after(alloc, upload.text_len, list),
             }),

@@ -2,10 +2,10 @@ use Rattle.std.proofs.Common.{◌≤◌, ◌+◌, ◌++◌, ℕ, List, false, le
 use Rattle.std.proofs.Common.{ap, subst, Err}
 use Rattle.std.proofs.lemmas.Bool.{cases_eq}
 use Rattle.spool_journal.specs.Image.{text_page}
-use Rattle.spool_texts.specs.Drafts.{Draft, Takes, bytes_of, len_of}
+use Rattle.spool_texts.specs.Drafts.{Draft, bytes_of, len_of}
 use Rattle.spool_drafts.specs.Drafts.{Carries, Holds, IsAfter, IsLonger, IsPlaced, committed_len_of, declare_of, list_of}
 use Rattle.spool_drafts.specs.Drafts.{number_of, offset_of, open_text, tail_of, with_piece}
-use Rattle.spool_drafts.specs.Progress.{GoesOn, HasBytes, IsGrowing, IsStored, Reads, StandsAt, blocks_in}
+use Rattle.spool_drafts.specs.Progress.{GoesOn, HasBytes, IsGrowing}
 use Rattle.spool_drafts.specs.declared.draft.SpoolDraft.{SpoolDraft}
 use Rattle.spool_drafts.specs.declared.progress.Progress.TheVariants.{Text}
 use Rattle.spool_drafts.proofs.Appends.{longer_fault, longer_full, longer_short, longer_text, open_longer}

@@ -3,9 +3,9 @@ use Rattle.std.proofs.Common.{ap, subst, ◌∙◌, false}
 use Rattle.std.proofs.lemmas.Result.{err_from_is_err_and}
 use Rattle.spool_journal.specs.declared.TheConstants.{PAGE}
 use Rattle.spool_journal.specs.Image.{text_page}
-use Rattle.spool_texts.specs.Drafts.{Takes, bytes_of, count_with, len_of}
+use Rattle.spool_texts.specs.Drafts.{bytes_of, count_with, len_of}
 use Rattle.spool_drafts.specs.Drafts.{EndsAs, open_text}
-use Rattle.spool_drafts.specs.Progress.{HasBytes, IsStored, blocks_in}
+use Rattle.spool_drafts.specs.Progress.{HasBytes, blocks_in}
 use Rattle.spool_drafts.proofs.Appends.{short_of}
 use Rattle.spool_drafts.proofs.Effects.{effect_none, effect_read, grasp_gives, grasp_takes, takes_in}
 use Rattle.spool_drafts.proofs.Ends.{full, lacks, open_ended, refused, whole}
