@@ -39,7 +39,7 @@ whole_is t n list last whole some listed nothing more count = elim (cases_eq (le
   | inr there ↦ more (omega (arith, there)) ∙ ap (λ (k : ℕ). PAGE * (t / PAGE) + k) (count (omega (arith, there)))
 ]
 
-module _ (x : IndexSet) (p : Patch) (d : SpoolDraft) (held : Holds x p d) (still : is_complete p.began ≡ false)
+module _ {x : IndexSet} {p : Patch} {d : SpoolDraft} (held : Holds x p d) (still : is_complete p.began ≡ false)
     (done : Bool) where
   pub refused : (blocks blocks' : Held) (new : SpoolDraft) (e : UploadError) → FinishesAs x p.began p.body done (Err e)
       → EndsAs x p done d new blocks blocks' (Err e)
@@ -48,7 +48,7 @@ module _ (x : IndexSet) (p : Patch) (d : SpoolDraft) (held : Holds x p d) (still
       subst (λ (r : UploadRefusal). EndsAs x p done d new blocks blocks' (Err (Refused r))) (sym ends.0)
       (ap (λ r. is_there r.fault) (patch_text_is x p done) ∙ ends.1)
 
-  module _ (state text : List ℕ) (finished : IsFinished x p.began p.body done state text) where
+  module _ {state text : List ℕ} (finished : IsFinished x p.began p.body done state text) where
     encodable_end : (patch_text x p done).fault ≡ None
     encodable_end = ap (λ r. r.fault) (patch_text_is x p done) ∙ finished.encodable
 

@@ -1,5 +1,6 @@
 -- How many blocks a text needs after the committed one's full blocks, and what the lengths of an upload say.
-use Rattle.std.proofs.Common.{◌≡◌, ℕ, ◌+◌, ◌-◌, ◌/◌, ◌%◌, ◌<◌, ◌≤◌, false, length, List, Option, Some, None, refl, arith, ap, inl, inr, ◌∙◌}
+use Rattle.std.proofs.Common.{◌≡◌, ℕ, ◌+◌, ◌-◌, ◌/◌, ◌%◌, ◌<◌, ◌≤◌, false, length, List, Option, Some, None, refl}
+use Rattle.std.proofs.Common.{arith, ap, inl, inr, ◌∙◌}
 use Rattle.std.proofs.lemmas.Bool.{cases_eq, ne_eqb}
 use Rattle.spool_journal.specs.declared.TheConstants.{PAGE}
 use Rattle.upload_rules.specs.Lengths.{is_length, known_or, longest}
