@@ -1,6 +1,6 @@
 -- The drafts, where an upload was taken away.
 use Rattle.std.proofs.lemmas.Grind.{common_steps}
-use Rattle.std.proofs.Common.{◌≡◌, ◌≢◌, ℕ, ◌*◌, ◌≤◌, List, Option, None, Some, refl, ◌∙◌, subst, arith, Bool, true}
+use Rattle.std.proofs.Common.{◌≡◌, ◌≢◌, ℕ, ◌*◌, ◌≤◌, List, Option, None, Some, refl, subst, arith, Bool, true}
 use Rattle.std.proofs.lemmas.Bool.{cases_eq}
 use Rattle.spool_journal.specs.declared.TheConstants.{PAGE}
 use Rattle.spool_blocks.specs.Blocks.{Held}
