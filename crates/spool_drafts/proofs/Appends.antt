@@ -1,7 +1,8 @@
 -- A draft with a piece more of its body.
-use Rattle.std.proofs.Common.{◌≡◌, inl, inr, ◌≤◌, ◌<◌, ◌+◌, ◌-◌, ◌/◌, ◌%◌, ◌^◌, ◌++◌, ℕ, Bool, true, false, List, [], ◌∷◌}
-use Rattle.std.proofs.Common.{length, min, eqb, None, Some, refl, sym, ◌∙◌, ap, subst, arith, length-append}
-use Rattle.std.proofs.lemmas.Bool.{both_ways, cases_eq}
+use Rattle.std.proofs.Common.{◌≡◌, inr, ◌≤◌, ◌<◌, ◌+◌, ◌-◌, ◌/◌, ◌%◌, ◌^◌, ◌++◌, ℕ, Bool, true, false, List, []}
+use Rattle.std.proofs.Common.{◌∷◌}
+use Rattle.std.proofs.Common.{length, min, eqb, Option, None, Some, refl, sym, ◌∙◌, ap, subst, arith, length-append}
+use Rattle.std.proofs.lemmas.Bool.{both_ways}
 use Rattle.spool_journal.specs.declared.TheConstants.{PAGE}
 use Rattle.enc_model.specs.Indexes.{IndexSet}
 use Rattle.enc_stream.specs.Standing.{Standing}
@@ -11,13 +12,13 @@ use Rattle.upload_rules.specs.Room.{need_of, wants, need}
 use Rattle.upload_rules.specs.Store.{is_complete}
 use Rattle.upload_rules.specs.World.{Patch, is_there, patch_text}
 use Rattle.upload_rules.proofs.Transcoders.{without_fault}
-use Rattle.spool_drafts.specs.Drafts.{Holds, IsLonger, open_text, with_piece, shortened}
+use Rattle.spool_drafts.specs.Drafts.{Holds, IsLonger, open_text, with_piece, shortened, transcoder_of}
 use Rattle.spool_drafts.specs.Effect.{RunsShort}
 use Rattle.spool_drafts.specs.Progress.{StandsAt, Reads, HoldsLen, IsStored, IsGrowing, blocks_in, transcoder_in}
 use Rattle.spool_drafts.specs.declared.draft.SpoolDraft.{SpoolDraft}
 use Rattle.spool_drafts.specs.declared.progress.Progress.{Progress}
 use Rattle.spool_drafts.specs.declared.progress.Progress.TheVariants.{Text, OutOfRoom, Unencodable, Complete}
-use Rattle.spool_drafts.proofs.Lengths.{is_open, need_some}
+use Rattle.spool_drafts.proofs.Lengths.{is_open, need_more, need_some_more}
 use Rattle.spool_drafts.proofs.Patches.{committed_first, fine_before, need_fault, need_roomy, need_short, open_grows}
 use Rattle.spool_drafts.proofs.Patches.{patch_text_is, wants_of}
 
@@ -38,38 +39,20 @@ short_of short len n (OutOfRoom t) other growing stored = stored
 short_of short len n Unencodable other growing stored = absurd growing
 short_of short len n Complete other growing stored = absurd growing
 
--- and has none
-pub none_of : (s : Progress) → ((t : Standing) (text : Draft) → s ≡ Text t text → ⊥) → blocks_in s ≡ []
-none_of (Text t text) other = absurd (other t text refl)
-none_of (OutOfRoom t) other = refl
-none_of Unencodable other = refl
-none_of Complete other = refl
-
--- a text with k bytes more
-pub holds_more : (len n k : ℕ) (old new : Draft) → HoldsLen len old n → (k ≡ 0 → new.blocks ≡ old.blocks)
-    → (1 ≤ k → length new.blocks ≡ (len_of new + 4095) / PAGE) → len_of new ≡ len_of old + k → HoldsLen len new (n + k)
-holds_more len n k old new holds same listed grown = record {
-  some = omega (arith, holds.some);
-  listed = elim (cases_eq k 0) [
-    | inl none ↦
-        ap length (same none) ∙ holds.listed
-        ∙ ap (λ (m : ℕ). need_of len (m - len % PAGE)) (omega (arith, none))
-    | inr some ↦
-        listed (omega (arith, some))
-        ∙ omega (arith, grown, holds.count, need_some len (n + k) (omega (arith, holds.some, some)))
-  ];
-  count = omega (arith, grown, holds.count);
-}
-
-module _ (x : IndexSet) (p : Patch) (d : SpoolDraft) (held : Holds x p d) (piece : List ℕ)
-    (fits : length p.body + length piece ≤ p.count) where
+module _ {x : IndexSet} {p : Patch} {d : SpoolDraft} (held : Holds x p d) {piece : List ℕ}
+    (fits : length p.body + length piece ≤ p.count) {empty : Bool} (is_empty : empty ≡ eqb (length piece) 0)
+    (not_empty : empty ≡ false) {next : Option Standing} {added : List ℕ}
+    (fed : is_complete p.began ≡ false → StandsAt x p.began p.body (transcoder_of d)
+    → Reads x p.began p.body piece next added) where
   abbrev longer : Patch
   longer = with_piece p piece
 
   -- more bytes may come, since the piece has some
-  pub incomplete : (empty : Bool) → empty ≡ eqb (length piece) 0 → empty ≡ false → is_complete p.began ≡ false
-  incomplete empty is not =
-      is_open p.began p.declare p.count (omega (arith, some_of piece empty is not, fits)) held.within
+  still : is_complete p.began ≡ false
+  still = is_open p.began p.declare p.count (omega (arith, some_of piece empty is_empty not_empty, fits)) held.within
+
+  reads : Reads x p.began p.body piece next added
+  reads = fed still held.stands
 
   -- what stays
   went_on : (short : Bool) (s : Progress) → StandsAt x p.began (p.body ++ piece) (transcoder_in s)
@@ -92,59 +75,65 @@ module _ (x : IndexSet) (p : Patch) (d : SpoolDraft) (held : Holds x p d) (piece
   }
 
   -- a character without a code
-  pub longer_fault : is_complete p.began ≡ false → StandsAt x p.began (p.body ++ piece) None
-      → Holds x longer (gone_on d Unencodable (length piece))
-  longer_fault still stands =
+  pub longer_fault : next ≡ None → Holds x longer (gone_on d Unencodable (length piece))
+  longer_fault none =
+      let stands = subst (StandsAt x p.began (p.body ++ piece)) none reads.stands in
       went_on p.short Unencodable stands
       (sym (need_fault x longer false (ap (λ r. is_there r.fault) (patch_text_is x longer false) ∙ stands still))) tt
 
-  -- no room, as before
-  pub longer_short : (next : Standing) → StandsAt x p.began (p.body ++ piece) (Some next) → p.short ≡ true
-      → Holds x longer (gone_on d (OutOfRoom next) (length piece))
-  longer_short next stands short = went_on p.short (OutOfRoom next) stands (sym (need_short x longer false short)) short
+  module _ (t : Standing) (some : next ≡ Some t) where
+    reads_on : Reads x p.began p.body piece (Some t) added
+    reads_on = subst (λ n. Reads x p.began p.body piece n added) some reads
 
-  module _ (next : Standing) (added : List ℕ) (still : is_complete p.began ≡ false)
-      (reads : Reads x p.began p.body piece (Some next) added) where
+    -- no room, as before
+    pub longer_short : ((t : Standing) (text : Draft) → d.progress ≡ Text t text → ⊥)
+        → (IsGrowing next → IsGrowing (transcoder_of d)) → Holds x longer (gone_on d (OutOfRoom t) (length piece))
+    longer_short other growing =
+        let short = short_of p.short _ _ d.progress other (growing (subst IsGrowing (sym some) tt)) held.stored in
+        went_on p.short (OutOfRoom t) reads_on.stands (sym (need_short x longer false short)) short
+
     encodable_after : (patch_text x longer false).fault ≡ None
     encodable_after = ap (λ r. r.fault) (patch_text_is x longer false)
-        ∙ without_fault x p.began (p.body ++ piece) next reads.stands
+        ∙ without_fault x p.began (p.body ++ piece) t reads_on.stands
 
     pub open_longer : open_text x longer false ≡ open_text x p false ++ added
     open_longer = open_grows x p piece added false false
-        (committed_first x p false still (fine_before x p piece false encodable_after)) reads.adds
+        (committed_first x p false still (fine_before x p piece false encodable_after)) reads_on.adds
 
-    module _ (old : Draft) (stored : (p.short ≡ false) × HoldsLen d.committed_len old (length (open_text x p false)))
-      where
-        size : length (open_text x p false) + length added ≡ length (open_text x longer false)
-        size = sym (ap length open_longer ∙ length-append (open_text x p false) added)
+    module _ {was : Standing} {old : Draft} (is : d.progress ≡ Text was old) where
+      stored : (p.short ≡ false) × HoldsLen d.committed_len old (length (open_text x p false))
+      stored = subst (IsStored p.short d.committed_len (length (open_text x p false))) is held.stored
 
-        wanted : need_of d.committed_len
-            ((length (open_text x p false) + length added) - d.committed_len % PAGE) ≡ wants x longer false
-        wanted = wants_of x longer false d.committed_len (length (open_text x p false) + length added) held.committed size
-            encodable_after
+      size : length (open_text x p false) + length added ≡ length (open_text x longer false)
+      size = sym (ap length open_longer ∙ length-append (open_text x p false) added)
 
-        pub longer_text : (new : Draft) → (length added ≡ 0 → new.blocks ≡ old.blocks)
-            → (1 ≤ length added → length new.blocks ≡ (len_of new + 4095) / PAGE)
-            → len_of new ≡ len_of old + length added → Holds x longer (gone_on d (Text next new) (length piece))
-        longer_text new same listed grown =
-            let holds = holds_more d.committed_len (length (open_text x p false)) (length added) old new stored.1 same
-            listed grown in
-            went_on p.short (Text next new) reads.stands
-            (holds.listed ∙ wanted ∙ sym (need_roomy x longer false stored.0))
-            (stored.0, subst (HoldsLen d.committed_len new) size holds)
+      wanted : need_of d.committed_len
+          ((length (open_text x p false) + length added) - d.committed_len % PAGE) ≡ wants x longer false
+      wanted = wants_of x longer false d.committed_len (length (open_text x p false) + length added) held.committed size
+          encodable_after
 
-        -- no block was free
-        pub longer_full : (blocks blocks' : Held) → 1 ≤ length added
-            → ((wanted : ℕ) → (len_of old + length added + 4095) / PAGE ≡ wanted
-            → RunsShort blocks blocks' (blocks_in d.progress) wanted)
-            → IsLonger x longer d (gone_on d (OutOfRoom next) (length piece)) blocks blocks'
-        longer_full blocks blocks' some ran = inr (
-          went_on true (OutOfRoom next) reads.stands (sym (need_short x (shortened longer) false refl)) refl,
-          ran (wants x longer false) (omega (
-            arith,
-            wanted,
-            stored.1.count,
-            need_some d.committed_len (length (open_text x p false) + length added)
-                (omega (arith, stored.1.some, some)),
-          )),
-        )
+      pub longer_text : (new : Draft) → (length added ≡ 0 → new.blocks ≡ old.blocks)
+          → (1 ≤ length added → length new.blocks ≡ (len_of new + 4095) / PAGE)
+          → len_of new ≡ len_of old + length added → Holds x longer (gone_on d (Text t new) (length piece))
+      longer_text new same listed grown =
+          let holds = stored.1 in
+          let needs = need_more d.committed_len _ (length added) old holds new.blocks same
+          (λ some. listed some ∙ ap (λ (k : ℕ). (k + 4095) / PAGE) grown) in
+          went_on p.short (Text t new) reads_on.stands (needs ∙ wanted ∙ sym (need_roomy x longer false stored.0)) (
+            stored.0,
+            subst (HoldsLen d.committed_len new) size record {
+              some = omega (arith, holds.some);
+              listed = needs;
+              count = omega (arith, grown, holds.count);
+            },
+          )
+
+      -- no block was free
+      pub longer_full : (blocks blocks' : Held) → 1 ≤ length added
+          → ((wanted : ℕ) → (len_of old + length added + 4095) / PAGE ≡ wanted
+          → RunsShort blocks blocks' (blocks_in d.progress) wanted)
+          → IsLonger x longer d (gone_on d (OutOfRoom t) (length piece)) blocks blocks'
+      longer_full blocks blocks' some ran = inr (
+        went_on true (OutOfRoom t) reads_on.stands (sym (need_short x (shortened longer) false refl)) refl,
+        ran (wants x longer false) (need_some_more d.committed_len _ (length added) old stored.1 some ∙ wanted),
+      )

@@ -6,12 +6,16 @@ use Rattle.spool_disk.specs.Disk.{IsImage, Keeps}
 use Rattle.spool_disk.specs.Views.{Lasts}
 use Rattle.spool_disk.specs.declared.disk.Disk.{Ghosts}
 use Rattle.spool_disk.proofs.Firm.{lasts_on, lasts_more}
-use Rattle.spool_texts.specs.Drafts.{IsReserved, Takes, GivesBack}
+use Rattle.spool_texts.specs.Drafts.{Draft, IsReserved, Takes, GivesBack}
 use Rattle.spool_texts.specs.Written.{WritesIn, IsImageBut, aside_blocks}
 use Rattle.spool_texts.proofs.Asides.{aside_blocks_else, image_aside}
 use Rattle.spool_texts.proofs.Prefixes.{writes_keeps, writes_none, writes_on, idle_in, image_in, but_image}
 use Rattle.spool_texts.proofs.Prefixes.{but_more, but_on}
 use Rattle.spool_texts.proofs.Reserves.{takes_none}
+use Rattle.enc_stream.specs.Standing.{Standing}
+use Rattle.spool_drafts.specs.Progress.{blocks_in}
+use Rattle.spool_drafts.specs.declared.progress.Progress.{Progress}
+use Rattle.spool_drafts.specs.declared.progress.Progress.TheVariants.{Text}
 use Rattle.spool_drafts.specs.Effect.{Effect, Regrasps, OnlyWrites}
 use Rattle.spool_journal.specs.Image.{area_end}
 
@@ -32,6 +36,12 @@ grasp_takes {new = new} takes reserved = record {
   reserved = reserved;
   holds = inl (refl, refl);
 }
+
+-- a draft that stores a text has its blocks
+pub takes_in : {old new : Held} {s : Progress} {t : Standing} {text : Draft} {own : List ℕ} → s ≡ Text t text
+    → Takes old new text.blocks own → Takes old new (blocks_in s) own
+takes_in {old = old} {new = new} {own = own} is =
+    subst (λ (s : Progress). Takes old new (blocks_in s) own) (sym is)
 
 pub grasp_none : (h : Held) (list list' : List ℕ) → list' ≡ list → IsReserved h list → Regrasps h h list list' list'
 grasp_none h list list' same reserved =

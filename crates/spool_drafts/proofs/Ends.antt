@@ -16,10 +16,12 @@ use Rattle.upload_rules.specs.Store.{text_of, text_with, is_complete}
 use Rattle.upload_rules.specs.World.{Patch, is_there, patch_text}
 use Rattle.spool_drafts.specs.Drafts.{Holds, IsWhole, EndsAs, open_text, list_of}
 use Rattle.spool_drafts.specs.Effect.{RunsShort}
-use Rattle.spool_drafts.specs.Progress.{IsFinished, FinishesAs, HoldsLen}
+use Rattle.spool_drafts.specs.Progress.{IsFinished, FinishesAs, HoldsLen, IsStored}
+use Rattle.spool_drafts.specs.declared.progress.Progress.TheVariants.{Text}
+use Rattle.enc_stream.specs.Standing.{Standing}
 use Rattle.spool_drafts.specs.declared.draft.DraftEnd.{DraftEnd}
 use Rattle.spool_drafts.specs.declared.draft.SpoolDraft.{SpoolDraft}
-use Rattle.spool_drafts.proofs.Lengths.{need_some}
+use Rattle.spool_drafts.proofs.Lengths.{need_more, need_some, need_some_more}
 use Rattle.spool_drafts.proofs.Patches.{committed_first, fine_before, open_grows, patch_text_is, wants_of}
 
 -- where no block is needed nothing was added
@@ -37,7 +39,7 @@ whole_is t n list last whole some listed nothing more count = elim (cases_eq (le
   | inr there ↦ more (omega (arith, there)) ∙ ap (λ (k : ℕ). PAGE * (t / PAGE) + k) (count (omega (arith, there)))
 ]
 
-module _ (x : IndexSet) (p : Patch) (d : SpoolDraft) (held : Holds x p d) (still : is_complete p.began ≡ false)
+module _ {x : IndexSet} {p : Patch} {d : SpoolDraft} (held : Holds x p d) (still : is_complete p.began ≡ false)
     (done : Bool) where
   pub refused : (blocks blocks' : Held) (new : SpoolDraft) (e : UploadError) → FinishesAs x p.began p.body done (Err e)
       → EndsAs x p done d new blocks blocks' (Err e)
@@ -46,7 +48,7 @@ module _ (x : IndexSet) (p : Patch) (d : SpoolDraft) (held : Holds x p d) (still
       subst (λ (r : UploadRefusal). EndsAs x p done d new blocks blocks' (Err (Refused r))) (sym ends.0)
       (ap (λ r. is_there r.fault) (patch_text_is x p done) ∙ ends.1)
 
-  module _ (state text : List ℕ) (finished : IsFinished x p.began p.body done state text) where
+  module _ {state text : List ℕ} (finished : IsFinished x p.began p.body done state text) where
     encodable_end : (patch_text x p done).fault ≡ None
     encodable_end = ap (λ r. r.fault) (patch_text_is x p done) ∙ finished.encodable
 
@@ -69,61 +71,46 @@ module _ (x : IndexSet) (p : Patch) (d : SpoolDraft) (held : Holds x p d) (still
         → EndsAs x p done d new blocks blocks' (Err (Refused refusals.Full))
     full blocks blocks' new room = (encodable_end, room)
 
-    module _ (old : Draft) (stored : (p.short ≡ false) × HoldsLen d.committed_len old (length (open_text x p false)))
-      where
-        size : length (open_text x p false) + length text ≡ length (open_text x p done)
-        size = sym (ap length open_ended ∙ length-append (open_text x p false) text)
+    module _ {was : Standing} {old : Draft} (in_text : d.progress ≡ Text was old) where
+      stored : (p.short ≡ false) × HoldsLen d.committed_len old (length (open_text x p false))
+      stored = subst (IsStored p.short d.committed_len (length (open_text x p false))) in_text held.stored
 
-        wanted : need_of d.committed_len
-            ((length (open_text x p false) + length text) - d.committed_len % PAGE) ≡ wants x p done
-        wanted = wants_of x p done d.committed_len (length (open_text x p false) + length text) held.committed size
-            encodable_end
+      size : length (open_text x p false) + length text ≡ length (open_text x p done)
+      size = sym (ap length open_ended ∙ length-append (open_text x p false) text)
 
-        pub whole : (new : SpoolDraft) (e : DraftEnd) (list last : List ℕ) → e.state ≡ state → list_of new ≡ list
-            → (length text ≡ 0 → list ≡ old.blocks)
-            → (1 ≤ length text → length list ≡ (len_of old + length text + 4095) / PAGE)
-            → (length list ≡ 0 → e.text_len ≡ d.committed_len)
-            → (0 < length list → e.text_len ≡ PAGE * (d.committed_len / PAGE) + count_with list last)
-            → (1 ≤ length list → count_with list last ≡ len_of old + length text) → IsWhole x p done new e
-        whole new e list last is here same listed nothing more count =
-            let holds = stored.1 in
-            let t = length (text_of x p.began) in
-            let n = length (open_text x p false) in
-            let needs : length list ≡ need_of d.committed_len ((n + length text) - d.committed_len % PAGE) =
-            elim (cases_eq (length text) 0) [
-              | inl none ↦
-                  ap length (same none) ∙ holds.listed
-                  ∙ ap (λ (m : ℕ). need_of d.committed_len (m - d.committed_len % PAGE)) (omega (arith, none))
-              | inr some ↦
-                  listed (omega (arith, some))
-                  ∙ omega (
-                    arith,
-                    holds.count,
-                    need_some d.committed_len (n + length text) (omega (arith, holds.some, some)),
-                  )
-            ] in
-            record {
-              state_is = is ∙ finished.state_is;
-              valid = finished.valid;
-              encodable = encodable_end;
-              roomy = stored.0;
-              listed = ap length here ∙ needs ∙ wanted;
-              len = omega (
-                arith,
-                size,
-                whole_is d.committed_len (n + length text) list last e.text_len (omega (arith, holds.some)) needs nothing
-                    more (λ there. count there ∙ ap (λ (k : ℕ). k + length text) holds.count),
-                ap (λ (k : ℕ). PAGE * (k / PAGE)) held.committed,
-                length-drop (PAGE * (t / PAGE)) (patch_text x p done).bytes,
-                committed_first x p done still encodable_end,
-              );
-            }
+      wanted : need_of d.committed_len
+          ((length (open_text x p false) + length text) - d.committed_len % PAGE) ≡ wants x p done
+      wanted = wants_of x p done d.committed_len (length (open_text x p false) + length text) held.committed size
+          encodable_end
 
-        -- how many blocks it lacked
-        pub lacks : 1 ≤ length text → (len_of old + length text + 4095) / PAGE ≡ wants x p done
-        lacks some = omega (
-          arith,
-          wanted,
-          stored.1.count,
-          need_some d.committed_len (length (open_text x p false) + length text) (omega (arith, stored.1.some, some)),
-        )
+      pub whole : (new : SpoolDraft) (e : DraftEnd) (list last : List ℕ) → e.state ≡ state → list_of new ≡ list
+          → (length text ≡ 0 → list ≡ old.blocks)
+          → (1 ≤ length text → length list ≡ (len_of old + length text + 4095) / PAGE)
+          → (length list ≡ 0 → e.text_len ≡ d.committed_len)
+          → (0 < length list → e.text_len ≡ PAGE * (d.committed_len / PAGE) + count_with list last)
+          → (1 ≤ length list → count_with list last ≡ len_of old + length text) → IsWhole x p done new e
+      whole new e list last is here same listed nothing more count =
+          let holds = stored.1 in
+          let t = length (text_of x p.began) in
+          let n = length (open_text x p false) in
+          let needs = need_more d.committed_len n (length text) old holds list same listed in
+          record {
+            state_is = is ∙ finished.state_is;
+            valid = finished.valid;
+            encodable = encodable_end;
+            roomy = stored.0;
+            listed = ap length here ∙ needs ∙ wanted;
+            len = omega (
+              arith,
+              size,
+              whole_is d.committed_len (n + length text) list last e.text_len (omega (arith, holds.some)) needs nothing
+                  more (λ there. count there ∙ ap (λ (k : ℕ). k + length text) holds.count),
+              ap (λ (k : ℕ). PAGE * (k / PAGE)) held.committed,
+              length-drop (PAGE * (t / PAGE)) (patch_text x p done).bytes,
+              committed_first x p done still encodable_end,
+            );
+          }
+
+      -- how many blocks it lacked
+      pub lacks : 1 ≤ length text → (len_of old + length text + 4095) / PAGE ≡ wants x p done
+      lacks some = need_some_more d.committed_len _ (length text) old stored.1 some ∙ wanted

@@ -143,10 +143,7 @@ impl SpoolDraft {
         ensures few { length (list_of self.now) ≤ MOST_BLOCKS }
     {
         match &self.progress {
-            Progress::Text {
-                transcoder: _,
-                text,
-            } => text.list(),
+            Progress::Text { text, .. } => text.list(),
             _ => &[],
         }
     }
@@ -352,11 +349,7 @@ impl SpoolDraft {
             → 1 ≤ length (list_of self.old)
             → Carries x current first p self.old → Carries x current first p self.new }
     {
-        if let Progress::Text {
-            transcoder: _,
-            text,
-        } = &mut self.progress
-        {
+        if let Progress::Text { text, .. } = &mut self.progress {
             text.forget_tail();
         }
     }
@@ -375,10 +368,7 @@ impl SpoolDraft {
     {
         let progress = self.progress;
         match progress {
-            Progress::Text {
-                transcoder: _,
-                text,
-            } => text.into_list(),
+            Progress::Text { text, .. } => text.into_list(),
             _ => Vec::new(alloc),
         }
     }

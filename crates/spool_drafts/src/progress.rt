@@ -72,13 +72,9 @@ impl Progress {
         ensures { result ≡ transcoder_in self.now }
     {
         match self {
-            Progress::Text {
-                transcoder,
-                text: _,
-            } => Some(transcoder.copy()),
+            Progress::Text { transcoder, .. } => Some(transcoder.copy()),
             Progress::OutOfRoom { transcoder } => Some(transcoder.copy()),
-            Progress::Unencodable => None,
-            Progress::Complete => None,
+            _ => None,
         }
     }
 
@@ -138,11 +134,7 @@ impl Progress {
         ensures next { self.new ≡ next }
         ensures gives { GivesBack blocks.old blocks.new (blocks_in self.old) }
     {
-        if let Progress::Text {
-            transcoder: _,
-            text,
-        } = mem::replace(self, next)
-        {
+        if let Progress::Text { text, .. } = mem::replace(self, next) {
             text.give_back(blocks);
         }
     }

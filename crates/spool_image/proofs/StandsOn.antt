@@ -12,7 +12,7 @@ use Rattle.spool_disk.specs.Disk.{Keeps}
 use Rattle.spool_disk.specs.declared.disk.Disk.{Ghosts}
 use Rattle.spool_drafts.specs.Drafts.{Carries, tail_of}
 use Rattle.spool_drafts.specs.declared.draft.SpoolDraft.{SpoolDraft}
-use Rattle.spool_drafts.proofs.Stays.{bytes_same}
+use Rattle.spool_drafts.proofs.Stays.{has_same}
 use Rattle.spool_journal.specs.Image.{journal_pages, overlaid, text_page}
 use Rattle.spool_journal.specs.Phases.{Settled}
 use Rattle.spool_pages.proofs.Resting.{rests_keeps, settled_rests}
@@ -131,8 +131,8 @@ module _ {sure : Type 0} (current current' : ℕ → ℕ) (first : ℕ) (slots s
       record {
         holds = is.holds;
         below = omega (arith, is.below);
-        carries = λ known still kept. bytes_same current current' first o.growth o.growth.on (same known)
-            ∙ is.carries known (still.0, sym found ∙ still.1, still.2) kept;
+        carries = λ known still. has_same current current' first _ o.progress (same known)
+            (is.carries known (still.0, sym found ∙ still.1, still.2));
         tail = λ still. owned (is.tail (still.0, sym found ∙ still.1, still.2));
       }
     where

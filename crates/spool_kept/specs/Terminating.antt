@@ -3,7 +3,7 @@ use Rattle.std.specs.Prelude.{◌≡◌, ◌≢◌, ℕ, List, [], Option, None,
 use Rattle.enc_model.specs.Indexes.{IndexSet}
 use Rattle.spool_blocks.specs.Blocks.{Row}
 use Rattle.spool_drafts.specs.Drafts.{Holds, IsAfter, IsPlaced, came_of, committed_len_of, declare_of}
-use Rattle.spool_drafts.specs.Drafts.{fresh_of, list_of, number_of, offset_of, tail_of}
+use Rattle.spool_drafts.specs.Drafts.{list_of, number_of, offset_of, tail_of, transcoder_of}
 use Rattle.spool_drafts.specs.declared.draft.SpoolDraft.{SpoolDraft}
 use Rattle.spool_pages.specs.Changes.{with_slot}
 use Rattle.spool_pages.specs.View.{View}
@@ -26,7 +26,7 @@ pub record ForgetsTail (number : ℕ) (old new : SpoolDraft) : Type 0 where
   pub same_declare : declare_of new ≡ declare_of old
   pub same_text : committed_len_of new ≡ committed_len_of old
   pub same_list : list_of new ≡ list_of old
-  pub same_state : fresh_of new ≡ fresh_of old
+  pub same_state : transcoder_of new ≡ transcoder_of old
   pub placed : (n : ℕ) → IsPlaced n old → IsPlaced n new
   pub after : (len : ℕ) (state : List ℕ) → IsAfter len state old → IsAfter len state new
   pub holds : (x : IndexSet) (p : Patch) → Holds x p old → Holds x p new

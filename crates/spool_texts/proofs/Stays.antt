@@ -1,5 +1,6 @@
 -- What a draft holds, where other blocks are written, or none.
-use Rattle.std.proofs.Common.{◌≡◌, ◌≤◌, ◌*◌, ◌++◌, ℕ, List, [], ◌∷◌, Option, None, Some, take, refl, sym, ◌∙◌, ap, arith}
+use Rattle.std.proofs.Common.{◌≡◌, ◌≤◌, ◌*◌, ◌++◌, ℕ, List, [], ◌∷◌, Option, None, Some, take, refl, sym, ◌∙◌, ap}
+use Rattle.std.proofs.Common.{arith}
 use Rattle.std.proofs.Common.{length-take}
 use Rattle.std.proofs.lemmas.List.{get_or-take}
 use Rattle.spool_journal.specs.declared.TheConstants.{PAGE}
@@ -19,7 +20,8 @@ module _ (current current' : ℕ → ℕ) (first : ℕ) (blocks : List ℕ) (sam
     prefix_kept (Some block) n away =
         ap (λ (xs : List ℕ). take n xs) (blocks_kept current current' first (block ∷ []) blocks same away)
 
-    unread_kept : (o : Option Unread) → NoneOf (tail_on o) blocks → unread_on current' first o ≡ unread_on current first o
+    unread_kept : (o : Option Unread) → NoneOf (tail_on o) blocks
+        → unread_on current' first o ≡ unread_on current first o
     unread_kept None away = refl
     unread_kept (Some u) away = prefix_kept u.block u.len away
 

@@ -91,12 +91,7 @@ impl BlockText {
     pub fn into_list(self) -> Vec<BlockNo>
         ensures { result.items ≡ self.blocks }
     {
-        let BlockText {
-            unread: _,
-            blocks,
-            page: _,
-            filled: _,
-        } = self;
+        let BlockText { blocks, .. } = self;
         blocks
     }
 
@@ -296,8 +291,8 @@ impl BlockText {
     }
 
     /// Appends the last bytes, in memory: reserves the blocks for them and returns what `write_last` has to write, the
-    /// bytes of the unfinished block and these. Afterwards the text can only be given back or owned. If it didn't begin,
-    /// it has no blocks, and nothing is returned.
+    /// bytes of the unfinished block and these. Afterwards the text can only be given back or owned. If it didn't
+    /// begin, it has no blocks, and nothing is returned.
     ///
     /// # Errors
     ///

@@ -1,6 +1,7 @@
 -- A draft whose text has ended: why it isn't put after its upload's, and that it may be.
 use Rattle.std.proofs.lemmas.Grind.{common_steps}
-use Rattle.std.proofs.Common.{Result, Err, IfOk, ◌≡◌, inl, inr, ℕ, ◌≤◌, ◌+◌, ◌-◌, ◌/◌, ◌^◌, Bool, true, false, List}
+use Rattle.std.proofs.Common.{Result, Err, IfOk, ◌≡◌, ◌⊎◌, inl, inr, ℕ, ◌≤◌, ◌+◌, ◌-◌, ◌/◌, ◌^◌, Bool, true, false}
+use Rattle.std.proofs.Common.{List, []}
 use Rattle.std.proofs.Common.{Option, None, Some, length, get_or, set, min, refl, sym, ◌∙◌, ap, subst, arith}
 use Rattle.spool_journal.specs.declared.TheConstants.{PAGE}
 use Rattle.spool_blocks.specs.Blocks.{Held}
@@ -67,9 +68,13 @@ pub may : (h : Holding) (slot : ℕ) (declared : Option ℕ) (accepted : ℕ) (l
 may h slot declared accepted list end used there ends = search (arith, common_steps)
 
 -- what the draft began after is placed as it was
-pub placed_still : (n : ℕ) (o o' : SpoolDraft) → committed_len_of o' ≡ committed_len_of o → tail_of o' ≡ tail_of o
-    → IsPlaced n o → IsPlaced n o'
-placed_still n o o' len tail is = search (arith, common_steps)
+pub placed_still : (n : ℕ) (o o' : SpoolDraft) → committed_len_of o' ≡ committed_len_of o
+    → (tail_of o' ≡ tail_of o) ⊎ (tail_of o' ≡ []) → IsPlaced n o → IsPlaced n o'
+placed_still n o o' len (inl same) is = search (arith, common_steps)
+placed_still n o o' len (inr none) is = record {
+  below = λ i lt. absurd (omega (arith, lt, ap length none));
+  few = omega (arith, len, is.few);
+}
 
 module _ {D : Type 0} {sure : Bool} {disk : Ghosts D} {d d' : D} {h h' : Holding} (only : OnlyReserves h h')
     {drafts : List (Option SpoolDraft)} {number : ℕ} {o : SpoolDraft} (o' : SpoolDraft) {w : World} {p : Patch}

@@ -10,7 +10,7 @@ use Rattle.spool_journal.specs.Image.{journal_pages, text_page}
 use Rattle.spool_drafts.specs.Drafts.{IsPlaced, list_of, tail_of}
 use Rattle.spool_drafts.specs.Effect.{Effect, OnlyWrites}
 use Rattle.spool_drafts.specs.declared.draft.SpoolDraft.{SpoolDraft}
-use Rattle.spool_drafts.proofs.Stays.{bytes_same}
+use Rattle.spool_drafts.proofs.Stays.{has_same}
 use Rattle.spool_pages.specs.View.{SlotRecord}
 use Rattle.spool_texts.specs.Drafts.{GivesBack, IsReserved}
 use Rattle.upload_rules.specs.Answers.{Answers, IsLate}
@@ -159,8 +159,8 @@ module _ {D : Type 0} {sure : Bool} {disk : Ghosts D} {d d' : D} {h h' : Holding
         record {
           holds = mid.holds;
           below = mid.below;
-          carries = λ known still kept. bytes_same (disk.current d') (disk.current d'') (text_page h.layout) a.growth
-              a.growth.on (same known) ∙ mid.carries known (other_number still).1 kept;
+          carries = λ known still. has_same (disk.current d') (disk.current d'') (text_page h.layout) _ a.progress
+              (same known) (mid.carries known (other_number still).1);
           tail = λ still.
               let away = other_number still in
               owned_still (Some (longer_record used longer)) is_longer.slots (others_longer is_longer reserved.no_owner)
@@ -213,8 +213,8 @@ module _ {D : Type 0} {sure : Bool} {disk : Ghosts D} {d d' d'' : D} {h h' : Hol
       record {
         holds = s.holds;
         below = s.below;
-        carries = λ known still kept. bytes_same (disk.current d) (disk.current d'') (text_page h.layout) a.growth
-            a.growth.on (current_same known) ∙ s.carries known (before still) kept;
+        carries = λ known still. has_same (disk.current d) (disk.current d'') (text_page h.layout) _ a.progress
+            (current_same known) (s.carries known (before still));
         tail = λ still. owned_declared h h' used longer r.number (tail_of a) there is_longer (s.tail (before still));
       }) (stands.stands.each e)
 

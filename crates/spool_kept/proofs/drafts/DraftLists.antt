@@ -8,7 +8,7 @@ use Rattle.spool_blocks.specs.Blocks.{Held}
 use Rattle.spool_texts.specs.Drafts.{IsReserved, Takes, GivesBack}
 use Rattle.spool_texts.specs.Written.{NoneOf}
 use Rattle.spool_room.specs.Holdings.{IsInSome}
-use Rattle.spool_drafts.specs.Growth.{IsIn}
+use Rattle.spool_drafts.specs.Effect.{IsIn}
 use Rattle.spool_catalog.proofs.slots.Members.{IsOut, cases_in as place_or_out}
 
 -- MEMBERS

@@ -1,8 +1,10 @@
 -- A draft that went on: its blocks and those of the others, the rule of room, and the disk.
 use Rattle.std.proofs.lemmas.Grind.{common_steps}
-use Rattle.std.proofs.Common.{Result, Ok, Err, OnOk, IsErrOf, ◌≡◌, ◌≢◌, inl, inr, ℕ, ◌==◌, if◌then◌else◌, Bool, true}
-use Rattle.std.proofs.Common.{false, List, Option, None, Some, length, get_or, set, refl, sym, ◌∙◌, ap, subst, arith}
-use Rattle.std.proofs.lemmas.Bool.{cases_eq, cases_Bool, both_ways}
+use Rattle.std.proofs.Common.{Result, Ok, Err, OnOk, IsErrOf, ◌≡◌, ◌≢◌, ◌⊎◌, inl, inr, ℕ, ◌==◌, if◌then◌else◌, Bool}
+use Rattle.std.proofs.Common.{true}
+use Rattle.std.proofs.Common.{false, List, [], Option, None, Some, length, get_or, set, refl, sym, ◌∙◌, ap, subst}
+use Rattle.std.proofs.Common.{arith}
+use Rattle.std.proofs.lemmas.Bool.{cases_eq, cases_Bool}
 use Rattle.std.proofs.lemmas.List.{set-set}
 use Rattle.enc_model.specs.Indexes.{IndexSet}
 use Rattle.spool_blocks.specs.Blocks.{Row, Held}
@@ -16,7 +18,7 @@ use Rattle.spool_room.proofs.Rule.{rule_holds}
 use Rattle.spool_drafts.specs.Drafts.{Holds, Carries, IsLonger, IsPlaced, with_piece, list_of, tail_of}
 use Rattle.spool_drafts.specs.Effect.{Regrasps, RunsShort}
 use Rattle.spool_drafts.specs.declared.draft.SpoolDraft.{SpoolDraft}
-use Rattle.spool_drafts.proofs.Stays.{bytes_kept}
+use Rattle.spool_drafts.proofs.Stays.{has_kept}
 use Rattle.spool_pages.specs.Rests.{Unowned}
 use Rattle.spool_pages.specs.View.{SlotRecord, View}
 use Rattle.upload_rules.specs.Calls.{appended_at, longer}
@@ -24,7 +26,7 @@ use Rattle.upload_rules.specs.Drafts.{DraftOf, draft_at}
 use Rattle.upload_rules.specs.Grown.{IsGrown}
 use Rattle.upload_rules.specs.Room.{wants, is_short}
 use Rattle.upload_rules.specs.Store.{Store, find, replaced}
-use Rattle.upload_rules.specs.World.{Patch, World}
+use Rattle.upload_rules.specs.World.{Patch, World, patch_text}
 use Rattle.upload_rules.proofs.Finds.{find_replaced_same, find_replaced_other}
 use Rattle.upload_rules.proofs.Patches.{apart_replaced}
 use Rattle.spool_pages.proofs.Resting.{rests_writes}
@@ -157,6 +159,17 @@ module _ {sure : Type 0} {w : World} {current : ℕ → ℕ} {first : ℕ} {reco
 
 -- OTHER DRAFTS
 
+-- what owned a draft's tail owns what it is now, if there is one
+pub owned_or_none : {slots : List (Option SlotRecord)} {rows : List Row} {number : ℕ} {tail tail' : List ℕ}
+    → (tail' ≡ tail) ⊎ (tail' ≡ []) → IsOwnedBy slots rows number tail → IsOwnedBy slots rows number tail'
+owned_or_none {slots = slots} {rows = rows} {number = number} (inl same) by =
+    subst (IsOwnedBy slots rows number) (sym same) by
+owned_or_none (inr none) by = record {
+  slot = by.slot;
+  used = by.used;
+  owned = λ i lt. absurd (omega (arith, lt, ap length none));
+}
+
 owned_apart : (slots : List (Option SlotRecord)) (rows : List Row) (number : ℕ) (tail own : List ℕ)
     → IsOwnedBy slots rows number tail → Unowned rows own → NoneOf tail own
 owned_apart slots rows number tail own is unowned i k lt lt' e =
@@ -208,9 +221,9 @@ module _ {sure : Type 0} {x : IndexSet} {current : ℕ → ℕ} (current' : ℕ 
   other_stands e other r a there is = rw rows (record {
     holds = is.holds;
     below = is.below;
-    carries = λ known open_still kept. bytes_kept current current' first on.own a.growth a.growth.on (same known) (rw
+    carries = λ known open_still. has_kept current current' first _ on.own a.progress (same known) (rw
         (ap list_in there) at (none_sym on.own (lists_at old e) (own_apart fit on on.grasp.takes e other))) (owned_apart
-        records h.rows r.number (tail_of a) on.own (is.tail open_still) unowned) ∙ is.carries known open_still kept;
+        records h.rows r.number (tail_of a) on.own (is.tail open_still) unowned) (is.carries known open_still);
     tail = is.tail;
   })
 
@@ -274,11 +287,10 @@ module _ {sure : Type 0} {w : World} {current : ℕ → ℕ} {first n : ℕ} {re
     longer_holds (inl holds) = rw (← (kept_short holds)) at holds
     longer_holds (inr short) = rw (← (lacks more false short.1)) at short.0
 
-    pub longer_carries : (current' : ℕ → ℕ) → IsLonger w.store.indexes more o o' h h'
-        → Carries w.store.indexes current' first more o'
+    pub longer_carries : (current' : ℕ → ℕ) → Carries w.store.indexes current' first more o'
         → Carries w.store.indexes current' first (longer w d p piece) o'
-    longer_carries current' (inl holds) carries = rw (← (kept_short holds)) at carries
-    longer_carries current' (inr short) carries = λ kept. absurd (both_ways o'.growth.short kept.roomy short.0.short)
+    unfolding patch_text
+    longer_carries current' carries = carries
 
 -- THE DISK AND THE ANSWER
 

@@ -91,7 +91,8 @@ module _ {h h' : Holding} {slot number : ℕ} (used : IsUsedBy h.slots slot numb
   still_of : (o o' : SpoolDraft) → ForgetsTail number o o' → IsOfUpload h.slots o → IsOfUpload h'.slots o'
   still_of o o' forgot is = record {
     grown = λ s r e at. omega (arith, is.grown s r (was s r e) (at ∙ forgot.same_number), forgot.same_offset);
-    after = search (arith, common_steps);
+    after = λ s r e at same still. forgot.after r.text_len r.state
+        (is.after s r (was s r e) (at ∙ forgot.same_number) (same ∙ forgot.same_offset) still);
   }
     where
       was : (s : ℕ) (r : SlotRecord) → get_or h'.slots s None ≡ Some r → get_or h.slots s None ≡ Some r

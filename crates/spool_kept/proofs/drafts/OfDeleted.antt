@@ -1,6 +1,6 @@
 -- The drafts, where an upload was taken away.
 use Rattle.std.proofs.lemmas.Grind.{common_steps}
-use Rattle.std.proofs.Common.{◌≡◌, ◌≢◌, ℕ, ◌*◌, ◌≤◌, List, Option, None, Some, refl, ◌∙◌, subst, arith, Bool, true}
+use Rattle.std.proofs.Common.{◌≡◌, ◌≢◌, ℕ, ◌*◌, ◌≤◌, List, Option, None, Some, refl, subst, arith, Bool, true}
 use Rattle.std.proofs.lemmas.Bool.{cases_eq}
 use Rattle.spool_journal.specs.declared.TheConstants.{PAGE}
 use Rattle.spool_blocks.specs.Blocks.{Held}
@@ -19,7 +19,7 @@ use Rattle.spool_catalog.specs.Rows.{FreesRows}
 use Rattle.spool_catalog.specs.TakenOut.{IsTakenOut}
 use Rattle.spool_catalog.proofs.slots.ChangedSlots.{clash}
 use Rattle.spool_kept.proofs.drafts.DraftLonger.{held_both}
-use Rattle.spool_drafts.proofs.Stays.{bytes_same}
+use Rattle.spool_drafts.proofs.Stays.{has_same}
 use Rattle.spool_catalog.proofs.slots.Freed.{others_stay}
 use Rattle.spool_kept.proofs.slots.SlotChange.{owned_still}
 
@@ -60,8 +60,8 @@ module _ {h h' : Holding} {number slot : ℕ} (used : IsUsedBy h.slots slot numb
     stands_still p o s = record {
       holds = s.holds;
       below = s.below;
-      carries = λ known there kept. bytes_same current current' first o.growth o.growth.on (same known)
-          ∙ s.carries known (still_was w number p there).1 kept;
+      carries = λ known there. has_same current current' first _ o.progress (same known)
+          (s.carries known (still_was w number p there).1);
       tail = λ there.
           let was = still_was w number p there in
           owned_still None out.slots (others_stay slot h.blocks.rows h'.blocks.rows out.rows) used was.0 (s.tail was.1);

@@ -14,7 +14,7 @@ use Rattle.spool_kept.proofs.SameView.{shows_still}
 use Rattle.spool_catalog.specs.Holding.{Holding}
 use Rattle.spool_kept.proofs.drafts.DraftLonger.{answered, fit_longer, is_told, was_told, longer_carries}
 use Rattle.spool_kept.proofs.drafts.DraftLonger.{longer_holds, longer_world}
-use Rattle.spool_kept.proofs.drafts.DraftLonger.{moved, ok_more, stand_longer, went_back}
+use Rattle.spool_kept.proofs.drafts.DraftLonger.{moved, ok_more, owned_or_none, stand_longer, went_back}
 use Rattle.spool_kept.proofs.drafts.OfUploads.{each_changed, of_longer}
 use Rattle.spool_kept.proofs.drafting.append.Goals as goal
 use Rattle.spool_texts.proofs.Steps.{counts_same}
@@ -100,7 +100,7 @@ returns-clause-answer g c sure w p s there fits =
     let longer_stands = stand_longer current' s'.stands fit on rows
     (λ known. (effect.writes (honest known)).writes.outside) in
     let tail : IsStillOpen w.store p → IsOwnedBy records h'.rows p.number (tail_of new) =
-    λ still. rw (← c.append-answer.ensures.same.4) at (rw (← rows) at (is.tail still)) in
+    λ still. owned_or_none c.append-answer.ensures.same.4 (rw (← rows) at (is.tail still)) in
     let same_patches = replaced_same number p w.patches there in
     rw c.answer_of.ensures (answered _ _ c.append-answer.result
     (ok_more c.append-answer.result (c.append-answer.ensures.answer p held fits)
@@ -114,7 +114,7 @@ returns-clause-answer g c sure w p s there fits =
           is_longer;
       below = is.below;
       carries = λ known still. longer_carries s'.stands fit on rows shows s'.stored.keeps.rows
-          c.rows-rows.ensures.reserved fit' p piece current' is_longer (rw ix at (carries (known, still)));
+          c.rows-rows.ensures.reserved fit' p piece current' (rw ix at (carries (known, still)));
       tail = tail;
     })))
     (λ e. record {

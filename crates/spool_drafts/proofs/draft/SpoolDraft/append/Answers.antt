@@ -2,15 +2,15 @@ use Rattle.std.proofs.Common.{◌≤◌, ◌+◌, ◌++◌, ℕ, List, false, le
 use Rattle.std.proofs.Common.{ap, subst, Err}
 use Rattle.std.proofs.lemmas.Bool.{cases_eq}
 use Rattle.spool_journal.specs.Image.{text_page}
-use Rattle.spool_texts.specs.Drafts.{Draft, Takes, bytes_of, len_of}
-use Rattle.spool_drafts.specs.Drafts.{Carries, Holds, IsAfter, IsLonger, IsPlaced, committed_len_of, declare_of, list_of}
+use Rattle.spool_texts.specs.Drafts.{Draft, bytes_of, len_of}
+use Rattle.spool_drafts.specs.Drafts.{Carries, Holds, IsAfter, IsLonger, IsPlaced, committed_len_of, declare_of}
+use Rattle.spool_drafts.specs.Drafts.{list_of}
 use Rattle.spool_drafts.specs.Drafts.{number_of, offset_of, open_text, tail_of, with_piece}
-use Rattle.spool_drafts.specs.Progress.{GoesOn, HasBytes, IsGrowing, IsStored, Reads, StandsAt, blocks_in}
+use Rattle.spool_drafts.specs.Progress.{GoesOn, HasBytes, IsGrowing}
 use Rattle.spool_drafts.specs.declared.draft.SpoolDraft.{SpoolDraft}
 use Rattle.spool_drafts.specs.declared.progress.Progress.TheVariants.{Text}
-use Rattle.spool_drafts.proofs.Appends.{incomplete, longer_fault, longer_full, longer_short, longer_text}
-use Rattle.spool_drafts.proofs.Appends.{open_longer, short_of}
-use Rattle.spool_drafts.proofs.Effects.{effect_none, grasp_gives, only_none}
+use Rattle.spool_drafts.proofs.Appends.{longer_fault, longer_full, longer_short, longer_text, open_longer}
+use Rattle.spool_drafts.proofs.Effects.{effect_none, grasp_gives, only_none, takes_in}
 use Rattle.spool_texts.proofs.Reserves.{takes_none}
 use Rattle.spool_drafts.proofs.draft.SpoolDraft.append.Goals as goal
 
@@ -30,14 +30,10 @@ returns-in_default-next-clause-effect g c = record {
 
 pub returns-in_default-next-clause-answer : goal.returns-in_default-next-clause-answer
 returns-in_default-next-clause-answer g c p held fits =
-    let x = c.args.indexes.now in
-    let d = c.args.self.now in
-    let piece = c.args.piece.now in
-    let still = incomplete x p d held piece fits c.is_empty.result c.is_empty.ensures c.if-is_empty.false in
-    let stands = subst (StandsAt x p.began (p.body ++ piece)) c.in_default-next.is
-    (c.in-Ok.ensures.reads p.began p.body still held.stands).stands in
-    subst (λ (e : SpoolDraft). IsLonger x (with_piece p piece) d e c.args.blocks.now c.leave.new.blocks)
-    (sym c.leave.ensures.next) (inl (longer_fault x p d held piece fits still stands))
+    subst (λ (e : SpoolDraft). IsLonger c.args.indexes.now (with_piece p c.args.piece.now) c.args.self.now e
+    c.args.blocks.now c.leave.new.blocks)
+    (sym c.leave.ensures.next) (inl (longer_fault held fits c.is_empty.ensures c.if-is_empty.false
+    (c.in-Ok.ensures.reads p.began p.body) c.in_default-next.is))
 
 pub returns-in_default-progress : goal.returns-in_default-progress
 returns-in_default-progress g c =
@@ -52,7 +48,8 @@ returns-in_default-progress g c =
       honest = (λ h. h, λ h. h);
       counts = search rules;
       nothing = search rules;
-      same = (ap number_of next, ap offset_of next, ap declare_of next, ap committed_len_of next, inr (ap tail_of next));
+      same =
+          (ap number_of next, ap offset_of next, ap declare_of next, ap committed_len_of next, inr (ap tail_of next));
       after = λ len state is. subst (IsAfter len state) (sym next) record {
         committed = is.committed;
         goes_on = subst (GoesOn state) c.in-Some.is (c.in-Ok.ensures.goes_on state is.goes_on);
@@ -70,14 +67,10 @@ returns-in_default-progress g c =
         writes = λ honest. only_none _ _;
       };
       answer = λ p held fits.
-          let still = incomplete x p d held piece fits c.is_empty.result c.is_empty.ensures c.if-is_empty.false in
-          let reads = subst (λ n. Reads x p.began p.body piece n c.fed.new.out.items) c.in-Some.is
-          (c.in-Ok.ensures.reads p.began p.body still held.stands) in
           subst (λ (e : SpoolDraft). IsLonger x (with_piece p piece) d e c.args.blocks.now
           c.leave-in_default-progress.new.blocks) (sym next)
-          (inl (longer_short x p d held piece fits c.in-Some.next reads.stands
-          (short_of p.short _ _ d.progress c.in_default-progress.not-Text
-          (c.in-Ok.ensures.growing (subst IsGrowing (sym c.in-Some.is) tt)) held.stored)));
+          (inl (longer_short held fits c.is_empty.ensures c.if-is_empty.false (c.in-Ok.ensures.reads p.began p.body)
+          c.in-Some.next c.in-Some.is c.in_default-progress.not-Text c.in-Ok.ensures.growing));
       content = λ p honest held fits carries. subst (Carries x _ _ (with_piece p piece)) (sym next) tt;
       memory = λ e. cc;
       holds_on = λ p held e. cc;
@@ -93,40 +86,27 @@ returns-in-Ok-put-clause-after g c len state is = record {
 
 pub returns-in-Ok-put-clause-answer : goal.returns-in-Ok-put-clause-answer
 returns-in-Ok-put-clause-answer g c p held fits =
-    let x = c.args.indexes.now in
-    let d = c.args.self.now in
-    let piece = c.args.piece.now in
-    let added = c.fed.new.out.items in
-    let still = incomplete x p d held piece fits c.is_empty.result c.is_empty.ensures c.if-is_empty.false in
-    let reads = subst (λ n. Reads x p.began p.body piece n added) c.in-Some.is
-    (c.in-Ok.ensures.reads p.began p.body still held.stands) in
-    let stored = subst (IsStored p.short d.committed_len (length (open_text x p false))) c.in-Text.is held.stored in
     let value = c.deref.ensures.value in
-    inl (subst (λ (came : ℕ). Holds x (with_piece p piece) (record d {
+    inl (subst (λ (came : ℕ). Holds c.args.indexes.now (with_piece p c.args.piece.now) (record c.args.self.now {
       progress = Text c.in-Some.next c.put.new.self;
       came = came;
     })) (sym c.saturating_add-self.ensures)
-    (longer_text x p d held piece fits c.in-Some.next added still reads c.in-Text.text stored c.put.new.self
+    (longer_text held fits c.is_empty.ensures c.if-is_empty.false (c.in-Ok.ensures.reads p.began p.body)
+    c.in-Some.next c.in-Some.is c.in-Text.is c.put.new.self
     (λ none. ap (λ (t : Draft). t.blocks) (c.in-Ok-put.ensures.nothing (ap length value ∙ none)).0)
     (λ some. c.in-Ok-put.ensures.listed (omega (arith, some, ap length value)))
     (c.in-Ok-put.ensures.len ∙ ap (λ (xs : List ℕ). len_of c.in-Text.text + length xs) value)))
 
 pub returns-in-Ok-put-clause-content : goal.returns-in-Ok-put-clause-content
 returns-in-Ok-put-clause-content g c p honest held fits carries =
-    let x = c.args.indexes.now in
-    let d = c.args.self.now in
-    let piece = c.args.piece.now in
     let current = g.D.Disk.current c.args.disk.now in
     let first = text_page c.args.layout.now in
-    let added = c.fed.new.out.items in
-    let still = incomplete x p d held piece fits c.is_empty.result c.is_empty.ensures c.if-is_empty.false in
-    let reads = subst (λ n. Reads x p.began p.body piece n added) c.in-Some.is
-    (c.in-Ok.ensures.reads p.began p.body still held.stands) in
-    let before = subst (HasBytes current first (open_text x p false)) c.in-Text.is carries in
+    let before = subst (HasBytes current first (open_text c.args.indexes.now p false)) c.in-Text.is carries in
     c.in-Ok-put.ensures.content honest
     ∙ ap (λ (xs : List ℕ). bytes_of current first c.in-Text.text ++ xs) c.deref.ensures.value
-    ∙ ap (λ (xs : List ℕ). xs ++ added) before
-    ∙ sym (open_longer x p d held piece fits c.in-Some.next added still reads)
+    ∙ ap (λ (xs : List ℕ). xs ++ c.fed.new.out.items) before
+    ∙ sym (open_longer held fits c.is_empty.ensures c.if-is_empty.false (c.in-Ok.ensures.reads p.began p.body)
+    c.in-Some.next c.in-Some.is)
 
 pub returns-clause-after : goal.returns-clause-after
 returns-clause-after g c len state is =
@@ -138,29 +118,21 @@ returns-clause-after g c len state is =
 
 pub returns-clause-answer : goal.returns-clause-answer
 returns-clause-answer g c p held fits =
-    let x = c.args.indexes.now in
-    let d = c.args.self.now in
-    let piece = c.args.piece.now in
-    let added = c.fed.new.out.items in
-    let still = incomplete x p d held piece fits c.is_empty.result c.is_empty.ensures c.if-is_empty.false in
-    let reads = subst (λ n. Reads x p.began p.body piece n added) c.in-Some.is
-    (c.in-Ok.ensures.reads p.began p.body still held.stands) in
-    let stored = subst (IsStored p.short d.committed_len (length (open_text x p false))) c.in-Text.is held.stored in
     let size = ap length c.deref.ensures.value in
-    let some : 1 ≤ length added = elim (cases_eq (length added) 0) [
+    let some : 1 ≤ length c.fed.new.out.items = elim (cases_eq (length c.fed.new.out.items) 0) [
       | inl none ↦ let ok = (c.put.ensures.nothing (size ∙ none)).3 in
           let wrong = rw c.in-Err-Full.is at ok in cc
       | inr there ↦ omega (arith, there)
     ] in
     let is_full = ap (λ e. Err e) c.in-Err-Full.field-0-is in
-    subst (λ (e : SpoolDraft). IsLonger x (with_piece p piece) d e c.args.blocks.now c.leave-in-Err-Full.new.blocks)
-    (sym c.leave-in-Err-Full.ensures.next)
-    (longer_full x p d held piece fits c.in-Some.next added still reads c.in-Text.text stored c.args.blocks.now
+    subst (λ (e : SpoolDraft). IsLonger c.args.indexes.now (with_piece p c.args.piece.now) c.args.self.now e
+    c.args.blocks.now c.leave-in-Err-Full.new.blocks) (sym c.leave-in-Err-Full.ensures.next)
+    (longer_full held fits c.is_empty.ensures c.if-is_empty.false (c.in-Ok.ensures.reads p.began p.body)
+    c.in-Some.next c.in-Some.is c.in-Text.is c.args.blocks.now
     c.leave-in-Err-Full.new.blocks some (λ wanted e. record {
       held = c.put.new.blocks;
       own = c.put.new.self.blocks;
-      takes = subst (λ (list : List ℕ). Takes c.args.blocks.now c.put.new.blocks list c.put.new.self.blocks)
-          (sym (ap blocks_in c.in-Text.is)) c.put.ensures.takes;
+      takes = takes_in c.in-Text.is c.put.ensures.takes;
       reserved = c.put.ensures.reserved;
       full = c.in-Err-Full.ensures.full is_full;
       scarce = omega (arith, c.in-Err-Full.ensures.scarce is_full, size, e);

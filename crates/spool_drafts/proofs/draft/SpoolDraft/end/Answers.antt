@@ -3,11 +3,11 @@ use Rattle.std.proofs.Common.{ap, subst, ◌∙◌, false}
 use Rattle.std.proofs.lemmas.Result.{err_from_is_err_and}
 use Rattle.spool_journal.specs.declared.TheConstants.{PAGE}
 use Rattle.spool_journal.specs.Image.{text_page}
-use Rattle.spool_texts.specs.Drafts.{Takes, bytes_of, count_with, len_of}
+use Rattle.spool_texts.specs.Drafts.{bytes_of, count_with, len_of}
 use Rattle.spool_drafts.specs.Drafts.{EndsAs, open_text}
-use Rattle.spool_drafts.specs.Progress.{HasBytes, IsStored, blocks_in}
+use Rattle.spool_drafts.specs.Progress.{HasBytes, blocks_in}
 use Rattle.spool_drafts.proofs.Appends.{short_of}
-use Rattle.spool_drafts.proofs.Effects.{effect_none, effect_read, grasp_gives, grasp_takes}
+use Rattle.spool_drafts.proofs.Effects.{effect_none, effect_read, grasp_gives, grasp_takes, takes_in}
 use Rattle.spool_drafts.proofs.Ends.{full, lacks, open_ended, refused, whole}
 use Rattle.spool_drafts.proofs.draft.SpoolDraft.end.Goals as goal
 
@@ -20,7 +20,7 @@ returns-in_err-state-clause-answer g c p held still =
     let d = c.args.self.now in
     let e = err_from_is_err_and c.from_residual.result c.from_residual.ensures.1 in
     subst (EndsAs x p c.args.completes d d c.args.blocks.now c.args.blocks.now) (sym (e.1 ∙ ap Err e.2))
-    (refused x p d held still c.args.completes c.args.blocks.now c.args.blocks.now d c.in_err-state.field-0.0
+    (refused held still c.args.completes c.args.blocks.now c.args.blocks.now d c.in_err-state.field-0.0
     (c.in_err-state.ensures.finished p.began p.body still held.stands))
 
 pub returns-in_default : goal.returns-in_default
@@ -43,18 +43,18 @@ returns-in_default g c =
       lasts = search rules;
       answer = λ p held still.
           let finished = c.in_ok-state.ensures.finished p.began p.body still held.stands in
-          full x p d held still c.args.completes c.in_ok-state.state c.in_ok-state.added.items finished c.args.blocks.now
+          full held still c.args.completes finished c.args.blocks.now
           c.args.blocks.now d
-          (inl (short_of p.short _ _ d.progress c.in_default.not-Text (c.in_ok-state.ensures.growing refl) held.stored));
+          (inl (short_of p.short _ _ d.progress c.in_default.not-Text (c.in_ok-state.ensures.growing refl)
+          held.stored));
       fits = tt;
       content = λ p honest held still carries. tt;
     }
 
 pub returns-in-Ok-clause-effect : goal.returns-in-Ok-clause-effect
 returns-in-Ok-clause-effect g c =
-    let takes = subst (λ (list : List ℕ). Takes c.args.blocks.now c.end.new.blocks list c.end.new.self.blocks)
-    (sym (ap blocks_in c.in-Text.is)) c.end.ensures.takes in
-    effect_read (grasp_takes takes c.end.ensures.reserved) c.end.ensures.keeps c.end.ensures.lasts
+    effect_read (grasp_takes (takes_in c.in-Text.is c.end.ensures.takes) c.end.ensures.reserved)
+    c.end.ensures.keeps c.end.ensures.lasts
 
 pub returns-in-Ok-clause-answer : goal.returns-in-Ok-clause-answer
 returns-in-Ok-clause-answer g c p held still =
@@ -62,8 +62,7 @@ returns-in-Ok-clause-answer g c p held still =
     let d = c.args.self.now in
     let size = ap length c.deref.ensures.value in
     let finished = c.in_ok-state.ensures.finished p.began p.body still held.stands in
-    let stored = subst (IsStored p.short d.committed_len (length (open_text x p false))) c.in-Text.is held.stored in
-    whole x p d held still c.args.completes c.in_ok-state.state c.in_ok-state.added.items finished c.in-Text.text stored
+    whole held still c.args.completes finished c.in-Text.is
     _ _ c.end.new.self.blocks c.in-Ok.last.items refl refl (λ none. (c.in-Ok.ensures.nothing (size ∙ none)).0)
     (λ some. c.in-Ok.ensures.listed (omega (arith, some, size))
     ∙ ap (λ (k : ℕ). (len_of c.in-Text.text + k + 4095) / PAGE) size)
@@ -84,21 +83,18 @@ returns-in-Ok-clause-content g c p honest held still carries there =
     c.in-Ok.ensures.content honest there
     ∙ ap (λ (xs : List ℕ). bytes_of current first c.in-Text.text ++ xs) c.deref.ensures.value
     ∙ ap (λ (xs : List ℕ). xs ++ added) (subst (HasBytes current first (open_text x p false)) c.in-Text.is carries)
-    ∙ sym (open_ended x p d held still c.args.completes c.in_ok-state.state added finished)
+    ∙ sym (open_ended held still c.args.completes finished)
 
 pub returns-in-Err-Stop-clause-effect : goal.returns-in-Err-Stop-clause-effect
 returns-in-Err-Stop-clause-effect g c =
-    let takes = subst (λ (list : List ℕ). Takes c.args.blocks.now c.end.new.blocks list c.end.new.self.blocks)
-    (sym (ap blocks_in c.in-Text.is)) c.end.ensures.takes in
-    effect_read (grasp_takes takes c.end.ensures.reserved) c.end.ensures.keeps c.end.ensures.lasts
+    effect_read (grasp_takes (takes_in c.in-Text.is c.end.ensures.takes) c.end.ensures.reserved)
+    c.end.ensures.keeps c.end.ensures.lasts
 
 pub returns-clause-effect : goal.returns-clause-effect
 returns-clause-effect g c =
-    let takes = subst (λ (list : List ℕ). Takes c.args.blocks.now c.end.new.blocks list c.end.new.self.blocks)
-    (sym (ap blocks_in c.in-Text.is)) c.end.ensures.takes in
     effect_read
-    (grasp_gives _ takes c.end.ensures.reserved c.leave.ensures.gives (ap blocks_in c.leave.ensures.next))
-    c.end.ensures.keeps c.end.ensures.lasts
+    (grasp_gives _ (takes_in c.in-Text.is c.end.ensures.takes) c.end.ensures.reserved c.leave.ensures.gives
+    (ap blocks_in c.leave.ensures.next)) c.end.ensures.keeps c.end.ensures.lasts
 
 pub returns-clause-answer : goal.returns-clause-answer
 returns-clause-answer g c p held still =
@@ -108,15 +104,13 @@ returns-clause-answer g c p held still =
     let size = ap length c.deref.ensures.value in
     let is_full = ap (λ e. Err e) c.in-Err-Full.field-0-is in
     let finished = c.in_ok-state.ensures.finished p.began p.body still held.stands in
-    let stored = subst (IsStored p.short d.committed_len (length (open_text x p false))) c.in-Text.is held.stored in
     let some : 1 ≤ length added = omega (arith, c.in-Err-Full.ensures.some is_full, size) in
-    let wanted = lacks x p d held still c.args.completes c.in_ok-state.state added finished c.in-Text.text stored some in
-    full x p d held still c.args.completes c.in_ok-state.state added finished c.args.blocks.now c.leave.new.blocks d
+    let wanted = lacks held still c.args.completes finished c.in-Text.is some in
+    full held still c.args.completes finished c.args.blocks.now c.leave.new.blocks d
     (inr record {
       held = c.end.new.blocks;
       own = c.end.new.self.blocks;
-      takes = subst (λ (list : List ℕ). Takes c.args.blocks.now c.end.new.blocks list c.end.new.self.blocks)
-          (sym (ap blocks_in c.in-Text.is)) c.end.ensures.takes;
+      takes = takes_in c.in-Text.is c.end.ensures.takes;
       reserved = c.end.ensures.reserved;
       full = c.in-Err-Full.ensures.full is_full;
       scarce = omega (arith, c.in-Err-Full.ensures.scarce is_full, size, wanted);

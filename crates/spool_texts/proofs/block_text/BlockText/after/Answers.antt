@@ -1,4 +1,5 @@
-use Rattle.std.proofs.Common.{◌≡◌, ◌*◌, ◌/◌, ◌%◌, ◌++◌, ℕ, List, [], Option, None, arith, rules, ap, refl, subst, sym, ◌∙◌}
+use Rattle.std.proofs.Common.{◌≡◌, ◌*◌, ◌/◌, ◌%◌, ◌++◌, ℕ, List, [], Option, None, arith, rules, ap, refl, subst, sym}
+use Rattle.std.proofs.Common.{◌∙◌}
 use Rattle.std.proofs.Common.{append-nil, length}
 use Rattle.spool_journal.specs.declared.TheConstants.{PAGE}
 use Rattle.spool_texts.specs.TextOn.{text_on}

@@ -41,7 +41,8 @@ returns-clause-len g c =
     let inv = c.self.invariant.1 u c.in-Some.is in
     let size : length c.read_tail.new.page ≡ PAGE = search rules in
     let page_is = with_items_is c.in_ok-page.page c.read_tail.new.page (search rules) in
-    begun_len u (the_view c.self.inside) record { unread = None; blocks = blocks; unfinished = take u.len page; room = 0 } c.in-Some.is inv.1
+    begun_len u (the_view c.self.inside)
+    record { unread = None; blocks = blocks; unfinished = take u.len page; room = 0 } c.in-Some.is inv.1
     (omega (arith, length-take c.self.inside.filled c.self.inside.page.items, inv.2)) refl refl
     (omega (arith, length-take u.len page, ap length page_is, size, inv.0))
     ∙ ap len_of c.self.view_is

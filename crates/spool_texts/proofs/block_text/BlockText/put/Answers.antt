@@ -6,7 +6,8 @@ use Rattle.spool_journal.specs.Image.{text_page}
 use Rattle.spool_texts.specs.Drafts.{Draft, bytes_of, len_of, IsReserved}
 use Rattle.spool_texts.proofs.Asides.{image_aside}
 use Rattle.spool_texts.proofs.Contents.{begun_content, begun_held, content_more}
-use Rattle.spool_texts.proofs.Prefixes.{writes_keeps, writes_none, writes_on, but_image, but_more, but_on, idle_in, image_in}
+use Rattle.spool_texts.proofs.Prefixes.{writes_keeps, writes_none, writes_on, but_image, but_more, but_on, idle_in}
+use Rattle.spool_texts.proofs.Prefixes.{image_in}
 use Rattle.spool_texts.proofs.Reserves.{takes_none, takes_on}
 use Rattle.spool_texts.proofs.block_text.BlockText.put.Goals as goal
 
