@@ -1,4 +1,4 @@
-use Rattle.std.proofs.Common.{[], ◌∷◌, Some, inl, inr, refl, subst, sym}
+use Rattle.std.proofs.Common.{[], ◌∷◌, Some, inl, inr, refl, subst, sym, true}
 use Rattle.spool_image.specs.LeftOnly.{AllShow}
 use Rattle.spool_image.specs.Spool.{disk_of, size_of}
 use Rattle.spool_image.specs.contracts.spool.SpoolUploads.TheImpl.Laws.{durable-law}
