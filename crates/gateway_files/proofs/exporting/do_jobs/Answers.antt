@@ -1,6 +1,6 @@
-use Rattle.std.proofs.Common.{◌∙◌, ◌||◌, ap, map, subst, sym, take}
+use Rattle.std.proofs.Common.{◌∙◌, ◌||◌, ap, map, sym}
 use Rattle.std.proofs.lemmas.List.{take_all}
-use Rattle.gateway_files.specs.Exporting.{ExportsAs, some_differ}
+use Rattle.gateway_files.specs.Exporting.{some_differ}
 use Rattle.gateway_files.specs.Planning.{job_shown}
 use Rattle.gateway_files.proofs.Deletions.{unfailed}
 use Rattle.gateway_files.proofs.Exported.{as_either, as_more, as_some, differ_more, holds_both}

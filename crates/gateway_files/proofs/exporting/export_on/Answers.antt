@@ -1,9 +1,7 @@
-use Rattle.std.proofs.Common.{[], ◌∷◌, Some, inl, inr, refl, subst, sym}
-use Rattle.spool_image.specs.LeftOnly.{AllShow}
+use Rattle.std.proofs.Common.{[], ◌∷◌, Some, inl, inr, refl, true}
 use Rattle.spool_image.specs.Spool.{disk_of, size_of}
 use Rattle.spool_image.specs.contracts.spool.SpoolUploads.TheImpl.Laws.{durable-law}
 use Rattle.upload_rules.specs.World.{at_rest}
-use Rattle.gateway_files.specs.Leaving.{LastsOver}
 use Rattle.gateway_files.specs.Planning.{jobs_of}
 use Rattle.gateway_files.proofs.Exported.{exports, surely_all, surely_some}
 use Rattle.gateway_files.proofs.InOrder.{in_order}

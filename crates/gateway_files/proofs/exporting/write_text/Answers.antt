@@ -1,6 +1,5 @@
-use Rattle.std.proofs.Common.{Some, ap, inl, inr, subst, sym}
+use Rattle.std.proofs.Common.{Some}
 use Rattle.std.proofs.lemmas.Result.{err_from_is_err_and}
-use Rattle.gateway_files.specs.Folders.{new_file}
 use Rattle.gateway_files.proofs.Exported.{as_ended, as_new}
 use Rattle.gateway_files.proofs.Writing.{whole_text}
 use Rattle.gateway_files.proofs.exporting.write_text.Goals as goal
