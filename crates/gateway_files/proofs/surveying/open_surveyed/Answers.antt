@@ -67,6 +67,12 @@ returns-in-Ok-open-clause-same g c honest none fine =
     (c.in-Ok.ensures.same honest none (λ err. absurd (cc))) ⊥
     (c.in-Ok-open.ensures.same (c.in-Ok.ensures.honest.0 honest)) fine
 
+pub returns-in-Err-open-clause-unwritten : goal.returns-in-Err-open-clause-unwritten
+returns-in-Err-open-clause-unwritten g c honest none =
+    unwritten_on g.D.Disk _ _ _ _ _ (c.in-Ok.ensures.settled honest)
+    (c.in-Ok.ensures.same honest none (λ err. absurd (cc))) (c.in-Ok.ensures.unwritten honest none)
+    (c.in-Err-open.ensures.unwritten (c.in-Ok.ensures.honest.0 honest))
+
 pub returns-in-Err-open-clause-refused : goal.returns-in-Err-open-clause-refused
 returns-in-Err-open-clause-refused g c honest =
     refused_back _ _ _ _ _ _ c.in-Ok.ensures.size (c.in-Ok.ensures.on honest) (c.in-Ok.ensures.settled honest) _
