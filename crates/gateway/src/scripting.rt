@@ -15,6 +15,7 @@ use gateway_engine::{Counted, CountedRead, CountedWrite, ScriptFault, run};
 use gateway_files::{Failure, Fault, Noted, SpoolFiles, SystemFiles, open_in, refused_in};
 use spool_disk::{Disk, MemoryDisk};
 use spool_image::{Spool, format, pages_of};
+use spool_journal::PAGE;
 use std::alloc::Global;
 use std::io;
 
@@ -147,7 +148,7 @@ fn spool_in_memory(alloc: Global) -> Result<MemoryDisk, Fault> {
     let Some(pages) = pages_of(MEMORY_BLOCKS) else {
         return Err(Fault::Size);
     };
-    let mut disk = MemoryDisk::new(alloc, 4096 * pages as usize)?;
+    let mut disk = MemoryDisk::new(alloc, PAGE * pages as usize)?;
     format(&mut disk, MEMORY_BLOCKS, &indexes)?;
     Ok(disk)
 }

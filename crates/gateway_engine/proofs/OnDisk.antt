@@ -6,6 +6,7 @@ use Rattle.common.specs.declared.stop.Stop.TheVariants.{NoMemory, DiskFault}
 use Rattle.spool_disk.specs.Disk.{IsImage}
 use Rattle.spool_disk.specs.declared.disk.Disk.{Ghosts}
 use Rattle.spool_journal.specs.Image.{all_pages}
+use Rattle.spool_journal.specs.declared.TheConstants.{PAGE}
 use Rattle.spool_image.specs.LeftOnly.{AllShow, IsSpool, LeftOnly, ShowsOne, SpoolLeft}
 use Rattle.spool_catalog.specs.Loads.{LoadsAs}
 use Rattle.spool_catalog.specs.Shows.{ImageShows}
@@ -55,8 +56,8 @@ all_show disk d n m now left = record {
 
 -- a spool's disk has room for its view
 pub view_room : {D : Type 0} (disk : Ghosts D) (d : D) (n : ℕ) (m : Store) (is : IsSpool disk d n m)
-    → 4096 * all_pages is.shows.view.blocks ≤ disk.size d
-view_room disk d n m is = subst (λ (k : ℕ). 4096 * all_pages k ≤ disk.size d) (sym is.shows.blocks) is.room
+    → PAGE * all_pages is.shows.view.blocks ≤ disk.size d
+view_room disk d n m is = subst (λ (k : ℕ). PAGE * all_pages k ≤ disk.size d) (sym is.shows.blocks) is.room
 
 -- as many blocks as are said
 pub same_size : (n k : ℕ) → ◌≡◌ {A = Option ℕ} (Some n) (Some k) → k ≡ n

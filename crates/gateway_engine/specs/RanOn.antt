@@ -5,6 +5,7 @@ use Rattle.common.specs.declared.stop.Stop.TheVariants.{NoMemory, DiskFault}
 use Rattle.spool_disk.specs.Disk.{IsImage}
 use Rattle.spool_disk.specs.declared.disk.Disk.{Ghosts}
 use Rattle.spool_journal.specs.Image.{all_pages}
+use Rattle.spool_journal.specs.declared.TheConstants.{PAGE}
 use Rattle.spool_image.specs.LeftOnly.{AllShow, LeftOnly, ShowsOne}
 use Rattle.upload_rules.specs.Store.{Store}
 use Rattle.tus_session.specs.History.{State, Mark, Marked, history}
@@ -23,7 +24,7 @@ use Rattle.gateway_script.specs.declared.faults.ScriptFault.TheVariants.{Stop, S
 -- every image that a crash may leave now shows one of these and so many blocks, and the disk has room for them
 pub record AllShowOne {D : Type 0} (disk : Ghosts D) (d : D) (n : ℕ) (stores : List Store) : Type 0 where
   pub honest : disk.honest d
-  pub room : 4096 * all_pages n ≤ disk.size d
+  pub room : PAGE * all_pages n ≤ disk.size d
   pub each : (image : ℕ → ℕ) → IsImage (disk.current d) (disk.unsynced d) image → ShowsOne n stores image
 
 -- From the disk before to the disk now. From then on a crash at any moment leaves one of these stores and so many

@@ -5,6 +5,7 @@ use Rattle.spool_disk.specs.Views.{Lasts}
 use Rattle.spool_disk.specs.declared.disk.Disk.{Ghosts}
 use Rattle.spool_disk.proofs.Firm.{lasts_more, lasts_on}
 use Rattle.spool_journal.specs.Image.{journal_pages, overlaid}
+use Rattle.spool_journal.specs.declared.TheConstants.{PAGE}
 use Rattle.spool_journal.specs.Phases.{Settled}
 use Rattle.spool_journal.proofs.Gate.{shut_view}
 use Rattle.spool_catalog.specs.Holding.{Holding}
@@ -34,7 +35,7 @@ module _ (size size' : ℕ) (found : Found) (old current : ℕ → ℕ) (unsynce
   plain_to : (j : ℕ) → Settled j current (overlaid current) unsynced
   plain_to j = record {
     is_synced = settled.is_synced;
-    closed = λ ajar. settled.closed (sym (plain 4096) ∙ ajar);
+    closed = λ ajar. settled.closed (sym (plain PAGE) ∙ ajar);
     same = λ p outside. plain p;
   }
 

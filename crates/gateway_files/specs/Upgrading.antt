@@ -11,6 +11,7 @@ use Rattle.spool_image.specs.LeftOnly.{AllShow, IsSpool, LeftOrShows}
 use Rattle.spool_image.specs.Upgrade.{IsAlreadyNew, IsOldDamaged, RefusesUpgradeAs, UpgradedFrom, UpgradeRefusedFor}
 use Rattle.spool_image.specs.Upgrade.{UpgradesOf}
 use Rattle.spool_journal.specs.Image.{all_pages}
+use Rattle.spool_journal.specs.declared.TheConstants.{PAGE}
 use Rattle.spool_catalog.specs.Shows.{IsValid}
 use Rattle.spool_pages.specs.Changes.{upgraded as of_version_2}
 use Rattle.spool_pages.specs.Rests.{Rests}
@@ -29,7 +30,7 @@ pub record Upgrades {T D : Type 0} (disk : Ghosts D) (d d' : D) (result : Result
   pub honest : disk.honest d ↔ disk.honest d'
   pub counts : Counts (result ≡ Err (Open (Stop DiskFault))) (disk.failures d) (disk.failures d')
   pub upgraded : disk.honest d → (v : View) → IsValid v → IsViewOf (disk.current d) v
-      → 4096 * all_pages v.blocks ≤ disk.size d → UpgradesOf v.version result
+      → PAGE * all_pages v.blocks ≤ disk.size d → UpgradesOf v.version result
   pub valid : disk.honest d
       → OnOk result (UpgradedFrom (disk.size d) (disk.current d) (disk.current d') (disk.unsynced d'))
   pub refused : disk.honest d → IfErr result (UpgradeRefusedFor (disk.size d) (disk.current d))
@@ -38,7 +39,7 @@ pub record Upgrades {T D : Type 0} (disk : Ghosts D) (d d' : D) (result : Result
   pub already_new : disk.honest d → IsAlreadyNew (disk.size d) (disk.current d) → RefusesUpgradeAs result AlreadyNew
   pub damaged : disk.honest d → IsOldDamaged (disk.size d) (disk.current d) → RefusesUpgradeAs result (Open Damaged)
   pub stays : disk.honest d → (v : View) → IsValid v → IsViewOf (disk.current d) v
-      → 4096 * all_pages v.blocks ≤ disk.size d
+      → PAGE * all_pages v.blocks ≤ disk.size d
       → IfErr result (λ e. (e ≡ Open (Stop DiskFault) → ⊥) → Rests v (disk.current d') (disk.unsynced d'))
   pub unwritten : disk.honest d → (NeedsReplay (disk.size d) (disk.current d) → ⊥)
       → IfErr result (λ e. (e ≡ Open (Stop DiskFault) → ⊥)
@@ -47,7 +48,7 @@ pub record Upgrades {T D : Type 0} (disk : Ghosts D) (d d' : D) (result : Result
       → IfErr result (λ e. (e ≡ Open (Stop DiskFault) → ⊥)
       → Keeps (disk.current d) (disk.current d') (disk.unsynced d) (disk.unsynced d'))
   pub lasts : disk.honest d → (v : View) → IsValid v → IsViewOf (disk.current d) v
-      → 4096 * all_pages v.blocks ≤ disk.size d → Lasts disk d d' (λ image.
+      → PAGE * all_pages v.blocks ≤ disk.size d → Lasts disk d d' (λ image.
       IsImage (disk.current d) (disk.unsynced d) image ⊎ IsViewOf image v ⊎ IsViewOf image (of_version_2 v))
   pub crash : (n : ℕ) (m : Store) → IsSpool disk d n m → Lasts disk d d' (LeftOrShows disk d n m)
   pub shows : (n : ℕ) (m : Store) → IsSpool disk d n m → (result ≡ Err (Open (Stop DiskFault)) → ⊥)

@@ -10,11 +10,12 @@ ghost use Rattle.gateway_files.specs.Changing.{IsChangeFault};
 ghost use Rattle.gateway_files.specs.Copies.{AppendsOf, AreOf};
 
 use crate::faults::Fault;
+use spool_journal::PAGE;
 use std::io::Write;
 use upload_rules::{UploadError, Uploads};
 
-// How many bytes are read at once.
-const PIECE: usize = 4096;
+// How many bytes are read at once: a block of a text.
+const PIECE: usize = PAGE;
 
 /// Writes the text of an upload, all that there is of it so far: nothing where no upload has the number.
 pub fn copy_text<W: Write, U: Uploads>(
@@ -78,7 +79,7 @@ fn copy_piece<W: Write, U: Uploads>(
     len: u64,
 ) -> Result<u64, Fault>
     requires { at < len }
-    ensures next { IfOk result (λ next. next ≡ at + min (len - at) 4096) }
+    ensures next { IfOk result (λ next. next ≡ at + min (len - at) PIECE) }
     ensures copied { (sure : Bool) (w : World) → U.stands uploads.old sure w
         → len ≡ length (text_at w.store (upload_of w.store number))
         → IfOk result (λ next. AppendsOf sure (W.contents writer.old) (W.contents writer.new)

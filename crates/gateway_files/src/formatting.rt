@@ -17,6 +17,7 @@ use crate::spool_files::{SpoolFiles, SystemFiles};
 use enc_index::IndexSet;
 use spool_disk::Disk;
 use spool_image::{FormatError, format, is_spool, pages_of};
+use spool_journal::PAGE;
 use std::alloc::Global;
 use std::io::{self, ErrorKind};
 
@@ -152,7 +153,7 @@ fn make_spool<'a, F: SpoolFiles>(
     ensures others { (disks : Disks F.File) → F.holds files.old disks
         → LeavesOthers (F.holds files.new) disks path.now }
 {
-    let mut disk = match files.create(path, 4096 * pages as u64) {
+    let mut disk = match files.create(path, PAGE as u64 * pages as u64) {
         Ok(disk) => disk,
         Err(error) => return Err(Failure::on_opening(Task::MakeSpool(path), path, error)),
     };

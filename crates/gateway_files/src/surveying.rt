@@ -21,12 +21,13 @@ ghost use Rattle.gateway_files.specs.Surveying.{disk_left};
 use common::SLOTS;
 use spool_disk::Disk;
 use spool_image::{OpenFault, Spool};
+use spool_journal::PAGE;
 use spool_load::{Found, find};
 use std::alloc::Global;
 use upload_rules::{Uploads, is_length};
 
 /// How many bytes of a text a block has.
-const BLOCK: u64 = 4096;
+const BLOCK: u64 = PAGE as u64;
 
 /// A spool's version and size, and how much of it is in use.
 #[derive(Clone, Copy, Debug, PartialEq, Eq, Drop)]

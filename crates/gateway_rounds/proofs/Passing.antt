@@ -7,6 +7,7 @@ use Rattle.common.specs.declared.stop.Stop.TheVariants.{NoMemory, DiskFault}
 use Rattle.spool_disk.specs.Disk.{Counts, IsImage}
 use Rattle.spool_disk.specs.declared.disk.Disk.{Ghosts}
 use Rattle.spool_journal.specs.Image.{all_pages}
+use Rattle.spool_journal.specs.declared.TheConstants.{PAGE}
 use Rattle.spool_disk.specs.Views.{Lasts}
 use Rattle.spool_image.specs.Format.{IsNewest}
 use Rattle.spool_image.specs.LeftOnly.{AllShow, IsSpool, LeftOrShows}
@@ -119,7 +120,7 @@ module _ {D : Type 0} (disk : Ghosts D) (given back : D) (n : ℕ) (before : Lis
 
   -- what was stopped anywhere leaves images from before, or some that show the same
   pub still_shown : Lasts disk given back (LeftOrShows disk given n m) → disk.honest back
-      → 4096 * all_pages n ≤ disk.size back → AllShowOne disk back n before
+      → PAGE * all_pages n ≤ disk.size back → AllShowOne disk back n before
   still_shown lasts honest room = record {
     honest = honest;
     room = room;
@@ -325,7 +326,7 @@ crashed disk chosen how back after n left all is size keeps image is_synced fail
       one.store ∷ [],
       all_one disk after n one.store (synced_shows disk after n one.store (record {
         honest = keeps all.honest;
-        room = subst (λ (k : ℕ). 4096 * all_pages n ≤ k) (sym size) all.room;
+        room = subst (λ (k : ℕ). PAGE * all_pages n ≤ k) (sym size) all.room;
         shows = one.shows;
       }) (is_synced all.honest)),
       record {

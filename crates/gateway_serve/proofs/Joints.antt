@@ -12,6 +12,7 @@ use Rattle.common.specs.declared.stop.Stop.TheVariants.{NoMemory, DiskFault}
 use Rattle.tus_action.specs.Serves.{Appends}
 use Rattle.tus_session.specs.Connections.{mark_of, told, Adds}
 use Rattle.gateway_serve.specs.Conversations.{Conversation, AreTalks, GaveAs, longer}
+use Rattle.gateway_serve.specs.declared.buffers.TheConstants.{PIECE}
 use Rattle.gateway_serve.specs.declared.sockets.Seen.{Seen}
 use Rattle.gateway_serve.specs.Joined.{Joint, Joins, is_last, stage_by, stage_after}
 use Rattle.gateway_serve.specs.Joined.{taken_after}
@@ -20,7 +21,7 @@ use Rattle.gateway_serve.specs.declared.links.Stage.TheVariants as stages
 use Rattle.gateway_serve.proofs.Steps.{Shuts, came_shuts, came_lost, came_failed, more_shuts, more_lost, more_failed}
 use Rattle.gateway_serve.proofs.Talks.{talks_here, gave_refused, given_of}
 
-shorter : (prefix rest all : List ℕ) → all ≡ prefix ++ rest → length all ≤ 4096 → length rest ≤ 4096
+shorter : (prefix rest all : List ℕ) → all ≡ prefix ++ rest → length all ≤ PIECE → length rest ≤ PIECE
 shorter prefix rest all e few = omega (arith, ap length e, length-append prefix rest, few)
 
 closing : (closes more : Bool)
@@ -37,7 +38,7 @@ module _ (sure : Bool) (ended : List Seen) (st : State) (past : List Marked) (n 
   -- the latest conversation went on, and those before are as they were
   pub moved : (j j' : Joint) (past' : List Marked) (latest : Conversation) (is : Joins sure j ended st past n)
       → AreTalks sure st past' n (latest ∷ is.others) → latest.told ≡ false → j'.came ≡ latest.took ++ j'.input
-      → length j'.input ≤ 4096 → j'.went ++ j'.output ≡ latest.gave
+      → length j'.input ≤ PIECE → j'.went ++ j'.output ≡ latest.gave
       → (j'.closed ≡ true → (history st past').conns n ≡ None) → Joins sure j' ended st past' n
   moved j j' past' latest is talks told taken few given shut = record {
     latest = latest;

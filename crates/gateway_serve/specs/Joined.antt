@@ -8,6 +8,7 @@ use Rattle.tus_session.specs.declared.errors.SessionError.{SessionError}
 use Rattle.tus_session.specs.declared.connections.Connections.{Ghosts}
 use Rattle.gateway_serve.specs.Conversations.{Conversation, AreTalks}
 use Rattle.gateway_serve.specs.Sockets.{current_of, IsQuietly, Served, Pairs}
+use Rattle.gateway_serve.specs.declared.buffers.TheConstants.{PIECE}
 use Rattle.gateway_serve.specs.declared.sockets.Seen.{Seen}
 use Rattle.gateway_serve.specs.Bytes.{came_of, went_of, current}
 use Rattle.gateway_serve.specs.Waiting.{FewWait}
@@ -56,7 +57,7 @@ pub record Joins (sure : Bool) (j : Joint) (ended : List Seen) (st : State) (pas
   pub talks : AreTalks sure st past n (latest ∷ others)
   pub told : latest.told ≡ false
   pub taken : j.came ≡ latest.took ++ j.input
-  pub few : length j.input ≤ 4096
+  pub few : length j.input ≤ PIECE
   pub given : j.went ++ j.output ≡ latest.gave
   pub pairs : Pairs Served ended others
   pub shut : j.closed ≡ true → (history st past).conns n ≡ None
@@ -96,7 +97,7 @@ abbrev pub read : List ℕ → Joint → Joint
 read bytes j = record { came = j.came ++ bytes; went = j.went; input = bytes; output = j.output; closed = j.closed }
 
 abbrev pub Reads : Joint → Joint → Type 0
-Reads old new = (new ≡ old) ⊎ ((old.input ≡ []) × ((bytes : List ℕ) × (new ≡ read bytes old) × (length bytes ≤ 4096)))
+Reads old new = (new ≡ old) ⊎ ((old.input ≡ []) × ((bytes : List ℕ) × (new ≡ read bytes old) × (length bytes ≤ PIECE)))
 
 -- what follows an answer, once all is written. After a refusal the connection is closed, and nothing was taken
 abbrev pub stage_by : Answer → Stage

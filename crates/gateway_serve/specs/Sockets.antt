@@ -2,6 +2,7 @@
 use Rattle.std.specs.Prelude.{◌≡◌, ◌≤◌, ◌==◌, ℕ, length, false, List, [], ◌∷◌, ◌++◌, if◌then◌else◌}
 use Rattle.gateway_serve.specs.Conversations.{Conversation}
 use Rattle.gateway_serve.specs.Waiting.{most_waiting}
+use Rattle.gateway_serve.specs.declared.buffers.TheConstants.{PIECE}
 use Rattle.gateway_serve.specs.declared.stays.At.{At}
 use Rattle.gateway_serve.specs.declared.stays.At.TheVariants.{Between, Head, Body, Reply}
 use Rattle.gateway_serve.specs.declared.reasons.Gone.{Gone}
@@ -41,7 +42,7 @@ IsWhole Over = ⊥
 -- first that it gave, all but at most 135,167 at the end: all of them, where the reason says so. Where it says that the
 -- session closed the connection, the session wasn't told that the client is gone
 pub record Fits (s : Seen) (c : Conversation) : Type 0 where
-  pub taken : IsAllBut 4096 c.took s.came.items
+  pub taken : IsAllBut PIECE c.took s.came.items
   pub written : IsAllBut most_waiting s.went.items c.gave
   pub emptied : IsWhole s.reason → s.went.items ≡ c.gave
   pub untold : s.reason ≡ Closed → c.told ≡ false

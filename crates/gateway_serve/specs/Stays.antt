@@ -5,6 +5,7 @@ use Rattle.std.specs.declared.time.Duration.{Duration}
 use Rattle.gateway_serve.specs.declared.stays.Stay.{Stay}
 use Rattle.gateway_serve.specs.declared.stays.At.{At}
 use Rattle.gateway_serve.specs.declared.stays.At.TheVariants.{Between, Head, Body, Reply}
+use Rattle.gateway_serve.specs.declared.stays.TheConstants.{LEAST_SPEED, LONGEST_IDLE, SHORTEST_PAUSE, SHORTEST_STAY}
 
 -- the whole seconds and milliseconds from one time to another
 abbrev pub seconds_from : Duration → Duration → ℕ
@@ -15,27 +16,27 @@ millis_from since now = (as_nanos now - as_nanos since) / 1_000_000
 
 -- WHATEVER THE OTHERS DO: nothing came or went for a minute, or the head of a request isn't whole after one
 abbrev pub HasIdledAt : At → Stay → Type 0
-HasIdledAt Between s = 60 ≤ seconds_from s.moved s.time
-HasIdledAt Head s = 60 ≤ seconds_from s.begun s.time
-HasIdledAt Body s = 60 ≤ seconds_from s.moved s.time
-HasIdledAt Reply s = 60 ≤ seconds_from s.moved s.time
+HasIdledAt Between s = LONGEST_IDLE ≤ seconds_from s.moved s.time
+HasIdledAt Head s = LONGEST_IDLE ≤ seconds_from s.begun s.time
+HasIdledAt Body s = LONGEST_IDLE ≤ seconds_from s.moved s.time
+HasIdledAt Reply s = LONGEST_IDLE ≤ seconds_from s.moved s.time
 
 abbrev pub HasIdled : Stay → Type 0
 HasIdled s = HasIdledAt s.at s
 
 -- no other has been between requests longer, and it has been so for 20 milliseconds
 abbrev pub HasPaused : Stay → Type 0
-HasPaused s = (s.longest ≡ true) × (20 ≤ millis_from s.moved s.time)
+HasPaused s = (s.longest ≡ true) × (SHORTEST_PAUSE ≤ millis_from s.moved s.time)
 
--- its request brought less than 4,096 bytes a second, for ten seconds or more
+-- its request brought less than the least speed, in bytes a second, for ten seconds or more
 abbrev pub IsSlow : Stay → Type 0
-IsSlow s = (10 ≤ seconds_from s.begun s.time) × (s.brought / 4096 < seconds_from s.begun s.time)
+IsSlow s = (SHORTEST_STAY ≤ seconds_from s.begun s.time) × (s.brought / LEAST_SPEED < seconds_from s.begun s.time)
 
 -- WHILE A SOCKET WAITS for a place, one between requests gives way that has been so longest, or that has had its place
 -- for ten seconds; so do a head that isn't whole after ten seconds, and a slow body. A reply never does
 abbrev pub GivesWayAt : At → Stay → Type 0
-GivesWayAt Between s = HasPaused s ⊎ (10 ≤ seconds_from s.opened s.time)
-GivesWayAt Head s = 10 ≤ seconds_from s.begun s.time
+GivesWayAt Between s = HasPaused s ⊎ (SHORTEST_STAY ≤ seconds_from s.opened s.time)
+GivesWayAt Head s = SHORTEST_STAY ≤ seconds_from s.begun s.time
 GivesWayAt Body s = IsSlow s
 GivesWayAt Reply s = ⊥
 

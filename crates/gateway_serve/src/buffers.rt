@@ -41,7 +41,7 @@ impl Model for Input {
 
     ghost view = { λ i. slice_range i.bytes i.taken i.end };
 
-    ghost invariant = { λ i. (i.taken ≤ i.end) × (i.end ≤ 4096) };
+    ghost invariant = { λ i. (i.taken ≤ i.end) × (i.end ≤ PIECE) };
 }
 
 impl Input {
@@ -66,7 +66,7 @@ impl Input {
     /// Reads the next bytes, in place of those that were read before: how many. None are read at the socket's end.
     pub(crate) fn read<S: Read + Write>(&mut self, socket: &mut Socket<S>) -> io::Result<usize>
         ensures count { IfOk result (λ n. length self.new ≡ n) }
-        ensures few { length self.new ≤ 4096 }
+        ensures few { length self.new ≤ PIECE }
         ensures came { IfOk result (λ n. came_of socket.new ≡ came_of socket.old ++ self.new) }
         ensures went { went_of socket.new ≡ went_of socket.old }
         ensures same { OnErr result (came_of socket.new ≡ came_of socket.old) }

@@ -1,12 +1,15 @@
 -- Calls that only read.
-use Rattle.std.proofs.Common.{◌≡◌, inl, inr, ℕ, ◌≢◌, take, ◌++◌, below_more, Option, None, Result, Ok, Err, IfOk}
+use Rattle.std.proofs.Common.{◌≡◌, inl, inr, ℕ, ◌≢◌, take, ◌++◌, below_more, Option, None, Result, Ok, Err, IfOk, IsOk, OnErr, OnOk}
 use Rattle.std.proofs.Common.{◌+◌, ◌-◌, ◌*◌, ◌<◌, ◌≤◌, List, [], ◌∷◌, length, length-append, get_or, refl, sym, ◌∙◌, ap}
 use Rattle.std.proofs.Common.{subst, arith}
 use Rattle.std.proofs.Math.ListN.{get_or-append, get_or-eq_default}
 use Rattle.std.proofs.lemmas.Bool.{cases_lt}
 use Rattle.std.proofs.Math.Seq.{take-append_seam}
 use Rattle.spool_disk.specs.Disk.{span}
+use Rattle.spool_disk.specs.Given.{Gave, Grew, given}
+use Rattle.spool_disk.specs.declared.given.Given.{Given}
 use Rattle.spool_disk.specs.declared.disk.Disk.{Ghosts}
+use Rattle.spool_disk.proofs.Gave.{both, first, grew_none, grew_on, grew_one, none, of_one, one, rest}
 use Rattle.spool_disk.proofs.Firm.{lasts_on}
 use Rattle.spool_journal.specs.Image.{all_pages, byte_of, journal_pages, text_page}
 use Rattle.spool_journal.specs.Phases.{Still}
@@ -26,25 +29,68 @@ reads_on first second = record {
   size = second.size ∙ first.size;
   honest = λ honest. second.honest (first.honest honest);
   back = λ honest. first.back (second.back honest);
+  grew = grew_on first.grew second.grew;
+  gave =
+      λ honest bytes still. both (first.gave honest bytes still)
+      (second.gave (first.honest honest) bytes (first.still honest bytes still));
   still = λ honest bytes still. second.still (first.honest honest) bytes (first.still honest bytes still);
   lasts =
       λ honest bytes still. lasts_on (first.lasts honest bytes still)
       (second.lasts (first.honest honest) bytes (first.still honest bytes still));
 }
 
+-- a read, which may fail
+module _ {E : Type 0} {old new : List Given} {at : ℕ} {bs : List ℕ} where
+  pub read_grew : (r : Result (Unit {0}) E) → OnOk r (new ≡ given at bs ∷ old) → OnErr r (new ≡ old) → Grew old new
+  read_grew (Ok done) one_more none_more = grew_one one_more
+  read_grew (Err e) one_more none_more = grew_none none_more
+
+  pub read_gave : (bytes : ℕ → ℕ) (r : Result (Unit {0}) E) → OnOk r (new ≡ given at bs ∷ old) → OnErr r (new ≡ old)
+      → (IsOk r → span bytes at (length bs) ≡ bs) → Gave bytes old new
+  read_gave bytes (Ok done) one_more none_more is = of_one one_more (is tt)
+  read_gave bytes (Err e) one_more none_more is = none none_more
+
+  pub read_given : (bytes : ℕ → ℕ) (r : Result (Unit {0}) E) → OnOk r (new ≡ given at bs ∷ old) → Gave bytes old new
+      → OnOk r (span bytes at (length bs) ≡ bs)
+  read_given bytes (Ok done) one_more gave = one one_more gave
+  read_given bytes (Err e) one_more gave = tt
+
+pub on_ok_more : {E P Q : Type 0} (r : Result (Unit {0}) E) → (P → Q) → OnOk r P → OnOk r Q
+on_ok_more (Ok done) more p = more p
+on_ok_more (Err e) more p = tt
+
+-- what the reads of two such calls gave, the reads of each gave
+module _ {D : Type 0} {disk : Ghosts D} {a b c : D} {bytes : ℕ → ℕ} (early : OnlyReads disk a b)
+    (late : OnlyReads disk b c) (gave : Gave bytes (disk.reads a) (disk.reads c)) where
+  pub gave_first : Gave bytes (disk.reads a) (disk.reads b)
+  gave_first = first early.grew late.grew gave
+
+  pub gave_rest : Gave bytes (disk.reads b) (disk.reads c)
+  gave_rest = rest early.grew late.grew gave
+
+-- and those of three
+pub gave_each : {D : Type 0} {disk : Ghosts D} {a b c d : D} {bytes : ℕ → ℕ} → OnlyReads disk a b → OnlyReads disk b c
+    → OnlyReads disk c d → Gave bytes (disk.reads a) (disk.reads d)
+    → Gave bytes (disk.reads a) (disk.reads b) × Gave bytes (disk.reads b) (disk.reads c)
+    × Gave bytes (disk.reads c) (disk.reads d)
+gave_each early mid late gave =
+    let then = gave_rest early (reads_on mid late) gave in
+    (gave_first early (reads_on mid late) gave, gave_first mid late then, gave_rest mid late then)
+
 -- what ends before the text blocks is on the disk
 pub before_texts : (n size end : ℕ) → PAGE * all_pages n ≤ size → end ≤ PAGE * text_page n → end ≤ size
 before_texts n size end room few = omega (arith, all_is n, room, few)
 
-pub read_bytes : (current bytes : ℕ → ℕ) {unsynced : ℕ → Type 0} (place n : ℕ) (buf : List ℕ)
-    → Still bytes current unsynced
-    → buf ≡ span current place n → length buf ≡ n → IsReadAt bytes place buf
-read_bytes current bytes place n buf still is long = record {
-  each =
-      λ i lt. ap (λ (xs : List ℕ). get_or xs i 0) is ∙ get_span current place n i (omega (arith, lt, long))
-      ∙ still.reads
-      (place + i);
+pub read_bytes : (bytes : ℕ → ℕ) (place : ℕ) (buf : List ℕ) → span bytes place (length buf) ≡ buf
+    → IsReadAt bytes place buf
+read_bytes bytes place buf is = record {
+  each = λ i lt. ap (λ (xs : List ℕ). get_or xs i 0) (sym is) ∙ get_span bytes place (length buf) i lt;
 }
+
+-- on a disk with these bytes, all synced, a read gives them
+pub still_span : (current bytes : ℕ → ℕ) {unsynced : ℕ → Type 0} (place n : ℕ) → Still bytes current unsynced
+    → span bytes place n ≡ span current place n
+still_span current bytes place n still = ap (λ (f : ℕ → ℕ). span f place n) (λ i p. sym (still.reads p) i)
 
 -- what stands on the disk stands in the buffer
 pub read_padded : (bytes : ℕ → ℕ) (place at : ℕ) (buf xs : List ℕ) (size : ℕ) → IsReadAt bytes place buf

@@ -23,11 +23,11 @@ use Rattle.spool_catalog.specs.Shows.{IsValid}
 use Rattle.spool_load.specs.Faults.{TellsNothing, load_fault}
 use Rattle.spool_load.specs.declared.error.LoadError.{LoadError}
 use Rattle.spool_load.specs.declared.error.LoadError.TheVariants as loads
-use Rattle.spool_load.specs.Loaded.{FoundOn, IsFoundOf, LoadedFrom, OpenedFrom, SaysState, StandsFound}
+use Rattle.spool_load.specs.Loaded.{EncodesBy, FoundBy, FoundOn, IsFoundOf, LoadedFrom, OpenedFrom, SaysState, StandsFound}
 use Rattle.spool_load.specs.declared.finding.Found.{Found}
 use Rattle.spool_load.specs.Reads.{IsReadAt, SaysBlocks}
 use Rattle.spool_load.proofs.Looks.{read_back, read_stands}
-use Rattle.spool_load.specs.Refusals.{HasJournal, NotFoundFor, RefusedAt, RefusedFor}
+use Rattle.spool_load.specs.Refusals.{HasJournal, NotFoundBy, RefusedAt, RefusedBy, RefusedHere}
 use Rattle.spool_load.specs.Refusals.{SaysKnownVersion, SaysVersion}
 use Rattle.spool_load.proofs.Opens.{prefix_plain}
 
@@ -215,41 +215,39 @@ restored_view v n None blocks says same = absurd says
 
 -- THE REASON OF A REFUSAL
 
-pub found_reason : {T : Type 0} (size : ℕ) (current : ℕ → ℕ) (n : ℕ) (r : Result T OpenFault)
-    → SaysBlocks size current n
-    → IfErr r (RefusedAt n current) → IfErr r (NotFoundFor size current)
-found_reason size current n (Ok t) says refused = tt
-found_reason size current n (Err NotASpool) says refused = absurd refused
-found_reason size current n (Err Version) says refused =
-    record { blocks = n; says = says; journal = refused.0; other = refused.1 }
-found_reason size current n (Err Damaged) says refused = record { blocks = n; says = says; bad = refused }
-found_reason size current n (Err (Stop NoMemory)) says refused = absurd refused
-found_reason size current n (Err (Stop DiskFault)) says refused = tt
+module _ (size : ℕ) (before after : ℕ → ℕ) where
+  pub found_reason : (n : ℕ) (e : OpenFault) → SaysBlocks size before n → RefusedHere n before after e
+      → NotFoundBy size before after e
+  found_reason n NotASpool says why = absurd why
+  found_reason n Version says why = record { blocks = n; says = says; journal = why.0; other = why.1 }
+  found_reason n Damaged says why = record { blocks = n; says = says; bad = why }
+  found_reason n (Stop NoMemory) says why = absurd why
+  found_reason n (Stop DiskFault) says why = tt
 
--- why it isn't found is why it isn't opened
-pub unfound_reason : (size : ℕ) (current : ℕ → ℕ) (e : OpenFault) → NotFoundFor size current e
-    → RefusedFor size current e
-unfound_reason size current NotASpool why = why
-unfound_reason size current Version why = why
-unfound_reason size current Damaged why = record {
-  blocks = why.blocks;
-  says = why.says;
-  version = λ form. absurd (why.bad form);
-  no_view = λ v valid is e. why.bad (subst (λ (k : ℕ). HasJournal k current) e is.form);
-}
-unfound_reason size current (Stop NoMemory) why = absurd why
-unfound_reason size current (Stop DiskFault) why = tt
+  -- why it isn't found is why it isn't opened
+  pub unfound_reason : (e : OpenFault) → NotFoundBy size before after e → RefusedBy size before after e
+  unfound_reason NotASpool why = why
+  unfound_reason Version why = why
+  unfound_reason Damaged why = record {
+    blocks = why.blocks;
+    says = why.says;
+    version = λ form. absurd (why.bad form);
+    no_view = λ v valid journal says e. why.bad (subst (λ (k : ℕ). HasJournal k before) e journal);
+  }
+  unfound_reason (Stop NoMemory) why = absurd why
+  unfound_reason (Stop DiskFault) why = tt
 
--- and so is why what was found isn't read
-pub read_reason : (size : ℕ) (current : ℕ → ℕ) (found : Found) (e : LoadError) → FoundOn size current found
-    → ((v : View) → IsValid v → IsViewOf current v → PAGE * all_pages v.blocks ≤ size → TellsNothing e)
-    → RefusedFor size current (load_fault e)
-read_reason size current found (loads.Stop stop) is said = tt
-read_reason size current found loads.Damaged is said = record {
-  blocks = found.layout;
-  says = is.says;
-  version = λ form. known_stands (overlaid current) (state_place found.layout) 12 found.version found.next (omega arith)
-      is.state.fields;
-  no_view = λ v valid view e.
-      said v valid view (subst (λ (k : ℕ). PAGE * all_pages k ≤ size) (sym e) is.says.room);
-}
+  -- and so is why what was found isn't read
+  pub read_reason : (found : Found) (e : LoadError) → FoundBy size before after found
+      → ((v : View) → IsValid v → EncodesBy size before after v → TellsNothing e)
+      → RefusedBy size before after (load_fault e)
+  read_reason found (loads.Stop stop) is tells = tt
+  read_reason found loads.Damaged is tells = record {
+    blocks = found.layout;
+    says = is.says;
+    version = λ form. known_stands after (state_place found.layout) 12 found.version found.next (omega arith)
+        is.state.fields;
+    no_view =
+        λ v valid journal says e. tells v valid
+        (record { begins = subst (SaysBlocks size before) (sym e) is.says; journal = journal; says = says });
+  }

@@ -2,6 +2,7 @@
 use Rattle.std.specs.Prelude.{◌≡◌, ℕ, ◌+◌, ◌*◌, ◌<◌, ◌≤◌, List, Option, None, length, get_or}
 use Rattle.spool_journal.specs.declared.TheConstants.{PAGE}
 use Rattle.common.specs.declared.limits.TheConstants.{LEAST_BLOCKS, MOST_BLOCKS}
+use Rattle.spool_disk.specs.Given.{Gave, Grew}
 use Rattle.spool_disk.specs.Views.{Lasts}
 use Rattle.spool_disk.specs.declared.disk.Disk.{Ghosts}
 use Rattle.spool_journal.specs.Image.{all_pages}
@@ -14,11 +15,15 @@ use Rattle.spool_pages.specs.View.{SlotRecord, Stands, first_page, slot_bytes, r
 use Rattle.spool_pages.specs.View.{index_place, slot_place, row_place}
 use Rattle.spool_pages.specs.declared.version.Version.{Version}
 
--- A disk with these bytes, all synced, still has them, and so has every crash image in between.
+-- Only reads were made. A disk with these bytes, all synced, still has them, and so has every crash image in between;
+-- they are then what the reads gave.
 pub record OnlyReads {D : Type 0} (disk : Ghosts D) (old new : D) : Type 0 where
   pub size : disk.size new ≡ disk.size old
   pub honest : disk.honest old → disk.honest new
   pub back : disk.honest new → disk.honest old
+  pub grew : Grew (disk.reads old) (disk.reads new)
+  pub gave : disk.honest old → (bytes : ℕ → ℕ) → Still bytes (disk.current old) (disk.unsynced old)
+      → Gave bytes (disk.reads old) (disk.reads new)
   pub still : disk.honest old → (bytes : ℕ → ℕ) → Still bytes (disk.current old) (disk.unsynced old)
       → Still bytes (disk.current new) (disk.unsynced new)
   pub lasts : disk.honest old → (bytes : ℕ → ℕ) → Still bytes (disk.current old) (disk.unsynced old)

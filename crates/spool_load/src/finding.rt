@@ -3,12 +3,14 @@ ghost use Rattle.std.specs.Prelude.{◌≡◌, ◌⊎◌, ◌≤◌, ◌<◌, �
 ghost use Rattle.std.specs.Prelude.{ℕ, Err, IsErr, IfOk, IfErr, IfSome, IsNone, IsSomeAnd, IsTrue, MatchOption, get_or};
 ghost use Rattle.common.specs.declared.stop.Stop.{Stop};
 ghost use Rattle.spool_disk.specs.Disk.{IsImage, Counts, Keeps};
+ghost use Rattle.spool_disk.specs.Given.{Gave, Grew};
 ghost use Rattle.spool_disk.specs.Views.{Lasts};
 ghost use Rattle.spool_journal.specs.Image.{journal_pages, all_pages, byte_of, overlaid};
-ghost use Rattle.spool_journal.specs.Phases.{Settled, ReadsAs, Still};
+ghost use Rattle.spool_journal.specs.Phases.{Settled, ReadsAs};
 ghost use Rattle.spool_catalog.specs.Loads.{LoadsAs};
 ghost use Rattle.spool_catalog.specs.Shows.{IsValid};
-ghost use Rattle.spool_load.specs.Loaded.{FoundOn, IsFoundOf, SaysState, StandsFound};
+ghost use Rattle.spool_load.specs.Loaded.{FindsBy, FoundOn, IsFoundOf, RestoresBy, SaysState, StandsFound};
+ghost use Rattle.spool_load.specs.ReadBy.{ReadsBy};
 ghost use Rattle.spool_load.specs.Reads.{OnlyReads, SaysBlocks};
 ghost use Rattle.spool_load.specs.Recovered.{LeavesRead, OfView, ReadsSame, Recovered, Unwritten};
 ghost use Rattle.spool_load.specs.Refusals.{IsNoSpool, NotFoundFor, RefusedAt, SaysKnownVersion};
@@ -45,8 +47,10 @@ fn read_prefix<D: Disk>(disk: &mut D) -> Result<[u8; 12], DiskFault>
         → Keeps (D.current disk.old) (D.current disk.new) (D.unsynced disk.old) (D.unsynced disk.new) }
     ensures lasts { D.honest disk.old → Lasts D.Disk disk.old disk.new
         (IsImage (D.current disk.old) (D.unsynced disk.old)) }
-    ensures bytes { D.honest disk.old → IfOk result (λ prefix. (i : ℕ) → i < 12
-        → get_or prefix i 0 ≡ D.current disk.old i) }
+    ensures grew { Grew (D.reads disk.old) (D.reads disk.new) }
+    ensures gave { D.honest disk.old → Gave (D.current disk.old) (D.reads disk.old) (D.reads disk.new) }
+    ensures bytes { (bytes : ℕ → ℕ) → Gave bytes (D.reads disk.old) (D.reads disk.new)
+        → IfOk result (λ prefix. (i : ℕ) → i < 12 → get_or prefix i 0 ≡ bytes i) }
 {
     let mut prefix = [0; 12];
     disk.read(0, &mut prefix)?;
@@ -63,8 +67,10 @@ fn find_layout<D: Disk>(disk: &mut D) -> Result<Option<Layout>, DiskFault>
     ensures lasts { D.honest disk.old → Lasts D.Disk disk.old disk.new
         (IsImage (D.current disk.old) (D.unsynced disk.old)) }
     ensures room { IfOk result (λ found. IfSome found (λ layout. PAGE * all_pages layout ≤ D.size disk.old)) }
-    ensures found { D.honest disk.old → IfOk result (λ found. MatchOption found
-        (IsNoSpool (D.size disk.old) (D.current disk.old)) (SaysBlocks (D.size disk.old) (D.current disk.old))) }
+    ensures grew { Grew (D.reads disk.old) (D.reads disk.new) }
+    ensures gave { D.honest disk.old → Gave (D.current disk.old) (D.reads disk.old) (D.reads disk.new) }
+    ensures found { (bytes : ℕ → ℕ) → Gave bytes (D.reads disk.old) (D.reads disk.new) → IfOk result
+        (λ found. MatchOption found (IsNoSpool (D.size disk.old) bytes) (SaysBlocks (D.size disk.old) bytes)) }
 {
     if disk.len() < 12 {
         return Ok(None);
@@ -107,11 +113,11 @@ fn load_state<D: Disk>(disk: &mut D, layout: Layout) -> Result<Option<Found>, Di
     ensures reads { OnlyReads D.Disk disk.old disk.new }
     ensures counts { Counts (IsErr result) (D.failures disk.old) (D.failures disk.new) }
     ensures layout { IfOk result (λ said. IfSome said (λ found. found.layout ≡ layout)) }
-    ensures said { D.honest disk.old → (bytes : ℕ → ℕ) → Still bytes (D.current disk.old) (D.unsynced disk.old)
+    ensures said { (bytes : ℕ → ℕ) → Gave bytes (D.reads disk.old) (D.reads disk.new)
         → (version : Known) (next : ℕ) → next < 2 ^ 64
         → Stands bytes (state_place layout) PAGE (state_page version next)
         → IfOk result (λ said. IsSomeAnd said (SaysState version next)) }
-    ensures found { D.honest disk.old → (bytes : ℕ → ℕ) → Still bytes (D.current disk.old) (D.unsynced disk.old)
+    ensures found { (bytes : ℕ → ℕ) → Gave bytes (D.reads disk.old) (D.reads disk.new)
         → IfOk result (λ said. MatchOption said (SaysKnownVersion bytes (state_place layout) → ⊥) (StandsFound bytes)) }
 {
     let mut page = [0; PAGE];
@@ -139,6 +145,7 @@ fn restore<D: Disk>(disk: &mut D, layout: Layout) -> Result<Found, OpenFault>
     ensures same { D.honest disk.old → (D.current disk.old PAGE ≡ 165 → ⊥)
         → (result ≡ Err (OpenFault.Stop Stop.DiskFault) → ⊥)
         → Keeps (D.current disk.old) (D.current disk.new) (D.unsynced disk.old) (D.unsynced disk.new) }
+    ensures given { ReadsBy (D.reads disk.old) (D.reads disk.new) (RestoresBy layout result) }
 {
     recover(disk, &layout)?;
     load_state(disk, layout)?.ok_or(OpenFault::Version)
@@ -163,6 +170,10 @@ pub fn find<D: Disk>(disk: &mut D) -> Result<Found, OpenFault>
     // What is found is what a read gives, and each error has its reason.
     ensures found { D.honest disk.old → IfOk result (FoundOn (D.size disk.old) (D.current disk.old)) }
     ensures refused { D.honest disk.old → IfErr result (NotFoundFor (D.size disk.old) (D.current disk.old)) }
+
+    // On any disk the answer follows from the bytes that the reads gave.
+    ensures given { ReadsBy (D.reads disk.old) (D.reads disk.new)
+        (λ before after. FindsBy (D.size disk.old) before after result) }
 
     // All of the disk is synced then, and the gate is closed.
     ensures settled { D.honest disk.old → IfOk result (λ found.

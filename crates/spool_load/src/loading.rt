@@ -3,19 +3,19 @@ ghost use Rattle.std.specs.Prelude.{◌≡◌, ◌≤◌, ◌<◌, ◌*◌, ◌-
 ghost use Rattle.std.specs.Prelude.{ℕ, None, false, replicate, length, get_or, IfOk, IsErrOf};
 ghost use Rattle.common.specs.declared.stop.Stop.{Stop};
 ghost use Rattle.spool_disk.specs.Disk.{Counts};
+ghost use Rattle.spool_disk.specs.Given.{Gave};
 ghost use Rattle.spool_journal.specs.Image.{all_pages, journal_pages};
-ghost use Rattle.spool_journal.specs.Phases.{Still};
 ghost use Rattle.spool_catalog.specs.Checks.{RowsPass};
 ghost use Rattle.spool_load.specs.Faults.{Loads};
 ghost use Rattle.spool_load.specs.Loaded.{IsFoundOf, LoadedFrom, StandsFound};
-ghost use Rattle.spool_load.specs.Reads.{OnlyReads, SaysBlocks, StandFields, StandRows};
+ghost use Rattle.spool_load.specs.Reads.{OnlyReads, StandFields, StandRows};
 ghost use Rattle.spool_catalog.specs.Kept.{KeepsAlone};
 ghost use Rattle.spool_catalog.specs.Shows.{IsValid};
 ghost use Rattle.spool_pages.specs.Fits.{FitsRow};
-ghost use Rattle.spool_pages.specs.View.{View, Says, first_page};
+ghost use Rattle.spool_pages.specs.View.{View, Says};
 
 use crate::owners::load_rows;
-use crate::reading::{check_prefix, load_indexes};
+use crate::reading::{check_first, load_indexes};
 use crate::slots::load_slots;
 use crate::{Found, LoadError};
 use common::{ROWS, SLOTS};
@@ -26,20 +26,19 @@ use spool_disk::Disk;
 use spool_journal::{Layout, PAGE};
 use std::alloc::Global;
 
-// Checks the rest of page 0, and reads the index files.
+// Checks page 0, and reads the index files.
 fn load_fields<D: Disk>(alloc: Global, disk: &mut D, layout: &Layout) -> Result<IndexSet, LoadError>
     requires { PAGE * all_pages layout.now ≤ D.size disk.old }
     ensures reads { OnlyReads D.Disk disk.old disk.new }
     ensures counts { Counts (IsErrOf result (LoadError.Stop Stop.DiskFault)) (D.failures disk.old)
         (D.failures disk.new) }
-    ensures said { D.honest disk.old → (bytes : ℕ → ℕ) → Still bytes (D.current disk.old) (D.unsynced disk.old)
+    ensures said { (bytes : ℕ → ℕ) → Gave bytes (D.reads disk.old) (D.reads disk.new)
         → (v : View) → IsValid v → v.blocks ≡ layout.now → Says bytes v
         → Loads result (λ indexes. indexes ≡ v.indexes) }
-    ensures valid { D.honest disk.old → (bytes : ℕ → ℕ) → Still bytes (D.current disk.old) (D.unsynced disk.old)
-        → ((i : ℕ) → i < 12 → bytes i ≡ get_or (first_page layout.now) i 0)
+    ensures valid { (bytes : ℕ → ℕ) → Gave bytes (D.reads disk.old) (D.reads disk.new)
         → IfOk result (StandFields bytes layout.now) }
 {
-    check_prefix(disk, layout)?;
+    check_first(disk, layout)?;
     load_indexes(alloc, disk, layout)
 }
 
@@ -57,10 +56,10 @@ fn load_blocks<D: Disk>(
     ensures reads { OnlyReads D.Disk disk.old disk.new }
     ensures counts { Counts (IsErrOf result (LoadError.Stop Stop.DiskFault)) (D.failures disk.old)
         (D.failures disk.new) }
-    ensures said { D.honest disk.old → (bytes : ℕ → ℕ) → Still bytes (D.current disk.old) (D.unsynced disk.old)
+    ensures said { (bytes : ℕ → ℕ) → Gave bytes (D.reads disk.old) (D.reads disk.new)
         → (v : View) → IsValid v → v.blocks ≡ layout.now → Says bytes v → slots.now ≡ v.slots
         → Loads result (λ blocks. (blocks.rows ≡ v.rows) × (blocks.reserved ≡ replicate v.blocks false)) }
-    ensures valid { D.honest disk.old → (bytes : ℕ → ℕ) → Still bytes (D.current disk.old) (D.unsynced disk.old)
+    ensures valid { (bytes : ℕ → ℕ) → Gave bytes (D.reads disk.old) (D.reads disk.new)
         → IfOk result (λ blocks. StandRows bytes layout.now (ROWS * (journal_pages layout.now - 257)) blocks.rows) }
     ensures owners { IfOk result (λ blocks. RowsPass slots.now blocks.rows) }
     ensures reserved { IfOk result (λ blocks. blocks.reserved ≡ replicate layout.now false) }
@@ -88,21 +87,21 @@ pub fn read<D: Disk>(alloc: Global, disk: &mut D, found: Found) -> Result<Kept, 
     ensures version { IfOk result (λ kept. kept.version ≡ found.version) }
 
     // A valid spool is read, unless memory or the disk refuses.
-    ensures said { D.honest disk.old → (bytes : ℕ → ℕ) → Still bytes (D.current disk.old) (D.unsynced disk.old)
+    ensures said { (bytes : ℕ → ℕ) → Gave bytes (D.reads disk.old) (D.reads disk.new)
         → (v : View) → IsValid v → IsFoundOf v found → Says bytes v → Loads result (λ kept. KeepsAlone kept v) }
 
     // On any disk what is then in memory is a view.
     ensures view { IfOk result (λ kept. (v : View) × KeepsAlone kept v) }
 
     // What is read is valid, and is what the bytes encode.
-    ensures valid { D.honest disk.old → (bytes : ℕ → ℕ) → Still bytes (D.current disk.old) (D.unsynced disk.old)
-        → SaysBlocks (D.size disk.old) bytes found.layout
+    ensures valid { (bytes : ℕ → ℕ) → Gave bytes (D.reads disk.old) (D.reads disk.new)
         → StandsFound bytes found
         → IfOk result (LoadedFrom bytes found.layout) }
 {
     if !found.is_rest_blank {
         return Err(LoadError::Damaged);
     }
+    let _few = found.layout.blocks();
     let indexes = load_fields(alloc, disk, &found.layout)?;
     let slots = load_slots(alloc, disk, &found.layout, found.version)?;
     if !are_valid(&slots, found.next) {

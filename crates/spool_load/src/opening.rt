@@ -9,7 +9,8 @@ ghost use Rattle.spool_journal.specs.Phases.{Settled, ReadsAs};
 ghost use Rattle.spool_catalog.specs.Kept.{KeepsAlone};
 ghost use Rattle.spool_catalog.specs.Loads.{LoadsAs};
 ghost use Rattle.spool_catalog.specs.Shows.{IsValid};
-ghost use Rattle.spool_load.specs.Loaded.{OpenedFrom};
+ghost use Rattle.spool_load.specs.Loaded.{LoadsBy, OpenedFrom};
+ghost use Rattle.spool_load.specs.ReadBy.{ReadsBy};
 ghost use Rattle.spool_load.specs.Recovered.{LeavesRead, OfView, ReadsSame, Recovered, Unwritten};
 ghost use Rattle.spool_load.specs.Refusals.{RefusedFor};
 ghost use Rattle.spool_pages.specs.View.{View, IsViewOf};
@@ -44,6 +45,11 @@ pub fn load<D: Disk>(alloc: Global, disk: &mut D) -> Result<Kept, OpenFault>
     // What is in memory is what a read gives, and it is valid. Each error has its reason.
     ensures valid { D.honest disk.old → IfOk result (OpenedFrom (D.size disk.old) (D.current disk.old)) }
     ensures refused { D.honest disk.old → IfErr result (RefusedFor (D.size disk.old) (D.current disk.old)) }
+
+    // On any disk the answer follows from the bytes that the reads gave: they encode the view that is then in memory,
+    // or are the reason of the error.
+    ensures given { ReadsBy (D.reads disk.old) (D.reads disk.new)
+        (λ before after. LoadsBy (D.size disk.old) before after result) }
 
     // All of the disk is synced then, and the gate is closed.
     ensures settled { D.honest disk.old → IfOk result (λ kept.

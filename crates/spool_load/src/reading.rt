@@ -5,8 +5,8 @@ ghost use Rattle.enc_model.specs.Indexes.{IndexSet as Indexes};
 ghost use Rattle.enc_index.specs.Area.{area_byte};
 ghost use Rattle.enc_index.specs.Sets.{IsIndexSet};
 ghost use Rattle.spool_disk.specs.Disk.{Counts};
+ghost use Rattle.spool_disk.specs.Given.{Gave};
 ghost use Rattle.spool_journal.specs.Image.{all_pages};
-ghost use Rattle.spool_journal.specs.Phases.{Still};
 ghost use Rattle.spool_load.specs.Faults.{Loads};
 ghost use Rattle.spool_load.specs.Reads.{OnlyReads, IsReadAt, StandsArea};
 ghost use Rattle.spool_pages.specs.View.{Stands, first_page, index_place};
@@ -16,7 +16,7 @@ use common::Stop;
 use enc_index::{AreaError, IndexSet};
 use spool_disk::{Disk, DiskFault};
 use spool_journal::{Layout, PAGE};
-use spool_pages::{index_place, is_blank_after_fields};
+use spool_pages::{first_page, index_place};
 use std::alloc::Global;
 
 /// Fills the buffer from a place on.
@@ -24,27 +24,26 @@ pub(crate) fn read_at<D: Disk>(disk: &mut D, place: u64, buf: &mut [u8]) -> Resu
     requires { place + length buf.old ≤ D.size disk.old }
     ensures reads { OnlyReads D.Disk disk.old disk.new }
     ensures counts { Counts (IsErr result) (D.failures disk.old) (D.failures disk.new) }
-    ensures bytes { D.honest disk.old → (bytes : ℕ → ℕ) → Still bytes (D.current disk.old) (D.unsynced disk.old)
+    ensures bytes { (bytes : ℕ → ℕ) → Gave bytes (D.reads disk.old) (D.reads disk.new)
         → OnOk result (IsReadAt bytes place buf.new) }
 {
     disk.read(place, buf)
 }
 
-/// Checks that zeros follow the fields of page 0.
-pub(crate) fn check_prefix<D: Disk>(disk: &mut D, layout: &Layout) -> Result<(), LoadError>
+/// Checks page 0, which is read anew and whole.
+pub(crate) fn check_first<D: Disk>(disk: &mut D, layout: &Layout) -> Result<(), LoadError>
     requires { PAGE * all_pages layout.now ≤ D.size disk.old }
     ensures reads { OnlyReads D.Disk disk.old disk.new }
     ensures counts { Counts (IsErrOf result (LoadError.Stop Stop.DiskFault)) (D.failures disk.old)
         (D.failures disk.new) }
-    ensures said { D.honest disk.old → (bytes : ℕ → ℕ) → Still bytes (D.current disk.old) (D.unsynced disk.old)
-        → (n : ℕ) → Stands bytes 0 PAGE (first_page n) → Loads result (λ done. Unit {0}) }
-    ensures valid { D.honest disk.old → (bytes : ℕ → ℕ) → Still bytes (D.current disk.old) (D.unsynced disk.old)
-        → (n : ℕ) → ((i : ℕ) → i < 12 → bytes i ≡ get_or (first_page n) i 0)
-        → OnOk result (Stands bytes 0 PAGE (first_page n)) }
+    ensures said { (bytes : ℕ → ℕ) → Gave bytes (D.reads disk.old) (D.reads disk.new)
+        → Stands bytes 0 PAGE (first_page layout.now) → Loads result (λ done. Unit {0}) }
+    ensures valid { (bytes : ℕ → ℕ) → Gave bytes (D.reads disk.old) (D.reads disk.new)
+        → OnOk result (Stands bytes 0 PAGE (first_page layout.now)) }
 {
     let mut page = [0; PAGE];
     read_at(disk, 0, &mut page)?;
-    if is_blank_after_fields(&page) {
+    if page == first_page(layout.blocks()) {
         Ok(())
     } else {
         Err(LoadError::Damaged)
@@ -64,7 +63,7 @@ fn push_area_page<D: Disk>(
     ensures counts { Counts (IsErrOf result (LoadError.Stop Stop.DiskFault)) (D.failures disk.old)
         (D.failures disk.new) }
     ensures others { Loads result (λ done. length area.new.items ≡ length area.old.items + PAGE) }
-    ensures pushed { D.honest disk.old → (bytes : ℕ → ℕ) → Still bytes (D.current disk.old) (D.unsynced disk.old)
+    ensures pushed { (bytes : ℕ → ℕ) → Gave bytes (D.reads disk.old) (D.reads disk.new)
         → IsReadAt bytes (index_place layout.now) area.old.items → length area.old.items ≡ PAGE * page
         → OnOk result (IsReadAt bytes (index_place layout.now) area.new.items) }
 {
@@ -81,7 +80,7 @@ fn load_area<D: Disk>(alloc: Global, disk: &mut D, layout: &Layout) -> Result<Ve
     ensures counts { Counts (IsErrOf result (LoadError.Stop Stop.DiskFault)) (D.failures disk.old)
         (D.failures disk.new) }
     ensures long { Loads result (λ area. length area.items ≡ 90112) }
-    ensures read { D.honest disk.old → (bytes : ℕ → ℕ) → Still bytes (D.current disk.old) (D.unsynced disk.old)
+    ensures read { (bytes : ℕ → ℕ) → Gave bytes (D.reads disk.old) (D.reads disk.new)
         → IfOk result (λ area. IsReadAt bytes (index_place layout.now) area.items) }
 {
     let mut area = Vec::new(alloc);
@@ -101,11 +100,11 @@ pub(crate) fn load_indexes<D: Disk>(
     ensures reads { OnlyReads D.Disk disk.old disk.new }
     ensures counts { Counts (IsErrOf result (LoadError.Stop Stop.DiskFault)) (D.failures disk.old)
         (D.failures disk.new) }
-    ensures said { D.honest disk.old → (bytes : ℕ → ℕ) → Still bytes (D.current disk.old) (D.unsynced disk.old)
+    ensures said { (bytes : ℕ → ℕ) → Gave bytes (D.reads disk.old) (D.reads disk.new)
         → (x : Indexes) → IsIndexSet x
         → ((i : ℕ) → i < 90112 → bytes (index_place layout.now + i) ≡ area_byte x i)
         → Loads result (λ set. set ≡ x) }
-    ensures valid { D.honest disk.old → (bytes : ℕ → ℕ) → Still bytes (D.current disk.old) (D.unsynced disk.old)
+    ensures valid { (bytes : ℕ → ℕ) → Gave bytes (D.reads disk.old) (D.reads disk.new)
         → IfOk result (StandsArea bytes layout.now) }
 {
     let area = load_area(alloc, disk, layout)?;

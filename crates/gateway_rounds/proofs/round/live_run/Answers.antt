@@ -1,5 +1,6 @@
 use Rattle.std.proofs.Common.{◌≤◌, ◌*◌, ◌∙◌, ℕ, List, None, Some, ap, refl, subst, sym}
 use Rattle.spool_journal.specs.Image.{all_pages}
+use Rattle.spool_journal.specs.declared.TheConstants.{PAGE}
 use Rattle.spool_image.specs.Spool.{disk_of}
 use Rattle.gateway_engine.proofs.OnDisk.{view_room}
 use Rattle.gateway_rounds.specs.declared.faults.RunFault.TheVariants.{Script}
@@ -19,7 +20,7 @@ returns-in-Err g c n before all =
     let is = is_spool disk given n before m.0 all m.1 in
     let still = still_shown disk given back n before m.0 (g.met.D.Disk.counts_now back) (g.met.D.Disk.only_now given)
     all m.1 (said.lasts n m.0 is) (said.honest.0 is.honest)
-    (subst (λ (size : ℕ). 4096 * all_pages n ≤ size) (sym said.size) is.room) in
+    (subst (λ (size : ℕ). PAGE * all_pages n ≤ size) (sym said.size) is.room) in
     let lived = unopened disk given back n before m.0 (g.met.D.Disk.counts_now back) (g.met.D.Disk.only_now given) all
     m.1 c.args.round.now.written.bytes.items (read_of c.args.round.now.script.items) _ fault
     (said.opened is.honest is.shows.view is.shows.shows.valid is.shows.is (view_room disk given n m.0 is)) still in (

@@ -3,6 +3,7 @@ use Rattle.common.specs.declared.stop.Stop.TheVariants.{DiskFault}
 use Rattle.spool_image.proofs.Opens.{view_room}
 use Rattle.spool_image.specs.declared.error.UpgradeError.TheVariants.{Open}
 use Rattle.spool_journal.specs.Image.{all_pages}
+use Rattle.spool_journal.specs.declared.TheConstants.{PAGE}
 use Rattle.spool_catalog.specs.declared.error.OpenFault.TheVariants.{Stop}
 use Rattle.gateway_rounds.proofs.Passing.{all_one, counts_done, counts_told, done_leaves, err_same, is_spool, left_told}
 use Rattle.gateway_rounds.proofs.Passing.{read_opens, refused_leaves, still_shown, upgrade_ends}
@@ -41,7 +42,7 @@ returns-in-Err g c n before all =
     let still =
     still_shown g.D.Disk given back n before m.0 (g.met.D.Disk.counts_now back) (g.met.D.Disk.only_now given) all m.1
     (c.upgrade.ensures.crash n m.0 is) honest
-    (subst (λ (k : ℕ). 4096 * all_pages n ≤ k) (sym c.upgrade.ensures.size) all.room) in
+    (subst (λ (k : ℕ). PAGE * all_pages n ≤ k) (sym c.upgrade.ensures.size) all.room) in
     let left =
     left_told g.D.Disk back n m.0 before e
     (λ valid. c.in-Err.ensures.shows n m.0 is (λ device. valid (err_same e (Open (Stop DiskFault)) device))) still in (

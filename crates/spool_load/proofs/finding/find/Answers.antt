@@ -1,4 +1,4 @@
-use Rattle.std.proofs.Common.{◌≡◌, inl, inr, ℕ, IfOk, IfErr, MatchOption, None, Option, Some, sym, subst, ⊎_elim}
+use Rattle.std.proofs.Common.{◌≡◌, inl, inr, ℕ, Result, Ok, Err, IfOk, IfErr, MatchOption, None, Option, Some, sym, subst, ⊎_elim}
 use Rattle.spool_disk.proofs.Firm.{lasts_on, lasts_more}
 use Rattle.spool_journal.specs.Image.{journal_pages, overlaid}
 use Rattle.spool_journal.specs.Phases.{ReadsAs, Settled}
@@ -7,8 +7,10 @@ use Rattle.spool_load.proofs.Looks.{if_ok_both}
 use Rattle.spool_load.proofs.Refused.{found_reason, says_one}
 use Rattle.spool_load.specs.Loaded.{FoundOn}
 use Rattle.spool_load.specs.Reads.{SaysBlocks}
-use Rattle.spool_load.specs.Refusals.{IsNoSpool, RefusedAt}
+use Rattle.spool_catalog.specs.declared.error.OpenFault.{OpenFault}
+use Rattle.spool_load.specs.Refusals.{IsNoSpool, NotFoundFor, RefusedAt}
 use Rattle.spool_load.proofs.Opens.{gate_shut, same_function, view_says_blocks, keeps_image, keeps_on}
+use Rattle.spool_load.proofs.ReadBys.{by_before, by_first, finds_by}
 use Rattle.spool_load.proofs.finding.find.Goals as goal
 
 says_there : (size : ℕ) (current : ℕ → ℕ) (said : Option ℕ) (n : ℕ) → said ≡ Some n
@@ -21,13 +23,18 @@ none_there : (size : ℕ) (current : ℕ → ℕ) (said : Option ℕ) → said �
 none_there size current said is told = subst (λ o. MatchOption o (IsNoSpool size current)
     (SaysBlocks size current)) is told
 
+found_refused : {T : Type 0} (size : ℕ) (current : ℕ → ℕ) (n : ℕ) (r : Result T OpenFault) → SaysBlocks size current n
+    → IfErr r (RefusedAt n current) → IfErr r (NotFoundFor size current)
+found_refused size current n (Ok t) says refused = tt
+found_refused size current n (Err e) says refused = found_reason size current (overlaid current) n e says refused
+
 pub returns-in-None-clause-said : goal.returns-in-None-clause-said
 returns-in-None-clause-said g c honest v valid is room =
-    none_there _ _ _ c.in-None.is (c.in_ok-layout.ensures.found honest) v.blocks (view_says_blocks _ _ v valid is room)
+    none_there _ _ _ c.in-None.is (c.in_ok-layout.ensures.found _ (c.find_layout.ensures.gave honest)) v.blocks (view_says_blocks _ _ v valid is room)
 
 pub returns-in-None-clause-refused : goal.returns-in-None-clause-refused
 returns-in-None-clause-refused g c honest =
-    none_there _ _ _ c.in-None.is (c.in_ok-layout.ensures.found honest)
+    none_there _ _ _ c.in-None.is (c.in_ok-layout.ensures.found _ (c.find_layout.ensures.gave honest))
 
 pub returns-in-Some-clause-said : goal.returns-in-Some-clause-said
 returns-in-Some-clause-said g c honest v valid is room =
@@ -35,7 +42,7 @@ returns-in-Some-clause-said g c honest v valid is room =
     let current : g.D.Disk.current c.find_layout.new.disk ≡ g.D.Disk.current c.args.disk.now = same_function _ _
     keeps.same in
     let layout : c.in-Some.layout ≡ v.blocks =
-    says_one _ _ _ _ (says_there _ _ _ _ c.in-Some.is (c.in_ok-layout.ensures.found honest))
+    says_one _ _ _ _ (says_there _ _ _ _ c.in-Some.is (c.in_ok-layout.ensures.found _ (c.find_layout.ensures.gave honest)))
     (view_says_blocks _ _ v valid is room) in
     c.restore.ensures.said (c.find_layout.ensures.honest.0 honest) v valid (sym layout)
     (subst (λ (image : ℕ → ℕ). IsViewOf image v) (sym current) is)
@@ -46,7 +53,7 @@ returns-in-Some-clause-lasts g c honest v valid is room =
     let was = g.D.Disk.current c.args.disk.now in
     let current : g.D.Disk.current c.find_layout.new.disk ≡ was = same_function _ _ keeps.same in
     let layout : c.in-Some.layout ≡ v.blocks =
-    says_one _ _ _ _ (says_there _ _ _ _ c.in-Some.is (c.in_ok-layout.ensures.found honest))
+    says_one _ _ _ _ (says_there _ _ _ _ c.in-Some.is (c.in_ok-layout.ensures.found _ (c.find_layout.ensures.gave honest)))
     (view_says_blocks _ _ v valid is room) in
     let first = lasts_more (c.find_layout.ensures.lasts honest) (λ image here. inl here) in
     let then = lasts_more (c.restore.ensures.lasts (c.find_layout.ensures.honest.0 honest)) (λ image one. ⊎_elim
@@ -59,7 +66,7 @@ returns-in-Some-clause-lasts g c honest v valid is room =
 pub returns-in-Some-clause-unwritten : goal.returns-in-Some-clause-unwritten
 returns-in-Some-clause-unwritten g c honest none =
     let keeps = c.find_layout.ensures.keeps honest in
-    let shut = gate_shut keeps (says_there _ _ _ _ c.in-Some.is (c.in_ok-layout.ensures.found honest)) none in
+    let shut = gate_shut keeps (says_there _ _ _ _ c.in-Some.is (c.in_ok-layout.ensures.found _ (c.find_layout.ensures.gave honest))) none in
     lasts_on (c.find_layout.ensures.lasts honest)
     (lasts_more (c.restore.ensures.unwritten (c.find_layout.ensures.honest.0 honest) shut)
     (λ image here. keeps_image keeps here))
@@ -67,7 +74,7 @@ returns-in-Some-clause-unwritten g c honest none =
 pub returns-in-Some-clause-same : goal.returns-in-Some-clause-same
 returns-in-Some-clause-same g c honest none fine =
     let keeps = c.find_layout.ensures.keeps honest in
-    let shut = gate_shut keeps (says_there _ _ _ _ c.in-Some.is (c.in_ok-layout.ensures.found honest)) none in
+    let shut = gate_shut keeps (says_there _ _ _ _ c.in-Some.is (c.in_ok-layout.ensures.found _ (c.find_layout.ensures.gave honest))) none in
     keeps_on keeps (c.restore.ensures.same (c.find_layout.ensures.honest.0 honest) shut fine)
 
 pub returns-in-Some-clause-refused : goal.returns-in-Some-clause-refused
@@ -77,8 +84,8 @@ returns-in-Some-clause-refused g c honest =
     let layout = c.in-Some.layout in
     let was = g.D.Disk.current c.args.disk.now in
     let current : g.D.Disk.current c.find_layout.new.disk ≡ was = same_function _ _ keeps.same in
-    found_reason (g.D.Disk.size c.args.disk.now) was layout c.restore.result
-    (says_there _ _ _ _ c.in-Some.is (c.in_ok-layout.ensures.found honest))
+    found_refused (g.D.Disk.size c.args.disk.now) was layout c.restore.result
+    (says_there _ _ _ _ c.in-Some.is (c.in_ok-layout.ensures.found _ (c.find_layout.ensures.gave honest)))
     (subst (λ (f : ℕ → ℕ). IfErr c.restore.result (RefusedAt layout f)) current (c.restore.ensures.refused mid))
 
 pub returns-in-Some-clause-found : goal.returns-in-Some-clause-found
@@ -91,7 +98,7 @@ returns-in-Some-clause-found g c honest =
     let size = c.find_layout.ensures.size in
     let found =
     subst (λ (k : ℕ). SaysBlocks k (g.D.Disk.current c.args.disk.now) layout) (sym size)
-    (says_there _ _ _ _ c.in-Some.is (c.in_ok-layout.ensures.found honest)) in
+    (says_there _ _ _ _ c.in-Some.is (c.in_ok-layout.ensures.found _ (c.find_layout.ensures.gave honest))) in
     let there =
     c.restore.ensures.found mid
     (subst (λ (f : ℕ → ℕ). SaysBlocks (g.D.Disk.size c.find_layout.new.disk) f layout) (sym current) found) in
@@ -115,3 +122,20 @@ returns-in-Some-clause-settled g c honest =
     (λ (n : ℕ). Settled (journal_pages n) (overlaid (g.D.Disk.current c.args.disk.now)) now unsynced)
     (sym same) settled)
     c.restore.ensures.layout there
+
+pub returns-in_err-layout-clause-given : goal.returns-in_err-layout-clause-given
+returns-in_err-layout-clause-given g c =
+    by_first c.find_layout.ensures.grew (λ before after early. record { answer = tt; finds = λ v valid encodes. tt })
+
+pub returns-in-None-clause-given : goal.returns-in-None-clause-given
+returns-in-None-clause-given g c =
+    by_first c.find_layout.ensures.grew (λ before after early.
+    let none = none_there _ _ _ c.in-None.is (c.in_ok-layout.ensures.found before early) in
+    record { answer = none; finds = λ v valid encodes. absurd (none v.blocks encodes.begins) })
+
+pub returns-in-Some-clause-given : goal.returns-in-Some-clause-given
+returns-in-Some-clause-given g c =
+    by_before c.find_layout.ensures.grew c.restore.ensures.given (λ before after early is.
+    finds_by _ before after c.in-Some.layout
+    (says_there _ _ _ _ c.in-Some.is (c.in_ok-layout.ensures.found before early)) c.restore.result
+    c.restore.ensures.layout is)

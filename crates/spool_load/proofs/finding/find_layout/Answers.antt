@@ -13,28 +13,28 @@ none_from None never = refl
 none_from (Some x) never = absurd (never x refl)
 
 pub returns-then-len-lt12-clause-found : goal.returns-then-len-lt12-clause-found
-returns-then-len-lt12-clause-found g c honest blocks says =
+returns-then-len-lt12-clause-found g c bytes gave blocks says =
     omega (arith, some_pages blocks, c.len.ensures, c.if-len-lt12.true, says.room)
 
 pub returns-in_default-clause-found : goal.returns-in_default-clause-found
-returns-in_default-clause-found g c honest blocks says =
+returns-in_default-clause-found g c bytes gave blocks says =
     c.in_default.not-Some blocks
     (c.blocks_said.ensures.said blocks (omega (arith, says.most))
-    (λ i lt. c.in_ok-prefix.ensures.bytes honest i lt ∙ says.prefix i lt))
+    (λ i lt. c.in_ok-prefix.ensures.bytes bytes gave i lt ∙ says.prefix i lt))
 
 pub returns-in_default-of-clause-found : goal.returns-in_default-of-clause-found
-returns-in_default-of-clause-found g c honest blocks says =
+returns-in_default-of-clause-found g c bytes gave blocks says =
     let e : c.in-Some.blocks ≡ blocks =
     same_Some _ _ (c.in-Some.ensures.said blocks (omega (arith, says.most))
-    (λ i lt. c.in_ok-prefix.ensures.bytes honest i lt ∙ says.prefix i lt)) in
+    (λ i lt. c.in_ok-prefix.ensures.bytes bytes gave i lt ∙ says.prefix i lt)) in
     ⊎_elim (λ below. omega (arith, below, e, says.least)) (λ above. omega (arith, above, e, says.most))
     (c.of.ensures.none.0 (none_from c.of.result c.in_default-of.not-Some))
 
 pub returns-then-len-pages-clause-found : goal.returns-then-len-pages-clause-found
-returns-then-len-pages-clause-found g c honest blocks says =
+returns-then-len-pages-clause-found g c bytes gave blocks says =
     let e : c.in-Some.blocks ≡ blocks =
     same_Some _ _ (c.in-Some.ensures.said blocks (omega (arith, says.most))
-    (λ i lt. c.in_ok-prefix.ensures.bytes honest i lt ∙ says.prefix i lt)) in
+    (λ i lt. c.in_ok-prefix.ensures.bytes bytes gave i lt ∙ says.prefix i lt)) in
     let pages : all_pages c.in-Some-of.layout ≡ all_pages blocks = ap all_pages (c.in-Some-of.ensures.some ∙ e) in
     omega (arith, pages, says.room, c.len-2.ensures, c.pages.ensures, c.if-len-pages.true, c.read_prefix.ensures.size)
 
@@ -48,7 +48,7 @@ within n not = (
 )
 
 pub returns-clause-found : goal.returns-clause-found
-returns-clause-found g c honest =
+returns-clause-found g c bytes gave =
     let layout = c.in-Some-of.layout in
     let same : layout ≡ c.in-Some.blocks = c.in-Some-of.ensures.some in
     let range =
@@ -58,6 +58,6 @@ returns-clause-found g c honest =
       most = omega (arith, same, range.1);
       room = omega (arith, c.if-len-pages.false, c.pages.ensures, c.len-2.ensures, c.read_prefix.ensures.size);
       prefix =
-          λ i lt. sym (c.in_ok-prefix.ensures.bytes honest i lt) ∙ c.in-Some.ensures.only i lt ∙ ap
+          λ i lt. sym (c.in_ok-prefix.ensures.bytes bytes gave i lt) ∙ c.in-Some.ensures.only i lt ∙ ap
           (λ (n : ℕ). get_or (first_page n) i 0) (sym same);
     }

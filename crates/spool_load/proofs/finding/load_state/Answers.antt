@@ -10,18 +10,17 @@ pub read_at-requires : goal.read_at-requires
 read_at-requires g c = omega (arith, all_is c.args.layout, some_journal c.args.layout, c.state_place.ensures)
 
 pub returns-clause-said : goal.returns-clause-said
-returns-clause-said g c honest bytes still version next fits stands =
+returns-clause-said g c bytes gave version next fits stands =
     let here : c.state_place.result ≡ state_place c.args.layout = omega (arith, c.state_place.ensures) in
     let padded =
     read_padded bytes _ _ c.read_at.new.buf (state_page version next) PAGE
-    (c.in_ok-read_at.ensures.bytes honest bytes still) (search rules) here (omega (arith, length-state version next))
+    (c.in_ok-read_at.ensures.bytes bytes gave) (search rules) here (omega (arith, length-state version next))
     stands in
     c.found_in.ensures.said version next fits padded
 
 pub returns-clause-found : goal.returns-clause-found
-returns-clause-found g c honest bytes still =
+returns-clause-found g c bytes gave =
     let wide : length c.read_at.new.buf ≡ PAGE = search rules in
     let here : state_place c.args.layout ≡ c.state_place.result + 0 = omega (arith, c.state_place.ensures) in
-    state_read bytes c.args.layout _ c.read_at.new.buf c.found_in.result (c.in_ok-read_at.ensures.bytes honest bytes
-    still)
+    state_read bytes c.args.layout _ c.read_at.new.buf c.found_in.result (c.in_ok-read_at.ensures.bytes bytes gave)
     wide here c.found_in.ensures.layout c.found_in.ensures.fields c.found_in.ensures.rest c.found_in.ensures.unknown

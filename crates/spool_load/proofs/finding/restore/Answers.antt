@@ -10,11 +10,13 @@ use Rattle.spool_catalog.specs.declared.error.OpenFault.{OpenFault}
 use Rattle.spool_load.proofs.Opens.{if_ok, read_lasts, read_same, read_settled, read_unwritten, settled_still}
 use Rattle.spool_load.proofs.Opens.{settled_says}
 use Rattle.spool_load.proofs.Opens.{still_as}
-use Rattle.spool_load.specs.Refusals.{RefusedAt}
-use Rattle.spool_load.specs.Loaded.{FoundOn, IsFoundOf}
+use Rattle.spool_load.specs.Refusals.{RefusedAt, RefusedHere}
+use Rattle.spool_disk.specs.Given.{Gave}
+use Rattle.spool_load.specs.Loaded.{FoundOn, IsFoundOf, RestoresBy}
 use Rattle.spool_load.specs.declared.finding.Found.{Found}
 use Rattle.spool_pages.specs.View.{Stands, state_page, state_place}
 use Rattle.spool_load.proofs.Refused.{restored, restored_layout, restored_view, unrestored}
+use Rattle.spool_load.proofs.ReadBys.{by_both, by_first, restored_by}
 use Rattle.spool_load.proofs.finding.restore.Goals as goal
 
 recover_handed : {T : Type 0} (P : T → Type 0) (e : RecoverError) → (e ≡ recover.Damaged → ⊥)
@@ -22,11 +24,14 @@ recover_handed : {T : Type 0} (P : T → Type 0) (e : RecoverError) → (e ≡ r
 recover_handed P recover.DiskFault not = tt
 recover_handed P recover.Damaged not = absurd (not refl)
 
-recover_reason : (n : ℕ) (current : ℕ → ℕ) (e : RecoverError)
-    → (e ≡ recover.Damaged → InForm (journal_pages n) (count current) (number current) → ⊥)
-    → (e ≡ recover.Damaged → current PAGE ≡ 165) → RefusedAt n current (fault_of e)
-recover_reason n current recover.DiskFault bad ajar = tt
-recover_reason n current recover.Damaged bad ajar = λ journal. absurd (bad refl (journal (ajar refl)))
+recover_reason : (n : ℕ) (before after : ℕ → ℕ) (e : RecoverError)
+    → (e ≡ recover.Damaged
+    → (before PAGE ≡ 165) × (InForm (journal_pages n) (count before) (number before) → ⊥))
+    → RefusedHere n before after (fault_of e)
+recover_reason n before after recover.DiskFault bad = tt
+recover_reason n before after recover.Damaged bad =
+    let why = bad refl in
+    λ journal. why.1 (journal why.0)
 
 err_of : (e d : RecoverError) → e ≡ d → ◌≡◌ {A = Result (Unit {0}) RecoverError} (Err e) (Err d)
 err_of e d same = cc
@@ -46,9 +51,8 @@ returns-in_err-recover-clause-said g c honest v valid blocks is =
 pub returns-in_err-recover-clause-refused : goal.returns-in_err-recover-clause-refused
 returns-in_err-recover-clause-refused g c honest =
     let told =
-    recover_reason c.args.layout (g.D.Disk.current c.args.disk.now) c.in_err-recover.field-0.0
-    (λ e. (c.recover.ensures.damaged honest (c.in_err-recover.was ∙ err_of _ _ e)).1)
-    (λ e. (c.recover.ensures.damaged honest (c.in_err-recover.was ∙ err_of _ _ e)).0) in
+    recover_reason c.args.layout (g.D.Disk.current c.args.disk.now) _ c.in_err-recover.field-0.0
+    (λ e. c.recover.ensures.damaged honest (c.in_err-recover.was ∙ err_of _ _ e)) in
     search rules
 
 pub returns-clause-layout : goal.returns-clause-layout
@@ -69,7 +73,8 @@ returns-clause-said g c honest v valid blocks is =
     blocks there in
     subst (λ (r : Result Found OpenFault). LoadsAs r (IsFoundOf v)) (sym c.ok_or.ensures.value)
     (restored_view v c.args.layout c.in_ok-load_state.field-0 (sym blocks)
-    (c.in_ok-load_state.ensures.said (c.recover.ensures.honest.0 honest) _ (settled_still settled) v.version v.next
+    (c.in_ok-load_state.ensures.said _
+    (c.load_state.ensures.reads.gave (c.recover.ensures.honest.0 honest) _ (settled_still settled)) v.version v.next
     (omega (arith, valid.next_most)) state)
     c.in_ok-load_state.ensures.layout)
 
@@ -83,7 +88,8 @@ returns-clause-found g c honest says =
     (restored c.args.layout was now (g.D.Disk.unsynced c.recover.new.disk) settled (c.in_ok-recover.ensures.form honest)
     size
     c.in_ok-load_state.field-0 c.in_ok-load_state.ensures.layout says
-    (c.in_ok-load_state.ensures.found (c.recover.ensures.honest.0 honest) now (settled_still settled)))
+    (c.in_ok-load_state.ensures.found now
+    (c.load_state.ensures.reads.gave (c.recover.ensures.honest.0 honest) now (settled_still settled))))
 
 pub returns-clause-refused : goal.returns-clause-refused
 returns-clause-refused g c honest =
@@ -94,7 +100,8 @@ returns-clause-refused g c honest =
     (unrestored c.args.layout was now (g.D.Disk.unsynced c.recover.new.disk) settled
     (c.in_ok-recover.ensures.form honest)
     c.in_ok-load_state.field-0
-    (c.in_ok-load_state.ensures.found (c.recover.ensures.honest.0 honest) now (settled_still settled)))
+    (c.in_ok-load_state.ensures.found now
+    (c.load_state.ensures.reads.gave (c.recover.ensures.honest.0 honest) now (settled_still settled))))
 
 pub returns-clause-settled : goal.returns-clause-settled
 returns-clause-settled g c honest =
@@ -134,3 +141,38 @@ returns-in_err-load_state-clause-unwritten g c honest shut =
     read_unwritten g.D.Disk c.args.disk.now c.recover.new.disk c.load_state.new.disk c.args.layout
     (c.recover.ensures.honest.0 honest) (c.in_ok-recover.ensures.settled honest) c.load_state.ensures.reads
     (still_as still) (c.recover.ensures.unwritten honest shut)
+
+-- On any disk.
+
+pub returns-in_err-recover-clause-given : goal.returns-in_err-recover-clause-given
+returns-in_err-recover-clause-given g c =
+    let bad =
+    λ (before : ℕ → ℕ) (early : Gave before (g.D.Disk.reads c.args.disk.now) (g.D.Disk.reads c.recover.new.disk)) (e : c.in_err-recover.field-0.0 ≡ recover.Damaged).
+    c.recover.ensures.gave_damaged before early (c.in_err-recover.was ∙ err_of _ _ e) in
+    by_first c.recover.ensures.reads (λ before after early. record {
+      answer = recover_reason c.args.layout before after c.in_err-recover.field-0.0 (bad before early);
+      restores =
+          λ v valid blocks journal says. recover_handed (IsFoundOf v) c.in_err-recover.field-0.0
+          (λ e. let why = bad before early e in why.1 (journal why.0));
+    })
+
+pub returns-in_err-load_state-clause-given : goal.returns-in_err-load_state-clause-given
+returns-in_err-load_state-clause-given g c =
+    by_both c.recover.ensures.reads c.load_state.ensures.reads.grew
+    (λ before after early late. record { answer = tt; restores = λ v valid blocks journal says. tt })
+
+pub returns-clause-given : goal.returns-clause-given
+returns-clause-given g c =
+    let n = c.args.layout in
+    let said = c.in_ok-load_state.field-0 in
+    by_both c.recover.ensures.reads c.load_state.ensures.reads.grew (λ before after early late.
+    subst (λ (r : Result Found OpenFault). RestoresBy n r before after) (sym c.ok_or.ensures.value) (record {
+      answer =
+          restored_by 0 before after n said (c.in_ok-recover.ensures.gave_form before early)
+          (c.in_ok-load_state.ensures.found after late);
+      restores =
+          λ v valid blocks journal says. restored_view v n said (sym blocks)
+          (c.in_ok-load_state.ensures.said after late v.version v.next (omega (arith, valid.next_most))
+          (subst (λ (k : ℕ). Stands after (state_place k) PAGE (state_page v.version v.next)) blocks says.state))
+          c.in_ok-load_state.ensures.layout;
+    }))

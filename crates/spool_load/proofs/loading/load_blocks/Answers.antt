@@ -6,15 +6,15 @@ use Rattle.spool_load.proofs.ValidViews.{rows_said, valid_rows}
 use Rattle.spool_load.proofs.loading.load_blocks.Goals as goal
 
 pub returns-in_err-rows-clause-said : goal.returns-in_err-rows-clause-said
-returns-in_err-rows-clause-said g c honest bytes still v valid blocks says same =
+returns-in_err-rows-clause-said g c bytes gave v valid blocks says same =
     let loaded =
-    rows_said bytes c.args.layout.now v valid blocks says (c.in_err-rows.ensures.said honest bytes still) in
+    rows_said bytes c.args.layout.now v valid blocks says (c.in_err-rows.ensures.said bytes gave) in
     search rules
 
 pub returns-then-not-are_rows_valid-clause-said : goal.returns-then-not-are_rows_valid-clause-said
-returns-then-not-are_rows_valid-clause-said g c honest bytes still v valid blocks says same =
+returns-then-not-are_rows_valid-clause-said g c bytes gave v valid blocks says same =
     let rows : c.in_ok-rows.rows.items ≡ v.rows =
-    rows_said bytes c.args.layout.now v valid blocks says (c.in_ok-rows.ensures.said honest bytes still) in
+    rows_said bytes c.args.layout.now v valid blocks says (c.in_ok-rows.ensures.said bytes gave) in
     let looked : c.deref.result.now ≡ v.rows = search rules in
     let owned =
     subst (λ (slots : List (Option SlotRecord)). RowsPass slots v.rows) (sym same) (valid_rows v valid) in
@@ -24,9 +24,9 @@ returns-then-not-are_rows_valid-clause-said g c honest bytes still v valid block
     absurd (false≢true (sym c.if-not-are_rows_valid.true ∙ passes))
 
 pub returns-clause-said : goal.returns-clause-said
-returns-clause-said g c honest bytes still v valid blocks says same =
+returns-clause-said g c bytes gave v valid blocks says same =
     let rows : c.in_ok-rows.rows.items ≡ v.rows =
-    rows_said bytes c.args.layout.now v valid blocks says (c.in_ok-rows.ensures.said honest bytes still) in (
+    rows_said bytes c.args.layout.now v valid blocks says (c.in_ok-rows.ensures.said bytes gave) in (
       c.in_ok-blocks.ensures.rows ∙ rows,
       c.in_ok-blocks.ensures.reserved ∙ ap
           (λ (xs : List (Option (ℕ × ℕ))). replicate (length xs) false) rows ∙ ap (λ (n : ℕ). replicate n false)

@@ -1,11 +1,11 @@
-use Rattle.std.proofs.Common.{◌≡◌, ◌∙◌, ℕ, List, Option, rules, sym, subst}
+use Rattle.std.proofs.Common.{◌≡◌, ◌∙◌, ℕ, List, Option, rules, sym, subst, arith}
 use Rattle.std.proofs.lemmas.Bool.{false≢true}
 use Rattle.spool_disk.proofs.Firm.{counts_on}
 use Rattle.spool_pages.specs.View.{SlotRecord}
 use Rattle.spool_catalog.specs.Checks.{RecordsPass}
 use Rattle.spool_load.proofs.ValidViews.{slots_said, valid_passes, read_loaded}
 use Rattle.spool_load.proofs.Faults.{check_sound, check_told}
-use Rattle.spool_load.proofs.Looks.{reads_on, ok_no_fault}
+use Rattle.spool_load.proofs.Looks.{gave_each, gave_rest, reads_on, ok_no_fault}
 use Rattle.spool_journal.proofs.Steps.{no_failure}
 use Rattle.spool_load.proofs.loading.read.Goals as goal
 
@@ -21,22 +21,20 @@ pub returns-in_err-slots-clause-reads : goal.returns-in_err-slots-clause-reads
 returns-in_err-slots-clause-reads g c = reads_on c.load_fields.ensures.reads c.load_slots.ensures.reads
 
 pub returns-in_err-slots-clause-said : goal.returns-in_err-slots-clause-said
-returns-in_err-slots-clause-said g c honest bytes still v valid is says =
-    let first = c.load_fields.ensures.reads in
+returns-in_err-slots-clause-said g c bytes gave v valid is says =
     let loaded =
     slots_said bytes c.args.found.layout v valid (sym is.blocks) says c.args.found.version is.state.version
-    (c.in_err-slots.ensures.said (first.honest honest) bytes (first.still honest bytes still)) in
+    (c.in_err-slots.ensures.said bytes (gave_rest c.load_fields.ensures.reads c.load_slots.ensures.reads gave)) in
     search rules
 
 pub returns-then-not-are_valid-clause-reads : goal.returns-then-not-are_valid-clause-reads
 returns-then-not-are_valid-clause-reads g c = reads_on c.load_fields.ensures.reads c.load_slots.ensures.reads
 
 pub returns-then-not-are_valid-clause-said : goal.returns-then-not-are_valid-clause-said
-returns-then-not-are_valid-clause-said g c honest bytes still v valid is says =
-    let first = c.load_fields.ensures.reads in
+returns-then-not-are_valid-clause-said g c bytes gave v valid is says =
     let slots : c.in_ok-slots.slots.items ≡ v.slots =
     slots_said bytes c.args.found.layout v valid (sym is.blocks) says c.args.found.version is.state.version
-    (c.in_ok-slots.ensures.said (first.honest honest) bytes (first.still honest bytes still)) in
+    (c.in_ok-slots.ensures.said bytes (gave_rest c.load_fields.ensures.reads c.load_slots.ensures.reads gave)) in
     let looked : c.deref.result.now ≡ v.slots = search rules in
     let are = subst (λ (n : ℕ). RecordsPass n v.slots) (sym is.state.next) (valid_passes v valid) in
     let passes =
@@ -49,16 +47,12 @@ returns-in_err-blocks-clause-reads g c =
     reads_on (reads_on c.load_fields.ensures.reads c.load_slots.ensures.reads) c.load_blocks.ensures.reads
 
 pub returns-in_err-blocks-clause-said : goal.returns-in_err-blocks-clause-said
-returns-in_err-blocks-clause-said g c honest bytes still v valid is says =
-    let first = c.load_fields.ensures.reads in
-    let second = reads_on first c.load_slots.ensures.reads in
+returns-in_err-blocks-clause-said g c bytes gave v valid is says =
+    let parts = gave_each c.load_fields.ensures.reads c.load_slots.ensures.reads c.load_blocks.ensures.reads gave in
     let slots : c.in_ok-slots.slots.items ≡ v.slots =
     slots_said bytes c.args.found.layout v valid (sym is.blocks) says c.args.found.version is.state.version
-    (c.in_ok-slots.ensures.said (first.honest honest) bytes (first.still honest bytes still)) in
-    let loaded =
-    c.in_err-blocks.ensures.said (second.honest honest) bytes (second.still honest bytes still) v valid
-    (sym is.blocks) says
-    (search rules) in
+    (c.in_ok-slots.ensures.said bytes parts.1) in
+    let loaded = c.in_err-blocks.ensures.said bytes parts.2 v valid (sym is.blocks) says (search rules) in
     search rules
 
 pub returns-clause-reads : goal.returns-clause-reads
@@ -70,31 +64,23 @@ returns-in_err-kept-clause-reads g c =
     reads_on (reads_on c.load_fields.ensures.reads c.load_slots.ensures.reads) c.load_blocks.ensures.reads
 
 pub returns-clause-said : goal.returns-clause-said
-returns-clause-said g c honest bytes still v valid is says =
-    let first = c.load_fields.ensures.reads in
-    let second = reads_on first c.load_slots.ensures.reads in
-    let indexes = c.in_ok-indexes.ensures.said honest bytes still v valid (sym is.blocks) says in
+returns-clause-said g c bytes gave v valid is says =
+    let parts = gave_each c.load_fields.ensures.reads c.load_slots.ensures.reads c.load_blocks.ensures.reads gave in
+    let indexes = c.in_ok-indexes.ensures.said bytes parts.0 v valid (sym is.blocks) says in
     let slots : c.in_ok-slots.slots.items ≡ v.slots =
     slots_said bytes c.args.found.layout v valid (sym is.blocks) says c.args.found.version is.state.version
-    (c.in_ok-slots.ensures.said (first.honest honest) bytes (first.still honest bytes still)) in
-    let held =
-    c.in_ok-blocks.ensures.said (second.honest honest) bytes (second.still honest bytes still) v valid (sym is.blocks)
-    says
-    (search rules) in
+    (c.in_ok-slots.ensures.said bytes parts.1) in
+    let held = c.in_ok-blocks.ensures.said bytes parts.2 v valid (sym is.blocks) says (search rules) in
     c.in_ok-kept.ensures.said v valid (sym is.blocks) is.state.version is.state.next indexes slots held.0 held.1
 
 pub returns-in_err-kept-clause-said : goal.returns-in_err-kept-clause-said
-returns-in_err-kept-clause-said g c honest bytes still v valid is says =
-    let first = c.load_fields.ensures.reads in
-    let second = reads_on first c.load_slots.ensures.reads in
-    let indexes = c.in_ok-indexes.ensures.said honest bytes still v valid (sym is.blocks) says in
+returns-in_err-kept-clause-said g c bytes gave v valid is says =
+    let parts = gave_each c.load_fields.ensures.reads c.load_slots.ensures.reads c.load_blocks.ensures.reads gave in
+    let indexes = c.in_ok-indexes.ensures.said bytes parts.0 v valid (sym is.blocks) says in
     let slots : c.in_ok-slots.slots.items ≡ v.slots =
     slots_said bytes c.args.found.layout v valid (sym is.blocks) says c.args.found.version is.state.version
-    (c.in_ok-slots.ensures.said (first.honest honest) bytes (first.still honest bytes still)) in
-    let held =
-    c.in_ok-blocks.ensures.said (second.honest honest) bytes (second.still honest bytes still) v valid (sym is.blocks)
-    says
-    (search rules) in
+    (c.in_ok-slots.ensures.said bytes parts.1) in
+    let held = c.in_ok-blocks.ensures.said bytes parts.2 v valid (sym is.blocks) says (search rules) in
     let told =
     check_told c.in_err-kept.field-0.0
     (c.in_err-kept.ensures.said v valid (sym is.blocks) is.state.version is.state.next indexes slots held.0 held.1) in
@@ -120,13 +106,12 @@ returns-in_err-blocks-clause-counts g c =
     search rules
 
 pub returns-clause-valid : goal.returns-clause-valid
-returns-clause-valid g c honest bytes still says found =
-    let first = c.load_fields.ensures.reads in
-    let second = reads_on first c.load_slots.ensures.reads in
-    let fields = c.in_ok-indexes.ensures.valid honest bytes still says.prefix in
+returns-clause-valid g c bytes gave found =
+    let parts = gave_each c.load_fields.ensures.reads c.load_slots.ensures.reads c.load_blocks.ensures.reads gave in
+    let fields = c.in_ok-indexes.ensures.valid bytes parts.0 in
     let state = found.rest.0 (search rules) in
-    let slots = c.in_ok-slots.ensures.valid (first.honest honest) bytes (first.still honest bytes still) in
-    let rows = c.in_ok-blocks.ensures.valid (second.honest honest) bytes (second.still honest bytes still) in
+    let slots = c.in_ok-slots.ensures.valid bytes parts.1 in
+    let rows = c.in_ok-blocks.ensures.valid bytes parts.2 in
     let looked : c.deref.result.now ≡ c.in_ok-slots.slots.items = search rules in
     let are =
     subst (λ (xs : List (Option SlotRecord)). RecordsPass c.args.found.next xs) looked
@@ -134,7 +119,7 @@ returns-clause-valid g c honest bytes still says found =
     read_loaded bytes c.args.found.layout c.args.found.version c.args.found.next c.in_ok-indexes.indexes
     c.in_ok-slots.slots.items
     c.in_ok-blocks.blocks.rows c.in_ok-blocks.blocks.reserved c.in_ok-kept.kept
-    says.least says.most fields state slots c.in_ok-slots.ensures.long c.in_ok-blocks.ensures.long rows are
+    (omega (arith, c.blocks.ensures)) (omega (arith, c.blocks.ensures)) fields state slots c.in_ok-slots.ensures.long c.in_ok-blocks.ensures.long rows are
     (search rules)
     c.in_ok-blocks.ensures.fits c.in_ok-blocks.ensures.reserved
     c.in_ok-kept.ensures.distinct c.in_ok-kept.ensures.whole c.in_ok-kept.ensures.said

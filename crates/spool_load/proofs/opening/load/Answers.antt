@@ -1,7 +1,8 @@
-use Rattle.std.proofs.Common.{◌∙◌, ℕ, ◌*◌, ◌≤◌, Err, ap, sym, subst, rules}
+use Rattle.std.proofs.Common.{◌∙◌, ℕ, ◌*◌, ◌≤◌, Err, ap, refl, sym, subst, rules}
 use Rattle.std.proofs.lemmas.Result.{err_from_is_err_and}
 use Rattle.spool_journal.specs.declared.TheConstants.{PAGE}
 use Rattle.spool_disk.proofs.Firm.{counts_on}
+use Rattle.spool_disk.proofs.Gave.{grew_none}
 use Rattle.spool_journal.specs.Image.{all_pages, journal_pages, overlaid}
 use Rattle.spool_journal.specs.Phases.{Settled}
 use Rattle.spool_catalog.specs.Kept.{KeepsAlone}
@@ -9,7 +10,9 @@ use Rattle.spool_catalog.specs.declared.kept.Kept.{Kept}
 use Rattle.spool_load.proofs.Faults.{counts_told, loads_err, tells_nothing}
 use Rattle.spool_load.proofs.Looks.{ok_no_fault}
 use Rattle.spool_load.proofs.Opens.{read_lasts, read_same, read_settled, read_unwritten, recovered_says, settled_still}
-use Rattle.spool_load.proofs.Refused.{found_back, opened_on, read_reason, says_on, unfound_reason}
+use Rattle.spool_load.proofs.Refused.{found_back, opened_on, read_reason, unfound_reason}
+use Rattle.spool_load.proofs.ReadBys.{by_after, loads_by, unfound_by, unread_by}
+use Rattle.spool_pages.specs.View.{IsViewOf}
 use Rattle.spool_load.proofs.opening.load.Goals as goal
 
 pub returns-in_err-found-clause-said : goal.returns-in_err-found-clause-said
@@ -20,7 +23,7 @@ returns-in_err-found-clause-said g c honest v valid is room =
 
 pub returns-in_err-found-clause-refused : goal.returns-in_err-found-clause-refused
 returns-in_err-found-clause-refused g c honest =
-    let reason = unfound_reason _ _ c.in_err-found.field-0.0 (c.in_err-found.ensures.refused honest) in
+    let reason = unfound_reason _ _ _ c.in_err-found.field-0.0 (c.in_err-found.ensures.refused honest) in
     search rules
 
 pub returns-clause-room : goal.returns-clause-room
@@ -32,7 +35,8 @@ pub returns-clause-said : goal.returns-clause-said
 returns-clause-said g c honest v valid is room =
     let settled = c.in_ok-found.ensures.settled honest in
     let found = c.in_ok-found.ensures.said honest v valid is room in
-    c.in_ok-kept.ensures.said (c.find.ensures.honest.0 honest) _ (settled_still settled) v valid found
+    c.in_ok-kept.ensures.said _ (c.read.ensures.reads.gave (c.find.ensures.honest.0 honest) _ (settled_still settled)) v
+    valid found
     (recovered_says c.in_ok-found.found.layout v found.blocks settled is)
 
 pub returns-clause-valid : goal.returns-clause-valid
@@ -44,11 +48,9 @@ returns-clause-valid g c honest =
     let now = g.D.Disk.current c.find.new.disk in
     let unsynced = g.D.Disk.unsynced c.find.new.disk in
     let size = g.D.Disk.size c.args.disk.now in
-    let says =
-    says_on n was now unsynced settled found.journal size
-    (g.D.Disk.size c.find.new.disk) c.find.ensures.size found.says in
     opened_on n was now unsynced settled found.journal size c.in_ok-kept.kept found.says
-    (c.in_ok-kept.ensures.valid (c.find.ensures.honest.0 honest) now (settled_still settled) says
+    (c.in_ok-kept.ensures.valid now
+    (c.read.ensures.reads.gave (c.find.ensures.honest.0 honest) now (settled_still settled))
     (found_back size c.in_ok-found.found was now unsynced settled found))
 
 pub returns-clause-settled : goal.returns-clause-settled
@@ -93,7 +95,8 @@ returns-in_err-kept-clause-said g c honest v valid is room =
     let found = c.in_ok-found.ensures.said honest v valid is room in
     let read =
     tells_nothing c.in_err-kept.field-0.0 (λ (kept : Kept). KeepsAlone kept v)
-    (c.in_err-kept.ensures.said (c.find.ensures.honest.0 honest) _ (settled_still settled) v valid found
+    (c.in_err-kept.ensures.said _
+    (c.read.ensures.reads.gave (c.find.ensures.honest.0 honest) _ (settled_still settled)) v valid found
     (recovered_says c.in_ok-found.found.layout v found.blocks settled is)) in
     search rules
 
@@ -102,10 +105,14 @@ returns-in_err-kept-clause-refused g c honest =
     let settled = c.in_ok-found.ensures.settled honest in
     let mid = c.find.ensures.honest.0 honest in
     let reason =
-    read_reason (g.D.Disk.size c.args.disk.now) (g.D.Disk.current c.args.disk.now) c.in_ok-found.found
+    read_reason (g.D.Disk.size c.args.disk.now) (g.D.Disk.current c.args.disk.now) _ c.in_ok-found.found
     c.in_err-kept.field-0.0 (c.in_ok-found.ensures.found honest)
-    (λ v valid is room. let found = c.in_ok-found.ensures.said honest v valid is room in
-    c.in_err-kept.ensures.said mid _ (settled_still settled) v valid found
+    (λ v valid encodes. let is : IsViewOf (g.D.Disk.current c.args.disk.now) v = record {
+      form = encodes.journal;
+      says = encodes.says;
+    } in
+    let found = c.in_ok-found.ensures.said honest v valid is encodes.begins.room in
+    c.in_err-kept.ensures.said _ (c.read.ensures.reads.gave mid _ (settled_still settled)) v valid found
     (recovered_says c.in_ok-found.found.layout v found.blocks settled is)) in
     search rules
 
@@ -127,3 +134,23 @@ returns-in_err-kept-clause-same g c honest none fine =
     read_same g.D.Disk c.args.disk.now c.find.new.disk c.read.new.disk c.in_ok-found.found.layout
     (c.find.ensures.honest.0 honest) (c.in_ok-found.ensures.settled honest) c.read.ensures.reads
     (c.find.ensures.same honest none (ok_no_fault _ _ c.in_ok-found.was))
+
+-- On any disk.
+
+pub returns-in_err-found-clause-given : goal.returns-in_err-found-clause-given
+returns-in_err-found-clause-given g c =
+    by_after c.in_err-found.ensures.given (grew_none refl)
+    (λ before after is late. unfound_by _ before after c.in_err-found.field-0.0 is)
+
+pub returns-in_err-kept-clause-given : goal.returns-in_err-kept-clause-given
+returns-in_err-kept-clause-given g c =
+    by_after c.in_ok-found.ensures.given c.read.ensures.reads.grew
+    (λ before after is late. unread_by _ before after c.in_ok-found.found is c.in_err-kept.field-0.0
+    (λ v valid found says. c.in_err-kept.ensures.said after late v valid found says))
+
+pub returns-clause-given : goal.returns-clause-given
+returns-clause-given g c =
+    by_after c.in_ok-found.ensures.given c.read.ensures.reads.grew
+    (λ before after is late. loads_by _ before after c.in_ok-found.found is c.in_ok-kept.kept
+    (c.in_ok-kept.ensures.valid after late is.answer.state)
+    (λ v valid found says. c.in_ok-kept.ensures.said after late v valid found says))

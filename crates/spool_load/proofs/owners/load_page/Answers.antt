@@ -10,30 +10,30 @@ read_at-requires g c =
     before_texts c.args.layout.now _ _ c.requires.room (omega (arith, c.requires.page, c.rows_place.ensures))
 
 pub returns-in_err-fill-clause-said : goal.returns-in_err-fill-clause-said
-returns-in_err-fill-clause-said g c honest bytes still all long fits stands was =
+returns-in_err-fill-clause-said g c bytes gave all long fits stands was =
     let wide : length c.read_at.new.buf ≡ PAGE = search rules in
     absurd (c.in_err-fill.ensures.said all long fits
     (rows_stand bytes c.args.layout.now _ c.args.page c.read_at.new.buf all
-    (c.in_ok-read_at.ensures.bytes honest bytes still) wide (omega (arith, c.rows_place.ensures))
+    (c.in_ok-read_at.ensures.bytes bytes gave) wide (omega (arith, c.rows_place.ensures))
     c.requires.page stands) was)
 
 pub returns-clause-said : goal.returns-clause-said
-returns-clause-said g c honest bytes still all long fits stands was =
+returns-clause-said g c bytes gave all long fits stands was =
     let page = c.args.page in
     let wide : length c.read_at.new.buf ≡ PAGE = search rules in
     let filled =
     c.in_ok-fill.ensures.said all long fits
     (rows_stand bytes c.args.layout.now _ page c.read_at.new.buf all
-    (c.in_ok-read_at.ensures.bytes honest bytes still) wide (omega (arith, c.rows_place.ensures))
+    (c.in_ok-read_at.ensures.bytes bytes gave) wide (omega (arith, c.rows_place.ensures))
     c.requires.page stands) was in
     let e : ROWS * page + SLOTS ≡ ROWS * (page + 1) = omega arith in
     subst (λ (m : ℕ). IsSameTo m all c.fill.new.rows) e filled
 
 pub returns-clause-valid : goal.returns-clause-valid
-returns-clause-valid g c honest bytes still was =
+returns-clause-valid g c bytes gave was =
     let n = c.args.layout.now in
     let page = c.args.page in
     let wide : length c.read_at.new.buf ≡ PAGE = search rules in
     rows_read bytes n _ page c.read_at.new.buf c.args.rows.now c.fill.new.rows
-    (c.in_ok-read_at.ensures.bytes honest bytes still) wide (omega (arith, c.rows_place.ensures)) was
+    (c.in_ok-read_at.ensures.bytes bytes gave) wide (omega (arith, c.rows_place.ensures)) was
     c.fill.ensures.before c.in_ok-fill.ensures.valid

@@ -7,23 +7,23 @@ use Rattle.spool_catalog.proofs.Valid.{rows_cover}
 use Rattle.spool_load.proofs.owners.load_rows.Goals as goal
 
 pub returns-in_err-load_pages-clause-said : goal.returns-in_err-load_pages-clause-said
-returns-in_err-load_pages-clause-said g c honest bytes still all long fits stands =
+returns-in_err-load_pages-clause-said g c bytes gave all long fits stands =
     let size : length c.in_ok-rows.rows.items ≡ c.args.layout.now = search rules in
-    let read = c.in_err-load_pages.ensures.said honest bytes still all (omega (arith, size, long)) fits stands in
+    let read = c.in_err-load_pages.ensures.said bytes gave all (omega (arith, size, long)) fits stands in
     search rules
 
 pub returns-clause-valid : goal.returns-clause-valid
-returns-clause-valid g c honest bytes still =
+returns-clause-valid g c bytes gave =
     let n = c.args.layout.now in
     let same : length c.load_pages.new.rows ≡ length c.in_ok-rows.rows.items = search rules in
     let P : List (Option (ℕ × ℕ)) → Type 0 = StandRows bytes n (ROWS * (journal_pages n - 257)) in
-    subst P (sym (take_new _ _ _ (search rules))) (c.in_ok-load_pages.ensures.valid honest bytes still)
+    subst P (sym (take_new _ _ _ (search rules))) (c.in_ok-load_pages.ensures.valid bytes gave)
 
 pub returns-clause-said : goal.returns-clause-said
-returns-clause-said g c honest bytes still all long fits stands =
+returns-clause-said g c bytes gave all long fits stands =
     let n = c.args.layout.now in
     let size : length c.in_ok-rows.rows.items ≡ n = search rules in
     let same : length c.load_pages.new.rows ≡ length c.in_ok-rows.rows.items = search rules in
-    let said = c.in_ok-load_pages.ensures.said honest bytes still all (omega (arith, size, long)) fits stands in
+    let said = c.in_ok-load_pages.ensures.said bytes gave all (omega (arith, size, long)) fits stands in
     take_new _ _ _ (search rules) ∙ same_all _ all c.load_pages.new.rows said (omega (arith, same, size, long))
     (omega (arith, same, size, rows_cover n))

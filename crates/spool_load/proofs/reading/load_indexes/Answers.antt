@@ -2,9 +2,9 @@ use Rattle.std.proofs.Common.{◌≡◌, ◌∙◌, ℕ, List, length, get_or, r
 use Rattle.spool_load.proofs.reading.load_indexes.Goals as goal
 
 pub returns-in-Ok-clause-valid : goal.returns-in-Ok-clause-valid
-returns-in-Ok-clause-valid g c honest bytes still =
+returns-in-Ok-clause-valid g c bytes gave =
     let area = c.in_ok-area.area.items in
-    let read = c.in_ok-area.ensures.read honest bytes still in
+    let read = c.in_ok-area.ensures.read bytes gave in
     let written = c.in-Ok.ensures.written in
     let same : area ≡ c.deref.result.now = search rules in
     record {

@@ -1,7 +1,7 @@
-use Rattle.std.proofs.Common.{rules}
-use Rattle.spool_disk.proofs.Firm.{lasts_call, on_ok}
+use Rattle.std.proofs.Common.{IsOk, ◌∙◌, sym, rules}
+use Rattle.spool_disk.proofs.Firm.{lasts_call}
 use Rattle.spool_journal.proofs.Recovers.{still_keeps, still_image}
-use Rattle.spool_load.proofs.Looks.{read_bytes}
+use Rattle.spool_load.proofs.Looks.{on_ok_more, read_bytes, read_gave, read_given, read_grew, still_span}
 use Rattle.spool_load.proofs.reading.read_at.Goals as goal
 
 pub returns-clause-reads : goal.returns-clause-reads
@@ -9,6 +9,10 @@ returns-clause-reads g c = record {
   size = c.read.ensures.size;
   honest = c.read.ensures.honest.0;
   back = c.read.ensures.honest.1;
+  grew = read_grew c.read.result c.read.ensures.given c.read.ensures.none;
+  gave =
+      λ honest bytes still. read_gave bytes c.read.result c.read.ensures.given c.read.ensures.none
+      (λ done. still_span _ bytes c.args.place _ still ∙ sym (c.read.ensures.bytes honest done));
   still = λ honest bytes still. still_keeps still (c.read.ensures.keeps honest);
   lasts =
       λ honest bytes still. lasts_call (c.read.ensures.time honest)
@@ -16,6 +20,6 @@ returns-clause-reads g c = record {
 }
 
 pub returns-clause-bytes : goal.returns-clause-bytes
-returns-clause-bytes g c honest bytes still =
-    on_ok c.read.result (λ done. read_bytes _ bytes c.args.place _ _ still (c.read.ensures.bytes honest done)
-    (search rules))
+returns-clause-bytes g c bytes gave =
+    on_ok_more c.read.result (read_bytes bytes c.args.place _)
+    (read_given bytes c.read.result c.read.ensures.given gave)

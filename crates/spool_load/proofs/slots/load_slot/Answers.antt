@@ -13,13 +13,13 @@ read_at-requires g c =
     (omega (arith, some_journal c.args.layout.now, c.requires.slot, c.slot_place.ensures))
 
 pub returns-in_err-kept_of-clause-said : goal.returns-in_err-kept_of-clause-said
-returns-in_err-kept_of-clause-said g c honest bytes still said fits stands =
+returns-in_err-kept_of-clause-said g c bytes gave said fits stands =
     let here : c.slot_place.result ≡ slot_place c.args.layout.now c.args.slot = omega (arith, c.slot_place.ensures) in
     let told =
     check_told c.in_err-kept_of.field-0.0
     (c.in_err-kept_of.ensures.said said fits
     (read_padded bytes _ _ c.read_at.new.buf (slot_bytes c.args.version said) 2048
-    (c.in_ok-read_at.ensures.bytes honest bytes still)
+    (c.in_ok-read_at.ensures.bytes bytes gave)
     (search rules) here (slot_few c.args.version said (fits_slot said fits)) stands)) in
     search rules
 
@@ -29,16 +29,16 @@ returns-in_err-kept_of-clause-counts g c =
     search rules
 
 pub returns-clause-said : goal.returns-clause-said
-returns-clause-said g c honest bytes still said fits stands =
+returns-clause-said g c bytes gave said fits stands =
     let here : c.slot_place.result ≡ slot_place c.args.layout.now c.args.slot = omega (arith, c.slot_place.ensures) in
     c.in_ok-kept_of.ensures.said said fits
     (read_padded bytes _ _ c.read_at.new.buf (slot_bytes c.args.version said) 2048
-    (c.in_ok-read_at.ensures.bytes honest bytes still)
+    (c.in_ok-read_at.ensures.bytes bytes gave)
     (search rules) here (slot_few c.args.version said (fits_slot said fits)) stands)
 
 pub returns-clause-stands : goal.returns-clause-stands
-returns-clause-stands g c honest bytes still =
+returns-clause-stands g c bytes gave =
     let here : slot_place c.args.layout.now c.args.slot ≡ c.slot_place.result = omega (arith, c.slot_place.ensures) in
     padded_back bytes _ (slot_place c.args.layout.now c.args.slot) c.read_at.new.buf
-    (slot_bytes c.args.version c.in_ok-kept_of.field-0) 2048 (c.in_ok-read_at.ensures.bytes honest bytes still)
+    (slot_bytes c.args.version c.in_ok-kept_of.field-0) 2048 (c.in_ok-read_at.ensures.bytes bytes gave)
     (search rules) here c.in_ok-kept_of.ensures.stands

@@ -7,7 +7,7 @@ use Rattle.spool_load.proofs.slots.push_slot.Goals as goal
 use Rattle.spool_load.proofs.slots.push_slot.Goals.{in-Ok, in-Err}
 
 pub returns-clause-valid : goal.returns-clause-valid
-returns-clause-valid g c honest bytes still long was =
+returns-clause-valid g c bytes gave long was =
     let n = c.args.layout.now in
     let kept = c.in_ok-kept.kept in
     let P : Result (Unit {0}) LoadError
@@ -18,6 +18,6 @@ returns-clause-valid g c honest bytes still long was =
           let items : c.push.new.self.items ≡ c.args.slots.now.items ++ kept ∷ [] = search rules in
           subst P (sym w.result-is)
           (stand_push bytes n c.args.version c.args.slots.now.items kept _ was items
-          (subst S (sym long) (c.in_ok-kept.ensures.stands honest bytes still)) c.in_ok-kept.ensures.fits)
+          (subst S (sym long) (c.in_ok-kept.ensures.stands bytes gave)) c.in_ok-kept.ensures.fits)
       | in-Err w ↦ subst P (sym w.result-is) tt
     ]

@@ -1,0 +1,127 @@
+-- From what the reads of an opening gave to its answer.
+use Rattle.std.proofs.Common.{◌≡◌, ℕ, List, Option, Some, None, Result, Ok, Err, IfOk, MatchOption}
+use Rattle.std.proofs.Common.{MatchResult, refl, subst, sym}
+use Rattle.std.specs.Option.{ok_or}
+use Rattle.spool_disk.specs.Given.{Gave, Grew}
+use Rattle.spool_disk.specs.declared.given.Given.{Given}
+use Rattle.spool_disk.proofs.Gave.{first, grew_none, grew_on, rest}
+use Rattle.spool_pages.specs.View.{View, Says, state_place}
+use Rattle.spool_catalog.specs.Holding.{Holding}
+use Rattle.spool_catalog.specs.Kept.{KeepsAlone}
+use Rattle.spool_catalog.specs.Shows.{IsValid}
+use Rattle.spool_catalog.specs.declared.error.OpenFault.{OpenFault}
+use Rattle.spool_catalog.specs.declared.error.OpenFault.TheVariants.{Version}
+use Rattle.spool_load.specs.Faults.{TellsNothing, load_fault}
+use Rattle.spool_load.specs.Loaded.{FindsBy, FoundBy, IsFoundOf, LoadedFrom, LoadsBy, RestoresBy, StandsFound}
+use Rattle.spool_load.specs.ReadBy.{ReadsBy}
+use Rattle.spool_load.specs.Reads.{SaysBlocks}
+use Rattle.spool_load.specs.Refusals.{HasJournal, NotFoundBy, RefusedHere, SaysKnownVersion}
+use Rattle.spool_load.specs.declared.error.LoadError.{LoadError}
+use Rattle.spool_load.specs.declared.finding.Found.{Found}
+use Rattle.spool_load.proofs.Faults.{loads_err, tells_nothing}
+use Rattle.spool_load.proofs.Refused.{found_reason, read_reason, says_one, unfound_reason}
+
+-- THE TWO PARTS OF THE READS
+
+module _ {So : (before after : ℕ → ℕ) → Type 0} {a b : List Given} (grew : Grew a b) where
+  -- all reads belong to the first part
+  pub by_first : ((before after : ℕ → ℕ) → Gave before a b → So before after) → ReadsBy a b So
+  by_first so = record {
+    recovered = b;
+    first = grew;
+    last = grew_none refl;
+    so = λ before after early late. so before after early;
+  }
+
+  pub by_both : {c : List Given} → Grew b c
+      → ((before after : ℕ → ℕ) → Gave before a b → Gave after b c → So before after) → ReadsBy a c So
+  by_both then so = record { recovered = b; first = grew; last = then; so = so }
+
+  -- more reads before, in the first part
+  pub by_before : {c : List Given} {So' : (before after : ℕ → ℕ) → Type 0} → ReadsBy b c So'
+      → ((before after : ℕ → ℕ) → Gave before a b → So' before after → So before after) → ReadsBy a c So
+  by_before is more = record {
+    recovered = is.recovered;
+    first = grew_on grew is.first;
+    last = is.last;
+    so =
+        λ before after early late. more before after (first grew is.first early)
+        (is.so before after (rest grew is.first early) late);
+  }
+
+-- more reads afterwards, in the second part
+pub by_after : {So So' : (before after : ℕ → ℕ) → Type 0} {a b c : List Given} → ReadsBy a b So' → Grew b c
+    → ((before after : ℕ → ℕ) → So' before after → Gave after b c → So before after) → ReadsBy a c So
+by_after is grew more = record {
+  recovered = is.recovered;
+  first = is.first;
+  last = grew_on is.last grew;
+  so =
+      λ before after early late. more before after (is.so before after early (first is.last grew late))
+      (rest is.last grew late);
+}
+
+-- THE ANSWERS
+
+module _ (size : ℕ) (before after : ℕ → ℕ) where
+  pub restored_by : (n : ℕ) (said : Option Found) → HasJournal n before
+      → MatchOption said (SaysKnownVersion after (state_place n) → ⊥) (StandsFound after)
+      → MatchResult (ok_or said Version) (λ found. HasJournal n before × StandsFound after found)
+      (RefusedHere n before after)
+  restored_by n (Some found) journal stands = (journal, stands)
+  restored_by n None journal unknown = (journal, unknown)
+
+  module _ (n : ℕ) (says : SaysBlocks size before n) where
+    answered : (r : Result Found OpenFault) → IfOk r (λ found. found.layout ≡ n)
+        → MatchResult r (λ found. HasJournal n before × StandsFound after found) (RefusedHere n before after)
+        → MatchResult r (FoundBy size before after) (NotFoundBy size before after)
+    answered (Ok found) same is = record {
+      says = subst (SaysBlocks size before) (sym same) says;
+      journal = subst (λ (k : ℕ). HasJournal k before) (sym same) is.0;
+      state = is.1;
+    }
+    answered (Err e) same why = found_reason size before after n e says why
+
+    pub finds_by : (r : Result Found OpenFault) → IfOk r (λ found. found.layout ≡ n) → RestoresBy n r before after
+        → FindsBy size before after r
+    finds_by r same is = record {
+      answer = answered r same is.answer;
+      finds =
+          λ v valid encodes. let blocks = says_one size before v.blocks n encodes.begins says in
+          is.restores v valid blocks (subst (λ (k : ℕ). HasJournal k before) blocks encodes.journal) encodes.says;
+    }
+
+  pub unfound_by : (e : OpenFault) → FindsBy size before after (Err e) → LoadsBy size before after (Err e)
+  unfound_by e is = record {
+    answer = unfound_reason size before after e is.answer;
+    loads = λ v valid encodes. loads_err (IsFoundOf v) (λ (kept : Holding). KeepsAlone kept v) e
+        (is.finds v valid encodes);
+  }
+
+  module _ (found : Found) (is : FindsBy size before after (Ok found)) where
+    pub unread_by : (e : LoadError)
+        → ((v : View) → IsValid v → IsFoundOf v found → Says after v → TellsNothing e)
+        → LoadsBy size before after (Err (load_fault e))
+    unread_by e tells = record {
+      answer = read_reason size before after found e is.answer
+          (λ v valid encodes. tells v valid (is.finds v valid encodes) encodes.says);
+      loads = λ v valid encodes. tells_nothing e (λ (kept : Holding). KeepsAlone kept v)
+          (tells v valid (is.finds v valid encodes) encodes.says);
+    }
+
+    pub loads_by : (kept : Holding) → LoadedFrom after found.layout kept
+        → ((v : View) → IsValid v → IsFoundOf v found → Says after v → KeepsAlone kept v)
+        → LoadsBy size before after (Ok kept)
+    loads_by kept loaded keeps = record {
+      answer = record {
+        view = loaded.view;
+        valid = loaded.valid;
+        encodes = record {
+          begins = subst (SaysBlocks size before) (sym loaded.blocks) is.answer.says;
+          journal = subst (λ (k : ℕ). HasJournal k before) (sym loaded.blocks) is.answer.journal;
+          says = loaded.says;
+        };
+        so = loaded.keeps;
+      };
+      loads = λ v valid encodes. keeps v valid (is.finds v valid encodes) encodes.says;
+    }
