@@ -2,8 +2,9 @@
 ghost use Rattle.spool_disk.specs.Disk.{IsImage};
 
 use crate::faults::Fault;
+use common::Trace;
 use enc_index::IndexSet;
-use spool_disk::{Disk, DiskFault};
+use spool_disk::{Disk, DiskFault, Given};
 use spool_image::{format, pages_of};
 use std::alloc::{AllocError, Global};
 
@@ -16,13 +17,18 @@ const OPEN: u8 = 0xA5;
 #[derive(Drop)]
 pub(crate) struct RamDisk {
     bytes: Vec<u8>,
+    // What its reads gave, the latest first.
+    reads: Trace<Given>,
 }
 
 impl RamDisk {
     // A disk of zeros.
     fn new(alloc: Global, len: usize) -> Result<Self, AllocError> {
         let bytes = vec![in alloc; 0; len]?;
-        Ok(RamDisk { bytes })
+        Ok(RamDisk {
+            bytes,
+            reads: Trace::new(),
+        })
     }
 
     /// A spool of so many blocks, without uploads.
@@ -45,7 +51,7 @@ impl RamDisk {
 }
 
 impl Disk for RamDisk {
-    ghost use Rattle.jobs.specs.Ram.{size_of};
+    ghost use Rattle.jobs.specs.Ram.{size_of, reads_of};
 
     ghost size = { size_of };
 
@@ -62,6 +68,8 @@ impl Disk for RamDisk {
 
     ghost failures = { λ d. 0 };
 
+    ghost reads = { reads_of };
+
     ghost tells = { λ failed old new. failed → ⊥ };
 
     ghost counts_now = { λ d t image le now. now };
@@ -73,9 +81,10 @@ impl Disk for RamDisk {
     }
 
     fn read(&mut self, at: u64, buf: &mut [u8]) -> Result<(), DiskFault> {
-        let at = at as usize;
-        let end = at + buf.len();
-        buf.copy_from_slice(&self.bytes[at..end]);
+        let from = at as usize;
+        let end = from + buf.len();
+        buf.copy_from_slice(&self.bytes[from..end]);
+        self.reads = self.reads.and(&Given::new(at, buf));
         Ok(())
     }
 

@@ -1,5 +1,6 @@
 -- The parts of a disk in memory.
-use Rattle.std.specs.Prelude.{◌≡◌, ℕ, length, get_or, true, false}
+use Rattle.std.specs.Prelude.{◌≡◌, ℕ, List, length, get_or, true, false}
+use Rattle.spool_disk.specs.declared.given.Given.{Given}
 use Rattle.spool_disk.specs.declared.memory.MemoryDisk.{MemoryDisk}
 
 -- The number of its bytes.
@@ -17,3 +18,7 @@ synced_of disk p = get_or disk.synced.items p 0
 -- The place was written since the last sync.
 abbrev pub unsynced_of : MemoryDisk → ℕ → Type 0
 unsynced_of disk p = get_or disk.unsynced.items p false ≡ true
+
+-- What its reads gave, the latest first.
+abbrev pub reads_of : MemoryDisk → List Given
+reads_of disk = disk.reads.items

@@ -3,7 +3,10 @@ use Rattle.std.specs.Prelude.{ℕ, ◌++◌, nat_lt, Bool, true, false, if◌the
 use Rattle.common.specs.Traces.{trace_of}
 use Rattle.spool_disk.specs.declared.positioned.FileCall.{FileCall}
 use Rattle.spool_disk.specs.declared.positioned.Made.{Made}
-use Rattle.spool_disk.specs.declared.positioned.FileCall.TheVariants.{Open, Lock, Len, SetLen, SyncAll, SyncFolder}
+use Rattle.spool_disk.specs.declared.positioned.FileCall.TheVariants.{Open, Lock, Len, ReadAt, SetLen, SyncAll}
+use Rattle.spool_disk.specs.declared.positioned.FileCall.TheVariants.{SyncFolder}
+use Rattle.spool_disk.specs.declared.given.Given.{Given}
+use Rattle.spool_disk.specs.Given.{given}
 
 -- A call that was made, the bytes that it read or wrote, and whether it succeeded.
 abbrev pub made : FileCall → List ℕ → Bool → Made
@@ -24,3 +27,13 @@ lengthened found len =
 -- The calls that open or make a file of at least this length, and last a sync of its folder.
 abbrev pub created : (found len : ℕ) → List Made
 created found len = made SyncFolder [] true ∷ lengthened found len ++ opened true
+
+-- What a call with these bytes gave: the bytes if it is a read that succeeded, and otherwise nothing.
+abbrev pub read_by : FileCall → List ℕ → Bool → List Given
+read_by (ReadAt at) bs true = given at bs ∷ []
+read_by _ bs done = []
+
+-- What the successful reads among these calls gave.
+abbrev pub reads_in : List Made → List Given
+reads_in [] = []
+reads_in (m ∷ calls) = read_by m.call m.bytes.items m.done ++ reads_in calls

@@ -1,11 +1,14 @@
 //! The trait of disks.
-ghost use Rattle.std.specs.Prelude.{◌≡◌, ◌≤◌, ◌+◌, ◌↔◌, ℕ, length, IsErr, IsOk};
+ghost use Rattle.std.specs.Prelude.{◌≡◌, ◌≤◌, ◌+◌, ◌↔◌, ℕ, length, IsErr, IsOk, List, ◌∷◌, OnOk, OnErr};
 ghost use Rattle.spool_disk.specs.Disk.{Counts, span, IsImage, Elapses, Writes, Syncs, Keeps};
+ghost use Rattle.spool_disk.specs.Given.{given};
 
 use common::DiskFault;
 
 /// A disk of bytes. Every call may fail; a call that failed changes nothing outside its range.
 pub trait Disk {
+    ghost use Rattle.spool_disk.specs.declared.given.Given.{Given};
+
     /// The number of bytes. No call changes it.
     ghost size: { Self → ℕ };
 
@@ -26,6 +29,9 @@ pub trait Disk {
 
     /// The number of failed calls, up to 2^64 - 1.
     ghost failures: { Self → ℕ };
+
+    /// What its successful reads gave, the latest first.
+    ghost reads: { Self → List Given };
 
     /// Which calls fail, as far as this kind of disk specifies it: whether the call failed, the disk before it and
     /// after it.
@@ -48,6 +54,8 @@ pub trait Disk {
         ensures time { honest self.old → Elapses (moment self.old) (moment self.new) (left_since self.old)
             (left_since self.new) (current self.new) (unsynced self.new) }
         ensures counts { Counts (IsErr result) (failures self.old) (failures self.new) }
+        ensures given { OnOk result (reads self.new ≡ given at buf.new ∷ reads self.old) }
+        ensures none { OnErr result (reads self.new ≡ reads self.old) }
         ensures tells { tells (IsErr result) self.old self.new };
 
     /// Writes the bytes from `at` on. The range has to lie within the disk. Until a sync succeeds, and also if this
@@ -62,6 +70,7 @@ pub trait Disk {
         ensures time { honest self.old → Elapses (moment self.old) (moment self.new) (left_since self.old)
             (left_since self.new) (current self.new) (unsynced self.new) }
         ensures counts { Counts (IsErr result) (failures self.old) (failures self.new) }
+        ensures reads { reads self.new ≡ reads self.old }
         ensures tells { tells (IsErr result) self.old self.new };
 
     /// Makes all writes so far durable: after a sync that succeeds, the only crash image is what a read gives. After
@@ -75,6 +84,7 @@ pub trait Disk {
         ensures time { honest self.old → Elapses (moment self.old) (moment self.new) (left_since self.old)
             (left_since self.new) (current self.new) (unsynced self.new) }
         ensures counts { Counts (IsErr result) (failures self.old) (failures self.new) }
+        ensures reads { reads self.new ≡ reads self.old }
         ensures tells { tells (IsErr result) self.old self.new };
 
     /// The current crash images are among those since any earlier moment.

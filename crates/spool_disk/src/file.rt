@@ -136,6 +136,7 @@ fn lengthen<F: Positioned>(file: &mut F, len: u64) -> io::Result<()>
 
 impl<F: Positioned> Disk for PositionedDisk<F> {
     ghost use Rattle.spool_disk.specs.File.{file_of, length_of, failed_in};
+    ghost use Rattle.spool_disk.specs.Positioned.{reads_in};
 
     ghost size = { length_of };
 
@@ -152,6 +153,9 @@ impl<F: Positioned> Disk for PositionedDisk<F> {
     ghost left_since = { λ d t image. IsImage (λ p. 0) (λ p. Unit {0}) image };
 
     ghost failures = { failed_in };
+
+    // The calls of the file say which reads there were.
+    ghost reads = { λ d. reads_in (F.calls (file_of d)) };
 
     ghost tells = { λ failed old new. Unit {0} };
 

@@ -87,6 +87,7 @@ fn scrawl<D: Disk>(disk: &mut D, at: u64, bytes: &[u8], filler: &[u8])
         (D.left_since disk.new) (D.current disk.new) (D.unsynced disk.new) }
     ensures later { D.failures disk.old ≤ D.failures disk.new }
     ensures forward { D.moment disk.old ≤ D.moment disk.new }
+    ensures reads { D.reads disk.new ≡ D.reads disk.old }
 {
     let len = bytes.len().min(filler.len());
     let _ = disk.write_at(at, &filler[..len]);
@@ -108,6 +109,8 @@ impl<D: Disk> Disk for HiccupDisk<D> {
     ghost left_since = { λ d. D.left_since (within_of d) };
 
     ghost failures = { λ d. D.failures (within_of d) + missed_of d };
+
+    ghost reads = { λ d. D.reads (within_of d) };
 
     ghost tells = { λ failed old new. Waits (D.tells failed) failed old new };
 

@@ -3,7 +3,8 @@ ghost use Rattle.std.specs.Prelude.{◌≡◌, ◌≤◌, ◌<◌, ◌+◌, ℕ,
 ghost use Rattle.spool_disk.specs.Crash.{left_by};
 ghost use Rattle.spool_disk.specs.Disk.{In, IsImage};
 
-use crate::{Crash, CrashDisk, Disk, DiskFault};
+use crate::{Crash, CrashDisk, Disk, DiskFault, Given};
+use common::Trace;
 use std::alloc::{AllocError, Global};
 
 /// A disk in memory. It never fails, and `crash` makes it crash.
@@ -13,6 +14,8 @@ pub struct MemoryDisk {
     written: Vec<u8>,
     // The places that were written since the last sync.
     unsynced: Vec<bool>,
+    // What its reads gave, the latest first.
+    reads: Trace<Given>,
     ghost same: { length synced.items ≡ length written.items },
     ghost marked: { length unsynced.items ≡ length written.items },
     ghost agree: { (p : ℕ) → (get_or unsynced.items p false ≡ true → ⊥)
@@ -20,7 +23,7 @@ pub struct MemoryDisk {
 }
 
 impl MemoryDisk {
-    ghost use Rattle.spool_disk.specs.Memory.{size_of, bytes_of, synced_of, unsynced_of};
+    ghost use Rattle.spool_disk.specs.Memory.{size_of, bytes_of, synced_of, unsynced_of, reads_of};
 
     /// A disk of zeros, all synced. Later calls need no memory.
     ///
@@ -40,6 +43,7 @@ impl MemoryDisk {
             synced,
             written,
             unsynced,
+            reads: Trace::new(),
         })
     }
 
@@ -52,11 +56,13 @@ impl MemoryDisk {
         ensures old { kind ≡ Crash.Old → (p : ℕ) → bytes_of result p ≡ synced_of self p }
         ensures synced { (p : ℕ) → synced_of result p ≡ bytes_of result p }
         ensures is_synced { (p : ℕ) → unsynced_of result p → ⊥ }
+        ensures reads { reads_of result ≡ reads_of self }
     {
         let MemoryDisk {
             mut synced,
             mut written,
             mut unsynced,
+            reads,
         } = self;
         tear(&mut written, &synced, &unsynced, kind);
         synced.copy_from_slice(&written);
@@ -65,6 +71,7 @@ impl MemoryDisk {
             synced,
             written,
             unsynced,
+            reads,
         }
     }
 }
@@ -121,7 +128,7 @@ fn mark(marks: &mut [bool], at: usize, n: usize)
 }
 
 impl Disk for MemoryDisk {
-    ghost use Rattle.spool_disk.specs.Memory.{size_of, bytes_of, unsynced_of};
+    ghost use Rattle.spool_disk.specs.Memory.{size_of, bytes_of, unsynced_of, reads_of};
 
     ghost size = { size_of };
 
@@ -137,6 +144,8 @@ impl Disk for MemoryDisk {
 
     ghost failures = { λ d. 0 };
 
+    ghost reads = { reads_of };
+
     ghost tells = { λ failed old new. failed → ⊥ };
 
     ghost counts_now = { λ d t image le now. now };
@@ -148,9 +157,10 @@ impl Disk for MemoryDisk {
     }
 
     fn read(&mut self, at: u64, buf: &mut [u8]) -> Result<(), DiskFault> {
-        let at = at as usize;
-        let end = at + buf.len();
-        buf.copy_from_slice(&self.written[at..end]);
+        let from = at as usize;
+        let end = from + buf.len();
+        buf.copy_from_slice(&self.written[from..end]);
+        self.reads = self.reads.and(&Given::new(at, buf));
         Ok(())
     }
 
