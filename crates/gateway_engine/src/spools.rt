@@ -3,7 +3,7 @@ ghost use Rattle.std.specs.Prelude.{◌≡◌, ◌↔◌, ℕ, Option, true, fal
 ghost use Rattle.spool_disk.specs.Disk.{Counts};
 ghost use Rattle.spool_disk.specs.Views.{Lasts};
 ghost use Rattle.spool_image.specs.LeftOnly.{AllShow, IsSpool, LeftOrShows, SpoolLeft};
-ghost use Rattle.spool_image.specs.Opening.{OpensExactly, ReadsSame, Unwritten, refusal_of};
+ghost use Rattle.spool_image.specs.Opening.{OpensBy, OpensExactly, ReadsBy, ReadsSame, Unwritten, refusal_of};
 ghost use Rattle.spool_image.specs.Spool.{IsFault, Keeps, OpensAs, SpoolStands, disk_of};
 ghost use Rattle.spool_catalog.specs.Shows.{Shows};
 ghost use Rattle.spool_pages.specs.View.{View};
@@ -47,6 +47,11 @@ impl<D: Disk> Gateway<Spool<D>> {
 
         // What is opened is a valid spool. Each refusal has its reason, and each reason is answered so.
         ensures exact { D.honest disk → OpensExactly (D.size disk) (D.current disk) (refusal_of result) }
+
+        // On any disk the answer follows in the same way from the bytes that the reads gave, and so does the view in
+        // memory.
+        ensures given { ReadsBy (D.reads disk) (D.reads (disk_after result))
+            (OpensBy (λ g. Keeps (store_of g)) (D.size disk) result) }
 
         // Where no journal is to be replayed nothing is written.
         ensures unwritten { D.honest disk → Unwritten D.Disk disk (disk_after result) }

@@ -11,7 +11,5 @@ mod Planned
 mod Named
 mod Entries
 mod Exported
-mod Surveyed
-mod Reopened
 mod Held
 mod Indexing

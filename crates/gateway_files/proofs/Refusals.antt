@@ -1,8 +1,15 @@
 -- A refusal to open a spool, as `list` answers it.
-use Rattle.std.proofs.Common.{◌≡◌, ◌∙◌, ◌⊎◌, inl, inr, ap, Err}
+use Rattle.std.proofs.Common.{◌≡◌, ◌∙◌, ◌⊎◌, inl, inr, ℕ, ap, Result, Ok, Err, IfErr, IfOk, OnOk, subst, sym}
 use Rattle.common.specs.declared.stop.Stop.TheVariants.{NoMemory, DiskFault}
 use Rattle.spool_catalog.specs.Loads.{LoadsAs}
-use Rattle.gateway_files.specs.Listing.{Lists}
+use Rattle.spool_catalog.specs.Shows.{Shows}
+use Rattle.spool_load.specs.Loaded.{ReadsView}
+use Rattle.spool_load.specs.Refusals.{RefusedBy}
+use Rattle.spool_pages.specs.View.{View}
+use Rattle.spool_image.proofs.Opening.{view_more}
+use Rattle.upload_rules.specs.Store.{Store}
+use Rattle.gateway_files.specs.Changing.{IsChangeFault}
+use Rattle.gateway_files.specs.Listing.{AnswersAs, IsWriteFault, ListRefusedBy, Lists}
 use Rattle.spool_catalog.specs.declared.error.OpenFault.{OpenFault}
 use Rattle.spool_catalog.specs.declared.error.OpenFault.TheVariants as opens
 use Rattle.gateway_files.specs.declared.faults.Fault.{Fault}
@@ -35,3 +42,52 @@ pub is_damaged : (e : OpenFault) (f : Fault) → f ≡ open_fault e
     → (e ≡ opens.Damaged) ⊎ (e ≡ opens.Stop NoMemory) ⊎ (e ≡ opens.Stop DiskFault)
     → (f ≡ Damaged) ⊎ (f ≡ Stop NoMemory) ⊎ (f ≡ Stop DiskFault)
 is_damaged = refused_as opens.Damaged
+
+-- ON ANY DISK, by what the reads of the opening gave
+module _ {size : ℕ} {before after : ℕ → ℕ} where
+  reason : (e : OpenFault) → RefusedBy size before after e → ListRefusedBy size before after (open_fault e)
+  reason opens.NotASpool why = why
+  reason opens.Version why = why
+  reason opens.Damaged why = why
+  reason (opens.Stop stop) why = tt
+
+  pub unopened : {T : Type 0} {So : Store → Type 0} (e : OpenFault) (f : Fault) → f ≡ open_fault e
+      → RefusedBy size before after e → AnswersAs {T = T} So size (Err f) before after
+  unopened e f same why =
+      record { refused = subst (ListRefusedBy size before after) (sym same) (reason e why); done = tt }
+
+  pub change_refused : {T : Type 0} (r : Result T Fault) → IfErr r IsChangeFault → IfErr r (ListRefusedBy size before after)
+  change_refused (Ok t) why = tt
+  change_refused (Err f) (inl is) = subst (ListRefusedBy size before after) (sym is) tt
+  change_refused (Err f) (inr (inl is)) = subst (ListRefusedBy size before after) (sym is) tt
+  change_refused (Err f) (inr (inr is)) = subst (ListRefusedBy size before after) (sym is) tt
+
+  pub memory_refused : {T : Type 0} (r : Result T Fault) → IfErr r (λ f. f ≡ Stop NoMemory)
+      → IfErr r (ListRefusedBy size before after)
+  memory_refused (Ok t) why = tt
+  memory_refused (Err f) is = subst (ListRefusedBy size before after) (sym is) tt
+
+  -- done as for the uploads that the view shows
+  pub done_by : {T : Type 0} {Has : View → Type 0} {So : Store → Type 0} (r : Result T Fault)
+      → ((v : View) (m : Store) → Shows v m → Has v → OnOk r (So m)) → ReadsView size before after Has
+      → OnOk r (ReadsView size before after (λ v. (m : Store) → Shows v m → So m))
+  done_by (Ok t) so is = view_more (λ v has m shows. so v m shows has) is
+  done_by (Err f) so is = tt
+
+pub ok_both : {T : Type 0} {P : Type 0} {Q : T → Type 0} (r : Result T Fault) → OnOk r P → IfOk r Q
+    → OnOk r (P × IfOk r Q)
+ok_both (Ok t) p q = (p, q)
+ok_both (Err f) p q = tt
+
+pub ok_each : {T A : Type 0} {P : A → Type 0} (r : Result T Fault) → ((a : A) → OnOk r (P a)) → OnOk r ((a : A) → P a)
+ok_each (Ok t) p = p
+ok_each (Err f) p = tt
+
+pub ok_if : {T : Type 0} {Q : T → Type 0} (r : Result T Fault) → IfOk r Q → OnOk r (IfOk r Q)
+ok_if (Ok t) q = q
+ok_if (Err f) q = tt
+
+-- what a writer refuses a change meets too
+pub write_fault : (f : Fault) → IsWriteFault f → IsChangeFault f
+write_fault f (inl is) = inl is
+write_fault f (inr is) = inr (inl is)

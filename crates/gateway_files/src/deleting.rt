@@ -8,11 +8,12 @@ ghost use Rattle.upload_rules.specs.Calls.{terminated};
 ghost use Rattle.upload_rules.specs.Store.{Store, deleted_store, upload_of};
 ghost use Rattle.upload_rules.specs.World.{World, is_there};
 ghost use Rattle.spool_image.specs.LeftOnly.{AllShow, IsSpool};
+ghost use Rattle.spool_image.specs.Opening.{OpensOn};
 ghost use Rattle.gateway_files.specs.declared.faults.Fault.{Fault};
 ghost use Rattle.gateway_files.specs.Changing.{Changes, IsChangeFault, LimitsTo};
 ghost use Rattle.gateway_files.specs.Deleting.{all_there, deletion_line, deletion_lines, left, stages};
 ghost use Rattle.gateway_files.specs.Leaving.{LeavesOne};
-ghost use Rattle.gateway_files.specs.Listing.{ListRefusedFor, RefusesListAs};
+ghost use Rattle.gateway_files.specs.Listing.{AnswersAs, ListRefusedFor, RefusesListAs};
 
 use crate::failures::Failure;
 use crate::faults::Fault;
@@ -75,6 +76,11 @@ pub fn delete_on<D: Disk + Drop, W: Write>(
 
     // A spool's uploads are deleted, unless memory, the disk or the writer refuses it.
     ensures deletes { (n : ℕ) (m : Store) → IsSpool D.Disk disk n m → Changes result.1 }
+
+    // On any disk it answers by what the reads of its opening gave: for the uploads that the view shows which they encode.
+    ensures given { OpensOn D.Disk disk (AnswersAs
+        (λ m. Appends (W.contents writer.old) (W.contents writer.new) (deletion_lines m numbers.now)
+        × IfOk result.1 (λ all. all ≡ all_there m numbers.now)) (D.size disk) result.1) }
 
     // Each refusal has its reason, and each reason is answered so, unless memory or the disk refuses it.
     ensures refused { D.honest disk → IfErr result.1 (ListRefusedFor (D.size disk) (D.current disk)) }

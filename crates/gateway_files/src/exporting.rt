@@ -9,6 +9,7 @@ ghost use Rattle.upload_rules.specs.Reading.{text_at};
 ghost use Rattle.upload_rules.specs.Store.{Store, upload_of};
 ghost use Rattle.upload_rules.specs.World.{World};
 ghost use Rattle.spool_image.specs.LeftOnly.{AllShow, IsSpool};
+ghost use Rattle.spool_image.specs.Opening.{OpensOn};
 ghost use Rattle.gateway_files.specs.declared.faults.Fault.{Fault};
 ghost use Rattle.gateway_files.specs.Changing.{Changes, IsChangeFault};
 ghost use Rattle.gateway_files.specs.Exporting.{Exports, ExportsAs, ExportsOneAs, ExportsSome, ExportsSomeAs};
@@ -17,7 +18,7 @@ ghost use Rattle.gateway_files.specs.Exporting.{summary_line};
 ghost use Rattle.gateway_files.specs.Folders.{Files, HoldsAll};
 ghost use Rattle.gateway_files.specs.Leaving.{LeavesOne};
 ghost use Rattle.gateway_files.specs.Lines.{IsInOrder};
-ghost use Rattle.gateway_files.specs.Listing.{ListRefusedFor, RefusesListAs};
+ghost use Rattle.gateway_files.specs.Listing.{AnswersAs, ListRefusedFor, RefusesListAs};
 ghost use Rattle.gateway_files.specs.Planning.{job_shown, jobs_of};
 
 use crate::copies::copy_text;
@@ -92,6 +93,11 @@ pub fn export_on<D: Disk + Drop, F: Folder, W: Write>(
 
     // A spool's texts are written, unless memory, the disk, the folder or the writer refuses it.
     ensures exports { (n : ℕ) (m : Store) → IsSpool D.Disk disk n m → Changes result.1 }
+
+    // On any disk it answers by what the reads of its opening gave: for the uploads that the view shows which they encode.
+    ensures given { OpensOn D.Disk disk (AnswersAs
+        (λ m. (files : Files) → F.holds folder.old files → ExportsAs false (F.holds folder.new) m (jobs_of all m) files)
+        (D.size disk) result.1) }
 
     // Each refusal has its reason, and each reason is answered so, unless memory or the disk refuses it.
     ensures refused { D.honest disk → IfErr result.1 (ListRefusedFor (D.size disk) (D.current disk)) }

@@ -10,10 +10,11 @@ ghost use Rattle.spool_load.specs.Refusals.{HasOtherVersion, IsDamaged, IsNoSpoo
 ghost use Rattle.upload_rules.specs.Store.{Store};
 ghost use Rattle.upload_rules.specs.World.{World};
 ghost use Rattle.spool_image.specs.LeftOnly.{AllShow, IsSpool, LeftOrShows};
+ghost use Rattle.spool_image.specs.Opening.{OpensOn};
 ghost use Rattle.gateway_files.specs.declared.faults.Fault.{Fault};
 ghost use Rattle.gateway_files.specs.Failures.{fault_in};
 ghost use Rattle.gateway_files.specs.Listed.{ListsAs, RefusedList};
-ghost use Rattle.gateway_files.specs.Listing.{IsWriteFault, ListRefusedFor, Lists, RefusesListAs};
+ghost use Rattle.gateway_files.specs.Listing.{AnswersAs, IsWriteFault, ListRefusedFor, Lists, RefusesListAs};
 ghost use Rattle.gateway_files.specs.Lines.{IsInOrder, length_text, lines_of, mode_text, record_line, spaced};
 ghost use Rattle.gateway_files.specs.Lines.{shown_name, told_of};
 ghost use Rattle.gateway_files.specs.SpoolFiles.{Disks, Leaves, NotOpened, with_disk};
@@ -148,6 +149,10 @@ pub fn list_on<D: Disk + Drop, W: Write>(
 
     // A spool is listed, unless memory, the disk or the writer refuses it.
     ensures listed { (n : ℕ) (m : Store) → IsSpool D.Disk disk n m → Lists result.1 }
+
+    // On any disk it answers by what the reads of its opening gave: for the uploads that the view shows which they encode.
+    ensures given { OpensOn D.Disk disk (AnswersAs
+        (λ m. Appends (W.contents writer.old) (W.contents writer.new) (lines_of long m)) (D.size disk) result.1) }
 
     // Each refusal has its reason, and each reason is answered so, unless memory or the disk refuses it.
     ensures refused { D.honest disk → IfErr result.1 (ListRefusedFor (D.size disk) (D.current disk)) }

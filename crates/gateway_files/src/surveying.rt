@@ -1,28 +1,21 @@
 //! How much of a spool is in use.
-ghost use Rattle.std.specs.Prelude.{◌≡◌, ◌↔◌, ℕ, Err, IfErr, IfOk, OnOk, Some, false, true};
-ghost use Rattle.common.specs.declared.stop.Stop.{Stop};
-ghost use Rattle.spool_disk.specs.Disk.{Counts, IsImage, Keeps as KeepsAll};
+ghost use Rattle.std.specs.Prelude.{◌≡◌, ◌↔◌, ℕ, IfErr, IfOk, Some, false, true};
+ghost use Rattle.spool_disk.specs.Disk.{Counts};
 ghost use Rattle.spool_disk.specs.Views.{Lasts};
-ghost use Rattle.spool_journal.specs.Image.{journal_pages, overlaid};
-ghost use Rattle.spool_journal.specs.Phases.{Settled};
-ghost use Rattle.spool_catalog.specs.Loads.{LoadsAs};
-ghost use Rattle.spool_load.specs.Loaded.{FoundOn};
-ghost use Rattle.spool_load.specs.Reads.{NeedsReplay};
-ghost use Rattle.spool_load.specs.Refusals.{HasOtherVersion, IsDamaged, IsNoSpool, NotFoundFor, RefusedFor};
+ghost use Rattle.spool_load.specs.Refusals.{HasOtherVersion, IsDamaged, IsNoSpool, RefusedFor};
 ghost use Rattle.upload_rules.specs.Store.{Store};
 ghost use Rattle.upload_rules.specs.World.{at_rest};
 ghost use Rattle.spool_image.specs.LeftOnly.{AllShow, IsSpool, LeftOrShows};
-ghost use Rattle.spool_image.specs.Opening.{ReadsSame, Unwritten};
-ghost use Rattle.spool_image.specs.Spool.{IsFault, Keeps, OpensAs, OpensFrom, RefusesAs, SpoolStands, disk_of};
+ghost use Rattle.spool_image.specs.Opening.{OpensBy, ReadsBy, ReadsSame, Unwritten};
+ghost use Rattle.spool_image.specs.Spool.{IsFault, Keeps, OpensAs, OpensFrom, RefusesAs, SpoolStands, disk_of, size_of};
 ghost use Rattle.spool_catalog.specs.Shows.{Shows};
-ghost use Rattle.spool_pages.specs.View.{View};
+ghost use Rattle.spool_pages.specs.View.{View, version_number};
 ghost use Rattle.gateway_files.specs.Surveying.{disk_left};
 
 use common::SLOTS;
 use spool_disk::Disk;
 use spool_image::{OpenFault, Spool};
 use spool_journal::PAGE;
-use spool_load::{Found, find};
 use std::alloc::Global;
 use upload_rules::{Uploads, is_length};
 
@@ -48,15 +41,22 @@ pub fn open_surveyed<D: Disk>(alloc: Global, disk: D) -> Result<(Spool<D>, Surve
     ensures honest { D.honest disk ↔ D.honest (disk_left result) }
     ensures counts { Counts (IsFault result) (D.failures disk) (D.failures (disk_left result)) }
 
-    // A spool is opened, unless memory or the disk refuses it, and stands for its uploads. So many blocks are told.
+    // A spool is opened, unless memory or the disk refuses it, and stands for its uploads. The survey has its number of
+    // blocks and its version.
     ensures stands { (n : ℕ) (m : Store) → IsSpool D.Disk disk n m
         → OpensAs result (λ opened. SpoolStands opened.0 true (at_rest m (Some n))) }
     ensures blocks { (n : ℕ) (m : Store) → IsSpool D.Disk disk n m → IfOk result (λ opened. opened.1.blocks ≡ n) }
+    ensures survey { (v : View) → IfOk result (λ opened. Keeps opened.0 v
+        → (opened.1.version ≡ version_number v.version) × (opened.1.blocks ≡ v.blocks)) }
 
     // On any disk what it has in memory is a view, and it stands for the uploads that this view shows.
     ensures view { IfOk result (λ opened. (v : View) × Keeps opened.0 v) }
     ensures kept { (v : View) (m : Store) → Shows v m
         → IfOk result (λ opened. Keeps opened.0 v → SpoolStands opened.0 false (at_rest m (Some v.blocks))) }
+
+    // And the answer follows from the bytes that the reads gave, and so does this view.
+    ensures given { ReadsBy (D.reads disk) (D.reads (disk_left result))
+        (OpensBy (λ opened. Keeps opened.0) (D.size disk) result) }
 
     // What is opened is a valid spool, and it is what a read shows. Each refusal has its reason, and each reason is
     // answered so, unless memory or the disk refuses it.
@@ -79,53 +79,20 @@ pub fn open_surveyed<D: Disk>(alloc: Global, disk: D) -> Result<(Spool<D>, Surve
     ensures lasts { (n : ℕ) (m : Store) → IsSpool D.Disk disk n m
         → Lasts D.Disk disk (disk_left result) (LeftOrShows D.Disk disk n m) }
 {
-    let mut disk = disk;
-    match find_whole(&mut disk) {
-        Ok(found) => match Spool::open(alloc, disk) {
-            Ok(spool) => {
-                let survey = survey_of(&found, &spool);
-                Ok((spool, survey))
-            }
-            Err(refused) => Err(refused),
-        },
-        Err(fault) => Err((disk, fault)),
-    }
+    let spool = Spool::open(alloc, disk)?;
+    let survey = survey_of(&spool);
+    Ok((spool, survey))
 }
 
-// Finds the spool on a disk and makes it whole.
-fn find_whole<D: Disk>(disk: &mut D) -> Result<Found, OpenFault>
-    ensures size { D.size disk.new ≡ D.size disk.old }
-    ensures honest { D.honest disk.old ↔ D.honest disk.new }
-    ensures counts { Counts (result ≡ Err (OpenFault.Stop Stop.DiskFault)) (D.failures disk.old) (D.failures disk.new) }
-    ensures on { D.honest disk.old → IfOk result (FoundOn (D.size disk.old) (D.current disk.old)) }
-    ensures refused { D.honest disk.old → IfErr result (NotFoundFor (D.size disk.old) (D.current disk.old)) }
-    ensures settled { D.honest disk.old → IfOk result (λ found.
-        Settled (journal_pages found.layout) (overlaid (D.current disk.old)) (D.current disk.new)
-        (D.unsynced disk.new)) }
-    ensures unwritten { D.honest disk.old → (NeedsReplay (D.size disk.old) (D.current disk.old) → ⊥)
-        → Lasts D.Disk disk.old disk.new (IsImage (D.current disk.old) (D.unsynced disk.old)) }
-    ensures same { D.honest disk.old → (NeedsReplay (D.size disk.old) (D.current disk.old) → ⊥)
-        → (result ≡ Err (OpenFault.Stop Stop.DiskFault) → ⊥)
-        → KeepsAll (D.current disk.old) (D.current disk.new) (D.unsynced disk.old) (D.unsynced disk.new) }
-    ensures found { (n : ℕ) (m : Store) → IsSpool D.Disk disk.old n m → LoadsAs result (λ found. found.layout ≡ n) }
-    ensures shows { (n : ℕ) (m : Store) → IsSpool D.Disk disk.old n m → OnOk result (AllShow D.Disk disk.new n m) }
-    ensures lasts { (n : ℕ) (m : Store) → IsSpool D.Disk disk.old n m
-        → Lasts D.Disk disk.old disk.new (LeftOrShows D.Disk disk.old n m) }
+// How much of a spool is in use.
+fn survey_of<D: Disk>(spool: &Spool<D>) -> Survey
+    ensures blocks { result.blocks ≡ size_of spool.now }
+    ensures version { (v : View) → Keeps spool.now v → result.version ≡ version_number v.version }
 {
-    match find(disk) {
-        Ok(found) => Ok(found),
-        Err(fault) => Err(fault),
-    }
-}
-
-// How much of a spool that was found is in use.
-fn survey_of<U: Uploads>(found: &Found, uploads: &U) -> Survey
-    ensures { result.blocks ≡ found.now.layout }
-{
-    let blocks = u64::from(found.layout.blocks());
-    let used = used_of(uploads);
+    let blocks = u64::from(spool.blocks());
+    let used = used_of(spool);
     Survey {
-        version: found.version.number(),
+        version: spool.version().number(),
         blocks,
         free_blocks: blocks.saturating_sub(used.blocks),
         free_slots: used.free_slots,

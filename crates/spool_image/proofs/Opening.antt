@@ -1,42 +1,51 @@
 -- From the answer of an opening to that of what opens.
-use Rattle.std.proofs.Common.{ℕ, None, Some}
+use Rattle.std.proofs.Common.{◌≡◌, ℕ, None, Some, refl}
 use Rattle.common.specs.declared.stop.Stop.TheVariants.{NoMemory}
+use Rattle.spool_journal.specs.Image.{overlaid}
 use Rattle.spool_catalog.specs.Holding.{Holding}
+use Rattle.spool_catalog.specs.Shows.{IsValid}
 use Rattle.spool_catalog.specs.declared.error.OpenFault.{OpenFault}
-use Rattle.spool_catalog.specs.declared.error.OpenFault.TheVariants.{NotASpool, Damaged, Version, Stop}
-use Rattle.spool_load.specs.Loaded.{OpenedFrom}
-use Rattle.spool_load.specs.Refusals.{IsNoSpool, HasOtherVersion, IsDamaged, RefusedFor}
-use Rattle.spool_image.specs.Opening.{IsRefusedAs, OpensExactly}
+use Rattle.spool_catalog.specs.declared.error.OpenFault.TheVariants.{Stop}
+use Rattle.spool_load.specs.Loaded.{OpenedFrom, ReadsView}
+use Rattle.spool_load.specs.Refusals.{RefusedBy}
+use Rattle.spool_pages.specs.View.{View}
+use Rattle.spool_image.specs.Opening.{AnswersBy}
+use Rattle.spool_image.proofs.Refused.{opened_encodes, told_damaged, told_no_spool, told_version, view_is_known}
+use Rattle.spool_image.proofs.Refused.{view_is_spool, view_is_whole}
 
-module _ {size : ℕ} {current : ℕ → ℕ} where
+module _ (size : ℕ) (before after : ℕ → ℕ) where
   -- it was opened
-  pub opened_exactly : {kept : Holding} → OpenedFrom size current kept → (IsNoSpool size current → ⊥)
-      → (HasOtherVersion size current → ⊥) → (IsDamaged size current → ⊥) → OpensExactly size current None
-  opened_exactly from spool known whole = record {
-    valid = λ opened. record { view = from.view; valid = from.valid; is = from.is; room = from.room };
+  pub opened_exactly : {So : View → Type 0} → ReadsView size before after So → AnswersBy size before after None
+  opened_exactly is = record {
+    valid = λ opened. record { view = is.view; valid = is.valid; encodes = is.encodes; so = tt };
     refused = tt;
-    not_a_spool = spool;
-    version = known;
-    damaged = whole;
+    not_a_spool = view_is_spool size before after is.view is.valid is.encodes;
+    version = view_is_known size before after is.view is.valid is.encodes;
+    damaged = view_is_whole size before after is.view is.valid is.encodes;
   }
 
   -- it was refused
-  pub refused_exactly : (fault : OpenFault) → RefusedFor size current fault
-      → (IsNoSpool size current → IsRefusedAs (Some fault) NotASpool)
-      → (HasOtherVersion size current → IsRefusedAs (Some fault) Version)
-      → (IsDamaged size current → IsRefusedAs (Some fault) Damaged) → OpensExactly size current (Some fault)
-  refused_exactly fault reason no_spool other damaged = record {
+  pub refused_exactly : (fault : OpenFault) → RefusedBy size before after fault → AnswersBy size before after (Some fault)
+  refused_exactly fault reason = record {
     valid = λ opened. absurd (cc);
     refused = reason;
-    not_a_spool = no_spool;
-    version = other;
-    damaged = damaged;
+    not_a_spool = told_no_spool size before after fault reason;
+    version = told_version size before after fault reason;
+    damaged = told_damaged size before after fault reason;
   }
 
-  -- it was opened, and then memory ran out
-  pub exhausted_exactly : (IsNoSpool size current → ⊥) → (HasOtherVersion size current → ⊥)
-      → (IsDamaged size current → ⊥)
-      → OpensExactly size current (Some (Stop NoMemory))
-  exhausted_exactly spool known whole =
-      refused_exactly (Stop NoMemory) tt (λ no. absurd (spool no)) (λ other. absurd (known other))
-      (λ damaged. absurd (whole damaged))
+-- the same of what a read gives
+pub opened_reads : {size : ℕ} {current : ℕ → ℕ} (kept : Holding) (opened : OpenedFrom size current kept)
+    → ReadsView size current (overlaid current) (λ v. Unit {0})
+opened_reads kept opened = record {
+  view = opened.view;
+  valid = opened.valid;
+  encodes = opened_encodes _ _ kept opened;
+  so = tt;
+}
+
+-- more of the view
+pub view_more : {size : ℕ} {before after : ℕ → ℕ} {So So' : View → Type 0} → ((v : View) → So v → So' v)
+    → ReadsView size before after So → ReadsView size before after So'
+view_more more is =
+    record { view = is.view; valid = is.valid; encodes = is.encodes; so = more is.view is.so }

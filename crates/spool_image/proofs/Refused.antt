@@ -3,14 +3,15 @@ use Rattle.std.proofs.Common.{◌≡◌, ◌⊎◌, inl, inr, ℕ, refl, subst, 
 use Rattle.common.specs.declared.stop.Stop.TheVariants.{NoMemory, DiskFault}
 use Rattle.spool_journal.specs.declared.TheConstants.{PAGE}
 use Rattle.spool_journal.specs.Image.{overlaid}
-use Rattle.spool_pages.specs.View.{state_place, version_number}
+use Rattle.spool_pages.specs.View.{View, state_place, version_number}
 use Rattle.spool_catalog.specs.declared.error.OpenFault.{OpenFault}
 use Rattle.spool_catalog.specs.declared.error.OpenFault.TheVariants.{NotASpool, Damaged, Version, Stop}
 use Rattle.spool_catalog.specs.Holding.{Holding}
-use Rattle.spool_load.specs.Loaded.{OpenedFrom}
+use Rattle.spool_catalog.specs.Shows.{IsValid}
+use Rattle.spool_load.specs.Loaded.{EncodesBy, OpenedFrom}
 use Rattle.spool_load.specs.Reads.{SaysBlocks}
-use Rattle.spool_load.specs.Refusals.{HasJournal, HasKnownVersion, IsNoSpool, HasOtherVersion, IsDamaged, RefusedFor}
-use Rattle.spool_load.specs.Refusals.{NamesVersion}
+use Rattle.spool_load.specs.Refusals.{HasJournal, HasKnownVersion, IsNoSpool, HasOtherVersion, IsDamaged, RefusedBy}
+use Rattle.spool_load.specs.Refusals.{NamesVersion, ReadsDamage, ReadsOtherVersion, RefusedFor}
 use Rattle.spool_pages.specs.declared.version.Version.TheVariants.{One, Two}
 use Rattle.spool_image.specs.Upgrade.{IsAlreadyNew, IsOldDamaged, UpgradeRefusedFor}
 use Rattle.spool_image.specs.declared.error.UpgradeError.{UpgradeError}
@@ -27,75 +28,87 @@ told_as Damaged fault no_spool version damaged = inl (damaged refl)
 told_as (Stop NoMemory) fault no_spool version damaged = inr (inl refl)
 told_as (Stop DiskFault) fault no_spool version damaged = inr (inr refl)
 
-module _ (size : ℕ) (current : ℕ → ℕ) where
+module _ (size : ℕ) (before after : ℕ → ℕ) where
   -- the version of a disk doesn't depend on how its number of blocks is named
-  known_at : (n m : ℕ) → SaysBlocks size current n → SaysBlocks size current m → HasKnownVersion n (overlaid current)
-      → HasKnownVersion m (overlaid current)
-  known_at n m a b known = subst (λ (k : ℕ). HasKnownVersion k (overlaid current)) (says_one size current n m a b) known
+  known_at : (n m : ℕ) → SaysBlocks size before n → SaysBlocks size before m → HasKnownVersion n after
+      → HasKnownVersion m after
+  known_at n m a b known = subst (λ (k : ℕ). HasKnownVersion k after) (says_one size before n m a b) known
 
-  other_not_damaged : HasOtherVersion size current → IsDamaged size current → ⊥
+  other_not_damaged : ReadsOtherVersion size before after → ReadsDamage size before after → ⊥
   other_not_damaged other damaged =
-      let e : other.blocks ≡ damaged.blocks = says_one size current other.blocks damaged.blocks other.says
+      let e : other.blocks ≡ damaged.blocks = says_one size before other.blocks damaged.blocks other.says
       damaged.says in
-      let J : ℕ → Type 0 = λ k. HasJournal k current in
+      let J : ℕ → Type 0 = λ k. HasJournal k before in
       other.other (known_at damaged.blocks other.blocks damaged.says other.says
       (damaged.version (subst J e other.journal)))
 
-  module _ (kept : Holding) (opened : OpenedFrom size current kept) where
-    opened_says : SaysBlocks size current opened.view.blocks
-    opened_says = view_says_blocks size current opened.view opened.valid opened.is opened.room
+  module _ (v : View) (valid : IsValid v) (encodes : EncodesBy size before after v) where
+    pub view_is_spool : IsNoSpool size before → ⊥
+    view_is_spool none = none v.blocks encodes.begins
 
-    pub opened_is_spool : IsNoSpool size current → ⊥
-    opened_is_spool none = none opened.view.blocks opened_says
+    pub view_is_known : ReadsOtherVersion size before after → ⊥
+    view_is_known other =
+        other.other (known_at v.blocks other.blocks encodes.begins other.says
+        (known_stands after (state_place v.blocks) PAGE v.version v.next (omega arith) encodes.says.state))
 
-    pub opened_is_known : HasOtherVersion size current → ⊥
-    opened_is_known other =
-        let v = opened.view in
-        other.other (known_at v.blocks other.blocks opened_says other.says
-        (known_stands (overlaid current) (state_place v.blocks) PAGE v.version v.next
-        (omega arith) opened.is.says.state))
-
-    pub opened_is_old : opened.view.version ≡ One → IsAlreadyNew size current → ⊥
-    opened_is_old old new =
-        let v = opened.view in
-        let N : ℕ → Type 0 = λ k. NamesVersion k (overlaid current) Two in
-        let there = subst N (says_one size current new.blocks v.blocks new.says opened_says) new.new in
-        let said = version_stands (overlaid current) (state_place v.blocks) PAGE v.version v.next (omega arith)
-        opened.is.says.state in
-        let same : version_number v.version ≡ 2 =
-        version_one (overlaid current) (state_place v.blocks) v.version Two said there in
-        let one : version_number v.version ≡ 1 = ap version_number old in
-        omega (arith, same, one)
-
-    pub opened_is_whole : IsDamaged size current → ⊥
-    opened_is_whole damaged =
-        damaged.no_view opened.view opened.valid opened.is
-        (says_one size current opened.view.blocks damaged.blocks opened_says damaged.says)
+    pub view_is_whole : ReadsDamage size before after → ⊥
+    view_is_whole damaged =
+        damaged.no_view v valid encodes.journal encodes.says
+        (says_one size before v.blocks damaged.blocks encodes.begins damaged.says)
 
   -- the reason for an error that is this fault is the fault's
-  given : (e fault : OpenFault) → RefusedFor size current e → e ≡ fault → RefusedFor size current fault
-  given e fault reason is = subst (RefusedFor size current) is reason
+  given : (e fault : OpenFault) → RefusedBy size before after e → e ≡ fault → RefusedBy size before after fault
+  given e fault reason is = subst (RefusedBy size before after) is reason
 
-  pub told_no_spool : (e : OpenFault) → RefusedFor size current e → IsNoSpool size current
+  pub told_no_spool : (e : OpenFault) → RefusedBy size before after e → IsNoSpool size before
       → (e ≡ NotASpool) ⊎ (e ≡ Stop NoMemory) ⊎ (e ≡ Stop DiskFault)
   told_no_spool e reason none =
       told_as e NotASpool (λ is. is)
       (λ is. let other = given e Version reason is in absurd (none other.blocks other.says))
       (λ is. let damaged = given e Damaged reason is in absurd (none damaged.blocks damaged.says))
 
-  pub told_version : (e : OpenFault) → RefusedFor size current e → HasOtherVersion size current
+  pub told_version : (e : OpenFault) → RefusedBy size before after e → ReadsOtherVersion size before after
       → (e ≡ Version) ⊎ (e ≡ Stop NoMemory) ⊎ (e ≡ Stop DiskFault)
   told_version e reason other =
       told_as e Version (λ is. absurd (given e NotASpool reason is other.blocks other.says)) (λ is. is)
       (λ is. absurd (other_not_damaged other (given e Damaged reason is)))
 
-  pub told_damaged : (e : OpenFault) → RefusedFor size current e → IsDamaged size current
+  pub told_damaged : (e : OpenFault) → RefusedBy size before after e → ReadsDamage size before after
       → (e ≡ Damaged) ⊎ (e ≡ Stop NoMemory) ⊎ (e ≡ Stop DiskFault)
   told_damaged e reason damaged =
       told_as e Damaged (λ is. absurd (given e NotASpool reason is damaged.blocks damaged.says))
       (λ is. absurd (other_not_damaged (given e Version reason is) damaged)) (λ is. is)
 
-  -- THE SAME OF AN UPGRADE
+-- THE SAME OF WHAT A READ GIVES NOW, AND OF AN UPGRADE
+module _ (size : ℕ) (current : ℕ → ℕ) where
+  module _ (kept : Holding) (opened : OpenedFrom size current kept) where
+    pub opened_encodes : EncodesBy size current (overlaid current) opened.view
+    opened_encodes = record {
+      begins = view_says_blocks size current opened.view opened.valid opened.is opened.room;
+      journal = opened.is.form;
+      says = opened.is.says;
+    }
+
+    pub opened_is_spool : IsNoSpool size current → ⊥
+    opened_is_spool = view_is_spool size current (overlaid current) opened.view opened.valid opened_encodes
+
+    pub opened_is_known : HasOtherVersion size current → ⊥
+    opened_is_known = view_is_known size current (overlaid current) opened.view opened.valid opened_encodes
+
+    pub opened_is_whole : IsDamaged size current → ⊥
+    opened_is_whole = view_is_whole size current (overlaid current) opened.view opened.valid opened_encodes
+
+    pub opened_is_old : opened.view.version ≡ One → IsAlreadyNew size current → ⊥
+    opened_is_old old new =
+        let v = opened.view in
+        let N : ℕ → Type 0 = λ k. NamesVersion k (overlaid current) Two in
+        let there = subst N (says_one size current new.blocks v.blocks new.says opened_encodes.begins) new.new in
+        let said = version_stands (overlaid current) (state_place v.blocks) PAGE v.version v.next (omega arith)
+        opened.is.says.state in
+        let same : version_number v.version ≡ 2 =
+        version_one (overlaid current) (state_place v.blocks) v.version Two said there in
+        let one : version_number v.version ≡ 1 = ap version_number old in
+        omega (arith, same, one)
 
   -- it is refused so, or for memory or by the disk
   abbrev pub Upgrades : UpgradeError → UpgradeError → Type 0
@@ -115,22 +128,22 @@ module _ (size : ℕ) (current : ℕ → ℕ) where
 
   new_is_known : IsAlreadyNew size current → HasOtherVersion size current → ⊥
   new_is_known new other =
-      other.other (known_at new.blocks other.blocks new.says other.says (record { version = Two; said = new.new }))
+      other.other (known_at size current (overlaid current) new.blocks other.blocks new.says other.says (record { version = Two; said = new.new }))
 
   pub upgrade_no_spool : (e : UpgradeError) → UpgradeRefusedFor size current e → IsNoSpool size current
       → Upgrades e (Open NotASpool)
   upgrade_no_spool AlreadyNew new none = absurd (none new.blocks new.says)
-  upgrade_no_spool (Open e) reason none = opens e NotASpool (told_no_spool e (plain_reason e reason) none)
+  upgrade_no_spool (Open e) reason none = opens e NotASpool (told_no_spool size current (overlaid current) e (plain_reason e reason) none)
 
   pub upgrade_version : (e : UpgradeError) → UpgradeRefusedFor size current e → HasOtherVersion size current
       → Upgrades e (Open Version)
   upgrade_version AlreadyNew new other = absurd (new_is_known new other)
-  upgrade_version (Open e) reason other = opens e Version (told_version e (plain_reason e reason) other)
+  upgrade_version (Open e) reason other = opens e Version (told_version size current (overlaid current) e (plain_reason e reason) other)
 
   pub upgrade_damaged : (e : UpgradeError) → UpgradeRefusedFor size current e → IsOldDamaged size current
       → Upgrades e (Open Damaged)
   upgrade_damaged AlreadyNew new damaged = absurd (damaged.1 new)
-  upgrade_damaged (Open e) reason damaged = opens e Damaged (told_damaged e (plain_reason e reason) damaged.0)
+  upgrade_damaged (Open e) reason damaged = opens e Damaged (told_damaged size current (overlaid current) e (plain_reason e reason) damaged.0)
 
   pub upgrade_new : (e : UpgradeError) → UpgradeRefusedFor size current e → IsAlreadyNew size current
       → Upgrades e AlreadyNew

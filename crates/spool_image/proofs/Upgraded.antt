@@ -20,21 +20,24 @@ use Rattle.spool_pages.specs.View.{View, IsViewOf, Stands, state_page, state_pla
 use Rattle.spool_pages.specs.declared.version.Version.{Version}
 use Rattle.spool_pages.specs.declared.version.Version.TheVariants.{One, Two}
 use Rattle.spool_pages.proofs.Resting.{rests_image, shut_is}
+use Rattle.spool_catalog.specs.Holding.{Holding}
 use Rattle.spool_catalog.specs.Shows.{ImageShows, IsValid}
 use Rattle.spool_catalog.specs.declared.error.OpenFault.{OpenFault}
 use Rattle.spool_catalog.specs.declared.error.OpenFault.TheVariants.{NotASpool, Damaged, Stop}
 use Rattle.spool_catalog.specs.declared.error.OpenFault.TheVariants as faults
 use Rattle.spool_catalog.specs.Loads.{LoadsAs}
 use Rattle.spool_catalog.proofs.Upgraded.{upgraded_shows}
-use Rattle.spool_load.specs.Loaded.{FoundOn}
+use Rattle.spool_load.specs.Loaded.{FoundBy, LoadsBy, ReadsView}
 use Rattle.spool_load.specs.declared.finding.Found.{Found}
-use Rattle.spool_load.specs.Refusals.{HasJournal, NamesVersion, NotFoundFor, RefusedFor}
+use Rattle.spool_load.specs.Refusals.{HasJournal, NamesVersion, NotFoundBy, NotFoundFor, RefusedBy}
 use Rattle.spool_load.proofs.Opens.{settled_says}
 use Rattle.spool_load.proofs.Refused.{says_one, unfound_reason, version_one, version_stands}
 use Rattle.spool_image.specs.LeftOnly.{AllShow, IsSpool, LeftOrShows}
-use Rattle.spool_image.specs.Upgrade.{CommitOfUpgrade, IsAlreadyNew, IsLateRefusal, UpgradeRefusedFor, UpgradesOf}
+use Rattle.spool_image.specs.Upgrade.{CommitOfUpgrade, IsLateRefusal, ReadsNew, UpgradeRefusedBy}
+use Rattle.spool_image.specs.Upgrade.{UpgradesBy, UpgradesOf}
 use Rattle.spool_image.specs.declared.error.UpgradeError.{UpgradeError}
 use Rattle.spool_image.specs.declared.error.UpgradeError.TheVariants.{Open}
+use Rattle.spool_image.proofs.Opening.{view_more}
 use Rattle.spool_image.proofs.Opens.{view_room}
 
 -- a recovered spool rests
@@ -55,12 +58,6 @@ pub upgrades_late : {T : Type 0} (version : Version) (r : Result T UpgradeError)
     → IfErr r IsLateRefusal → UpgradesOf version r
 upgrades_late version (Ok t) old late = old
 upgrades_late version (Err e) old late = inr late
-
-pub refused_late : {T : Type 0} (size : ℕ) (current : ℕ → ℕ) (r : Result T UpgradeError) → IfErr r IsLateRefusal
-    → IfErr r (UpgradeRefusedFor size current)
-refused_late size current (Ok t) late = tt
-refused_late size current (Err e) (inl is) = subst (UpgradeRefusedFor size current) (sym is) tt
-refused_late size current (Err e) (inr is) = subst (UpgradeRefusedFor size current) (sym is) tt
 
 pub on_ok_more : {T E A B : Type 0} (r : Result T E) → (A → B) → OnOk r A → OnOk r B
 on_ok_more (Ok t) more a = more a
@@ -118,52 +115,66 @@ crash_shown disk d d' n m is lasts =
     (λ then. inr (⊎_elim (view_shows n m (disk.current d) image is.shows)
     (upgraded_view_shows n m (disk.current d) image is.shows) then)) one)
 
--- what was found of version 2
-pub found_new : (size : ℕ) (current : ℕ → ℕ) (found : Found) → FoundOn size current found → found.version ≡ Two
-    → IsAlreadyNew size current
-found_new size current found is new = record {
-  blocks = found.layout;
-  says = is.says;
-  journal = is.journal;
-  new = version_stands (overlaid current) _ 12 Two found.next (omega arith)
-      (subst (λ (w : Version). Stands (overlaid current) (state_place found.layout) 12 (state_page w found.next)) new
-      is.state.fields);
-}
+module _ (size : ℕ) (before after : ℕ → ℕ) where
+  -- what was found of version 2
+  pub found_new : (found : Found) → FoundBy size before after found → found.version ≡ Two → ReadsNew size before after
+  found_new found is new = record {
+    blocks = found.layout;
+    says = is.says;
+    journal = is.journal;
+    new = version_stands after _ 12 Two found.next (omega arith)
+        (subst (λ (w : Version). Stands after (state_place found.layout) 12 (state_page w found.next)) new
+        is.state.fields);
+  }
 
--- and what was found of version 1
-pub found_old : (size : ℕ) (current : ℕ → ℕ) (found : Found) → FoundOn size current found → found.version ≡ One
-    → IsAlreadyNew size current → ⊥
-found_old size current found is old new =
-    let n = found.layout in
-    let N : ℕ → Type 0 = λ k. NamesVersion k (overlaid current) Two in
-    let there = subst N (says_one size current new.blocks n new.says is.says) new.new in
-    let said = version_stands (overlaid current) (state_place n) 12 found.version found.next (omega arith)
-    is.state.fields in
-    let same : version_number found.version ≡ 2 =
-    version_one (overlaid current) (state_place n) found.version Two said there in
-    let one : version_number found.version ≡ 1 = ap version_number old in
-    omega (arith, same, one)
+  -- and what was found of version 1
+  pub found_old : (found : Found) → FoundBy size before after found → found.version ≡ One → ReadsNew size before after
+      → ⊥
+  found_old found is old new =
+      let n = found.layout in
+      let N : ℕ → Type 0 = λ k. NamesVersion k after Two in
+      let there = subst N (says_one size before new.blocks n new.says is.says) new.new in
+      let said = version_stands after (state_place n) 12 found.version found.next (omega arith) is.state.fields in
+      let same : version_number found.version ≡ 2 = version_one after (state_place n) found.version Two said there in
+      let one : version_number found.version ≡ 1 = ap version_number old in
+      omega (arith, same, one)
 
--- a refusal to open an old spool is one to upgrade it
-pub old_reason : (size : ℕ) (current : ℕ → ℕ) (e : OpenFault) → (e ≡ Damaged → IsAlreadyNew size current → ⊥)
-    → RefusedFor size current e → UpgradeRefusedFor size current (Open e)
-old_reason size current NotASpool old is = is
-old_reason size current faults.Version old is = is
-old_reason size current Damaged old is = (is, old refl)
-old_reason size current (Stop stop) old is = tt
+  -- a refusal to open an old spool is one to upgrade it
+  pub old_reason : (e : OpenFault) → (e ≡ Damaged → ReadsNew size before after → ⊥) → RefusedBy size before after e
+      → UpgradeRefusedBy size before after (Open e)
+  old_reason NotASpool old is = is
+  old_reason faults.Version old is = is
+  old_reason Damaged old is = (is, old refl)
+  old_reason (Stop stop) old is = tt
 
--- nor is why it isn't found another one
-pub unfound_upgrade : (size : ℕ) (current : ℕ → ℕ) (e : OpenFault) → NotFoundFor size current e
-    → UpgradeRefusedFor size current (Open e)
-unfound_upgrade size current NotASpool why = why
-unfound_upgrade size current faults.Version why = why
-unfound_upgrade size current Damaged why = (
-  unfound_reason size current Damaged why,
-  λ new. why.bad (subst (λ (k : ℕ). HasJournal k current)
-      (says_one size current new.blocks why.blocks new.says why.says) new.journal),
-)
-unfound_upgrade size current (Stop NoMemory) why = absurd why
-unfound_upgrade size current (Stop DiskFault) why = tt
+  -- nor is why it isn't found another one
+  pub unfound_upgrade : (e : OpenFault) → NotFoundBy size before after e → UpgradeRefusedBy size before after (Open e)
+  unfound_upgrade NotASpool why = why
+  unfound_upgrade faults.Version why = why
+  unfound_upgrade Damaged why = (
+    unfound_reason size before after Damaged why,
+    λ new. why.bad (subst (λ (k : ℕ). HasJournal k before)
+        (says_one size before new.blocks why.blocks new.says why.says) new.journal),
+  )
+  unfound_upgrade (Stop NoMemory) why = absurd why
+  unfound_upgrade (Stop DiskFault) why = tt
+
+  pub refused_late : {T : Type 0} (r : Result T UpgradeError) → IfErr r IsLateRefusal
+      → IfErr r (UpgradeRefusedBy size before after)
+  refused_late (Ok t) late = tt
+  refused_late (Err e) (inl is) = subst (UpgradeRefusedBy size before after) (sym is) tt
+  refused_late (Err e) (inr is) = subst (UpgradeRefusedBy size before after) (sym is) tt
+
+  pub late_by : {T : Type 0} (r : Result T UpgradeError) → IfErr r IsLateRefusal
+      → ReadsView size before after (λ v. v.version ≡ One) → UpgradesBy size r before after
+  late_by (Ok t) late view = view
+  late_by (Err e) late view = refused_late (Err e) late
+
+  -- what was found of version 1 and read is upgraded
+  pub upgrades_by : {T : Type 0} (found : Found) (kept : Holding) → found.version ≡ One → kept.version ≡ found.version
+      → LoadsBy size before after (Ok kept) → (done : T) → UpgradesBy size (Ok done) before after
+  upgrades_by found kept old same is done =
+      view_more (λ v keeps. sym keeps.0.version ∙ same ∙ old) is.answer
 
 -- a spool that a read shows is found, unless the disk fails
 pub unfound_disk_fault : {T : Type 0} (size : ℕ) (current : ℕ → ℕ) (e : OpenFault) (P : T → Type 0)

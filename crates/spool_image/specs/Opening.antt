@@ -1,23 +1,19 @@
 -- Opening a disk, whatever is on it.
-use Rattle.std.specs.Prelude.{◌≡◌, ◌⊎◌, ℕ, ◌*◌, ◌≤◌, Option, None, Some, IfSome, Result, Ok, Err}
+use Rattle.std.specs.Prelude.{◌≡◌, ◌⊎◌, ℕ, Option, None, Some, IfOk, IfSome, Result, Ok, Err}
 use Rattle.common.specs.declared.stop.Stop.TheVariants.{NoMemory, DiskFault}
-use Rattle.spool_journal.specs.declared.TheConstants.{PAGE}
-use Rattle.spool_journal.specs.Image.{all_pages}
+use Rattle.spool_disk.specs.declared.disk.Disk.{Ghosts}
+use Rattle.spool_journal.specs.Image.{overlaid}
 use Rattle.spool_catalog.specs.Shows.{IsValid}
 use Rattle.spool_catalog.specs.declared.error.OpenFault.{OpenFault}
 use Rattle.spool_catalog.specs.declared.error.OpenFault.TheVariants.{NotASpool, Damaged, Version, Stop}
+use Rattle.spool_load.specs.Loaded.{EncodesBy, ReadsView}
+pub use Rattle.spool_load.specs.ReadBy.{ReadsBy}
 pub use Rattle.spool_load.specs.Recovered.{ReadsSame, Unwritten}
-use Rattle.spool_load.specs.Refusals.{IsNoSpool, HasOtherVersion, IsDamaged, RefusedFor}
-use Rattle.spool_pages.specs.View.{View, IsViewOf}
+use Rattle.spool_load.specs.Refusals.{IsNoSpool, ReadsDamage, ReadsOtherVersion, RefusedBy}
+use Rattle.spool_pages.specs.View.{View}
+use Rattle.spool_image.specs.Spool.{OpensAs}
 
 -- The results.
-
--- The plain reading gives a valid view, and the disk has room for its blocks.
-pub record HoldsSpool (size : ℕ) (current : ℕ → ℕ) : Type 0 where
-  pub view : View
-  pub valid : IsValid view
-  pub is : IsViewOf current view
-  pub room : PAGE * all_pages view.blocks ≤ size
 
 -- The error of an opening, if it failed.
 abbrev pub refusal_of : {D S : Type 0} → Result S (D × OpenFault) → Option OpenFault
@@ -29,11 +25,29 @@ abbrev pub IsRefusedAs : Option OpenFault → OpenFault → Type 0
 IsRefusedAs None fault = ⊥
 IsRefusedAs (Some e) fault = (e ≡ fault) ⊎ (e ≡ Stop NoMemory) ⊎ (e ≡ Stop DiskFault)
 
--- What is opened is a valid spool, each error has its reason, and each reason leads to its error, unless memory or the
--- disk refuses.
-pub record OpensExactly (size : ℕ) (current : ℕ → ℕ) (refusal : Option OpenFault) : Type 0 where
-  pub valid : refusal ≡ None → HoldsSpool size current
-  pub refused : IfSome refusal (RefusedFor size current)
-  pub not_a_spool : IsNoSpool size current → IsRefusedAs refusal NotASpool
-  pub version : HasOtherVersion size current → IsRefusedAs refusal Version
-  pub damaged : IsDamaged size current → IsRefusedAs refusal Damaged
+-- What an opening's reads gave is a valid spool if it is opened, each error has its reason in them, and each reason
+-- leads to its error, unless memory or the disk refuses.
+pub record AnswersBy (size : ℕ) (before after : ℕ → ℕ) (refusal : Option OpenFault) : Type 0 where
+  pub valid : refusal ≡ None → ReadsView size before after (λ v. Unit {0})
+  pub refused : IfSome refusal (RefusedBy size before after)
+  pub not_a_spool : IsNoSpool size before → IsRefusedAs refusal NotASpool
+  pub version : ReadsOtherVersion size before after → IsRefusedAs refusal Version
+  pub damaged : ReadsDamage size before after → IsRefusedAs refusal Damaged
+
+-- The same of what a read gives before it.
+abbrev pub OpensExactly : ℕ → (ℕ → ℕ) → Option OpenFault → Type 0
+OpensExactly size current = AnswersBy size current (overlaid current)
+
+-- And what is opened has the view in memory that the reads gave; a valid one is opened, unless memory or the disk
+-- refuses.
+pub record OpensBy {D S : Type 0} (Has : S → View → Type 0) (size : ℕ) (result : Result S (D × OpenFault))
+    (before after : ℕ → ℕ) : Type 0
+  where
+    pub exact : AnswersBy size before after (refusal_of result)
+    pub memory : IfOk result (λ s. ReadsView size before after (Has s))
+    pub opened : (v : View) → IsValid v → EncodesBy size before after v → OpensAs result (λ s. Has s v)
+
+-- The opening of a call that goes on after it: with the disk as it left it, this is so of what its reads gave.
+pub record OpensOn {D : Type 0} (disk : Ghosts D) (d : D) (So : (before after : ℕ → ℕ) → Type 0) : Type 0 where
+  pub opened : D
+  pub reads : ReadsBy (disk.reads d) (disk.reads opened) So

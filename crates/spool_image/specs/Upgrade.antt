@@ -1,5 +1,5 @@
 -- The upgrade to version 2: its effect and its errors.
-use Rattle.std.specs.Prelude.{◌≡◌, ◌⊎◌, ℕ, ◌*◌, ◌≤◌, List, length, Result, Ok, Err}
+use Rattle.std.specs.Prelude.{◌≡◌, ◌⊎◌, ℕ, ◌*◌, ◌≤◌, List, length, MatchResult, Result, Ok, Err}
 use Rattle.common.specs.declared.stop.Stop.TheVariants.{NoMemory, DiskFault}
 use Rattle.spool_journal.specs.declared.TheConstants.{PAGE}
 use Rattle.spool_journal.specs.Image.{all_pages, journal_pages, laid, overlaid, InArea}
@@ -7,7 +7,8 @@ use Rattle.spool_journal.specs.Phases.{Settled}
 use Rattle.spool_catalog.specs.Shows.{IsValid}
 use Rattle.spool_catalog.specs.declared.error.OpenFault.TheVariants.{Damaged, Stop}
 use Rattle.spool_load.specs.Reads.{SaysBlocks}
-use Rattle.spool_load.specs.Refusals.{HasJournal, IsDamaged, NamesVersion, RefusedFor}
+use Rattle.spool_load.specs.Loaded.{ReadsView}
+use Rattle.spool_load.specs.Refusals.{HasJournal, IsDamaged, NamesVersion, ReadsDamage, RefusedBy}
 use Rattle.spool_pages.specs.Changes.{Changes, upgraded}
 use Rattle.spool_pages.specs.Rests.{Rests}
 use Rattle.spool_pages.specs.View.{View, IsViewOf}
@@ -38,21 +39,34 @@ pub record UpgradedFrom (size : ℕ) (before current : ℕ → ℕ) (unsynced : 
 -- The errors.
 
 -- A spool with a valid journal and version 2.
-pub record IsAlreadyNew (size : ℕ) (current : ℕ → ℕ) : Type 0 where
+pub record ReadsNew (size : ℕ) (before after : ℕ → ℕ) : Type 0 where
   pub blocks : ℕ
-  pub says : SaysBlocks size current blocks
-  pub journal : HasJournal blocks current
-  pub new : NamesVersion blocks (overlaid current) Two
+  pub says : SaysBlocks size before blocks
+  pub journal : HasJournal blocks before
+  pub new : NamesVersion blocks after Two
 
--- A damaged spool that doesn't have version 2.
+-- The reason for an error, by what the reads of the opening gave. A damaged spool doesn't have version 2.
+abbrev pub UpgradeRefusedBy : ℕ → (ℕ → ℕ) → (ℕ → ℕ) → UpgradeError → Type 0
+UpgradeRefusedBy size before after AlreadyNew = ReadsNew size before after
+UpgradeRefusedBy size before after (Open Damaged) =
+    ReadsDamage size before after × (ReadsNew size before after → ⊥)
+UpgradeRefusedBy size before after (Open fault) = RefusedBy size before after fault
+
+-- An upgrade's answer by what they gave: a valid view of version 1 is upgraded, and each error has its reason.
+abbrev pub UpgradesBy : {T : Type 0} → ℕ → Result T UpgradeError → (ℕ → ℕ) → (ℕ → ℕ) → Type 0
+UpgradesBy size result before after =
+    MatchResult result (λ done. ReadsView size before after (λ v. v.version ≡ One)) (UpgradeRefusedBy size before after)
+
+-- The same of what a read gives before it.
+
+abbrev pub IsAlreadyNew : ℕ → (ℕ → ℕ) → Type 0
+IsAlreadyNew size current = ReadsNew size current (overlaid current)
+
 abbrev pub IsOldDamaged : ℕ → (ℕ → ℕ) → Type 0
 IsOldDamaged size current = IsDamaged size current × (IsAlreadyNew size current → ⊥)
 
--- The reason for an error.
 abbrev pub UpgradeRefusedFor : ℕ → (ℕ → ℕ) → UpgradeError → Type 0
-UpgradeRefusedFor size current AlreadyNew = IsAlreadyNew size current
-UpgradeRefusedFor size current (Open Damaged) = IsOldDamaged size current
-UpgradeRefusedFor size current (Open fault) = RefusedFor size current fault
+UpgradeRefusedFor size current = UpgradeRefusedBy size current (overlaid current)
 
 -- It is refused with this error, or when out of memory, or at a disk fault.
 abbrev pub RefusesUpgradeAs : {T : Type 0} → Result T UpgradeError → UpgradeError → Type 0

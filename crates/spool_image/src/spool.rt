@@ -13,7 +13,7 @@ ghost use Rattle.spool_catalog.specs.Shows.{IsValid, Shows};
 ghost use Rattle.spool_pages.specs.View.{View, IsViewOf};
 ghost use Rattle.spool_load.specs.Refusals.{IsNoSpool, HasOtherVersion, IsDamaged, RefusedFor};
 ghost use Rattle.spool_image.specs.LeftOnly.{AllShow, IsSpool, LeftOrShows};
-ghost use Rattle.spool_image.specs.Opening.{ReadsSame, Unwritten};
+ghost use Rattle.spool_image.specs.Opening.{OpensBy, ReadsBy, ReadsSame, Unwritten};
 
 use enc_index::IndexSet;
 use spool_catalog::{Kept, OpenFault};
@@ -22,6 +22,7 @@ use spool_drafts::SpoolDraft;
 use spool_journal::PAGE;
 use spool_kept::{append, begin, commit, create, drop_open, terminate};
 use spool_load::load;
+use spool_pages::Version;
 use std::alloc::Global;
 use upload_rules::{New, Record, UploadError, Uploads};
 
@@ -83,6 +84,9 @@ impl<D: Disk> Spool<D> {
         ensures valid { D.honest disk → IfOk result (OpensFrom (D.size disk) (D.current disk)) }
         ensures refused { D.honest disk → IfErr result (λ e. RefusedFor (D.size disk) (D.current disk) e.1) }
 
+        // On any disk the answer follows from the bytes that the reads gave, in the same way.
+        ensures given { ReadsBy (D.reads disk) (D.reads (disk_after result)) (OpensBy Keeps (D.size disk) result) }
+
         // Each reason leads to its error, unless memory or the disk refuses. No two reasons hold, and none of a valid
         // spool.
         ensures not_a_spool { D.honest disk → IsNoSpool (D.size disk) (D.current disk)
@@ -128,6 +132,20 @@ impl<D: Disk> Spool<D> {
             }),
             Err(fault) => Err((disk, fault)),
         }
+    }
+
+    /// How many text blocks it has.
+    pub fn blocks(&self) -> u32
+        ensures { result ≡ size_of self.now }
+    {
+        self.kept.layout().blocks()
+    }
+
+    /// The version of its format.
+    pub fn version(&self) -> Version
+        ensures { (v : View) → Keeps self.now v → result ≡ v.version }
+    {
+        self.kept.version()
     }
 
     /// The disk, which has room for the spool's blocks.

@@ -19,7 +19,8 @@ ghost use Rattle.spool_pages.specs.View.{View, IsViewOf};
 ghost use Rattle.spool_pages.specs.declared.version.Version.{Version as Known};
 ghost use Rattle.spool_image.specs.LeftOnly.{AllShow, IsSpool, LeftOrShows};
 ghost use Rattle.spool_image.specs.Upgrade.{CommitOfUpgrade, IsAlreadyNew, IsLateRefusal, IsOldDamaged};
-ghost use Rattle.spool_image.specs.Upgrade.{RefusesUpgradeAs, UpgradedFrom, UpgradeRefusedFor, UpgradesOf};
+ghost use Rattle.spool_image.specs.Opening.{OpensOn, ReadsBy};
+ghost use Rattle.spool_image.specs.Upgrade.{RefusesUpgradeAs, UpgradedFrom, UpgradeRefusedFor, UpgradesBy, UpgradesOf};
 
 use crate::UpgradeError;
 use spool_catalog::Kept;
@@ -53,6 +54,7 @@ fn load_old<D: Disk>(alloc: Global, disk: &mut D) -> Result<Kept, UpgradeError>
     ensures unwritten { D.honest disk.old → Unwritten D.Disk disk.old disk.new }
     ensures same { D.honest disk.old → ReadsSame D.Disk disk.old disk.new
         (result ≡ Err (UpgradeError.Open (Fault.Stop Stop.DiskFault))) }
+    ensures given { ReadsBy (D.reads disk.old) (D.reads disk.new) (UpgradesBy (D.size disk.old) result) }
 {
     let found = find(disk)?;
     if found.version == Version::Two {
@@ -120,6 +122,9 @@ pub fn upgrade<D: Disk>(alloc: Global, disk: &mut D) -> Result<(), UpgradeError>
         → RefusesUpgradeAs result UpgradeError.AlreadyNew }
     ensures damaged { D.honest disk.old → IsOldDamaged (D.size disk.old) (D.current disk.old)
         → RefusesUpgradeAs result (UpgradeError.Open Fault.Damaged) }
+
+    // On any disk it answers by what the reads of its opening gave.
+    ensures given { OpensOn D.Disk disk.old (UpgradesBy (D.size disk.old) result) }
 
     // An error leaves what a read gives, in the old version.
     ensures stays { D.honest disk.old → OfView (D.size disk.old) (D.current disk.old)

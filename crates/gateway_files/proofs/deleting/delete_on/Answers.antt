@@ -1,4 +1,6 @@
-use Rattle.std.proofs.Common.{[], ◌∷◌, Some, inl, inr, refl, subst, sym, true}
+use Rattle.std.proofs.Common.{[], ◌∷◌, Some, false, inl, inr, refl, subst, sym, true}
+use Rattle.spool_disk.proofs.Gave.{grew_none}
+use Rattle.spool_load.proofs.ReadBys.{by_after}
 use Rattle.spool_image.specs.LeftOnly.{AllShow}
 use Rattle.spool_image.specs.Spool.{disk_of, size_of}
 use Rattle.spool_image.specs.contracts.spool.SpoolUploads.TheImpl.Laws.{durable-law}
@@ -7,7 +9,7 @@ use Rattle.gateway_files.specs.Deleting.{left, stages}
 use Rattle.gateway_files.specs.Leaving.{LastsOver}
 use Rattle.gateway_files.proofs.Deletions.{first_stage}
 use Rattle.gateway_files.proofs.Lasting.{all_show, lasts_over, when_ok}
-use Rattle.gateway_files.proofs.Refusals.{is_damaged, other_version}
+use Rattle.gateway_files.proofs.Refusals.{change_refused, done_by, is_damaged, ok_both, other_version, unopened}
 use Rattle.gateway_files.proofs.deleting.delete_on.Goals as goal
 
 pub returns-in-Ok-clause-shows : goal.returns-in-Ok-clause-shows
@@ -53,3 +55,23 @@ returns-in-Err-clause-version g c honest is = other_version _ _ c.from.ensures (
 
 pub returns-in-Err-clause-damaged : goal.returns-in-Err-clause-damaged
 returns-in-Err-clause-damaged g c honest is = is_damaged _ _ c.from.ensures (c.in-Err.ensures.damaged honest is)
+
+pub returns-in-Ok-clause-given : goal.returns-in-Ok-clause-given
+returns-in-Ok-clause-given g c =
+    let done = c.delete_uploads-deleted in record {
+      opened = disk_of c.in-Ok.spool;
+      reads = by_after c.in-Ok.ensures.given (grew_none refl) (λ before after is late. record {
+        refused = change_refused done.result done.ensures.refused;
+        done =
+            done_by done.result (λ v m shows keeps. let stands = c.in-Ok.ensures.kept v m shows keeps in
+            ok_both done.result (done.ensures.lines false (at_rest m (Some v.blocks)) stands)
+            (done.ensures.all false (at_rest m (Some v.blocks)) stands)) is.memory;
+      });
+    }
+
+pub returns-in-Err-clause-given : goal.returns-in-Err-clause-given
+returns-in-Err-clause-given g c = record {
+  opened = c.in-Err.disk;
+  reads = by_after c.in-Err.ensures.given (grew_none refl)
+      (λ before after is late. unopened c.in-Err.fault c.from.result c.from.ensures is.exact.refused);
+}

@@ -1,14 +1,16 @@
-use Rattle.std.proofs.Common.{[], ◌∷◌, Some, inl, inr, refl, true}
+use Rattle.std.proofs.Common.{[], ◌∷◌, Some, false, inl, inr, refl, true}
+use Rattle.spool_disk.proofs.Gave.{grew_none}
+use Rattle.spool_load.proofs.ReadBys.{by_after}
 use Rattle.spool_image.specs.Spool.{disk_of, size_of}
 use Rattle.spool_image.specs.contracts.spool.SpoolUploads.TheImpl.Laws.{durable-law}
 use Rattle.upload_rules.specs.World.{at_rest}
 use Rattle.gateway_files.specs.Planning.{jobs_of}
 use Rattle.gateway_files.proofs.Exported.{exports, surely_all, surely_some}
-use Rattle.gateway_files.proofs.InOrder.{in_order}
+use Rattle.gateway_files.proofs.InOrder.{in_order, shown_in_order}
 use Rattle.gateway_files.proofs.Named.{spool_rises}
 use Rattle.gateway_files.proofs.Lasting.{all_show, lasts_over, when_ok}
 use Rattle.gateway_files.proofs.Pieces.{quiet_limits}
-use Rattle.gateway_files.proofs.Refusals.{is_damaged, other_version}
+use Rattle.gateway_files.proofs.Refusals.{change_refused, done_by, is_damaged, ok_each, other_version, unopened}
 use Rattle.gateway_files.proofs.exporting.export_on.Goals as goal
 
 pub returns-in-Ok-clause-files : goal.returns-in-Ok-clause-files
@@ -69,3 +71,23 @@ returns-in-Err-clause-version g c honest is = other_version _ _ c.from.ensures (
 
 pub returns-in-Err-clause-damaged : goal.returns-in-Err-clause-damaged
 returns-in-Err-clause-damaged g c honest is = is_damaged _ _ c.from.ensures (c.in-Err.ensures.damaged honest is)
+
+pub returns-in-Ok-clause-given : goal.returns-in-Ok-clause-given
+returns-in-Ok-clause-given g c =
+    let done = c.export_uploads-exported in record {
+      opened = disk_of c.in-Ok.spool;
+      reads = by_after c.in-Ok.ensures.given (grew_none refl) (λ before after is late. record {
+        refused = change_refused done.result done.ensures.refused;
+        done =
+            done_by done.result (λ v m shows keeps. ok_each done.result (λ files. ok_each done.result (λ held.
+            done.ensures.files false (at_rest m (Some v.blocks)) (c.in-Ok.ensures.kept v m shows keeps)
+            (shown_in_order v m shows) files held))) is.memory;
+      });
+    }
+
+pub returns-in-Err-clause-given : goal.returns-in-Err-clause-given
+returns-in-Err-clause-given g c = record {
+  opened = c.in-Err.disk;
+  reads = by_after c.in-Err.ensures.given (grew_none refl)
+      (λ before after is late. unopened c.in-Err.fault c.from.result c.from.ensures is.exact.refused);
+}

@@ -1,18 +1,21 @@
-use Rattle.std.proofs.Common.{◌≡◌, ◌∙◌, ℕ, Err, ap, sym, subst, rules}
+use Rattle.std.proofs.Common.{◌≡◌, ◌∙◌, ℕ, Err, ap, refl, sym, subst, rules}
 use Rattle.std.proofs.lemmas.Result.{err_from_is_err_and}
 use Rattle.spool_disk.proofs.Firm.{counts_on}
+use Rattle.spool_disk.proofs.Gave.{grew_none}
 use Rattle.spool_journal.specs.Image.{journal_pages, overlaid}
 use Rattle.spool_journal.specs.Phases.{Settled}
 use Rattle.spool_catalog.specs.Kept.{KeepsAlone}
 use Rattle.spool_catalog.specs.declared.kept.Kept.{Kept}
-use Rattle.spool_pages.specs.declared.version.Version.TheVariants.{Two}
+use Rattle.spool_pages.specs.View.{IsViewOf}
+use Rattle.spool_pages.specs.declared.version.Version.TheVariants.{One, Two}
 use Rattle.spool_load.specs.Faults.{load_fault}
 use Rattle.spool_load.specs.Loaded.{IsFoundOf}
 use Rattle.spool_load.proofs.Faults.{counts_told, tells_nothing}
 use Rattle.spool_load.proofs.Looks.{ok_no_fault}
+use Rattle.spool_load.proofs.ReadBys.{by_after, loads_by, unread_by}
 use Rattle.spool_load.proofs.Opens.{read_lasts, read_same, read_settled, read_unwritten, recovered_says, settled_still}
-use Rattle.spool_load.proofs.Refused.{found_back, opened_on, read_reason, says_on}
-use Rattle.spool_image.proofs.Upgraded.{found_new, found_old, loads_upgrades, old_reason, settled_rests}
+use Rattle.spool_load.proofs.Refused.{found_back, opened_on, read_reason}
+use Rattle.spool_image.proofs.Upgraded.{found_new, found_old, loads_upgrades, old_reason, settled_rests, upgrades_by}
 use Rattle.spool_image.proofs.Upgraded.{unfound_disk_fault, unfound_upgrade}
 use Rattle.spool_image.specs.declared.error.UpgradeError.TheVariants.{Open}
 use Rattle.spool_image.proofs.upgrading.load_old.Goals as goal
@@ -26,7 +29,7 @@ returns-in_err-found-clause-said g c honest v valid is room =
 
 pub returns-in_err-found-clause-refused : goal.returns-in_err-found-clause-refused
 returns-in_err-found-clause-refused g c honest =
-    let reason = unfound_upgrade _ _ c.in_err-found.field-0.0 (c.in_err-found.ensures.refused honest) in
+    let reason = unfound_upgrade _ _ _ c.in_err-found.field-0.0 (c.in_err-found.ensures.refused honest) in
     search rules
 
 pub returns-in_err-found-clause-stays : goal.returns-in_err-found-clause-stays
@@ -42,7 +45,8 @@ returns-in_err-kept-clause-said g c honest v valid is room =
     let found = c.in_ok-found.ensures.said honest v valid is room in
     let loads =
     tells_nothing c.in_err-kept.field-0.0 (λ (kept : Kept). KeepsAlone kept v)
-    (c.in_err-kept.ensures.said (c.find.ensures.honest.0 honest) _ (settled_still settled) v valid found
+    (c.in_err-kept.ensures.said _
+    (c.read.ensures.reads.gave (c.find.ensures.honest.0 honest) _ (settled_still settled)) v valid found
     (recovered_says c.in_ok-found.found.layout v found.blocks settled is)) in
     let up =
     loads_upgrades Kept v.version (load_fault c.in_err-kept.field-0.0) (λ (kept : Kept). KeepsAlone kept v) loads in
@@ -54,14 +58,18 @@ returns-in_err-kept-clause-refused g c honest =
     let on = c.in_ok-found.ensures.found honest in
     let mid = c.find.ensures.honest.0 honest in
     let reason =
-    read_reason (g.D.Disk.size c.args.disk.now) (g.D.Disk.current c.args.disk.now) c.in_ok-found.found
+    read_reason (g.D.Disk.size c.args.disk.now) (g.D.Disk.current c.args.disk.now) _ c.in_ok-found.found
     c.in_err-kept.field-0.0 on
-    (λ v valid is room. let found = c.in_ok-found.ensures.said honest v valid is room in
-    c.in_err-kept.ensures.said mid _ (settled_still settled) v valid found
+    (λ v valid encodes. let is : IsViewOf (g.D.Disk.current c.args.disk.now) v = record {
+      form = encodes.journal;
+      says = encodes.says;
+    } in
+    let found = c.in_ok-found.ensures.said honest v valid is encodes.begins.room in
+    c.in_err-kept.ensures.said _ (c.read.ensures.reads.gave mid _ (settled_still settled)) v valid found
     (recovered_says c.in_ok-found.found.layout v found.blocks settled is)) in
     let old =
-    old_reason (g.D.Disk.size c.args.disk.now) (g.D.Disk.current c.args.disk.now) (load_fault c.in_err-kept.field-0.0)
-    (λ e. found_old (g.D.Disk.size c.args.disk.now) (g.D.Disk.current c.args.disk.now) c.in_ok-found.found on
+    old_reason (g.D.Disk.size c.args.disk.now) (g.D.Disk.current c.args.disk.now) _ (load_fault c.in_err-kept.field-0.0)
+    (λ e. found_old (g.D.Disk.size c.args.disk.now) (g.D.Disk.current c.args.disk.now) _ c.in_ok-found.found on
     (search rules)) reason in
     search rules
 
@@ -127,7 +135,8 @@ pub returns-clause-kept : goal.returns-clause-kept
 returns-clause-kept g c honest v valid is room =
     let settled = c.in_ok-found.ensures.settled honest in
     let found = c.in_ok-found.ensures.said honest v valid is room in
-    c.in_ok-kept.ensures.said (c.find.ensures.honest.0 honest) _ (settled_still settled) v valid found
+    c.in_ok-kept.ensures.said _ (c.read.ensures.reads.gave (c.find.ensures.honest.0 honest) _ (settled_still settled)) v
+    valid found
     (recovered_says c.in_ok-found.found.layout v found.blocks settled is)
 
 pub returns-clause-valid : goal.returns-clause-valid
@@ -139,11 +148,9 @@ returns-clause-valid g c honest =
     let now = g.D.Disk.current c.find.new.disk in
     let unsynced = g.D.Disk.unsynced c.find.new.disk in
     let size = g.D.Disk.size c.args.disk.now in
-    let says =
-    says_on n was now unsynced settled found.journal size
-    (g.D.Disk.size c.find.new.disk) c.find.ensures.size found.says in
     opened_on n was now unsynced settled found.journal size c.in_ok-kept.kept found.says
-    (c.in_ok-kept.ensures.valid (c.find.ensures.honest.0 honest) now (settled_still settled) says
+    (c.in_ok-kept.ensures.valid now
+    (c.read.ensures.reads.gave (c.find.ensures.honest.0 honest) now (settled_still settled))
     (found_back size c.in_ok-found.found was now unsynced settled found))
 
 pub returns-clause-settled : goal.returns-clause-settled
@@ -159,10 +166,44 @@ returns-clause-settled g c honest =
 pub returns-then-eq-clause-refused : goal.returns-then-eq-clause-refused
 returns-then-eq-clause-refused g c honest =
     let new : c.in_ok-found.found.version ≡ Two = search rules in
-    found_new (g.D.Disk.size c.args.disk.now) (g.D.Disk.current c.args.disk.now) c.in_ok-found.found
+    found_new (g.D.Disk.size c.args.disk.now) (g.D.Disk.current c.args.disk.now) _ c.in_ok-found.found
     (c.in_ok-found.ensures.found honest) new
 
 pub returns-then-eq-clause-stays : goal.returns-then-eq-clause-stays
 returns-then-eq-clause-stays g c honest v valid is room device =
     let found = c.in_ok-found.ensures.said honest v valid is room in
     settled_rests v c.in_ok-found.found.layout found.blocks (c.in_ok-found.ensures.settled honest) is
+
+-- On any disk.
+
+pub returns-in_err-found-clause-given : goal.returns-in_err-found-clause-given
+returns-in_err-found-clause-given g c =
+    let e = err_from_is_err_and c.from_residual.result c.from_residual.ensures.1 in
+    rw (e.1, e.2) (by_after c.in_err-found.ensures.given (grew_none refl)
+    (λ before after is late. unfound_upgrade _ before after c.in_err-found.field-0.0 is.answer))
+
+pub returns-then-eq-clause-given : goal.returns-then-eq-clause-given
+returns-then-eq-clause-given g c =
+    let new : c.in_ok-found.found.version ≡ Two = search rules in
+    by_after c.in_ok-found.ensures.given (grew_none refl)
+    (λ before after is late. found_new _ before after c.in_ok-found.found is.answer new)
+
+pub returns-in_err-kept-clause-given : goal.returns-in_err-kept-clause-given
+returns-in_err-kept-clause-given g c =
+    let e = err_from_is_err_and c.from_residual-in_err-kept.result c.from_residual-in_err-kept.ensures.1 in
+    let old : c.in_ok-found.found.version ≡ One = search rules in
+    rw (e.1, e.2) (by_after c.in_ok-found.ensures.given c.read.ensures.reads.grew
+    (λ before after is late. old_reason _ before after (load_fault c.in_err-kept.field-0.0)
+    (λ damaged. found_old _ before after c.in_ok-found.found is.answer old)
+    (unread_by _ before after c.in_ok-found.found is c.in_err-kept.field-0.0
+    (λ v valid found says. c.in_err-kept.ensures.said after late v valid found says)).answer))
+
+pub returns-clause-given : goal.returns-clause-given
+returns-clause-given g c =
+    let old : c.in_ok-found.found.version ≡ One = search rules in
+    by_after c.in_ok-found.ensures.given c.read.ensures.reads.grew
+    (λ before after is late. upgrades_by _ before after c.in_ok-found.found c.in_ok-kept.kept old
+    c.in_ok-kept.ensures.version
+    (loads_by _ before after c.in_ok-found.found is c.in_ok-kept.kept
+    (c.in_ok-kept.ensures.valid after late is.answer.state)
+    (λ v valid found says. c.in_ok-kept.ensures.said after late v valid found says)) c.in_ok-kept.kept)

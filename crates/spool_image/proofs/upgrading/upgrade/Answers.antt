@@ -1,19 +1,22 @@
-use Rattle.std.proofs.Common.{◌≡◌, ◌∙◌, inl, inr, ℕ, ◌*◌, ◌≤◌, sym, subst, rules, ⊎_elim}
+use Rattle.std.proofs.Common.{◌≡◌, ◌∙◌, inl, inr, ℕ, ◌*◌, ◌≤◌, refl, sym, subst, rules, ⊎_elim}
+use Rattle.std.proofs.lemmas.Result.{err_from_is_err_and}
 use Rattle.common.specs.declared.stop.Stop.TheVariants.{DiskFault}
 use Rattle.spool_journal.specs.declared.TheConstants.{PAGE}
 use Rattle.spool_disk.specs.Disk.{IsImage, Keeps}
 use Rattle.spool_disk.specs.Views.{Lasts}
 use Rattle.spool_disk.proofs.Firm.{lasts_on, lasts_more}
+use Rattle.spool_disk.proofs.Gave.{grew_none}
 use Rattle.spool_journal.specs.Image.{all_pages, journal_pages, overlaid, Outside}
 use Rattle.spool_catalog.specs.declared.error.OpenFault.TheVariants.{Stop}
 use Rattle.spool_pages.specs.Rests.{Rests}
 use Rattle.spool_load.proofs.Looks.{ok_no_fault}
+use Rattle.spool_load.proofs.ReadBys.{by_after}
 use Rattle.spool_image.specs.declared.error.UpgradeError.TheVariants.{Open}
 use Rattle.spool_image.proofs.Opens.{reads_shows, view_room}
 use Rattle.spool_image.proofs.Refused.{opened_is_known, opened_is_old, opened_is_spool, opened_is_whole}
 use Rattle.spool_image.proofs.Refused.{upgrade_damaged, upgrade_new, upgrade_no_spool, upgrade_version}
 use Rattle.spool_image.proofs.Upgraded.{after_shows, commit_over, crash_shown, if_err, on_ok_both, on_ok_more}
-use Rattle.spool_image.proofs.Upgraded.{other_err, refused_late}
+use Rattle.spool_image.proofs.Upgraded.{late_by, other_err, refused_late}
 use Rattle.spool_image.proofs.Upgraded.{rests_show, settled_rests, untouched_on, upgraded_view_shows}
 use Rattle.spool_image.proofs.Upgraded.{upgrades_late, view_shows}
 use Rattle.spool_image.proofs.upgrading.upgrade.Goals as goal
@@ -185,3 +188,19 @@ returns-clause-same g c honest none =
     (g.D.Disk.unsynced d))
     (Open (Stop DiskFault)) c.load_old.new.disk c.rewrite.new.disk c.rewrite.result
     (c.load_old.ensures.same honest none (ok_no_fault _ _ c.in_ok-kept.was)) c.rewrite.ensures.untouched
+
+-- On any disk.
+
+pub returns-in_err-kept-clause-given : goal.returns-in_err-kept-clause-given
+returns-in_err-kept-clause-given g c =
+    let e = err_from_is_err_and c.from_residual.result c.from_residual.ensures.1 in record {
+      opened = c.load_old.new.disk;
+      reads = rw (e.1, e.2) (by_after c.in_err-kept.ensures.given (grew_none refl) (λ before after is late. is));
+    }
+
+pub returns-clause-given : goal.returns-clause-given
+returns-clause-given g c = record {
+  opened = c.load_old.new.disk;
+  reads = by_after c.in_ok-kept.ensures.given (grew_none refl)
+      (λ before after is late. late_by _ before after c.rewrite.result c.rewrite.ensures.late is);
+}

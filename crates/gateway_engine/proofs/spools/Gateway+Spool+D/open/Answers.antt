@@ -1,10 +1,14 @@
-use Rattle.std.proofs.Common.{true, false, Some, sym, subst}
+use Rattle.std.proofs.Common.{true, false, Some, ap, refl, sym, subst, ◌∙◌}
 use Rattle.std.proofs.lemmas.Result.{err_from_is_err_and}
+use Rattle.common.specs.declared.stop.Stop.TheVariants.{NoMemory}
 use Rattle.spool_disk.specs.Views.{Lasts}
+use Rattle.spool_disk.proofs.Gave.{grew_none}
+use Rattle.spool_catalog.specs.declared.error.OpenFault.TheVariants.{Stop}
+use Rattle.spool_load.proofs.ReadBys.{by_after}
 use Rattle.spool_image.specs.Spool.{Keeps, disk_of}
 use Rattle.spool_image.specs.LeftOnly.{AllShow, LeftOrShows}
 use Rattle.spool_image.specs.Opening.{ReadsSame, Unwritten}
-use Rattle.spool_image.proofs.Opening.{exhausted_exactly, opened_exactly, refused_exactly}
+use Rattle.spool_image.proofs.Opening.{opened_exactly, opened_reads, refused_exactly, view_more}
 use Rattle.gateway_engine.proofs.OnDisk.{refused_as, view_room}
 use Rattle.gateway_engine.proofs.spools.Gateway+Spool+D.open.Goals as goal
 
@@ -47,20 +51,44 @@ returns-in_err-spool-clause-lasts g c n m is =
 
 pub returns-in-Ok-clause-exact : goal.returns-in-Ok-clause-exact
 returns-in-Ok-clause-exact g c honest =
-    let said = c.in_ok-spool.ensures in
-    opened_exactly (said.valid honest) (said.not_a_spool honest) (said.version honest) (said.damaged honest)
+    opened_exactly _ (g.D.Disk.current c.args.disk) _ (opened_reads _ (c.in_ok-spool.ensures.valid honest))
 
 pub returns-in-Err-clause-exact : goal.returns-in-Err-clause-exact
-returns-in-Err-clause-exact g c honest =
-    let said = c.in_ok-spool.ensures in
-    exhausted_exactly (said.not_a_spool honest) (said.version honest) (said.damaged honest)
+returns-in-Err-clause-exact g c honest = refused_exactly _ (g.D.Disk.current c.args.disk) _ (Stop NoMemory) tt
 
 pub returns-in_err-spool-clause-exact : goal.returns-in_err-spool-clause-exact
 returns-in_err-spool-clause-exact g c honest =
     let p = err_from_is_err_and c.from_residual.result c.from_residual.ensures.1 in
-    let said = c.in_err-spool.ensures in
-    rw (p.1, p.2) (refused_exactly _ (said.refused honest) (said.not_a_spool honest) (said.version honest)
-    (said.damaged honest))
+    rw (p.1, p.2) (refused_exactly _ (g.D.Disk.current c.args.disk) _ _ (c.in_err-spool.ensures.refused honest))
+
+pub returns-in-Ok-clause-given : goal.returns-in-Ok-clause-given
+returns-in-Ok-clause-given g c =
+    let same = c.in-Ok.ensures.same in
+    by_after c.in_ok-spool.ensures.given (grew_none (ap (λ s. g.D.Disk.reads (disk_of s)) same))
+    (λ before after is late. record {
+      exact = opened_exactly _ before after is.memory;
+      memory = view_more (λ v keeps. subst (λ s. Keeps s v) (sym same) keeps) is.memory;
+      opened = λ v valid encodes. subst (λ s. Keeps s v) (sym same) (is.opened v valid encodes);
+    })
+
+pub returns-in-Err-clause-given : goal.returns-in-Err-clause-given
+returns-in-Err-clause-given g c =
+    by_after c.in_ok-spool.ensures.given
+    (grew_none (ap g.D.Disk.reads (c.into_disk.ensures.same ∙ ap disk_of c.in-Err.ensures.back)))
+    (λ before after is late. record {
+      exact = refused_exactly _ before after (Stop NoMemory) tt;
+      memory = tt;
+      opened = λ v valid encodes. tt;
+    })
+
+pub returns-in_err-spool-clause-given : goal.returns-in_err-spool-clause-given
+returns-in_err-spool-clause-given g c =
+    let p = err_from_is_err_and c.from_residual.result c.from_residual.ensures.1 in
+    rw (p.1, p.2) (by_after c.in_err-spool.ensures.given (grew_none refl) (λ before after is late. record {
+      exact = is.exact;
+      memory = tt;
+      opened = λ v valid encodes. refused_as _ _ _ (is.opened v valid encodes);
+    }))
 
 pub returns-in-Ok-clause-unwritten : goal.returns-in-Ok-clause-unwritten
 returns-in-Ok-clause-unwritten g c honest =

@@ -1,4 +1,5 @@
-use Rattle.std.proofs.Common.{◌≤◌, ◌*◌, ◌≡◌, ℕ, false, true, Some, sym, subst}
+use Rattle.std.proofs.Common.{◌≤◌, ◌*◌, ◌≡◌, ℕ, false, true, Some, refl, sym, subst}
+use Rattle.spool_disk.proofs.Gave.{grew_none}
 use Rattle.spool_journal.specs.declared.TheConstants.{PAGE}
 use Rattle.spool_journal.specs.Image.{journal_pages, all_pages, overlaid}
 use Rattle.spool_journal.specs.Phases.{ReadsAs}
@@ -6,10 +7,12 @@ use Rattle.spool_journal.proofs.Gate.{settled_idle}
 use Rattle.upload_rules.specs.World.{at_rest}
 use Rattle.spool_kept.specs.Drafting.{StandsFor}
 use Rattle.spool_load.proofs.Opens.{settled_reads}
+use Rattle.spool_load.proofs.ReadBys.{by_after}
 use Rattle.spool_image.proofs.Opens.{image_shows, lasts_shown, view_room}
 use Rattle.spool_image.proofs.Refused.{opened_is_spool, opened_is_known, opened_is_whole, told_no_spool, told_version}
 use Rattle.spool_image.proofs.Refused.{told_damaged}
 use Rattle.spool_image.proofs.StandsOn.{stands_opened}
+use Rattle.spool_image.proofs.Opening.{opened_exactly, refused_exactly}
 use Rattle.spool_image.proofs.spool.Spool.open.Goals as goal
 
 pub returns-in-Ok-clause-lasts : goal.returns-in-Ok-clause-lasts
@@ -74,15 +77,33 @@ returns-in-Ok-clause-damaged g c honest is =
 
 pub returns-in-Err-clause-not_a_spool : goal.returns-in-Err-clause-not_a_spool
 returns-in-Err-clause-not_a_spool g c honest is =
-    told_no_spool (g.D.Disk.size c.args.disk) (g.D.Disk.current c.args.disk) c.in-Err.fault
+    told_no_spool (g.D.Disk.size c.args.disk) (g.D.Disk.current c.args.disk) _ c.in-Err.fault
     (c.in-Err.ensures.refused honest) is
 
 pub returns-in-Err-clause-version : goal.returns-in-Err-clause-version
 returns-in-Err-clause-version g c honest is =
-    told_version (g.D.Disk.size c.args.disk) (g.D.Disk.current c.args.disk) c.in-Err.fault
+    told_version (g.D.Disk.size c.args.disk) (g.D.Disk.current c.args.disk) _ c.in-Err.fault
     (c.in-Err.ensures.refused honest) is
 
 pub returns-in-Err-clause-damaged : goal.returns-in-Err-clause-damaged
 returns-in-Err-clause-damaged g c honest is =
-    told_damaged (g.D.Disk.size c.args.disk) (g.D.Disk.current c.args.disk) c.in-Err.fault
+    told_damaged (g.D.Disk.size c.args.disk) (g.D.Disk.current c.args.disk) _ c.in-Err.fault
     (c.in-Err.ensures.refused honest) is
+
+-- On any disk.
+
+pub returns-in-Ok-clause-given : goal.returns-in-Ok-clause-given
+returns-in-Ok-clause-given g c =
+    by_after c.in-Ok.ensures.given (grew_none refl) (λ before after is late. record {
+      exact = opened_exactly (g.D.Disk.size c.args.disk) before after is.answer;
+      memory = is.answer;
+      opened = is.loads;
+    })
+
+pub returns-in-Err-clause-given : goal.returns-in-Err-clause-given
+returns-in-Err-clause-given g c =
+    by_after c.in-Err.ensures.given (grew_none refl) (λ before after is late. record {
+      exact = refused_exactly (g.D.Disk.size c.args.disk) before after c.in-Err.fault is.answer;
+      memory = tt;
+      opened = is.loads;
+    })
