@@ -1,5 +1,5 @@
 -- What users conclude from what the reads of a disk gave.
-use Rattle.std.proofs.Common.{◌≡◌, ℕ, List, [], ◌∷◌, ◌++◌, length, sym, ◌∙◌, ap, subst}
+use Rattle.std.proofs.Common.{◌≡◌, ℕ, List, [], ◌∷◌, ◌++◌, length, sym, ◌∙◌, ap, subst, Result, Ok, Err, OnOk, OnErr}
 use Rattle.std.proofs.lemmas.List.{append_assoc, append_cancel_right}
 use Rattle.spool_disk.specs.Disk.{span}
 use Rattle.spool_disk.specs.Given.{given, AllGave, Grew, Gave}
@@ -12,6 +12,14 @@ grew_none same = record { added = []; grown = same }
 -- A read forgets none.
 pub grew_one : {old new : List Given} {at : ℕ} {bs : List ℕ} → new ≡ given at bs ∷ old → Grew old new
 grew_one {at = at} {bs = bs} e = record { added = given at bs ∷ []; grown = e }
+
+-- A read forgets none, whether it succeeds or not.
+pub read_grew : {T E : Type 0} {old new : List Given} (at : ℕ) (bs : List ℕ) (r : Result T E)
+    → OnOk r (new ≡ given at bs ∷ old)
+    → OnErr r (new ≡ old)
+    → Grew old new
+read_grew at bs (Ok t) read failed = grew_one read
+read_grew at bs (Err e) read failed = grew_none failed
 
 -- Some calls, and then others.
 pub grew_on : {a b c : List Given} → Grew a b → Grew b c → Grew a c

@@ -1,17 +1,19 @@
 -- Steps of a recovery.
 use Rattle.std.proofs.Common.{◌≡◌, ◌⊎◌, inl, inr, ℕ, zero, suc, ◌+◌, ◌*◌, ◌<◌, ◌≤◌, ◌==◌, List, length, get_or, refl}
-use Rattle.std.proofs.Common.{sym, ◌∙◌, ap, subst, arith, ⊎_elim}
+use Rattle.std.proofs.Common.{sym, ◌∙◌, ap, subst, arith, ⊎_elim, Bool, true, false}
+use Rattle.std.proofs.lemmas.Bool.{cases_eq}
 use Rattle.spool_journal.specs.declared.TheConstants.{PAGE}
 use Rattle.common.specs.declared.limits.TheConstants.{MOST_BLOCKS}
 use Rattle.spool_disk.specs.Disk.{span, IsImage, Keeps}
 use Rattle.spool_journal.specs.Image.{word, byte_of, journal_pages, all_pages, count, number, content, over, overlaid}
-use Rattle.spool_journal.specs.Image.{text_page, laid, InForm, InArea, Ascends, page_number}
+use Rattle.spool_journal.specs.Image.{text_page, laid, replayed, InForm, InArea, Ascends, page_number}
 use Rattle.spool_journal.specs.Phases.{IsBefore, ReadsAs, Placing, Upto, Settled, Still, HeadOf}
 use Rattle.spool_disk.specs.Views.{Lasts}
 use Rattle.spool_disk.specs.declared.disk.Disk.{Ghosts}
 use Rattle.spool_disk.proofs.Firm.{lasts_more}
 use Rattle.spool_journal.proofs.Steps.{word_same, form_same, few_pages}
-use Rattle.spool_journal.proofs.Gate.{hit_from, shut_view}
+use Rattle.spool_journal.proofs.Gate.{hit_from, shut_view, open_view, reads_more}
+use Rattle.spool_journal.proofs.Over.{yes, no}
 
 pub journal_few : (n : ℕ) → n ≤ MOST_BLOCKS → journal_pages n ≤ 385
 unfolding journal_pages
@@ -164,3 +166,35 @@ not_in_form j n (suc k) least num lt start due under form =
     let e : suc k ≡ k + 1 = omega arith in
     let u : num (k + 1) < least = subst (λ (i : ℕ). num i < least) e under in
     omega (arith, form.ascends k (omega (arith, lt)), due k e, u)
+
+-- the gate's byte, as a read gave it
+pub gate_given : (gate : List ℕ) (bytes : ℕ → ℕ) → length gate ≡ 1 → span bytes PAGE (length gate) ≡ gate
+    → (get_or gate 0 0 == 165) ≡ (bytes PAGE == 165)
+gate_given gate bytes size e =
+    gate_is gate bytes bytes (sym (subst (λ (n : ℕ). span bytes PAGE n ≡ gate) size e)) (λ p. refl)
+
+-- the head, as a read gave it
+pub head_given : (head : List ℕ) (bytes : ℕ → ℕ) → length head ≡ PAGE → span bytes 8192 (length head) ≡ head
+    → HeadOf bytes head
+head_given head bytes size e i lt = page_read bytes bytes 8192 head (length head) size (sym e) i lt refl
+
+-- a gate that was found open
+pub shown_open : (shown : Bool) (b : ℕ) → shown ≡ (b == 165) → shown ≡ true → b ≡ 165
+shown_open shown b e told =
+    ⊎_elim (λ (is : b ≡ 165). is)
+    (λ (not : b ≡ 165 → ⊥). let f : true ≡ false = sym told ∙ e ∙ no b 165 not in absurd cc) (cases_eq b 165)
+
+-- a gate that was found closed
+pub shown_closed : (shown : Bool) (b : ℕ) → shown ≡ (b == 165) → shown ≡ false → b ≡ 165 → ⊥
+shown_closed shown b e closed is = let f : false ≡ true = sym closed ∙ e ∙ yes b 165 is in cc
+
+-- what a replay leaves, as a plain reading before it gives it
+pub lasts_mended : {D : Type 0} {disk : Ghosts D} {old new : D} {i j : ℕ} {bytes : ℕ → ℕ} {unsynced : ℕ → Type 0}
+    → i ≡ j → bytes PAGE ≡ 165
+    → Lasts disk old new (λ image. ((p : ℕ) → image p ≡ bytes p) ⊎ ReadsAs i image (replayed bytes))
+    → Lasts disk old new (λ image. IsImage bytes unsynced image ⊎ ReadsAs j image (overlaid bytes))
+lasts_mended {bytes = bytes} same gate lasts = lasts_more lasts
+    (λ image either.
+    ⊎_elim (λ is. inl record { same = λ p _. is p })
+    (λ reads. inr (reads_more (λ p _. sym (open_view bytes p gate))
+    (subst (λ (n : ℕ). ReadsAs n image (replayed bytes)) same reads))) either)

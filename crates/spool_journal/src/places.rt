@@ -5,7 +5,7 @@ ghost use Rattle.spool_disk.specs.Views.{Lasts};
 ghost use Rattle.spool_journal.specs.Image.{count, number, content, replayed, laid, byte_of, page_number};
 ghost use Rattle.spool_journal.specs.Phases.{IsBefore, ReadsAs, Ready, Opened, Matches, Placing, Upto, Placed, Settled};
 
-use crate::PAGE;
+use crate::{GATE, PAGE};
 use spool_disk::{Disk, DiskFault};
 
 /// Opens the gate and syncs. From here on the commit is durable.
@@ -21,7 +21,7 @@ pub(crate) fn open_gate<D: Disk>(disk: &mut D) -> Result<(), DiskFault>
         → Ready j pages was (D.current disk.old) (D.unsynced disk.old) → Lasts D.Disk disk.old disk.new
         (λ image. IsBefore j was (D.unsynced disk.old) image ⊎ ReadsAs j image (laid pages was)) }
 {
-    disk.write_at(4096, &[165])?;
+    disk.write_at(GATE, &[165])?;
     disk.sync()
 }
 
@@ -31,6 +31,7 @@ pub(crate) fn place<D: Disk>(disk: &mut D, page: u32, bytes: &[u8; PAGE]) -> Res
     ensures size { D.size disk.new ≡ D.size disk.old }
     ensures honest { D.honest disk.old ↔ D.honest disk.new }
     ensures counts { Counts (IsErr result) (D.failures disk.old) (D.failures disk.new) }
+    ensures reads { D.reads disk.new ≡ D.reads disk.old }
     ensures placing { D.honest disk.old → (j i : ℕ) (opened : ℕ → ℕ) → Placing j opened (D.current disk.old)
         (D.unsynced disk.old) → i < count opened → number opened i ≡ page → Placing j opened (D.current disk.new)
         (D.unsynced disk.new) }
@@ -74,12 +75,13 @@ pub(crate) fn close_gate<D: Disk>(disk: &mut D) -> Result<(), DiskFault>
     ensures size { D.size disk.new ≡ D.size disk.old }
     ensures honest { D.honest disk.old ↔ D.honest disk.new }
     ensures counts { Counts (IsErr result) (D.failures disk.old) (D.failures disk.new) }
+    ensures reads { D.reads disk.new ≡ D.reads disk.old }
     ensures settled { D.honest disk.old → (j : ℕ) (opened : ℕ → ℕ) → Placed j opened (D.current disk.old)
         (D.unsynced disk.old) → OnOk result (Settled j (replayed opened) (D.current disk.new) (D.unsynced disk.new)) }
     ensures lasts { D.honest disk.old → (j : ℕ) → j ≤ 385 → (opened : ℕ → ℕ)
         → Placed j opened (D.current disk.old) (D.unsynced disk.old) → Lasts D.Disk disk.old disk.new
         (λ image. ReadsAs j image (replayed opened)) }
 {
-    disk.write_at(4096, &[0])?;
+    disk.write_at(GATE, &[0])?;
     disk.sync()
 }

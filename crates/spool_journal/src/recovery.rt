@@ -2,6 +2,7 @@
 ghost use Rattle.std.specs.Prelude.{◌≡◌, ◌⊎◌, ◌≤◌, ◌<◌, ◌*◌, ◌+◌, ◌↔◌, ℕ, IsErr, IfOk, OnOk, ◌==◌, true, false};
 ghost use Rattle.std.specs.Prelude.{Err};
 ghost use Rattle.spool_disk.specs.Disk.{IsImage, Counts};
+ghost use Rattle.spool_disk.specs.Given.{Grew, Gave};
 ghost use Rattle.spool_disk.specs.Views.{Lasts};
 ghost use Rattle.spool_journal.specs.Image.{journal_pages, all_pages, replayed, overlaid, word, byte_of, area_end};
 ghost use Rattle.spool_journal.specs.Image.{count, number, InForm};
@@ -10,7 +11,7 @@ ghost use Rattle.spool_journal.specs.Phases.{Idle, ReadsAs, Still, Placing, Upto
 use crate::layout::{area_end, metadata_page};
 use crate::places::{close_gate, place};
 use crate::syncs::sync_places;
-use crate::{Layout, PAGE, RecoverError};
+use crate::{GATE, Layout, PAGE, RecoverError};
 use spool_disk::{Disk, DiskFault};
 
 // Syncs, so that what a read gives can't change any more.
@@ -18,6 +19,7 @@ fn settle<D: Disk>(disk: &mut D) -> Result<(), DiskFault>
     ensures size { D.size disk.new ≡ D.size disk.old }
     ensures honest { D.honest disk.old ↔ D.honest disk.new }
     ensures counts { Counts (IsErr result) (D.failures disk.old) (D.failures disk.new) }
+    ensures reads { D.reads disk.new ≡ D.reads disk.old }
     ensures still { D.honest disk.old → OnOk result (Still (D.current disk.old) (D.current disk.new)
         (D.unsynced disk.new)) }
     ensures lasts { D.honest disk.old → Lasts D.Disk disk.old disk.new
@@ -32,15 +34,18 @@ fn is_open<D: Disk>(disk: &mut D) -> Result<bool, DiskFault>
     ensures size { D.size disk.new ≡ D.size disk.old }
     ensures honest { D.honest disk.old ↔ D.honest disk.new }
     ensures counts { Counts (IsErr result) (D.failures disk.old) (D.failures disk.new) }
+    ensures reads { Grew (D.reads disk.old) (D.reads disk.new) }
     ensures still { D.honest disk.old → (bytes : ℕ → ℕ) → Still bytes (D.current disk.old) (D.unsynced disk.old)
         → Still bytes (D.current disk.new) (D.unsynced disk.new) }
     ensures open { D.honest disk.old → (bytes : ℕ → ℕ) → Still bytes (D.current disk.old) (D.unsynced disk.old)
         → IfOk result (λ shown. shown ≡ (bytes PAGE == 165)) }
     ensures lasts { D.honest disk.old → (bytes : ℕ → ℕ) → Still bytes (D.current disk.old) (D.unsynced disk.old)
         → Lasts D.Disk disk.old disk.new (λ image. (p : ℕ) → image p ≡ bytes p) }
+    ensures gave { (bytes : ℕ → ℕ) → Gave bytes (D.reads disk.old) (D.reads disk.new)
+        → IfOk result (λ shown. shown ≡ (bytes PAGE == 165)) }
 {
     let mut gate = [0];
-    disk.read(4096, &mut gate)?;
+    disk.read(GATE, &mut gate)?;
     Ok(gate[0] == 165)
 }
 
@@ -50,12 +55,15 @@ fn read_head<D: Disk>(disk: &mut D, head: &mut [u8; PAGE]) -> Result<(), DiskFau
     ensures size { D.size disk.new ≡ D.size disk.old }
     ensures honest { D.honest disk.old ↔ D.honest disk.new }
     ensures counts { Counts (IsErr result) (D.failures disk.old) (D.failures disk.new) }
+    ensures reads { Grew (D.reads disk.old) (D.reads disk.new) }
     ensures still { D.honest disk.old → (bytes : ℕ → ℕ) → Still bytes (D.current disk.old) (D.unsynced disk.old)
         → Still bytes (D.current disk.new) (D.unsynced disk.new) }
     ensures head { D.honest disk.old → (bytes : ℕ → ℕ) → Still bytes (D.current disk.old) (D.unsynced disk.old)
         → OnOk result (HeadOf bytes head.new) }
     ensures lasts { D.honest disk.old → (bytes : ℕ → ℕ) → Still bytes (D.current disk.old) (D.unsynced disk.old)
         → Lasts D.Disk disk.old disk.new (λ image. (p : ℕ) → image p ≡ bytes p) }
+    ensures gave { (bytes : ℕ → ℕ) → Gave bytes (D.reads disk.old) (D.reads disk.new)
+        → OnOk result (HeadOf bytes head.new) }
 {
     disk.read(8192, head)
 }
@@ -102,6 +110,7 @@ fn copy_page<D: Disk>(disk: &mut D, from: u32, to: u32) -> Result<(), DiskFault>
     ensures size { D.size disk.new ≡ D.size disk.old }
     ensures honest { D.honest disk.old ↔ D.honest disk.new }
     ensures counts { Counts (IsErr result) (D.failures disk.old) (D.failures disk.new) }
+    ensures reads { Grew (D.reads disk.old) (D.reads disk.new) }
     ensures placing { D.honest disk.old → (j i : ℕ) (opened : ℕ → ℕ) → Placing j opened (D.current disk.old)
         (D.unsynced disk.old) → i < count opened → number opened i ≡ to → Placing j opened (D.current disk.new)
         (D.unsynced disk.new) }
@@ -126,6 +135,7 @@ fn replay<D: Disk>(disk: &mut D, head: &[u8; PAGE], journal: u32) -> Result<(), 
     ensures size { D.size disk.new ≡ D.size disk.old }
     ensures honest { D.honest disk.old ↔ D.honest disk.new }
     ensures counts { Counts (IsErr result) (D.failures disk.old) (D.failures disk.new) }
+    ensures reads { Grew (D.reads disk.old) (D.reads disk.new) }
     ensures placing { D.honest disk.old → (opened : ℕ → ℕ) → HeadOf opened head.now
         → Placing journal opened (D.current disk.old) (D.unsynced disk.old)
         → Placing journal opened (D.current disk.new)
@@ -153,6 +163,7 @@ fn replay_all<D: Disk>(disk: &mut D, head: &[u8; PAGE], journal: u32) -> Result<
     ensures size { D.size disk.new ≡ D.size disk.old }
     ensures honest { D.honest disk.old ↔ D.honest disk.new }
     ensures counts { Counts (IsErr result) (D.failures disk.old) (D.failures disk.new) }
+    ensures reads { Grew (D.reads disk.old) (D.reads disk.new) }
     ensures settled { D.honest disk.old → (bytes : ℕ → ℕ) → HeadOf bytes head.now
         → Still bytes (D.current disk.old) (D.unsynced disk.old) → bytes PAGE ≡ 165
         → OnOk result (Settled journal (replayed bytes) (D.current disk.new) (D.unsynced disk.new)) }
@@ -173,6 +184,7 @@ fn mend<D: Disk>(disk: &mut D, journal: u32) -> Result<(), RecoverError>
     ensures size { D.size disk.new ≡ D.size disk.old }
     ensures honest { D.honest disk.old ↔ D.honest disk.new }
     ensures counts { Counts (result ≡ Err RecoverError.DiskFault) (D.failures disk.old) (D.failures disk.new) }
+    ensures reads { Grew (D.reads disk.old) (D.reads disk.new) }
     ensures settled { D.honest disk.old → (bytes : ℕ → ℕ) → Still bytes (D.current disk.old) (D.unsynced disk.old)
         → bytes PAGE ≡ 165 → OnOk result (Settled journal (replayed bytes) (D.current disk.new) (D.unsynced disk.new)) }
     ensures form { D.honest disk.old → (bytes : ℕ → ℕ) → Still bytes (D.current disk.old) (D.unsynced disk.old)
@@ -182,6 +194,10 @@ fn mend<D: Disk>(disk: &mut D, journal: u32) -> Result<(), RecoverError>
     ensures lasts { D.honest disk.old → (bytes : ℕ → ℕ) → Still bytes (D.current disk.old) (D.unsynced disk.old)
         → bytes PAGE ≡ 165 → Lasts D.Disk disk.old disk.new
         (λ image. ((p : ℕ) → image p ≡ bytes p) ⊎ ReadsAs journal image (replayed bytes)) }
+    ensures gave_form { (bytes : ℕ → ℕ) → Gave bytes (D.reads disk.old) (D.reads disk.new)
+        → OnOk result (InForm journal (count bytes) (number bytes)) }
+    ensures gave_damaged { (bytes : ℕ → ℕ) → Gave bytes (D.reads disk.old) (D.reads disk.new)
+        → result ≡ Err RecoverError.Damaged → InForm journal (count bytes) (number bytes) → ⊥ }
 {
     let mut head = [0; PAGE];
     read_head(disk, &mut head)?;
@@ -204,6 +220,7 @@ pub fn recover<D: Disk>(disk: &mut D, layout: &Layout) -> Result<(), RecoverErro
     ensures size { D.size disk.new ≡ D.size disk.old }
     ensures honest { D.honest disk.old ↔ D.honest disk.new }
     ensures counts { Counts (result ≡ Err RecoverError.DiskFault) (D.failures disk.old) (D.failures disk.new) }
+    ensures reads { Grew (D.reads disk.old) (D.reads disk.new) }
 
     // Every crash image then is what a plain reading gave, except for the gate and the journal.
     ensures settled { D.honest disk.old → OnOk result
@@ -232,6 +249,13 @@ pub fn recover<D: Disk>(disk: &mut D, layout: &Layout) -> Result<(), RecoverErro
         → Lasts D.Disk disk.old disk.new (IsImage (D.current disk.old) (D.unsynced disk.old)) }
     ensures same { D.honest disk.old → (D.current disk.old PAGE ≡ 165 → ⊥) → (result ≡ Err RecoverError.DiskFault → ⊥)
         → Still (D.current disk.old) (D.current disk.new) (D.unsynced disk.new) }
+
+    // What holds of every disk, of the bytes that its reads gave.
+    ensures gave_form { (bytes : ℕ → ℕ) → Gave bytes (D.reads disk.old) (D.reads disk.new)
+        → OnOk result (bytes PAGE ≡ 165 → InForm (journal_pages layout.now) (count bytes) (number bytes)) }
+    ensures gave_damaged { (bytes : ℕ → ℕ) → Gave bytes (D.reads disk.old) (D.reads disk.new)
+        → result ≡ Err RecoverError.Damaged
+        → (bytes PAGE ≡ 165) × (InForm (journal_pages layout.now) (count bytes) (number bytes) → ⊥) }
 {
     settle(disk)?;
     if is_open(disk)? {

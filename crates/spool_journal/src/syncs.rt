@@ -13,6 +13,7 @@ pub(crate) fn sync_places<D: Disk>(disk: &mut D) -> Result<(), DiskFault>
     ensures size { D.size disk.new ≡ D.size disk.old }
     ensures honest { D.honest disk.old ↔ D.honest disk.new }
     ensures counts { Counts (IsErr result) (D.failures disk.old) (D.failures disk.new) }
+    ensures reads { D.reads disk.new ≡ D.reads disk.old }
     ensures placed { D.honest disk.old → (j : ℕ) (opened : ℕ → ℕ) → Placing j opened (D.current disk.old)
         (D.unsynced disk.old) → Upto opened (D.current disk.old) (count opened)
         → OnOk result (Placed j opened (D.current disk.new) (D.unsynced disk.new)) }

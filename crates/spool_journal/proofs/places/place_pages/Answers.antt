@@ -1,4 +1,4 @@
-use Rattle.std.proofs.Common.{◌<◌, length, ◌∙◌, arith}
+use Rattle.std.proofs.Common.{◌<◌, length, arith}
 use Rattle.spool_disk.proofs.Firm.{lasts_on, not_err, one_call}
 use Rattle.spool_journal.proofs.Steps.{no_failure}
 use Rattle.spool_journal.proofs.Gate.{opened}

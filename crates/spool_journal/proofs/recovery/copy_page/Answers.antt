@@ -1,6 +1,7 @@
 use Rattle.std.proofs.Common.{rules, ◌*◌, ◌+◌, ℕ, refl, sym, ◌∙◌, ap}
 use Rattle.spool_journal.specs.declared.TheConstants.{PAGE}
 use Rattle.spool_disk.proofs.Firm.{lasts_call, lasts_on}
+use Rattle.spool_disk.proofs.Gave.{grew_none, grew_one, grew_on}
 use Rattle.spool_journal.proofs.Gate.{placing_image}
 use Rattle.spool_journal.proofs.Recovers.{placing_keeps, page_read_at, placing_content}
 use Rattle.spool_journal.proofs.recovery.copy_page.Goals as goal
@@ -22,3 +23,6 @@ returns-clause-lasts g c honest j i few opened placing lt e =
     let kept = placing_keeps placing (c.read.ensures.keeps honest) in
     lasts_on (lasts_call (c.read.ensures.time honest) (λ image is. placing_image few kept is))
     (c.place.ensures.lasts (c.read.ensures.honest.0 honest) j i few opened kept lt e)
+
+pub returns-clause-reads : goal.returns-clause-reads
+returns-clause-reads g c = grew_on (grew_one c.in_ok-read.ensures.given) (grew_none c.place.ensures.reads)

@@ -1,5 +1,6 @@
 use Rattle.std.proofs.Common.{◌≡◌, ◌<◌, ℕ, refl, sym, ◌∙◌, arith, subst}
 use Rattle.spool_disk.proofs.Firm.{lasts_on, not_err, one_call}
+use Rattle.spool_disk.proofs.Gave.{grew_on}
 use Rattle.spool_journal.proofs.Steps.{no_failure}
 use Rattle.spool_journal.proofs.Recovers.{head_count, head_number}
 use Rattle.spool_journal.specs.Image.{count}
@@ -33,6 +34,7 @@ loop-k-preserved g c =
     record {
       calls = one_call inv.calls c.copy_page.ensures.size c.copy_page.ensures.honest
           (no_failure c.copy_page.ensures.counts (not_err _ _ c.in_ok-copy_page.was));
+      reads = grew_on inv.reads c.copy_page.ensures.reads;
       placing = λ honest opened here placing. c.copy_page.ensures.placing (inv.calls.honest honest) _ c.loop-k.k opened
           (inv.placing honest opened here placing) (below opened here)
           (sym (head_number opened c.args.head.now here c.loop-k.k
@@ -53,3 +55,6 @@ pub returns-clause-upto : goal.returns-clause-upto
 returns-clause-upto g c honest opened here placing upto =
     let e : c.loop-k.k ≡ count opened = omega (arith, head_count opened c.args.head.now here) in
     subst (Upto opened _) e (c.loop-k.invariant.upto honest opened here placing upto)
+
+pub returns-in_err-copy_page-clause-reads : goal.returns-in_err-copy_page-clause-reads
+returns-in_err-copy_page-clause-reads g c = grew_on c.loop-k.invariant.reads c.copy_page.ensures.reads

@@ -1,4 +1,4 @@
-use Rattle.std.proofs.Common.{rules, refl, ◌∙◌, arith}
+use Rattle.std.proofs.Common.{rules, refl, arith}
 use Rattle.spool_disk.proofs.Firm.{lasts_call, lasts_on, not_err, one_call}
 use Rattle.spool_journal.proofs.Steps.{staging_writes, staged_before, copied_more, no_failure}
 use Rattle.spool_journal.proofs.staging.stage_pages.Goals as goal
