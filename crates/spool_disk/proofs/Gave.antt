@@ -2,34 +2,34 @@
 use Rattle.std.proofs.Common.{◌≡◌, ℕ, List, [], ◌∷◌, ◌++◌, length, sym, ◌∙◌, ap, subst, Result, Ok, Err, OnOk, OnErr}
 use Rattle.std.proofs.lemmas.List.{append_assoc, append_cancel_right}
 use Rattle.spool_disk.specs.Disk.{span}
-use Rattle.spool_disk.specs.Given.{given, AllGave, Grew, Gave}
+use Rattle.spool_disk.specs.Given.{given, AllGave, MoreReads, ReadsGave}
 use Rattle.spool_disk.specs.declared.given.Given.{Given}
 
 -- Calls that aren't reads forget none.
-pub grew_none : {old new : List Given} → new ≡ old → Grew old new
+pub grew_none : {old new : List Given} → new ≡ old → MoreReads old new
 grew_none same = record { added = []; grown = same }
 
 -- A read forgets none.
-pub grew_one : {old new : List Given} {at : ℕ} {bs : List ℕ} → new ≡ given at bs ∷ old → Grew old new
+pub grew_one : {old new : List Given} {at : ℕ} {bs : List ℕ} → new ≡ given at bs ∷ old → MoreReads old new
 grew_one {at = at} {bs = bs} e = record { added = given at bs ∷ []; grown = e }
 
 -- A read forgets none, whether it succeeds or not.
 pub read_grew : {T E : Type 0} {old new : List Given} (at : ℕ) (bs : List ℕ) (r : Result T E)
     → OnOk r (new ≡ given at bs ∷ old)
     → OnErr r (new ≡ old)
-    → Grew old new
+    → MoreReads old new
 read_grew at bs (Ok t) read failed = grew_one read
 read_grew at bs (Err e) read failed = grew_none failed
 
 -- Some calls, and then others.
-pub grew_on : {a b c : List Given} → Grew a b → Grew b c → Grew a c
+pub grew_on : {a b c : List Given} → MoreReads a b → MoreReads b c → MoreReads a c
 grew_on {a = a} f g = record {
   added = g.added ++ f.added;
   grown = g.grown ∙ ap (λ (l : List Given). g.added ++ l) f.grown ∙ sym (append_assoc g.added f.added a);
 }
 
 -- Where no call is a read, nothing has to be shown.
-pub none : {bytes : ℕ → ℕ} {old new : List Given} → new ≡ old → Gave bytes old new
+pub none : {bytes : ℕ → ℕ} {old new : List Given} → new ≡ old → ReadsGave bytes old new
 unfolding grew_none
 none same = record { since = grew_none same; all = tt }
 
@@ -50,14 +50,14 @@ all_both bytes [] earlier all others = others
 all_both bytes (g ∷ later) earlier all others = (all.0, all_both bytes later earlier all.1 others)
 
 -- It doesn't matter how the reads since are named.
-all_added : {bytes : ℕ → ℕ} {old new : List Given} (grew : Grew old new) → Gave bytes old new → AllGave bytes grew.added
+all_added : {bytes : ℕ → ℕ} {old new : List Given} (grew : MoreReads old new) → ReadsGave bytes old new → AllGave bytes grew.added
 all_added {bytes = bytes} {old = old} grew gave =
     subst (AllGave bytes)
     (append_cancel_right gave.since.added grew.added old (sym gave.since.grown ∙ grew.grown))
     gave.all
 
 -- What all the reads gave, the earlier ones gave.
-pub first : {bytes : ℕ → ℕ} {a b c : List Given} → Grew a b → Grew b c → Gave bytes a c → Gave bytes a b
+pub first : {bytes : ℕ → ℕ} {a b c : List Given} → MoreReads a b → MoreReads b c → ReadsGave bytes a c → ReadsGave bytes a b
 unfolding grew_on
 first {bytes = bytes} f g gave = record {
   since = f;
@@ -65,7 +65,7 @@ first {bytes = bytes} f g gave = record {
 }
 
 -- What all the reads gave, the later ones gave.
-pub rest : {bytes : ℕ → ℕ} {a b c : List Given} → Grew a b → Grew b c → Gave bytes a c → Gave bytes b c
+pub rest : {bytes : ℕ → ℕ} {a b c : List Given} → MoreReads a b → MoreReads b c → ReadsGave bytes a c → ReadsGave bytes b c
 unfolding grew_on
 rest {bytes = bytes} f g gave = record {
   since = g;
@@ -73,7 +73,7 @@ rest {bytes = bytes} f g gave = record {
 }
 
 -- What the earlier reads gave and the later ones, all of them gave.
-pub both : {bytes : ℕ → ℕ} {a b c : List Given} → Gave bytes a b → Gave bytes b c → Gave bytes a c
+pub both : {bytes : ℕ → ℕ} {a b c : List Given} → ReadsGave bytes a b → ReadsGave bytes b c → ReadsGave bytes a c
 unfolding grew_on
 both {bytes = bytes} f g = record {
   since = grew_on f.since g.since;
@@ -82,7 +82,7 @@ both {bytes = bytes} f g = record {
 
 -- A single read gave what stands there.
 pub one : {bytes : ℕ → ℕ} {old new : List Given} {at : ℕ} {bs : List ℕ} → new ≡ given at bs ∷ old
-    → Gave bytes old new
+    → ReadsGave bytes old new
     → span bytes at (length bs) ≡ bs
 unfolding grew_one
 one e gave = (all_added (grew_one e) gave).0
@@ -90,6 +90,6 @@ one e gave = (all_added (grew_one e) gave).0
 -- What stands there, a single read gave.
 pub of_one : {bytes : ℕ → ℕ} {old new : List Given} {at : ℕ} {bs : List ℕ} → new ≡ given at bs ∷ old
     → span bytes at (length bs) ≡ bs
-    → Gave bytes old new
+    → ReadsGave bytes old new
 unfolding grew_one
 of_one e is = record { since = grew_one e; all = (is, tt) }

@@ -14,11 +14,11 @@ AllGave bytes [] = Unit {0}
 AllGave bytes (g ∷ gs) = (span bytes g.at (length g.bytes.items) ≡ g.bytes.items) × AllGave bytes gs
 
 -- There were reads since, and no earlier one was forgotten.
-pub record Grew (old new : List Given) : Type 0 where
+pub record MoreReads (old new : List Given) : Type 0 where
   pub added : List Given
   pub grown : new ≡ added ++ old
 
 -- The reads since gave these bytes.
-pub record Gave (bytes : ℕ → ℕ) (old new : List Given) : Type 0 where
-  pub since : Grew old new
+pub record ReadsGave (bytes : ℕ → ℕ) (old new : List Given) : Type 0 where
+  pub since : MoreReads old new
   pub all : AllGave bytes since.added

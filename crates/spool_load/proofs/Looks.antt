@@ -6,16 +6,16 @@ use Rattle.std.proofs.Math.ListN.{get_or-append, get_or-eq_default}
 use Rattle.std.proofs.lemmas.Bool.{cases_lt}
 use Rattle.std.proofs.Math.Seq.{take-append_seam}
 use Rattle.spool_disk.specs.Disk.{span}
-use Rattle.spool_disk.specs.Given.{Gave, Grew, given}
+use Rattle.spool_disk.specs.Given.{ReadsGave, given}
 use Rattle.spool_disk.specs.declared.given.Given.{Given}
 use Rattle.spool_disk.specs.declared.disk.Disk.{Ghosts}
-use Rattle.spool_disk.proofs.Gave.{both, first, grew_none, grew_on, grew_one, none, of_one, one, rest}
+use Rattle.spool_disk.proofs.Gave.{both, first, grew_none, grew_on, none, of_one, one, rest}
 use Rattle.spool_disk.proofs.Firm.{lasts_on}
 use Rattle.spool_journal.specs.Image.{all_pages, byte_of, journal_pages, text_page}
 use Rattle.spool_journal.specs.Phases.{Still}
 use Rattle.spool_journal.proofs.Recovers.{get_span}
 use Rattle.spool_pages.specs.Bytes.{IsPadded}
-use Rattle.spool_pages.specs.View.{SlotRecord, Stands, state_page, slot_bytes, slot_place, row_bytes, row_place}
+use Rattle.spool_pages.specs.View.{SlotRecord, Stands, first_page, state_page, slot_bytes, slot_place, row_bytes, row_place}
 use Rattle.spool_pages.specs.Fits.{FitsSlotOf}
 use Rattle.spool_pages.specs.declared.version.Version.{Version as Known}
 use Rattle.spool_pages.proofs.Says.{all_is}
@@ -40,17 +40,13 @@ reads_on first second = record {
 }
 
 -- a read, which may fail
-module _ {E : Type 0} {old new : List Given} {at : ℕ} {bs : List ℕ} where
-  pub read_grew : (r : Result (Unit {0}) E) → OnOk r (new ≡ given at bs ∷ old) → OnErr r (new ≡ old) → Grew old new
-  read_grew (Ok done) one_more none_more = grew_one one_more
-  read_grew (Err e) one_more none_more = grew_none none_more
-
+module _ {E : Type 0} {old new : List Given} (at : ℕ) (bs : List ℕ) where
   pub read_gave : (bytes : ℕ → ℕ) (r : Result (Unit {0}) E) → OnOk r (new ≡ given at bs ∷ old) → OnErr r (new ≡ old)
-      → (IsOk r → span bytes at (length bs) ≡ bs) → Gave bytes old new
-  read_gave bytes (Ok done) one_more none_more is = of_one one_more (is tt)
+      → (IsOk r → span bytes at (length bs) ≡ bs) → ReadsGave bytes old new
+  read_gave bytes (Ok done) one_more none_more is = of_one one_more (is refl)
   read_gave bytes (Err e) one_more none_more is = none none_more
 
-  pub read_given : (bytes : ℕ → ℕ) (r : Result (Unit {0}) E) → OnOk r (new ≡ given at bs ∷ old) → Gave bytes old new
+  pub read_given : (bytes : ℕ → ℕ) (r : Result (Unit {0}) E) → OnOk r (new ≡ given at bs ∷ old) → ReadsGave bytes old new
       → OnOk r (span bytes at (length bs) ≡ bs)
   read_given bytes (Ok done) one_more gave = one one_more gave
   read_given bytes (Err e) one_more gave = tt
@@ -59,20 +55,31 @@ pub on_ok_more : {E P Q : Type 0} (r : Result (Unit {0}) E) → (P → Q) → On
 on_ok_more (Ok done) more p = more p
 on_ok_more (Err e) more p = tt
 
+pub reads_none : {D : Type 0} {disk : Ghosts D} (d : D) → OnlyReads disk d d
+reads_none d = record {
+  size = refl;
+  honest = λ honest. honest;
+  back = λ honest. honest;
+  grew = grew_none refl;
+  gave = λ honest bytes still. none refl;
+  still = λ honest bytes still. still;
+  lasts = λ honest bytes still. record { later = omega arith; nothing_else = λ t image le since. inl since };
+}
+
 -- what the reads of two such calls gave, the reads of each gave
 module _ {D : Type 0} {disk : Ghosts D} {a b c : D} {bytes : ℕ → ℕ} (early : OnlyReads disk a b)
-    (late : OnlyReads disk b c) (gave : Gave bytes (disk.reads a) (disk.reads c)) where
-  pub gave_first : Gave bytes (disk.reads a) (disk.reads b)
+    (late : OnlyReads disk b c) (gave : ReadsGave bytes (disk.reads a) (disk.reads c)) where
+  pub gave_first : ReadsGave bytes (disk.reads a) (disk.reads b)
   gave_first = first early.grew late.grew gave
 
-  pub gave_rest : Gave bytes (disk.reads b) (disk.reads c)
+  pub gave_rest : ReadsGave bytes (disk.reads b) (disk.reads c)
   gave_rest = rest early.grew late.grew gave
 
 -- and those of three
 pub gave_each : {D : Type 0} {disk : Ghosts D} {a b c d : D} {bytes : ℕ → ℕ} → OnlyReads disk a b → OnlyReads disk b c
-    → OnlyReads disk c d → Gave bytes (disk.reads a) (disk.reads d)
-    → Gave bytes (disk.reads a) (disk.reads b) × Gave bytes (disk.reads b) (disk.reads c)
-    × Gave bytes (disk.reads c) (disk.reads d)
+    → OnlyReads disk c d → ReadsGave bytes (disk.reads a) (disk.reads d)
+    → ReadsGave bytes (disk.reads a) (disk.reads b) × ReadsGave bytes (disk.reads b) (disk.reads c)
+    × ReadsGave bytes (disk.reads c) (disk.reads d)
 gave_each early mid late gave =
     let then = gave_rest early (reads_on mid late) gave in
     (gave_first early (reads_on mid late) gave, gave_first mid late then, gave_rest mid late then)
@@ -86,6 +93,26 @@ pub read_bytes : (bytes : ℕ → ℕ) (place : ℕ) (buf : List ℕ) → span b
 read_bytes bytes place buf is = record {
   each = λ i lt. ap (λ (xs : List ℕ). get_or xs i 0) (sym is) ∙ get_span bytes place (length buf) i lt;
 }
+
+-- one read after the other
+pub read_more : (bytes : ℕ → ℕ) (place then : ℕ) (old buf new : List ℕ) → IsReadAt bytes place old
+    → IsReadAt bytes then buf → place + length old ≡ then → new ≡ old ++ buf → IsReadAt bytes place new
+read_more bytes place then old buf new was read here is = record {
+  each = λ i lt. ap (λ (xs : List ℕ). get_or xs i 0) is ∙ elim (cases_lt i (length old)) [
+    | inl below ↦ get_or-append old buf 0 i below ∙ was.each i below
+    | inr over ↦
+        let k : ℕ = i - length old in
+        let at : length old + k ≡ i = omega (arith, over) in
+        let within : k < length buf = omega (arith, lt, over, long) in
+        let place_is : then + k ≡ place + i = omega (arith, here, at) in
+        subst (λ (j : ℕ). get_or (old ++ buf) j 0 ≡ bytes (place + j)) at
+        (get_or-append-add old buf k 0 ∙ read.each k within
+        ∙ ap bytes (let moved : then + k ≡ place + (length old + k) = omega (arith, here) in moved))
+  ];
+}
+  where
+    long : length new ≡ length old + length buf
+    long = ap length is ∙ length-append old buf
 
 -- on a disk with these bytes, all synced, a read gives them
 pub still_span : (current bytes : ℕ → ℕ) {unsynced : ℕ → Type 0} (place n : ℕ) → Still bytes current unsynced
@@ -102,6 +129,10 @@ read_padded bytes place at buf xs size read long same few stands = record {
         (get_or-eq_default xs 0 (omega (arith, over, few)))
   ];
 }
+
+pub length-first : (n : ℕ) → length (first_page n) ≡ 12
+unfolding first_page
+length-first n = refl
 
 pub length-state : (version : Known) (next : ℕ) → length (state_page version next) ≡ 12
 unfolding state_page

@@ -2,7 +2,7 @@
 use Rattle.std.proofs.Common.{◌≡◌, ℕ, List, Option, Some, None, Result, Ok, Err, IfOk, MatchOption}
 use Rattle.std.proofs.Common.{MatchResult, refl, subst, sym}
 use Rattle.std.specs.Option.{ok_or}
-use Rattle.spool_disk.specs.Given.{Gave, Grew}
+use Rattle.spool_disk.specs.Given.{ReadsGave, MoreReads}
 use Rattle.spool_disk.specs.declared.given.Given.{Given}
 use Rattle.spool_disk.proofs.Gave.{first, grew_none, grew_on, rest}
 use Rattle.spool_pages.specs.View.{View, Says, state_place}
@@ -23,9 +23,9 @@ use Rattle.spool_load.proofs.Refused.{found_reason, read_reason, says_one, unfou
 
 -- THE TWO PARTS OF THE READS
 
-module _ {So : (before after : ℕ → ℕ) → Type 0} {a b : List Given} (grew : Grew a b) where
+module _ {So : (before after : ℕ → ℕ) → Type 0} {a b : List Given} (grew : MoreReads a b) where
   -- all reads belong to the first part
-  pub by_first : ((before after : ℕ → ℕ) → Gave before a b → So before after) → ReadsBy a b So
+  pub by_first : ((before after : ℕ → ℕ) → ReadsGave before a b → So before after) → ReadsBy a b So
   by_first so = record {
     recovered = b;
     first = grew;
@@ -33,13 +33,13 @@ module _ {So : (before after : ℕ → ℕ) → Type 0} {a b : List Given} (grew
     so = λ before after early late. so before after early;
   }
 
-  pub by_both : {c : List Given} → Grew b c
-      → ((before after : ℕ → ℕ) → Gave before a b → Gave after b c → So before after) → ReadsBy a c So
+  pub by_both : {c : List Given} → MoreReads b c
+      → ((before after : ℕ → ℕ) → ReadsGave before a b → ReadsGave after b c → So before after) → ReadsBy a c So
   by_both then so = record { recovered = b; first = grew; last = then; so = so }
 
   -- more reads before, in the first part
   pub by_before : {c : List Given} {So' : (before after : ℕ → ℕ) → Type 0} → ReadsBy b c So'
-      → ((before after : ℕ → ℕ) → Gave before a b → So' before after → So before after) → ReadsBy a c So
+      → ((before after : ℕ → ℕ) → ReadsGave before a b → So' before after → So before after) → ReadsBy a c So
   by_before is more = record {
     recovered = is.recovered;
     first = grew_on grew is.first;
@@ -50,8 +50,8 @@ module _ {So : (before after : ℕ → ℕ) → Type 0} {a b : List Given} (grew
   }
 
 -- more reads afterwards, in the second part
-pub by_after : {So So' : (before after : ℕ → ℕ) → Type 0} {a b c : List Given} → ReadsBy a b So' → Grew b c
-    → ((before after : ℕ → ℕ) → So' before after → Gave after b c → So before after) → ReadsBy a c So
+pub by_after : {So So' : (before after : ℕ → ℕ) → Type 0} {a b c : List Given} → ReadsBy a b So' → MoreReads b c
+    → ((before after : ℕ → ℕ) → So' before after → ReadsGave after b c → So before after) → ReadsBy a c So
 by_after is grew more = record {
   recovered = is.recovered;
   first = is.first;

@@ -1,6 +1,6 @@
 -- What an opening's reads gave.
 use Rattle.std.specs.Prelude.{ℕ, List}
-use Rattle.spool_disk.specs.Given.{Gave, Grew}
+use Rattle.spool_disk.specs.Given.{ReadsGave, MoreReads}
 use Rattle.spool_disk.specs.declared.given.Given.{Given}
 
 -- The reads of an opening fall into two parts, those up to the end of the recovery and those from then on. Whatever
@@ -8,6 +8,6 @@ use Rattle.spool_disk.specs.declared.given.Given.{Given}
 -- there always are such bytes.
 pub record ReadsBy (old new : List Given) (So : (before after : ℕ → ℕ) → Type 0) : Type 0 where
   pub recovered : List Given
-  pub first : Grew old recovered
-  pub last : Grew recovered new
-  pub so : (before after : ℕ → ℕ) → Gave before old recovered → Gave after recovered new → So before after
+  pub first : MoreReads old recovered
+  pub last : MoreReads recovered new
+  pub so : (before after : ℕ → ℕ) → ReadsGave before old recovered → ReadsGave after recovered new → So before after

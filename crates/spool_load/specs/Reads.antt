@@ -2,7 +2,7 @@
 use Rattle.std.specs.Prelude.{◌≡◌, ℕ, ◌+◌, ◌*◌, ◌<◌, ◌≤◌, List, Option, None, length, get_or}
 use Rattle.spool_journal.specs.declared.TheConstants.{PAGE}
 use Rattle.common.specs.declared.limits.TheConstants.{LEAST_BLOCKS, MOST_BLOCKS}
-use Rattle.spool_disk.specs.Given.{Gave, Grew}
+use Rattle.spool_disk.specs.Given.{ReadsGave, MoreReads}
 use Rattle.spool_disk.specs.Views.{Lasts}
 use Rattle.spool_disk.specs.declared.disk.Disk.{Ghosts}
 use Rattle.spool_journal.specs.Image.{all_pages}
@@ -21,9 +21,9 @@ pub record OnlyReads {D : Type 0} (disk : Ghosts D) (old new : D) : Type 0 where
   pub size : disk.size new ≡ disk.size old
   pub honest : disk.honest old → disk.honest new
   pub back : disk.honest new → disk.honest old
-  pub grew : Grew (disk.reads old) (disk.reads new)
+  pub grew : MoreReads (disk.reads old) (disk.reads new)
   pub gave : disk.honest old → (bytes : ℕ → ℕ) → Still bytes (disk.current old) (disk.unsynced old)
-      → Gave bytes (disk.reads old) (disk.reads new)
+      → ReadsGave bytes (disk.reads old) (disk.reads new)
   pub still : disk.honest old → (bytes : ℕ → ℕ) → Still bytes (disk.current old) (disk.unsynced old)
       → Still bytes (disk.current new) (disk.unsynced new)
   pub lasts : disk.honest old → (bytes : ℕ → ℕ) → Still bytes (disk.current old) (disk.unsynced old)

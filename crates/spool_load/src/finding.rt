@@ -3,7 +3,7 @@ ghost use Rattle.std.specs.Prelude.{◌≡◌, ◌⊎◌, ◌≤◌, ◌<◌, �
 ghost use Rattle.std.specs.Prelude.{ℕ, Err, IsErr, IfOk, IfErr, IfSome, IsNone, IsSomeAnd, IsTrue, MatchOption, get_or};
 ghost use Rattle.common.specs.declared.stop.Stop.{Stop};
 ghost use Rattle.spool_disk.specs.Disk.{IsImage, Counts, Keeps};
-ghost use Rattle.spool_disk.specs.Given.{Gave, Grew};
+ghost use Rattle.spool_disk.specs.Given.{ReadsGave, MoreReads};
 ghost use Rattle.spool_disk.specs.Views.{Lasts};
 ghost use Rattle.spool_journal.specs.Image.{journal_pages, all_pages, byte_of, overlaid};
 ghost use Rattle.spool_journal.specs.Phases.{Settled, ReadsAs};
@@ -47,9 +47,9 @@ fn read_prefix<D: Disk>(disk: &mut D) -> Result<[u8; 12], DiskFault>
         → Keeps (D.current disk.old) (D.current disk.new) (D.unsynced disk.old) (D.unsynced disk.new) }
     ensures lasts { D.honest disk.old → Lasts D.Disk disk.old disk.new
         (IsImage (D.current disk.old) (D.unsynced disk.old)) }
-    ensures grew { Grew (D.reads disk.old) (D.reads disk.new) }
-    ensures gave { D.honest disk.old → Gave (D.current disk.old) (D.reads disk.old) (D.reads disk.new) }
-    ensures bytes { (bytes : ℕ → ℕ) → Gave bytes (D.reads disk.old) (D.reads disk.new)
+    ensures grew { MoreReads (D.reads disk.old) (D.reads disk.new) }
+    ensures gave { D.honest disk.old → ReadsGave (D.current disk.old) (D.reads disk.old) (D.reads disk.new) }
+    ensures bytes { (bytes : ℕ → ℕ) → ReadsGave bytes (D.reads disk.old) (D.reads disk.new)
         → IfOk result (λ prefix. (i : ℕ) → i < 12 → get_or prefix i 0 ≡ bytes i) }
 {
     let mut prefix = [0; 12];
@@ -67,9 +67,9 @@ fn find_layout<D: Disk>(disk: &mut D) -> Result<Option<Layout>, DiskFault>
     ensures lasts { D.honest disk.old → Lasts D.Disk disk.old disk.new
         (IsImage (D.current disk.old) (D.unsynced disk.old)) }
     ensures room { IfOk result (λ found. IfSome found (λ layout. PAGE * all_pages layout ≤ D.size disk.old)) }
-    ensures grew { Grew (D.reads disk.old) (D.reads disk.new) }
-    ensures gave { D.honest disk.old → Gave (D.current disk.old) (D.reads disk.old) (D.reads disk.new) }
-    ensures found { (bytes : ℕ → ℕ) → Gave bytes (D.reads disk.old) (D.reads disk.new) → IfOk result
+    ensures grew { MoreReads (D.reads disk.old) (D.reads disk.new) }
+    ensures gave { D.honest disk.old → ReadsGave (D.current disk.old) (D.reads disk.old) (D.reads disk.new) }
+    ensures found { (bytes : ℕ → ℕ) → ReadsGave bytes (D.reads disk.old) (D.reads disk.new) → IfOk result
         (λ found. MatchOption found (IsNoSpool (D.size disk.old) bytes) (SaysBlocks (D.size disk.old) bytes)) }
 {
     if disk.len() < 12 {
@@ -113,11 +113,11 @@ fn load_state<D: Disk>(disk: &mut D, layout: Layout) -> Result<Option<Found>, Di
     ensures reads { OnlyReads D.Disk disk.old disk.new }
     ensures counts { Counts (IsErr result) (D.failures disk.old) (D.failures disk.new) }
     ensures layout { IfOk result (λ said. IfSome said (λ found. found.layout ≡ layout)) }
-    ensures said { (bytes : ℕ → ℕ) → Gave bytes (D.reads disk.old) (D.reads disk.new)
+    ensures said { (bytes : ℕ → ℕ) → ReadsGave bytes (D.reads disk.old) (D.reads disk.new)
         → (version : Known) (next : ℕ) → next < 2 ^ 64
         → Stands bytes (state_place layout) PAGE (state_page version next)
         → IfOk result (λ said. IsSomeAnd said (SaysState version next)) }
-    ensures found { (bytes : ℕ → ℕ) → Gave bytes (D.reads disk.old) (D.reads disk.new)
+    ensures found { (bytes : ℕ → ℕ) → ReadsGave bytes (D.reads disk.old) (D.reads disk.new)
         → IfOk result (λ said. MatchOption said (SaysKnownVersion bytes (state_place layout) → ⊥) (StandsFound bytes)) }
 {
     let mut page = [0; PAGE];

@@ -3,7 +3,7 @@ ghost use Rattle.std.specs.Prelude.{◌≡◌, ◌≤◌, ◌<◌, ◌*◌, ◌-
 ghost use Rattle.std.specs.Prelude.{ℕ, None, false, replicate, length, get_or, IfOk, IsErrOf};
 ghost use Rattle.common.specs.declared.stop.Stop.{Stop};
 ghost use Rattle.spool_disk.specs.Disk.{Counts};
-ghost use Rattle.spool_disk.specs.Given.{Gave};
+ghost use Rattle.spool_disk.specs.Given.{ReadsGave};
 ghost use Rattle.spool_journal.specs.Image.{all_pages, journal_pages};
 ghost use Rattle.spool_catalog.specs.Checks.{RowsPass};
 ghost use Rattle.spool_load.specs.Faults.{Loads};
@@ -32,10 +32,10 @@ fn load_fields<D: Disk>(alloc: Global, disk: &mut D, layout: &Layout) -> Result<
     ensures reads { OnlyReads D.Disk disk.old disk.new }
     ensures counts { Counts (IsErrOf result (LoadError.Stop Stop.DiskFault)) (D.failures disk.old)
         (D.failures disk.new) }
-    ensures said { (bytes : ℕ → ℕ) → Gave bytes (D.reads disk.old) (D.reads disk.new)
+    ensures said { (bytes : ℕ → ℕ) → ReadsGave bytes (D.reads disk.old) (D.reads disk.new)
         → (v : View) → IsValid v → v.blocks ≡ layout.now → Says bytes v
         → Loads result (λ indexes. indexes ≡ v.indexes) }
-    ensures valid { (bytes : ℕ → ℕ) → Gave bytes (D.reads disk.old) (D.reads disk.new)
+    ensures valid { (bytes : ℕ → ℕ) → ReadsGave bytes (D.reads disk.old) (D.reads disk.new)
         → IfOk result (StandFields bytes layout.now) }
 {
     check_first(disk, layout)?;
@@ -56,10 +56,10 @@ fn load_blocks<D: Disk>(
     ensures reads { OnlyReads D.Disk disk.old disk.new }
     ensures counts { Counts (IsErrOf result (LoadError.Stop Stop.DiskFault)) (D.failures disk.old)
         (D.failures disk.new) }
-    ensures said { (bytes : ℕ → ℕ) → Gave bytes (D.reads disk.old) (D.reads disk.new)
+    ensures said { (bytes : ℕ → ℕ) → ReadsGave bytes (D.reads disk.old) (D.reads disk.new)
         → (v : View) → IsValid v → v.blocks ≡ layout.now → Says bytes v → slots.now ≡ v.slots
         → Loads result (λ blocks. (blocks.rows ≡ v.rows) × (blocks.reserved ≡ replicate v.blocks false)) }
-    ensures valid { (bytes : ℕ → ℕ) → Gave bytes (D.reads disk.old) (D.reads disk.new)
+    ensures valid { (bytes : ℕ → ℕ) → ReadsGave bytes (D.reads disk.old) (D.reads disk.new)
         → IfOk result (λ blocks. StandRows bytes layout.now (ROWS * (journal_pages layout.now - 257)) blocks.rows) }
     ensures owners { IfOk result (λ blocks. RowsPass slots.now blocks.rows) }
     ensures reserved { IfOk result (λ blocks. blocks.reserved ≡ replicate layout.now false) }
@@ -87,14 +87,14 @@ pub fn read<D: Disk>(alloc: Global, disk: &mut D, found: Found) -> Result<Kept, 
     ensures version { IfOk result (λ kept. kept.version ≡ found.version) }
 
     // A valid spool is read, unless memory or the disk refuses.
-    ensures said { (bytes : ℕ → ℕ) → Gave bytes (D.reads disk.old) (D.reads disk.new)
+    ensures said { (bytes : ℕ → ℕ) → ReadsGave bytes (D.reads disk.old) (D.reads disk.new)
         → (v : View) → IsValid v → IsFoundOf v found → Says bytes v → Loads result (λ kept. KeepsAlone kept v) }
 
     // On any disk what is then in memory is a view.
     ensures view { IfOk result (λ kept. (v : View) × KeepsAlone kept v) }
 
     // What is read is valid, and is what the bytes encode.
-    ensures valid { (bytes : ℕ → ℕ) → Gave bytes (D.reads disk.old) (D.reads disk.new)
+    ensures valid { (bytes : ℕ → ℕ) → ReadsGave bytes (D.reads disk.old) (D.reads disk.new)
         → StandsFound bytes found
         → IfOk result (LoadedFrom bytes found.layout) }
 {

@@ -3,7 +3,7 @@ ghost use Rattle.std.specs.Prelude.{◌≡◌, ◌≢◌, ◌≤◌, ◌<◌, �
 ghost use Rattle.std.specs.Prelude.{ℕ, List, Option, None, length, get_or, IsErrOf, IsOkAnd, IfOk, OnOk, OnErr};
 ghost use Rattle.common.specs.declared.stop.Stop.{Stop};
 ghost use Rattle.spool_disk.specs.Disk.{Counts};
-ghost use Rattle.spool_disk.specs.Given.{Gave};
+ghost use Rattle.spool_disk.specs.Given.{ReadsGave};
 ghost use Rattle.spool_journal.specs.Image.{journal_pages, all_pages, byte_of};
 ghost use Rattle.spool_pages.specs.Fits.{FitsRow};
 ghost use Rattle.spool_load.specs.Faults.{Loads};
@@ -87,12 +87,12 @@ fn load_page<D: Disk>(
     ensures reads { OnlyReads D.Disk disk.old disk.new }
     ensures counts { Counts (IsErrOf result (LoadError.Stop Stop.DiskFault)) (D.failures disk.old)
         (D.failures disk.new) }
-    ensures said { (bytes : ℕ → ℕ) → Gave bytes (D.reads disk.old) (D.reads disk.new)
+    ensures said { (bytes : ℕ → ℕ) → ReadsGave bytes (D.reads disk.old) (D.reads disk.new)
         → (all : List (Option (ℕ × ℕ))) → length all ≡ length rows.old → ((b : ℕ) → FitsRow (get_or all b None))
         → ((b : ℕ) → b < ROWS * (journal_pages layout.now - 257)
         → Stands bytes (row_place layout.now b) 8 (row_bytes (get_or all b None)))
         → IsSameTo (ROWS * page) all rows.old → Loads result (λ done. IsSameTo (ROWS * (page + 1)) all rows.new) }
-    ensures valid { (bytes : ℕ → ℕ) → Gave bytes (D.reads disk.old) (D.reads disk.new)
+    ensures valid { (bytes : ℕ → ℕ) → ReadsGave bytes (D.reads disk.old) (D.reads disk.new)
         → StandRows bytes layout.now (ROWS * page) rows.old
         → OnOk result (StandRows bytes layout.now (ROWS * (page + 1)) rows.new) }
     ensures after { OnOk result (IsFreeFrom (ROWS * (page + 1)) rows.new) }
@@ -110,12 +110,12 @@ fn load_pages<D: Disk>(disk: &mut D, layout: &Layout, rows: &mut [Row]) -> Resul
     ensures reads { OnlyReads D.Disk disk.old disk.new }
     ensures counts { Counts (IsErrOf result (LoadError.Stop Stop.DiskFault)) (D.failures disk.old)
         (D.failures disk.new) }
-    ensures said { (bytes : ℕ → ℕ) → Gave bytes (D.reads disk.old) (D.reads disk.new)
+    ensures said { (bytes : ℕ → ℕ) → ReadsGave bytes (D.reads disk.old) (D.reads disk.new)
         → (all : List (Option (ℕ × ℕ))) → length all ≡ length rows.old → ((b : ℕ) → FitsRow (get_or all b None))
         → ((b : ℕ) → b < ROWS * (journal_pages layout.now - 257)
         → Stands bytes (row_place layout.now b) 8 (row_bytes (get_or all b None)))
         → Loads result (λ done. IsSameTo (ROWS * (journal_pages layout.now - 257)) all rows.new) }
-    ensures valid { (bytes : ℕ → ℕ) → Gave bytes (D.reads disk.old) (D.reads disk.new)
+    ensures valid { (bytes : ℕ → ℕ) → ReadsGave bytes (D.reads disk.old) (D.reads disk.new)
         → OnOk result (StandRows bytes layout.now (ROWS * (journal_pages layout.now - 257)) rows.new) }
 {
     for page in 0..row_pages(layout) {
@@ -135,12 +135,12 @@ pub(crate) fn load_rows<D: Disk>(
     ensures counts { Counts (IsErrOf result (LoadError.Stop Stop.DiskFault)) (D.failures disk.old)
         (D.failures disk.new) }
     ensures long { IfOk result (λ rows. length rows.items ≡ layout.now) }
-    ensures said { (bytes : ℕ → ℕ) → Gave bytes (D.reads disk.old) (D.reads disk.new)
+    ensures said { (bytes : ℕ → ℕ) → ReadsGave bytes (D.reads disk.old) (D.reads disk.new)
         → (all : List (Option (ℕ × ℕ))) → length all ≡ layout.now → ((b : ℕ) → FitsRow (get_or all b None))
         → ((b : ℕ) → b < ROWS * (journal_pages layout.now - 257)
         → Stands bytes (row_place layout.now b) 8 (row_bytes (get_or all b None)))
         → Loads result (λ rows. rows.items ≡ all) }
-    ensures valid { (bytes : ℕ → ℕ) → Gave bytes (D.reads disk.old) (D.reads disk.new)
+    ensures valid { (bytes : ℕ → ℕ) → ReadsGave bytes (D.reads disk.old) (D.reads disk.new)
         → IfOk result (λ rows. StandRows bytes layout.now (ROWS * (journal_pages layout.now - 257)) rows.items) }
 {
     let mut rows = vec![in alloc; None; layout.blocks() as usize]?;

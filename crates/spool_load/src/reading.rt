@@ -5,7 +5,7 @@ ghost use Rattle.enc_model.specs.Indexes.{IndexSet as Indexes};
 ghost use Rattle.enc_index.specs.Area.{area_byte};
 ghost use Rattle.enc_index.specs.Sets.{IsIndexSet};
 ghost use Rattle.spool_disk.specs.Disk.{Counts};
-ghost use Rattle.spool_disk.specs.Given.{Gave};
+ghost use Rattle.spool_disk.specs.Given.{ReadsGave};
 ghost use Rattle.spool_journal.specs.Image.{all_pages};
 ghost use Rattle.spool_load.specs.Faults.{Loads};
 ghost use Rattle.spool_load.specs.Reads.{OnlyReads, IsReadAt, StandsArea};
@@ -24,7 +24,7 @@ pub(crate) fn read_at<D: Disk>(disk: &mut D, place: u64, buf: &mut [u8]) -> Resu
     requires { place + length buf.old ≤ D.size disk.old }
     ensures reads { OnlyReads D.Disk disk.old disk.new }
     ensures counts { Counts (IsErr result) (D.failures disk.old) (D.failures disk.new) }
-    ensures bytes { (bytes : ℕ → ℕ) → Gave bytes (D.reads disk.old) (D.reads disk.new)
+    ensures bytes { (bytes : ℕ → ℕ) → ReadsGave bytes (D.reads disk.old) (D.reads disk.new)
         → OnOk result (IsReadAt bytes place buf.new) }
 {
     disk.read(place, buf)
@@ -36,9 +36,9 @@ pub(crate) fn check_first<D: Disk>(disk: &mut D, layout: &Layout) -> Result<(), 
     ensures reads { OnlyReads D.Disk disk.old disk.new }
     ensures counts { Counts (IsErrOf result (LoadError.Stop Stop.DiskFault)) (D.failures disk.old)
         (D.failures disk.new) }
-    ensures said { (bytes : ℕ → ℕ) → Gave bytes (D.reads disk.old) (D.reads disk.new)
+    ensures said { (bytes : ℕ → ℕ) → ReadsGave bytes (D.reads disk.old) (D.reads disk.new)
         → Stands bytes 0 PAGE (first_page layout.now) → Loads result (λ done. Unit {0}) }
-    ensures valid { (bytes : ℕ → ℕ) → Gave bytes (D.reads disk.old) (D.reads disk.new)
+    ensures valid { (bytes : ℕ → ℕ) → ReadsGave bytes (D.reads disk.old) (D.reads disk.new)
         → OnOk result (Stands bytes 0 PAGE (first_page layout.now)) }
 {
     let mut page = [0; PAGE];
@@ -63,7 +63,7 @@ fn push_area_page<D: Disk>(
     ensures counts { Counts (IsErrOf result (LoadError.Stop Stop.DiskFault)) (D.failures disk.old)
         (D.failures disk.new) }
     ensures others { Loads result (λ done. length area.new.items ≡ length area.old.items + PAGE) }
-    ensures pushed { (bytes : ℕ → ℕ) → Gave bytes (D.reads disk.old) (D.reads disk.new)
+    ensures pushed { (bytes : ℕ → ℕ) → ReadsGave bytes (D.reads disk.old) (D.reads disk.new)
         → IsReadAt bytes (index_place layout.now) area.old.items → length area.old.items ≡ PAGE * page
         → OnOk result (IsReadAt bytes (index_place layout.now) area.new.items) }
 {
@@ -80,7 +80,7 @@ fn load_area<D: Disk>(alloc: Global, disk: &mut D, layout: &Layout) -> Result<Ve
     ensures counts { Counts (IsErrOf result (LoadError.Stop Stop.DiskFault)) (D.failures disk.old)
         (D.failures disk.new) }
     ensures long { Loads result (λ area. length area.items ≡ 90112) }
-    ensures read { (bytes : ℕ → ℕ) → Gave bytes (D.reads disk.old) (D.reads disk.new)
+    ensures read { (bytes : ℕ → ℕ) → ReadsGave bytes (D.reads disk.old) (D.reads disk.new)
         → IfOk result (λ area. IsReadAt bytes (index_place layout.now) area.items) }
 {
     let mut area = Vec::new(alloc);
@@ -100,11 +100,11 @@ pub(crate) fn load_indexes<D: Disk>(
     ensures reads { OnlyReads D.Disk disk.old disk.new }
     ensures counts { Counts (IsErrOf result (LoadError.Stop Stop.DiskFault)) (D.failures disk.old)
         (D.failures disk.new) }
-    ensures said { (bytes : ℕ → ℕ) → Gave bytes (D.reads disk.old) (D.reads disk.new)
+    ensures said { (bytes : ℕ → ℕ) → ReadsGave bytes (D.reads disk.old) (D.reads disk.new)
         → (x : Indexes) → IsIndexSet x
         → ((i : ℕ) → i < 90112 → bytes (index_place layout.now + i) ≡ area_byte x i)
         → Loads result (λ set. set ≡ x) }
-    ensures valid { (bytes : ℕ → ℕ) → Gave bytes (D.reads disk.old) (D.reads disk.new)
+    ensures valid { (bytes : ℕ → ℕ) → ReadsGave bytes (D.reads disk.old) (D.reads disk.new)
         → IfOk result (StandsArea bytes layout.now) }
 {
     let area = load_area(alloc, disk, layout)?;

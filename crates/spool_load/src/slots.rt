@@ -2,7 +2,7 @@
 ghost use Rattle.std.specs.Prelude.{◌≡◌, ◌≤◌, ◌<◌, ◌*◌, ◌+◌, ◌-◌};
 ghost use Rattle.std.specs.Prelude.{ℕ, List, Option, None, length, get_or, IfOk, IsErrOf, MatchResult, OnOk};
 ghost use Rattle.spool_disk.specs.Disk.{Counts};
-ghost use Rattle.spool_disk.specs.Given.{Gave};
+ghost use Rattle.spool_disk.specs.Given.{ReadsGave};
 ghost use Rattle.spool_journal.specs.Image.{all_pages};
 ghost use Rattle.spool_pages.specs.Bytes.{IsPadded};
 ghost use Rattle.spool_pages.specs.Fits.{FitsSlotOf};
@@ -53,11 +53,11 @@ fn load_slot<D: Disk>(
     ensures reads { OnlyReads D.Disk disk.old disk.new }
     ensures counts { Counts (IsErrOf result (LoadError.Stop Stop.DiskFault)) (D.failures disk.old)
         (D.failures disk.new) }
-    ensures said { (bytes : ℕ → ℕ) → Gave bytes (D.reads disk.old) (D.reads disk.new)
+    ensures said { (bytes : ℕ → ℕ) → ReadsGave bytes (D.reads disk.old) (D.reads disk.new)
         → (said : Option Said) → FitsKept said
         → Stands bytes (slot_place layout.now slot) 2048 (slot_bytes version said)
         → Loads result (λ kept. kept ≡ said) }
-    ensures stands { (bytes : ℕ → ℕ) → Gave bytes (D.reads disk.old) (D.reads disk.new)
+    ensures stands { (bytes : ℕ → ℕ) → ReadsGave bytes (D.reads disk.old) (D.reads disk.new)
         → IfOk result (λ kept. Stands bytes (slot_place layout.now slot) 2048 (slot_bytes version kept)) }
     ensures fits { IfOk result FitsSlotOf }
 {
@@ -81,12 +81,12 @@ fn push_slot<D: Disk>(
     ensures counts { Counts (IsErrOf result (LoadError.Stop Stop.DiskFault)) (D.failures disk.old)
         (D.failures disk.new) }
     ensures long { OnOk result (length slots.new.items ≡ length slots.old.items + 1) }
-    ensures said { (bytes : ℕ → ℕ) → Gave bytes (D.reads disk.old) (D.reads disk.new)
+    ensures said { (bytes : ℕ → ℕ) → ReadsGave bytes (D.reads disk.old) (D.reads disk.new)
         → (said : List (Option Said)) → length said ≡ SLOTS → FitsKept (get_or said slot None)
         → Stands bytes (slot_place layout.now slot) 2048 (slot_bytes version (get_or said slot None))
         → length slots.old.items ≡ slot → IsPrefixOf said slots.old.items
         → Loads result (λ done. IsPrefixOf said slots.new.items) }
-    ensures valid { (bytes : ℕ → ℕ) → Gave bytes (D.reads disk.old) (D.reads disk.new)
+    ensures valid { (bytes : ℕ → ℕ) → ReadsGave bytes (D.reads disk.old) (D.reads disk.new)
         → length slots.old.items ≡ slot → StandSlots bytes layout.now version slots.old.items
         → OnOk result (StandSlots bytes layout.now version slots.new.items) }
 {
@@ -109,11 +109,11 @@ pub(crate) fn load_slots<D: Disk>(
     ensures counts { Counts (IsErrOf result (LoadError.Stop Stop.DiskFault)) (D.failures disk.old)
         (D.failures disk.new) }
     ensures long { IfOk result (λ slots. length slots.items ≡ SLOTS) }
-    ensures said { (bytes : ℕ → ℕ) → Gave bytes (D.reads disk.old) (D.reads disk.new)
+    ensures said { (bytes : ℕ → ℕ) → ReadsGave bytes (D.reads disk.old) (D.reads disk.new)
         → (said : List (Option Said)) → length said ≡ SLOTS → ((s : ℕ) → FitsKept (get_or said s None))
         → ((s : ℕ) → s < SLOTS → Stands bytes (slot_place layout.now s) 2048 (slot_bytes version (get_or said s None)))
         → Loads result (λ slots. slots.items ≡ said) }
-    ensures valid { (bytes : ℕ → ℕ) → Gave bytes (D.reads disk.old) (D.reads disk.new)
+    ensures valid { (bytes : ℕ → ℕ) → ReadsGave bytes (D.reads disk.old) (D.reads disk.new)
         → IfOk result (λ slots. StandSlots bytes layout.now version slots.items) }
 {
     let mut slots = Vec::new(alloc);

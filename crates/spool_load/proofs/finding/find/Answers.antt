@@ -1,4 +1,5 @@
 use Rattle.std.proofs.Common.{◌≡◌, inl, inr, ℕ, Result, Ok, Err, IfOk, IfErr, MatchOption, None, Option, Some, sym, subst, ⊎_elim}
+use Rattle.std.proofs.lemmas.Result.{err_from_is_err_and}
 use Rattle.spool_disk.proofs.Firm.{lasts_on, lasts_more}
 use Rattle.spool_journal.specs.Image.{journal_pages, overlaid}
 use Rattle.spool_journal.specs.Phases.{ReadsAs, Settled}
@@ -125,7 +126,9 @@ returns-in-Some-clause-settled g c honest =
 
 pub returns-in_err-layout-clause-given : goal.returns-in_err-layout-clause-given
 returns-in_err-layout-clause-given g c =
-    by_first c.find_layout.ensures.grew (λ before after early. record { answer = tt; finds = λ v valid encodes. tt })
+    let p = err_from_is_err_and c.from_residual.result c.from_residual.ensures.1 in
+    by_first c.find_layout.ensures.grew
+    (λ before after early. rw (p.1, p.2) (record { answer = tt; finds = λ v valid encodes. tt }))
 
 pub returns-in-None-clause-given : goal.returns-in-None-clause-given
 returns-in-None-clause-given g c =

@@ -1,4 +1,5 @@
 use Rattle.std.proofs.Common.{◌≡◌, ◌∙◌, ℕ, Result, Err, IfErr, IfOk, refl, sym, subst, rules, arith}
+use Rattle.std.proofs.lemmas.Result.{err_from_is_err_and}
 use Rattle.spool_journal.specs.declared.TheConstants.{PAGE}
 use Rattle.spool_journal.specs.Image.{journal_pages, overlaid, InForm, count, number}
 use Rattle.spool_journal.specs.Phases.{Settled}
@@ -11,7 +12,7 @@ use Rattle.spool_load.proofs.Opens.{if_ok, read_lasts, read_same, read_settled, 
 use Rattle.spool_load.proofs.Opens.{settled_says}
 use Rattle.spool_load.proofs.Opens.{still_as}
 use Rattle.spool_load.specs.Refusals.{RefusedAt, RefusedHere}
-use Rattle.spool_disk.specs.Given.{Gave}
+use Rattle.spool_disk.specs.Given.{ReadsGave}
 use Rattle.spool_load.specs.Loaded.{FoundOn, IsFoundOf, RestoresBy}
 use Rattle.spool_load.specs.declared.finding.Found.{Found}
 use Rattle.spool_pages.specs.View.{Stands, state_page, state_place}
@@ -51,7 +52,8 @@ returns-in_err-recover-clause-said g c honest v valid blocks is =
 pub returns-in_err-recover-clause-refused : goal.returns-in_err-recover-clause-refused
 returns-in_err-recover-clause-refused g c honest =
     let told =
-    recover_reason c.args.layout (g.D.Disk.current c.args.disk.now) _ c.in_err-recover.field-0.0
+    recover_reason c.args.layout (g.D.Disk.current c.args.disk.now) (overlaid (g.D.Disk.current c.args.disk.now))
+    c.in_err-recover.field-0.0
     (λ e. c.recover.ensures.damaged honest (c.in_err-recover.was ∙ err_of _ _ e)) in
     search rules
 
@@ -147,19 +149,22 @@ returns-in_err-load_state-clause-unwritten g c honest shut =
 pub returns-in_err-recover-clause-given : goal.returns-in_err-recover-clause-given
 returns-in_err-recover-clause-given g c =
     let bad =
-    λ (before : ℕ → ℕ) (early : Gave before (g.D.Disk.reads c.args.disk.now) (g.D.Disk.reads c.recover.new.disk)) (e : c.in_err-recover.field-0.0 ≡ recover.Damaged).
+    λ (before : ℕ → ℕ) (early : ReadsGave before (g.D.Disk.reads c.args.disk.now) (g.D.Disk.reads c.recover.new.disk)) (e : c.in_err-recover.field-0.0 ≡ recover.Damaged).
     c.recover.ensures.gave_damaged before early (c.in_err-recover.was ∙ err_of _ _ e) in
-    by_first c.recover.ensures.reads (λ before after early. record {
+    let p = err_from_is_err_and c.from_residual.result c.from_residual.ensures.1 in
+    by_first c.recover.ensures.reads (λ before after early. rw (p.1, p.2) (record {
       answer = recover_reason c.args.layout before after c.in_err-recover.field-0.0 (bad before early);
       restores =
           λ v valid blocks journal says. recover_handed (IsFoundOf v) c.in_err-recover.field-0.0
           (λ e. let why = bad before early e in why.1 (journal why.0));
-    })
+    }))
 
 pub returns-in_err-load_state-clause-given : goal.returns-in_err-load_state-clause-given
 returns-in_err-load_state-clause-given g c =
+    let p =
+    err_from_is_err_and c.from_residual-in_err-load_state.result c.from_residual-in_err-load_state.ensures.1 in
     by_both c.recover.ensures.reads c.load_state.ensures.reads.grew
-    (λ before after early late. record { answer = tt; restores = λ v valid blocks journal says. tt })
+    (λ before after early late. rw (p.1, p.2) (record { answer = tt; restores = λ v valid blocks journal says. tt }))
 
 pub returns-clause-given : goal.returns-clause-given
 returns-clause-given g c =

@@ -1,11 +1,11 @@
-use Rattle.std.proofs.Common.{◌≡◌, ◌∙◌, ℕ, List, Option, rules, sym, subst, arith}
+use Rattle.std.proofs.Common.{◌≡◌, ◌∙◌, ℕ, List, Option, rules, sym, subst}
 use Rattle.std.proofs.lemmas.Bool.{false≢true}
 use Rattle.spool_disk.proofs.Firm.{counts_on}
 use Rattle.spool_pages.specs.View.{SlotRecord}
 use Rattle.spool_catalog.specs.Checks.{RecordsPass}
 use Rattle.spool_load.proofs.ValidViews.{slots_said, valid_passes, read_loaded}
 use Rattle.spool_load.proofs.Faults.{check_sound, check_told}
-use Rattle.spool_load.proofs.Looks.{gave_each, gave_rest, reads_on, ok_no_fault}
+use Rattle.spool_load.proofs.Looks.{gave_each, gave_rest, reads_none, reads_on, ok_no_fault}
 use Rattle.spool_journal.proofs.Steps.{no_failure}
 use Rattle.spool_load.proofs.loading.read.Goals as goal
 
@@ -119,7 +119,7 @@ returns-clause-valid g c bytes gave found =
     read_loaded bytes c.args.found.layout c.args.found.version c.args.found.next c.in_ok-indexes.indexes
     c.in_ok-slots.slots.items
     c.in_ok-blocks.blocks.rows c.in_ok-blocks.blocks.reserved c.in_ok-kept.kept
-    (omega (arith, c.blocks.ensures)) (omega (arith, c.blocks.ensures)) fields state slots c.in_ok-slots.ensures.long c.in_ok-blocks.ensures.long rows are
+    (search rules) (search rules) fields state slots c.in_ok-slots.ensures.long c.in_ok-blocks.ensures.long rows are
     (search rules)
     c.in_ok-blocks.ensures.fits c.in_ok-blocks.ensures.reserved
     c.in_ok-kept.ensures.distinct c.in_ok-kept.ensures.whole c.in_ok-kept.ensures.said
@@ -134,3 +134,6 @@ returns-in_err-kept-clause-counts g c =
 
 pub returns-clause-view : goal.returns-clause-view
 returns-clause-view g c = c.in_ok-kept.ensures.view c.in_ok-blocks.ensures.reserved
+
+pub returns-then-not-found-clause-reads : goal.returns-then-not-found-clause-reads
+returns-then-not-found-clause-reads g c = reads_none c.args.disk.now

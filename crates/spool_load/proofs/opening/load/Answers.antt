@@ -139,14 +139,16 @@ returns-in_err-kept-clause-same g c honest none fine =
 
 pub returns-in_err-found-clause-given : goal.returns-in_err-found-clause-given
 returns-in_err-found-clause-given g c =
+    let p = err_from_is_err_and c.from_residual.result c.from_residual.ensures.1 in
     by_after c.in_err-found.ensures.given (grew_none refl)
-    (λ before after is late. unfound_by _ before after c.in_err-found.field-0.0 is)
+    (λ before after is late. rw (p.1, p.2) (unfound_by _ before after c.in_err-found.field-0.0 is))
 
 pub returns-in_err-kept-clause-given : goal.returns-in_err-kept-clause-given
 returns-in_err-kept-clause-given g c =
+    let p = err_from_is_err_and c.from_residual-in_err-kept.result c.from_residual-in_err-kept.ensures.1 in
     by_after c.in_ok-found.ensures.given c.read.ensures.reads.grew
-    (λ before after is late. unread_by _ before after c.in_ok-found.found is c.in_err-kept.field-0.0
-    (λ v valid found says. c.in_err-kept.ensures.said after late v valid found says))
+    (λ before after is late. rw (p.1, p.2) (unread_by _ before after c.in_ok-found.found is c.in_err-kept.field-0.0
+    (λ v valid found says. c.in_err-kept.ensures.said after late v valid found says)))
 
 pub returns-clause-given : goal.returns-clause-given
 returns-clause-given g c =
@@ -154,3 +156,8 @@ returns-clause-given g c =
     (λ before after is late. loads_by _ before after c.in_ok-found.found is c.in_ok-kept.kept
     (c.in_ok-kept.ensures.valid after late is.answer.state)
     (λ v valid found says. c.in_ok-kept.ensures.said after late v valid found says))
+
+pub returns-in_err-found-clause-same : goal.returns-in_err-found-clause-same
+returns-in_err-found-clause-same g c honest none fine =
+    let p = err_from_is_err_and c.from_residual.result c.from_residual.ensures.1 in
+    c.find.ensures.same honest none (λ failed. fine (p.1 ∙ (let is = p.2 in let was = c.in_err-found.was in cc)))

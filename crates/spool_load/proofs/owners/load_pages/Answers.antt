@@ -1,8 +1,9 @@
-use Rattle.std.proofs.Common.{◌≡◌, ◌-◌, ◌*◌, ℕ, rules, subst, arith}
+use Rattle.std.proofs.Common.{◌≡◌, ◌∙◌, ◌-◌, ◌*◌, ℕ, refl, rules, subst, arith}
 use Rattle.common.specs.declared.limits.TheConstants.{ROWS}
 use Rattle.spool_journal.specs.Image.{journal_pages}
 use Rattle.spool_load.specs.Reads.{IsSameTo, StandRows}
-use Rattle.spool_load.proofs.Looks.{gave_first, gave_rest}
+use Rattle.spool_journal.proofs.Steps.{no_failure}
+use Rattle.spool_load.proofs.Looks.{gave_first, gave_rest, ok_no_fault, reads_none, reads_on}
 use Rattle.spool_load.proofs.owners.load_pages.Goals as goal
 
 pub returns-in_err-load_page-clause-said : goal.returns-in_err-load_page-clause-said
@@ -27,3 +28,32 @@ returns-clause-valid g c bytes gave =
     let e : ROWS * c.loop-page.page ≡ ROWS * (journal_pages n - 257) =
     omega (arith, c.row_pages-page-end.ensures.pages) in
     subst (λ (m : ℕ). StandRows bytes n m c.loop-page.rows) e (c.loop-page.invariant.valid bytes gave)
+
+pub loop-page-init : goal.loop-page-init
+loop-page-init g c = record {
+  reads = reads_none c.args.disk.now;
+  free = c.requires.free;
+  counts = refl;
+  said = λ bytes gave all long fits stands. record { each = λ k below. absurd (omega (arith, below)) };
+  valid = λ bytes gave. record { each = λ b below. absurd (omega (arith, below)) };
+}
+
+pub returns-in_err-load_page-clause-reads : goal.returns-in_err-load_page-clause-reads
+returns-in_err-load_page-clause-reads g c = reads_on c.loop-page.invariant.reads c.load_page.ensures.reads
+
+pub loop-page-preserved : goal.loop-page-preserved
+loop-page-preserved g c =
+    let inv = c.loop-page.invariant in
+    let gave_before = λ (bytes : ℕ → ℕ). gave_first {bytes = bytes} inv.reads c.load_page.ensures.reads in
+    let gave_now = λ (bytes : ℕ → ℕ). gave_rest {bytes = bytes} inv.reads c.load_page.ensures.reads in
+    record {
+      reads = reads_on inv.reads c.load_page.ensures.reads;
+      free = c.in_ok-load_page.ensures.after;
+      counts = no_failure c.load_page.ensures.counts (ok_no_fault _ _ c.in_ok-load_page.was) ∙ inv.counts;
+      said =
+          λ bytes gave all long fits stands. c.in_ok-load_page.ensures.said bytes (gave_now bytes gave) all
+          (search rules) fits stands (inv.said bytes (gave_before bytes gave) all long fits stands);
+      valid =
+          λ bytes gave. c.in_ok-load_page.ensures.valid bytes (gave_now bytes gave)
+          (inv.valid bytes (gave_before bytes gave));
+    }

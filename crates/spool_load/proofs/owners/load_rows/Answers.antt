@@ -2,7 +2,7 @@ use Rattle.std.proofs.Common.{◌≡◌, ◌∙◌, ◌-◌, ◌*◌, ℕ, List,
 use Rattle.common.specs.declared.limits.TheConstants.{ROWS}
 use Rattle.spool_journal.specs.Image.{journal_pages}
 use Rattle.spool_load.specs.Reads.{StandRows}
-use Rattle.spool_load.proofs.Looks.{same_all, take_new}
+use Rattle.spool_load.proofs.Looks.{reads_none, same_all, take_new}
 use Rattle.spool_catalog.proofs.Valid.{rows_cover}
 use Rattle.spool_load.proofs.owners.load_rows.Goals as goal
 
@@ -27,3 +27,6 @@ returns-clause-said g c bytes gave all long fits stands =
     let said = c.in_ok-load_pages.ensures.said bytes gave all (omega (arith, size, long)) fits stands in
     take_new _ _ _ (search rules) ∙ same_all _ all c.load_pages.new.rows said (omega (arith, same, size, long))
     (omega (arith, same, size, rows_cover n))
+
+pub returns-in_err-rows-clause-reads : goal.returns-in_err-rows-clause-reads
+returns-in_err-rows-clause-reads g c = reads_none c.args.disk.now

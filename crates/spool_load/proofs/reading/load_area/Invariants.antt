@@ -1,5 +1,5 @@
 use Rattle.std.proofs.Common.{◌≡◌, ◌*◌, ℕ, length}
-use Rattle.spool_disk.specs.Given.{Gave}
+use Rattle.spool_disk.specs.Given.{ReadsGave}
 use Rattle.spool_journal.specs.declared.TheConstants.{PAGE}
 use Rattle.spool_load.specs.Reads.{OnlyReads, IsReadAt}
 use Rattle.spool_pages.specs.View.{index_place}
@@ -10,6 +10,6 @@ invariant-loop-page g l = record {
   reads : OnlyReads g.D.Disk l.fn.disk l.disk;
   counts : g.D.Disk.failures l.disk ≡ g.D.Disk.failures l.fn.disk;
   long : length l.area.items ≡ PAGE * l.page;
-  read : (bytes : ℕ → ℕ) → Gave bytes (g.D.Disk.reads l.fn.disk) (g.D.Disk.reads l.disk)
+  read : (bytes : ℕ → ℕ) → ReadsGave bytes (g.D.Disk.reads l.fn.disk) (g.D.Disk.reads l.disk)
       → IsReadAt bytes (index_place l.layout) l.area.items;
 }

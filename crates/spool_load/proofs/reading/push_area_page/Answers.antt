@@ -1,9 +1,17 @@
-use Rattle.std.proofs.Common.{arith}
+use Rattle.std.proofs.Common.{◌≡◌, ◌+◌, ℕ, length, rules, arith}
+use Rattle.spool_pages.specs.View.{index_place}
 use Rattle.spool_pages.proofs.Says.{some_journal}
-use Rattle.spool_load.proofs.Looks.{before_texts}
+use Rattle.spool_load.proofs.Looks.{before_texts, read_more}
 use Rattle.spool_load.proofs.reading.push_area_page.Goals as goal
 
 pub read_at-requires : goal.read_at-requires
 read_at-requires g c =
     before_texts c.args.layout.now _ _ c.requires.room
     (omega (arith, some_journal c.args.layout.now, c.requires.page, c.index_place.ensures))
+
+pub returns-clause-pushed : goal.returns-clause-pushed
+returns-clause-pushed g c bytes gave was long =
+    let here : index_place c.args.layout.now + length c.args.area.now.items ≡ c.index_place.result =
+    omega (arith, long, c.index_place.ensures) in
+    read_more bytes _ _ c.args.area.now.items c.read_at.new.buf c.extend_from_slice.new.self.items was
+    (c.in_ok-read_at.ensures.bytes bytes gave) here (search rules)

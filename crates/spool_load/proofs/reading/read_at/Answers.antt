@@ -1,25 +1,30 @@
-use Rattle.std.proofs.Common.{IsOk, ◌∙◌, sym, rules}
+use Rattle.std.proofs.Common.{◌≡◌, ◌∙◌, ap, length, sym, rules}
+use Rattle.spool_disk.specs.Disk.{span}
 use Rattle.spool_disk.proofs.Firm.{lasts_call}
+use Rattle.spool_disk.proofs.Gave.{read_grew}
 use Rattle.spool_journal.proofs.Recovers.{still_keeps, still_image}
-use Rattle.spool_load.proofs.Looks.{on_ok_more, read_bytes, read_gave, read_given, read_grew, still_span}
+use Rattle.spool_load.proofs.Looks.{on_ok_more, read_bytes, read_gave, read_given, still_span}
 use Rattle.spool_load.proofs.reading.read_at.Goals as goal
 
 pub returns-clause-reads : goal.returns-clause-reads
-returns-clause-reads g c = record {
-  size = c.read.ensures.size;
-  honest = c.read.ensures.honest.0;
-  back = c.read.ensures.honest.1;
-  grew = read_grew c.read.result c.read.ensures.given c.read.ensures.none;
-  gave =
-      λ honest bytes still. read_gave bytes c.read.result c.read.ensures.given c.read.ensures.none
-      (λ done. still_span _ bytes c.args.place _ still ∙ sym (c.read.ensures.bytes honest done));
-  still = λ honest bytes still. still_keeps still (c.read.ensures.keeps honest);
-  lasts =
-      λ honest bytes still. lasts_call (c.read.ensures.time honest)
-      (λ image is. still_image (still_keeps still (c.read.ensures.keeps honest)) is);
-}
+returns-clause-reads g c =
+    let wide : length c.read.new.buf ≡ length c.args.buf.now = search rules in
+    record {
+      size = c.read.ensures.size;
+      honest = c.read.ensures.honest.0;
+      back = c.read.ensures.honest.1;
+      grew = read_grew _ _ c.read.result c.read.ensures.given c.read.ensures.none;
+      gave =
+          λ honest bytes still. read_gave _ _ bytes c.read.result c.read.ensures.given c.read.ensures.none
+          (λ done. ap (span bytes c.args.place) wide ∙ still_span _ bytes c.args.place _ still
+          ∙ sym (c.read.ensures.bytes honest done));
+      still = λ honest bytes still. still_keeps still (c.read.ensures.keeps honest);
+      lasts =
+          λ honest bytes still. lasts_call (c.read.ensures.time honest)
+          (λ image is. still_image (still_keeps still (c.read.ensures.keeps honest)) is);
+    }
 
 pub returns-clause-bytes : goal.returns-clause-bytes
 returns-clause-bytes g c bytes gave =
     on_ok_more c.read.result (read_bytes bytes c.args.place _)
-    (read_given bytes c.read.result c.read.ensures.given gave)
+    (read_given _ _ bytes c.read.result c.read.ensures.given gave)

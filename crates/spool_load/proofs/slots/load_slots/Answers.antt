@@ -1,6 +1,6 @@
-use Rattle.std.proofs.Common.{◌+◌, ◌∙◌, ℕ, rules, ap, arith}
+use Rattle.std.proofs.Common.{◌≡◌, ◌+◌, ◌∙◌, ℕ, length, refl, rules, ap, arith}
 use Rattle.spool_journal.proofs.Steps.{no_failure}
-use Rattle.spool_load.proofs.Looks.{gave_first, gave_rest, reads_on, ok_no_fault, prefix_all}
+use Rattle.spool_load.proofs.Looks.{gave_first, gave_rest, reads_none, reads_on, ok_no_fault, prefix_all}
 use Rattle.spool_load.proofs.slots.load_slots.Goals as goal
 
 pub returns-in_err-push_slot-clause-said : goal.returns-in_err-push_slot-clause-said
@@ -35,3 +35,23 @@ returns-clause-said g c bytes gave said long fits stands =
     let inv = c.loop-slot.invariant in
     prefix_all said c.loop-slot.slots.items (inv.said bytes gave said long fits stands)
     (omega (arith, inv.long, long))
+
+pub loop-slot-init : goal.loop-slot-init
+loop-slot-init g c =
+    let empty : length c.new-slots.result.items ≡ 0 = search rules in
+    record {
+      reads = reads_none c.args.disk.now;
+      counts = refl;
+      long = empty;
+      said = λ bytes gave said long fits stands. record {
+        few = omega (arith, empty);
+        each = λ k below. absurd (omega (arith, below, empty));
+      };
+      valid = λ bytes gave. record {
+        each = λ s below. absurd (omega (arith, below, empty));
+        fit = λ s. search rules;
+      };
+    }
+
+pub returns-in_err-push_slot-clause-reads : goal.returns-in_err-push_slot-clause-reads
+returns-in_err-push_slot-clause-reads g c = reads_on c.loop-slot.invariant.reads c.push_slot.ensures.reads
