@@ -3,6 +3,7 @@ use Rattle.std.specs.Prelude.{◌≡◌, ◌⊎◌, ℕ, Option, None, Some, IfO
 use Rattle.common.specs.declared.stop.Stop.TheVariants.{NoMemory, DiskFault}
 use Rattle.spool_disk.specs.declared.disk.Disk.{Ghosts}
 use Rattle.spool_journal.specs.Image.{overlaid}
+use Rattle.spool_catalog.specs.Loads.{LoadsAs}
 use Rattle.spool_catalog.specs.Shows.{IsValid}
 use Rattle.spool_catalog.specs.declared.error.OpenFault.{OpenFault}
 use Rattle.spool_catalog.specs.declared.error.OpenFault.TheVariants.{NotASpool, Damaged, Version, Stop}
@@ -11,7 +12,6 @@ pub use Rattle.spool_load.specs.ReadBy.{ReadsBy}
 pub use Rattle.spool_load.specs.Recovered.{ReadsSame, Unwritten}
 use Rattle.spool_load.specs.Refusals.{IsNoSpool, ReadsDamage, ReadsOtherVersion, RefusedBy}
 use Rattle.spool_pages.specs.View.{View}
-use Rattle.spool_image.specs.Spool.{OpensAs}
 
 -- The results.
 
@@ -19,6 +19,11 @@ use Rattle.spool_image.specs.Spool.{OpensAs}
 abbrev pub refusal_of : {D S : Type 0} → Result S (D × OpenFault) → Option OpenFault
 refusal_of (Ok s) = None
 refusal_of (Err e) = Some e.1
+
+-- It is opened, or refused when out of memory or at a disk fault.
+abbrev pub OpensAs : {D S : Type 0} → Result S (D × OpenFault) → (S → Type 0) → Type 0
+OpensAs (Ok s) done = done s
+OpensAs {S = S} (Err e) done = LoadsAs {T = S} (Err e.1) done
 
 -- The error is this one, or out of memory, or a disk fault.
 abbrev pub IsRefusedAs : Option OpenFault → OpenFault → Type 0

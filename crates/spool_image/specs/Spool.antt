@@ -8,7 +8,7 @@ use Rattle.spool_image.specs.declared.spool.Spool.{Spool}
 use Rattle.spool_load.specs.Loaded.{OpenedFrom}
 use Rattle.spool_pages.specs.View.{View}
 use Rattle.spool_catalog.specs.Kept.{KeepsAlone}
-use Rattle.spool_catalog.specs.Loads.{LoadsAs}
+pub use Rattle.spool_image.specs.Opening.{OpensAs}
 use Rattle.spool_kept.specs.Drafting.{StandsFor}
 use Rattle.upload_rules.specs.World.{World}
 
@@ -41,11 +41,6 @@ disk_after (Err e) = e.0
 abbrev pub IsFault : {D S : Type 0} → Result S (D × OpenFault) → Type 0
 IsFault (Ok s) = ⊥
 IsFault (Err e) = e.1 ≡ Stop DiskFault
-
--- It is opened, or refused when out of memory or at a disk fault.
-abbrev pub OpensAs : {D S : Type 0} → Result S (D × OpenFault) → (S → Type 0) → Type 0
-OpensAs (Ok s) done = done s
-OpensAs {S = S} (Err e) done = LoadsAs {T = S} (Err e.1) done
 
 -- It is refused with this error, or when out of memory, or at a disk fault.
 abbrev pub RefusesAs : {D S : Type 0} → Result S (D × OpenFault) → OpenFault → Type 0
