@@ -212,6 +212,7 @@ impl SpoolDraft {
             return Ok(());
         };
         let Progress::Text { transcoder, text } = &mut self.progress else {
+            self.spare.give_back(added);
             self.leave(
                 Progress::OutOfRoom { transcoder: next },
                 blocks,
@@ -228,6 +229,7 @@ impl SpoolDraft {
             }
             Err(DraftError::Stop(stop)) => Err(stop),
             Err(DraftError::Full) => {
+                self.spare.give_back(added);
                 self.leave(
                     Progress::OutOfRoom { transcoder: next },
                     blocks,

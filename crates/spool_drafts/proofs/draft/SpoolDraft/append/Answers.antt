@@ -108,16 +108,16 @@ returns-in-Ok-put-clause-content g c p honest held fits carries =
     ∙ sym (open_longer held fits c.is_empty.ensures c.if-is_empty.false (c.in-Ok.ensures.reads p.began p.body)
     c.in-Some.next c.in-Some.is)
 
-pub returns-clause-after : goal.returns-clause-after
-returns-clause-after g c len state is =
+pub returns-in-Err-Full-clause-after : goal.returns-in-Err-Full-clause-after
+returns-in-Err-Full-clause-after g c len state is =
     subst (IsAfter len state) (sym c.leave-in-Err-Full.ensures.next) record {
       committed = is.committed;
       goes_on = subst (GoesOn state) c.in-Some.is (c.in-Ok.ensures.goes_on state is.goes_on);
       room = λ growing. is.room (c.in-Ok.ensures.growing (subst IsGrowing (sym c.in-Some.is) growing));
     }
 
-pub returns-clause-answer : goal.returns-clause-answer
-returns-clause-answer g c p held fits =
+pub returns-in-Err-Full-clause-answer : goal.returns-in-Err-Full-clause-answer
+returns-in-Err-Full-clause-answer g c p held fits =
     let size = ap length c.deref.ensures.value in
     let some : 1 ≤ length c.fed.new.out.items = elim (cases_eq (length c.fed.new.out.items) 0) [
       | inl none ↦ let ok = (c.put.ensures.nothing (size ∙ none)).3 in
