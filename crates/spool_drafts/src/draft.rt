@@ -257,6 +257,7 @@ impl SpoolDraft {
     /// # Errors
     ///
     /// `Unencodable`, `Full`, `NoMemory`, `DiskFault`; the draft can then only be dropped.
+    #[tactic(auto, using(crate::proofs::Effects::effect_none))]
     pub fn end<D: Disk>(
         &mut self,
         alloc: Global,
