@@ -1,6 +1,6 @@
 -- Open drafts, and the patches that they represent.
 use Rattle.std.specs.Prelude.{◌≡◌, ◌⊎◌, ◌≤◌, ◌<◌, ◌*◌, ◌+◌, ◌/◌, ◌^◌, ◌++◌, ℕ, Bool, true, false, List, Option, None}
-use Rattle.std.specs.Prelude.{Some, length, drop, Result, Ok, Err}
+use Rattle.std.specs.Prelude.{Some, [], length, drop, Result, Ok, Err}
 use Rattle.common.specs.declared.limits.TheConstants.{MOST_BLOCKS}
 use Rattle.spool_journal.specs.declared.TheConstants.{PAGE}
 use Rattle.enc_model.specs.Indexes.{IndexSet}
@@ -20,7 +20,7 @@ use Rattle.upload_rules.specs.Store.{Upload, text_of}
 use Rattle.upload_rules.specs.World.{Patch, is_there, patch_text}
 use Rattle.spool_drafts.specs.Effect.{RunsShort}
 use Rattle.spool_drafts.specs.Progress.{StandsAt, GoesOn, IsGrowing, IsStored, HasBytes, blocks_in, tail_in}
-use Rattle.spool_drafts.specs.Progress.{transcoder_in}
+use Rattle.spool_drafts.specs.Progress.{NeedsNoTail, transcoder_in, without_tail}
 use Rattle.spool_drafts.specs.declared.draft.DraftEnd.{DraftEnd}
 use Rattle.spool_drafts.specs.declared.draft.SpoolDraft.{SpoolDraft}
 
@@ -48,6 +48,14 @@ list_of d = blocks_in d.progress
 -- where it stores no text.
 abbrev pub tail_of : SpoolDraft → List ℕ
 tail_of d = tail_in d.progress
+
+-- That block isn't forgotten: it is as it was, or it isn't needed any more.
+abbrev pub KeepsTail : SpoolDraft → SpoolDraft → Type 0
+KeepsTail old new = (tail_of new ≡ tail_of old) ⊎ ((tail_of new ≡ []) × NeedsNoTail new.progress)
+
+-- The draft without that block, and else as it was.
+abbrev pub forgetting_tail : SpoolDraft → SpoolDraft
+forgetting_tail d = record d { progress = without_tail d.progress }
 
 -- The length of the committed text.
 abbrev pub committed_len_of : SpoolDraft → ℕ

@@ -7,7 +7,7 @@ use Rattle.spool_journal.specs.declared.TheConstants.{PAGE}
 use Rattle.enc_model.specs.Indexes.{IndexSet}
 use Rattle.enc_stream.specs.Standing.{Standing}
 use Rattle.enc_stream.specs.StateBytes.{IsValid}
-use Rattle.spool_texts.specs.Drafts.{Draft, IsNothingAfter, bytes_of, len_of, tail_on}
+use Rattle.spool_texts.specs.Drafts.{Draft, IsNothingAfter, bytes_of, len_of, tail_on, without_block}
 use Rattle.upload_rules.specs.Room.{need_of}
 use Rattle.upload_rules.specs.States.{IsStateLike, state_with, transcoder_with}
 use Rattle.upload_rules.specs.Store.{Upload, text_with, is_complete}
@@ -28,6 +28,16 @@ blocks_in _ = []
 abbrev pub tail_in : Progress → List ℕ
 tail_in (Text t text) = tail_on text.unread
 tail_in _ = []
+
+-- That block isn't needed any more: its bytes are in memory, or no text is stored.
+abbrev pub NeedsNoTail : Progress → Type 0
+NeedsNoTail (Text t text) = text.unread ≡ None
+NeedsNoTail _ = Unit {0}
+
+-- Without that block: zeros take the place of its bytes, unless they are in memory.
+abbrev pub without_tail : Progress → Progress
+without_tail (Text t text) = Text t (record text { unread = without_block text.unread })
+without_tail s = s
 
 -- The transcoder, if bytes may come.
 abbrev pub transcoder_in : Progress → Option Standing

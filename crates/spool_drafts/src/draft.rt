@@ -15,8 +15,8 @@ ghost use Rattle.upload_rules.specs.World.{Patch};
 ghost use Rattle.upload_rules.specs.declared.errors.UploadRefusal.{UploadRefusal as Refusal};
 ghost use Rattle.spool_drafts.specs.Effect.{Effect};
 ghost use Rattle.spool_drafts.specs.Drafts.{Holds, Carries, EndsAs, EndsAfter, IsBegun, IsAfter, IsLonger, IsPlaced};
-ghost use Rattle.spool_drafts.specs.Drafts.{with_piece, open_text, number_of, offset_of, came_of, list_of};
-ghost use Rattle.spool_drafts.specs.Drafts.{declare_of, committed_len_of, transcoder_of, tail_of};
+ghost use Rattle.spool_drafts.specs.Drafts.{KeepsTail, with_piece, open_text, number_of, offset_of, came_of, list_of};
+ghost use Rattle.spool_drafts.specs.Drafts.{declare_of, committed_len_of, forgetting_tail, transcoder_of, tail_of};
 
 use crate::progress::Progress;
 use crate::spare::Spare;
@@ -176,7 +176,7 @@ impl SpoolDraft {
         // The draft's fields, blocks and writes, whatever the result.
         ensures same { (number_of self.new ≡ number_of self.old) × (offset_of self.new ≡ offset_of self.old)
             × (declare_of self.new ≡ declare_of self.old) × (committed_len_of self.new ≡ committed_len_of self.old)
-            × ((tail_of self.new ≡ tail_of self.old) ⊎ (tail_of self.new ≡ [])) }
+            × KeepsTail self.old self.new }
         ensures after { (len : ℕ) (state : List ℕ) → IsAfter len state self.old → IsAfter len state self.new }
         ensures placed { IsPlaced layout.now self.new }
         ensures rows { blocks.new.rows ≡ blocks.old.rows }
@@ -212,6 +212,7 @@ impl SpoolDraft {
             return Ok(());
         };
         let Progress::Text { transcoder, text } = &mut self.progress else {
+            self.spare.give_back(added);
             self.leave(
                 Progress::OutOfRoom { transcoder: next },
                 blocks,
@@ -228,6 +229,7 @@ impl SpoolDraft {
             }
             Err(DraftError::Stop(stop)) => Err(stop),
             Err(DraftError::Full) => {
+                self.spare.give_back(added);
                 self.leave(
                     Progress::OutOfRoom { transcoder: next },
                     blocks,
@@ -255,6 +257,7 @@ impl SpoolDraft {
     /// # Errors
     ///
     /// `Unencodable`, `Full`, `NoMemory`, `DiskFault`; the draft can then only be dropped.
+    #[tactic(auto, using(crate::proofs::Effects::effect_none))]
     pub fn end<D: Disk>(
         &mut self,
         alloc: Global,
@@ -276,7 +279,7 @@ impl SpoolDraft {
         ensures same { (number_of self.new ≡ number_of self.old) × (offset_of self.new ≡ offset_of self.old)
             × (came_of self.new ≡ came_of self.old) × (declare_of self.new ≡ declare_of self.old)
             × (committed_len_of self.new ≡ committed_len_of self.old)
-            × ((tail_of self.new ≡ tail_of self.old) ⊎ (tail_of self.new ≡ [])) }
+            × KeepsTail self.old self.new }
         ensures rows { blocks.new.rows ≡ blocks.old.rows }
         ensures reserved { IsReserved blocks.new (list_of self.new) }
         ensures effect { Effect D.Disk (journal_pages layout.now) (list_of self.old) (list_of self.new) disk.old
@@ -335,7 +338,9 @@ impl SpoolDraft {
     /// Forgets the block with the upload's last bytes, since the upload was deleted. If the new text hasn't begun,
     /// zeros take their place. The draft keeps its blocks and can go on. It allocates nothing.
     pub fn forget_tail(&mut self)
+        ensures forgets { self.new ≡ forgetting_tail self.old }
         ensures tail { tail_of self.new ≡ [] }
+        ensures nothing { tail_of self.old ≡ [] → self.new ≡ self.old }
         ensures same { (number_of self.new ≡ number_of self.old) × (offset_of self.new ≡ offset_of self.old)
             × (came_of self.new ≡ came_of self.old) × (declare_of self.new ≡ declare_of self.old)
             × (committed_len_of self.new ≡ committed_len_of self.old) × (list_of self.new ≡ list_of self.old)

@@ -3,7 +3,7 @@ use Rattle.std.specs.Prelude.{◌≡◌, ◌≢◌, ℕ, List, [], Option, None,
 use Rattle.enc_model.specs.Indexes.{IndexSet}
 use Rattle.spool_blocks.specs.Blocks.{Row}
 use Rattle.spool_drafts.specs.Drafts.{Holds, IsAfter, IsPlaced, came_of, committed_len_of, declare_of}
-use Rattle.spool_drafts.specs.Drafts.{list_of, number_of, offset_of, tail_of, transcoder_of}
+use Rattle.spool_drafts.specs.Drafts.{forgetting_tail, list_of, number_of, offset_of, tail_of, transcoder_of}
 use Rattle.spool_drafts.specs.declared.draft.SpoolDraft.{SpoolDraft}
 use Rattle.spool_pages.specs.Changes.{with_slot}
 use Rattle.spool_pages.specs.View.{View}
@@ -19,6 +19,7 @@ deleted_view v slot rows = record (with_slot v slot None) { rows = rows }
 -- the draft is as it was, but that a draft of this upload has none of its blocks any more
 pub record ForgetsTail (number : ℕ) (old new : SpoolDraft) : Type 0 where
   pub gone : number_of old ≡ number → tail_of new ≡ []
+  pub forgets : number_of old ≡ number → new ≡ forgetting_tail old
   pub others : number_of old ≢ number → new ≡ old
   pub same_number : number_of new ≡ number_of old
   pub same_offset : offset_of new ≡ offset_of old

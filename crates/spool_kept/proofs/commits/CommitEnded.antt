@@ -10,7 +10,7 @@ use Rattle.spool_disk.specs.Views.{Lasts}
 use Rattle.spool_disk.proofs.Firm.{lasts_more}
 use Rattle.spool_journal.specs.Image.{journal_pages, text_page}
 use Rattle.spool_drafts.specs.Drafts.{EndsAs, EndsAfter, Holds, Carries, IsPlaced, IsWhole, committed_len_of, list_of}
-use Rattle.spool_drafts.specs.Drafts.{tail_of, offset_of, came_of, open_text}
+use Rattle.spool_drafts.specs.Drafts.{KeepsTail, offset_of, came_of, open_text}
 use Rattle.spool_drafts.specs.Effect.{Effect, RunsShort}
 use Rattle.spool_drafts.specs.declared.draft.DraftEnd.{DraftEnd}
 use Rattle.spool_drafts.specs.declared.draft.SpoolDraft.{SpoolDraft}
@@ -69,10 +69,10 @@ may h slot declared accepted list end used there ends = search (arith, common_st
 
 -- what the draft began after is placed as it was
 pub placed_still : (n : ℕ) (o o' : SpoolDraft) → committed_len_of o' ≡ committed_len_of o
-    → (tail_of o' ≡ tail_of o) ⊎ (tail_of o' ≡ []) → IsPlaced n o → IsPlaced n o'
+    → KeepsTail o o' → IsPlaced n o → IsPlaced n o'
 placed_still n o o' len (inl same) is = search (arith, common_steps)
 placed_still n o o' len (inr none) is = record {
-  below = λ i lt. absurd (omega (arith, lt, ap length none));
+  below = λ i lt. absurd (omega (arith, lt, ap length none.0));
   few = omega (arith, len, is.few);
 }
 

@@ -15,7 +15,8 @@ use Rattle.spool_texts.specs.Written.{NoneOf, SameOutside, WritesIn}
 use Rattle.spool_room.specs.Holdings.{IsInSome, OwnsTexts, RuleHolds}
 use Rattle.spool_room.proofs.Numbers.{rising_apart}
 use Rattle.spool_room.proofs.Rule.{rule_holds}
-use Rattle.spool_drafts.specs.Drafts.{Holds, Carries, IsLonger, IsPlaced, with_piece, list_of, tail_of}
+use Rattle.spool_drafts.specs.Drafts.{Holds, Carries, IsLonger, IsPlaced, KeepsTail, with_piece, list_of}
+use Rattle.spool_drafts.specs.Drafts.{tail_of}
 use Rattle.spool_drafts.specs.Effect.{Regrasps, RunsShort}
 use Rattle.spool_drafts.specs.declared.draft.SpoolDraft.{SpoolDraft}
 use Rattle.spool_drafts.proofs.Stays.{has_kept}
@@ -160,14 +161,14 @@ module _ {sure : Type 0} {w : World} {current : ℕ → ℕ} {first : ℕ} {reco
 -- OTHER DRAFTS
 
 -- what owned a draft's tail owns what it is now, if there is one
-pub owned_or_none : {slots : List (Option SlotRecord)} {rows : List Row} {number : ℕ} {tail tail' : List ℕ}
-    → (tail' ≡ tail) ⊎ (tail' ≡ []) → IsOwnedBy slots rows number tail → IsOwnedBy slots rows number tail'
-owned_or_none {slots = slots} {rows = rows} {number = number} (inl same) by =
+pub owned_or_none : {slots : List (Option SlotRecord)} {rows : List Row} {number : ℕ} (o o' : SpoolDraft)
+    → KeepsTail o o' → IsOwnedBy slots rows number (tail_of o) → IsOwnedBy slots rows number (tail_of o')
+owned_or_none {slots = slots} {rows = rows} {number = number} o o' (inl same) by =
     subst (IsOwnedBy slots rows number) (sym same) by
-owned_or_none (inr none) by = record {
+owned_or_none o o' (inr none) by = record {
   slot = by.slot;
   used = by.used;
-  owned = λ i lt. absurd (omega (arith, lt, ap length none));
+  owned = λ i lt. absurd (omega (arith, lt, ap length none.0));
 }
 
 owned_apart : (slots : List (Option SlotRecord)) (rows : List Row) (number : ℕ) (tail own : List ℕ)

@@ -100,7 +100,7 @@ returns-clause-answer g c sure w p s there fits =
     let longer_stands = stand_longer current' s'.stands fit on rows
     (λ known. (effect.writes (honest known)).writes.outside) in
     let tail : IsStillOpen w.store p → IsOwnedBy records h'.rows p.number (tail_of new) =
-    λ still. owned_or_none c.append-answer.ensures.same.4 (rw (← rows) at (is.tail still)) in
+    λ still. owned_or_none o new c.append-answer.ensures.same.4 (rw (← rows) at (is.tail still)) in
     let same_patches = replaced_same number p w.patches there in
     rw c.answer_of.ensures (answered _ _ c.append-answer.result
     (ok_more c.append-answer.result (c.append-answer.ensures.answer p held fits)

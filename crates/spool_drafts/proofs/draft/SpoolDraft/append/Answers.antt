@@ -4,8 +4,7 @@ use Rattle.std.proofs.lemmas.Bool.{cases_eq}
 use Rattle.spool_journal.specs.Image.{text_page}
 use Rattle.spool_texts.specs.Drafts.{Draft, bytes_of, len_of}
 use Rattle.spool_drafts.specs.Drafts.{Carries, Holds, IsAfter, IsLonger, IsPlaced, committed_len_of, declare_of}
-use Rattle.spool_drafts.specs.Drafts.{list_of}
-use Rattle.spool_drafts.specs.Drafts.{number_of, offset_of, open_text, tail_of, with_piece}
+use Rattle.spool_drafts.specs.Drafts.{KeepsTail, list_of, number_of, offset_of, open_text, with_piece}
 use Rattle.spool_drafts.specs.Progress.{GoesOn, HasBytes, IsGrowing}
 use Rattle.spool_drafts.specs.declared.draft.SpoolDraft.{SpoolDraft}
 use Rattle.spool_drafts.specs.declared.progress.Progress.TheVariants.{Text}
@@ -48,8 +47,13 @@ returns-in_default-progress g c =
       honest = (λ h. h, λ h. h);
       counts = search rules;
       nothing = search rules;
-      same =
-          (ap number_of next, ap offset_of next, ap declare_of next, ap committed_len_of next, inr (ap tail_of next));
+      same = (
+        ap number_of next,
+        ap offset_of next,
+        ap declare_of next,
+        ap committed_len_of next,
+        subst (KeepsTail d) (sym next) (inr (refl, tt)),
+      );
       after = λ len state is. subst (IsAfter len state) (sym next) record {
         committed = is.committed;
         goes_on = subst (GoesOn state) c.in-Some.is (c.in-Ok.ensures.goes_on state is.goes_on);
@@ -108,16 +112,16 @@ returns-in-Ok-put-clause-content g c p honest held fits carries =
     ∙ sym (open_longer held fits c.is_empty.ensures c.if-is_empty.false (c.in-Ok.ensures.reads p.began p.body)
     c.in-Some.next c.in-Some.is)
 
-pub returns-clause-after : goal.returns-clause-after
-returns-clause-after g c len state is =
+pub returns-in-Err-Full-clause-after : goal.returns-in-Err-Full-clause-after
+returns-in-Err-Full-clause-after g c len state is =
     subst (IsAfter len state) (sym c.leave-in-Err-Full.ensures.next) record {
       committed = is.committed;
       goes_on = subst (GoesOn state) c.in-Some.is (c.in-Ok.ensures.goes_on state is.goes_on);
       room = λ growing. is.room (c.in-Ok.ensures.growing (subst IsGrowing (sym c.in-Some.is) growing));
     }
 
-pub returns-clause-answer : goal.returns-clause-answer
-returns-clause-answer g c p held fits =
+pub returns-in-Err-Full-clause-answer : goal.returns-in-Err-Full-clause-answer
+returns-in-Err-Full-clause-answer g c p held fits =
     let size = ap length c.deref.ensures.value in
     let some : 1 ≤ length c.fed.new.out.items = elim (cases_eq (length c.fed.new.out.items) 0) [
       | inl none ↦ let ok = (c.put.ensures.nothing (size ∙ none)).3 in

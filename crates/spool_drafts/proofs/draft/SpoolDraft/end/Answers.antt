@@ -11,9 +11,6 @@ use Rattle.spool_drafts.proofs.Effects.{effect_none, effect_read, grasp_gives, g
 use Rattle.spool_drafts.proofs.Ends.{full, lacks, open_ended, refused, whole}
 use Rattle.spool_drafts.proofs.draft.SpoolDraft.end.Goals as goal
 
-pub returns-in_err-state-clause-effect : goal.returns-in_err-state-clause-effect
-returns-in_err-state-clause-effect g c = effect_none _ c.requires.reserved
-
 pub returns-in_err-state-clause-answer : goal.returns-in_err-state-clause-answer
 returns-in_err-state-clause-answer g c p held still =
     let x = c.args.indexes.now in
