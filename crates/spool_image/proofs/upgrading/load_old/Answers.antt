@@ -207,3 +207,8 @@ returns-clause-given g c =
     (loads_by _ before after c.in_ok-found.found is c.in_ok-kept.kept
     (c.in_ok-kept.ensures.valid after late is.answer.state)
     (λ v valid found says. c.in_ok-kept.ensures.said after late v valid found says)) c.in_ok-kept.kept)
+
+pub returns-in_err-found-clause-same : goal.returns-in_err-found-clause-same
+returns-in_err-found-clause-same g c honest none fine =
+    let p = err_from_is_err_and c.from_residual.result c.from_residual.ensures.1 in
+    c.find.ensures.same honest none (λ failed. fine (p.1 ∙ (let is = p.2 in let was = c.in_err-found.was in cc)))

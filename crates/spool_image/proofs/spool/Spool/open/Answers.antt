@@ -6,6 +6,10 @@ use Rattle.spool_journal.specs.Phases.{ReadsAs}
 use Rattle.spool_journal.proofs.Gate.{settled_idle}
 use Rattle.upload_rules.specs.World.{at_rest}
 use Rattle.spool_kept.specs.Drafting.{StandsFor}
+use Rattle.spool_catalog.specs.Holding.{Holding}
+use Rattle.spool_catalog.specs.Kept.{KeepsAlone}
+use Rattle.spool_image.specs.Spool.{Keeps}
+use Rattle.spool_load.proofs.Faults.{loads_err}
 use Rattle.spool_load.proofs.Opens.{settled_reads}
 use Rattle.spool_load.proofs.ReadBys.{by_after}
 use Rattle.spool_image.proofs.Opens.{image_shows, lasts_shown, view_room}
@@ -105,5 +109,7 @@ returns-in-Err-clause-given g c =
     by_after c.in-Err.ensures.given (grew_none refl) (λ before after is late. record {
       exact = refused_exactly (g.D.Disk.size c.args.disk) before after c.in-Err.fault is.answer;
       memory = tt;
-      opened = is.loads;
+      opened =
+          λ v valid encodes. loads_err (λ (kept : Holding). KeepsAlone kept v) (λ s. Keeps s v) c.in-Err.fault
+          (is.loads v valid encodes);
     })
