@@ -1,4 +1,4 @@
-use Rattle.std.proofs.Common.{◌≡◌, ◌∙◌, [], List, Option, Err, refl, rules, subst, sym}
+use Rattle.std.proofs.Common.{◌≡◌, ◌∙◌, [], List, Option, Err, rules, subst, sym}
 use Rattle.common.specs.declared.stop.Stop.{Stop}
 use Rattle.common.specs.declared.stop.Stop.TheVariants.{NoMemory, DiskFault}
 use Rattle.spool_drafts.specs.declared.draft.SpoolDraft.{SpoolDraft}
@@ -34,8 +34,7 @@ fit_stopped g c DiskFault is drafts = fit g c (λ e. cc) drafts
 
 pub returns-clause-fits : goal.returns-clause-fits
 returns-clause-fits g c drafts =
-    fit g (goal.at.returns-clause-fits g c).After-extend
-    (λ e. let ok = c.in_ok-extend.was in absurd (cc)) drafts
+    fit g (goal.at.returns-clause-fits g c).After-extend (λ e. absurd (let was = c.in_ok-extend.was in cc)) drafts
 
 pub returns-in_err-extend-clause-fits : goal.returns-in_err-extend-clause-fits
 returns-in_err-extend-clause-fits g c drafts =
