@@ -1,6 +1,6 @@
 //! The text of a draft is put after its upload's.
 ghost use Rattle.std.specs.Prelude.{◌≡◌, ◌≤◌, ◌<◌, ◌*◌, ◌↔◌, ◌⊎◌, ℕ, false, List, [], Option, Some, None};
-ghost use Rattle.std.specs.Prelude.{get_or, slice_set, IsErrOf, IfOk};
+ghost use Rattle.std.specs.Prelude.{get_or, slice_set, IsErrOf, IfOk, OnOk};
 ghost use Rattle.std.specs.Prelude.{Bool, true};
 ghost use Rattle.spool_disk.specs.Views.{Lasts};
 ghost use Rattle.spool_journal.specs.Image.{journal_pages, all_pages};
@@ -224,28 +224,24 @@ fn set_length<D: Disk>(
     kept: &mut Kept,
     slot: u32,
     declared: Option<u64>,
-) -> Result<u64, UploadError>
+) -> Result<u64, Stop>
     requires room { PAGE * all_pages kept.old.layout ≤ D.size disk.old }
     requires may { MayDeclare kept.old.slots slot declared }
     ensures size { D.size disk.new ≡ D.size disk.old }
     ensures honest { D.honest disk.old ↔ D.honest disk.new }
-    ensures counts { Counts (IsErrOf result (UploadError.Stop Stop.DiskFault)) (D.failures disk.old)
-        (D.failures disk.new) }
+    ensures counts { Counts (IsErrOf result Stop.DiskFault) (D.failures disk.old) (D.failures disk.new) }
     ensures layout { kept.new.layout ≡ kept.old.layout }
     ensures version { kept.new.version ≡ kept.old.version }
     ensures count { (r : Said) → get_or kept.old.slots slot None ≡ Some r → IfOk result (λ n. n ≡ r.accepted) }
-    ensures no_refusal { (e : Refusal) → IsErrOf result (UploadError.Refused e) → ⊥ }
     ensures fits { (drafts : List (Option Draft)) → DraftsFit kept.old drafts → DraftsFit kept.new drafts }
     ensures answer { (sure : Bool) (drafts : List (Option Draft)) (w : World) (n : ℕ)
         → StandsFor sure D.Disk disk.old kept.old drafts w → IsUsedBy kept.old.slots slot n
         → is_too_large declared ≡ false
-        → Answers None result
-        (λ count. StandsFor sure D.Disk disk.new kept.new drafts (with_length_at w n declared))
-        (StandsFor sure D.Disk disk.new kept.new drafts w) }
+        → OnOk result (StandsFor sure D.Disk disk.new kept.new drafts (with_length_at w n declared)) }
     ensures crash { (m : Store) (n : ℕ)
         → Stored true D.Disk disk.old kept.old m → IsUsedBy kept.old.slots slot n → is_too_large declared ≡ false
         → Lasts D.Disk disk.old disk.new (ShowsEither kept.old.layout m (patched_store m n declared [])) }
-    ensures unmade { IsErrOf result (UploadError.Stop Stop.NoMemory) → (disk.new ≡ disk.old) × (kept.new ≡ kept.old) }
+    ensures unmade { IsErrOf result Stop.NoMemory → (disk.new ≡ disk.old) × (kept.new ≡ kept.old) }
 {
     let used = kept.in_slot(slot).unwrap().record();
     let longer = Longer {
@@ -255,11 +251,8 @@ fn set_length<D: Disk>(
         text_len: used.text_len,
         state: used.state,
     };
-    match extend(alloc, disk, kept, &longer, &[], &[]) {
-        Ok(()) => Ok(longer.accepted),
-        Err(Stop::NoMemory) => Err(UploadError::Stop(Stop::NoMemory)),
-        Err(Stop::DiskFault) => Err(UploadError::Stop(Stop::DiskFault)),
-    }
+    extend(alloc, disk, kept, &longer, &[], &[])?;
+    Ok(longer.accepted)
 }
 
 /// Puts the text of the draft of a number after its upload's, gives that the length that the draft declares where it
@@ -324,7 +317,7 @@ pub fn commit<D: Disk>(
     let offset = draft.offset();
     draft.give_back(&mut kept.blocks);
     if found.declares {
-        return set_length(alloc, disk, kept, found.slot, found.declared);
+        return Ok(set_length(alloc, disk, kept, found.slot, found.declared)?);
     }
     Ok(offset)
 }

@@ -15,7 +15,8 @@ use Rattle.upload_rules.specs.Lengths.{is_length, is_new, is_too_large, known_or
 use Rattle.upload_rules.specs.Store.{Upload, Store, find, is_complete, patched_store, upload_of}
 use Rattle.upload_rules.specs.World.{Patch, World, completes, reached}
 use Rattle.upload_rules.specs.declared.errors.UploadError.{UploadError}
-use Rattle.upload_rules.specs.declared.errors.UploadError.TheVariants.{Refused}
+use Rattle.common.specs.declared.stop.Stop.{Stop as WhyStopped}
+use Rattle.upload_rules.specs.declared.errors.UploadError.TheVariants.{Stop, Refused}
 use Rattle.upload_rules.specs.declared.errors.UploadRefusal.{UploadRefusal}
 use Rattle.upload_rules.specs.declared.errors.UploadRefusal.TheVariants.{NoSuch, Offset, TooLong, Unencodable, Full}
 use Rattle.upload_rules.specs.declared.errors.UploadRefusal.TheVariants.{LengthSet}
@@ -273,6 +274,11 @@ refused_exactly slots o TooLong other =
 refused_exactly slots o LengthSet other =
     same_exactly slots o other.slot (Err (Refused LengthSet)) other.same (λ e. cc) (λ e. cc)
 refused_exactly slots o e found = absurd found
+
+-- a stop is no refusal
+pub stop_refuses_not : {T : Type 0} (result : Result T UploadError) (stop : WhyStopped) → result ≡ Err (Stop stop)
+    → (e : UploadRefusal) → IsErrOf result (Refused e) → (e ≡ Unencodable) ⊎ (e ≡ Full)
+stop_refuses_not result stop is e refused = absurd cc
 
 -- the draft that was taken is the one of its number
 module _ {T : Type 0} {slots : List (Option SlotRecord)} {o o' : SpoolDraft} {there : Option SpoolDraft}

@@ -1,6 +1,6 @@
 -- A commit's draft is spent: what the disk and what is kept stand for then.
 use Rattle.std.proofs.lemmas.Grind.{common_steps}
-use Rattle.std.proofs.Common.{Result, Ok, Err, IfOk, ◌≡◌, ◌≢◌, ◌⊎◌, Bool, true, false, ℕ, ◌*◌, ◌<◌, ◌≤◌, List, []}
+use Rattle.std.proofs.Common.{Err, ◌≡◌, ◌≢◌, ◌⊎◌, Bool, true, false, ℕ, ◌*◌, ◌<◌, ◌≤◌, List, []}
 use Rattle.std.proofs.Common.{Option, None, Some, length, get_or, set, refl, sym, ◌∙◌, ap, subst, arith}
 use Rattle.spool_journal.specs.declared.TheConstants.{PAGE}
 use Rattle.spool_blocks.specs.Blocks.{Held}
@@ -22,6 +22,7 @@ use Rattle.upload_rules.specs.Store.{with_length, without}
 use Rattle.upload_rules.specs.World.{Patch, World}
 use Rattle.upload_rules.specs.declared.errors.UploadError.{UploadError}
 use Rattle.upload_rules.specs.declared.errors.UploadError.TheVariants.{Stop, Refused}
+use Rattle.common.specs.declared.stop.Stop.{Stop as WhyStopped}
 use Rattle.common.specs.declared.stop.Stop.TheVariants.{NoMemory, DiskFault}
 use Rattle.upload_rules.specs.declared.errors.UploadRefusal.{UploadRefusal}
 use Rattle.upload_rules.proofs.Growing.{grown_dropped, grown_put}
@@ -67,14 +68,11 @@ also_refused refusal (Stop NoMemory) done done' X Y is y = (is.0, y)
 also_refused refusal (Stop DiskFault) done done' X Y is y = is
 also_refused refusal (Refused f) done done' X Y is y = (is.0, y)
 
--- the answer of a call that refuses nothing
-pub alone : (refusal : Option UploadRefusal) → refusal ≡ None → (result : Result ℕ UploadError) (a k : ℕ)
-    (P P' Q : Type 0) → Answers None result (λ n. P) Q → IfOk result (λ n. n ≡ a) → a ≡ k → (P → P')
-    → Answers refusal result (λ n. (n ≡ k) × P') Q
-alone refusal none (Ok n) a k P P' Q is count same then_so = (none, (count ∙ same, then_so is.1))
-alone refusal none (Err (Stop NoMemory)) a k P P' Q is count same then_so = (subst IsLate (sym none) is.0, is.1)
-alone refusal none (Err (Stop DiskFault)) a k P P' Q is count same then_so = subst IsLate (sym none) is
-alone refusal none (Err (Refused e)) a k P P' Q is count same then_so = absurd (let k = is.0 in cc)
+-- a call stopped that the rules don't refuse
+pub stopped : {T : Type 0} (refusal : Option UploadRefusal) (stop : WhyStopped) (done : T → Type 0) (same : Type 0)
+    → refusal ≡ None → (stop ≡ NoMemory → same) → Answers refusal (Err (Stop stop)) done same
+stopped refusal NoMemory done same none unmade = (subst IsLate (sym none) tt, unmade refl)
+stopped refusal DiskFault done same none unmade = subst IsLate (sym none) tt
 
 -- WHAT IT STANDS FOR
 
