@@ -37,6 +37,8 @@ pub(crate) struct Input {
 }
 
 impl Model for Input {
+    ghost use Rattle.gateway_serve.specs.declared.buffers.TheConstants.{PIECE};
+
     ghost Value = { List ℕ };
 
     ghost view = { λ i. slice_range i.bytes i.taken i.end };
