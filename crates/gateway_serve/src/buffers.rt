@@ -10,6 +10,7 @@ ghost use Rattle.tus_session.specs.Images.{shown_by};
 ghost use Rattle.gateway_serve.specs.Bytes.{came_of, went_of, stream_of, latest_of};
 ghost use Rattle.gateway_serve.specs.Gone.{after_read, after_write};
 ghost use Rattle.gateway_serve.specs.Waiting.{FewWait, HasRoom};
+ghost use Rattle.gateway_serve.specs.declared.buffers.TheConstants.{PIECE};
 
 use crate::sockets::Socket;
 use std::alloc::Global;
@@ -37,8 +38,6 @@ pub(crate) struct Input {
 }
 
 impl Model for Input {
-    ghost use Rattle.gateway_serve.specs.declared.buffers.TheConstants.{PIECE};
-
     ghost Value = { List ℕ };
 
     ghost view = { λ i. slice_range i.bytes i.taken i.end };
