@@ -168,7 +168,7 @@ module _ (size : ℕ) (before after : ℕ → ℕ) where
   pub late_by : {T : Type 0} (r : Result T UpgradeError) → IfErr r IsLateRefusal
       → ReadsView size before after (λ v. v.version ≡ One) → UpgradesBy size r before after
   late_by (Ok t) late view = view
-  late_by (Err e) late view = refused_late (Err e) late
+  late_by {T = T} (Err e) late view = refused_late {T = T} (Err e) late
 
   -- what was found of version 1 and read is upgraded
   pub upgrades_by : {T : Type 0} (found : Found) (kept : Holding) → found.version ≡ One → kept.version ≡ found.version

@@ -77,8 +77,8 @@ returns-clause-upgraded g c honest v valid is room =
 
 pub returns-clause-refused : goal.returns-clause-refused
 returns-clause-refused g c honest =
-    refused_late (g.D.Disk.size c.args.disk.now)
-    (g.D.Disk.current c.args.disk.now) c.rewrite.result c.rewrite.ensures.late
+    refused_late (g.D.Disk.size c.args.disk.now) (g.D.Disk.current c.args.disk.now)
+    (overlaid (g.D.Disk.current c.args.disk.now)) c.rewrite.result c.rewrite.ensures.late
 
 pub returns-clause-valid : goal.returns-clause-valid
 returns-clause-valid g c honest =
