@@ -1,6 +1,6 @@
 //! The texts of a spool's uploads, written into files.
 ghost use Rattle.std.specs.Prelude.{◌≡◌, [], ◌∷◌, ℕ, Bool, Err, IfErr, IfOk, IsErrOf, IsOk, None, OnErr, OnOk, Some};
-ghost use Rattle.std.specs.Prelude.{◌||◌, ◌==◌, length, map, not};
+ghost use Rattle.std.specs.Prelude.{◌||◌, ◌==◌, false, length, map, not};
 ghost use Rattle.std.specs.Io.KnownBytes.{Appends};
 ghost use Rattle.common.specs.declared.stop.Stop.{Stop};
 ghost use Rattle.spool_load.specs.Refusals.{HasOtherVersion, IsDamaged, IsNoSpool};
