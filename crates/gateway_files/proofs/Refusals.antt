@@ -25,6 +25,14 @@ lists_as T done opens.NotASpool f said loads = absurd loads
 lists_as T done opens.Damaged f said loads = absurd loads
 lists_as T done opens.Version f said loads = absurd loads
 
+-- refused by the disk or out of memory, whatever was to be answered
+pub loads_err : {T U : Type 0} (P : T → Type 0) (Q : U → Type 0) (e : OpenFault) → LoadsAs {T = T} (Err e) P
+    → LoadsAs {T = U} (Err e) Q
+loads_err P Q opens.NotASpool is = is
+loads_err P Q opens.Damaged is = is
+loads_err P Q opens.Version is = is
+loads_err P Q (opens.Stop stop) is = is
+
 pub refused_as : (it e : OpenFault) (f : Fault) → f ≡ open_fault e
     → (e ≡ it) ⊎ (e ≡ opens.Stop NoMemory) ⊎ (e ≡ opens.Stop DiskFault)
     → (f ≡ open_fault it) ⊎ (f ≡ Stop NoMemory) ⊎ (f ≡ Stop DiskFault)
@@ -44,7 +52,7 @@ pub is_damaged : (e : OpenFault) (f : Fault) → f ≡ open_fault e
 is_damaged = refused_as opens.Damaged
 
 -- ON ANY DISK, by what the reads of the opening gave
-module _ {size : ℕ} {before after : ℕ → ℕ} where
+module _ (size : ℕ) (before after : ℕ → ℕ) where
   reason : (e : OpenFault) → RefusedBy size before after e → ListRefusedBy size before after (open_fault e)
   reason opens.NotASpool why = why
   reason opens.Version why = why
@@ -68,24 +76,24 @@ module _ {size : ℕ} {before after : ℕ → ℕ} where
   memory_refused (Err f) is = subst (ListRefusedBy size before after) (sym is) tt
 
   -- done as for the uploads that the view shows
-  pub done_by : {T : Type 0} {Has : View → Type 0} {So : Store → Type 0} (r : Result T Fault)
+  pub done_by : {T : Type 0} (Has : View → Type 0) (So : Store → Type 0) (r : Result T Fault)
       → ((v : View) (m : Store) → Shows v m → Has v → OnOk r (So m)) → ReadsView size before after Has
       → OnOk r (ReadsView size before after (λ v. (m : Store) → Shows v m → So m))
-  done_by (Ok t) so is = view_more (λ v has m shows. so v m shows has) is
-  done_by (Err f) so is = tt
+  done_by Has So (Ok t) so is = view_more (λ v has m shows. so v m shows has) is
+  done_by Has So (Err f) so is = tt
 
-pub ok_both : {T : Type 0} {P : Type 0} {Q : T → Type 0} (r : Result T Fault) → OnOk r P → IfOk r Q
+pub ok_both : {T : Type 0} (P : Type 0) (Q : T → Type 0) (r : Result T Fault) → OnOk r P → IfOk r Q
     → OnOk r (P × IfOk r Q)
-ok_both (Ok t) p q = (p, q)
-ok_both (Err f) p q = tt
+ok_both P Q (Ok t) p q = (p, q)
+ok_both P Q (Err f) p q = tt
 
-pub ok_each : {T A : Type 0} {P : A → Type 0} (r : Result T Fault) → ((a : A) → OnOk r (P a)) → OnOk r ((a : A) → P a)
-ok_each (Ok t) p = p
-ok_each (Err f) p = tt
+pub ok_each : {T A : Type 0} (P : A → Type 0) (r : Result T Fault) → ((a : A) → OnOk r (P a)) → OnOk r ((a : A) → P a)
+ok_each P (Ok t) p = p
+ok_each P (Err f) p = tt
 
-pub ok_if : {T : Type 0} {Q : T → Type 0} (r : Result T Fault) → IfOk r Q → OnOk r (IfOk r Q)
-ok_if (Ok t) q = q
-ok_if (Err f) q = tt
+pub ok_if : {T : Type 0} (Q : T → Type 0) (r : Result T Fault) → IfOk r Q → OnOk r (IfOk r Q)
+ok_if Q (Ok t) q = q
+ok_if Q (Err f) q = tt
 
 -- what a writer refuses a change meets too
 pub write_fault : (f : Fault) → IsWriteFault f → IsChangeFault f

@@ -61,10 +61,10 @@ returns-in-Ok-clause-given g c =
     let done = c.delete_uploads-deleted in record {
       opened = disk_of c.in-Ok.spool;
       reads = by_after c.in-Ok.ensures.given (grew_none refl) (λ before after is late. record {
-        refused = change_refused done.result done.ensures.refused;
+        refused = change_refused _ before after done.result done.ensures.refused;
         done =
-            done_by done.result (λ v m shows keeps. let stands = c.in-Ok.ensures.kept v m shows keeps in
-            ok_both done.result (done.ensures.lines false (at_rest m (Some v.blocks)) stands)
+            done_by _ before after _ _ done.result (λ v m shows keeps. let stands = c.in-Ok.ensures.kept v m shows keeps in
+            ok_both _ _ done.result (done.ensures.lines false (at_rest m (Some v.blocks)) stands)
             (done.ensures.all false (at_rest m (Some v.blocks)) stands)) is.memory;
       });
     }
@@ -73,5 +73,5 @@ pub returns-in-Err-clause-given : goal.returns-in-Err-clause-given
 returns-in-Err-clause-given g c = record {
   opened = c.in-Err.disk;
   reads = by_after c.in-Err.ensures.given (grew_none refl)
-      (λ before after is late. unopened c.in-Err.fault c.from.result c.from.ensures is.exact.refused);
+      (λ before after is late. unopened _ before after c.in-Err.fault c.from.result c.from.ensures is.exact.refused);
 }

@@ -77,9 +77,9 @@ returns-in-Ok-clause-given g c =
     let done = c.export_uploads-exported in record {
       opened = disk_of c.in-Ok.spool;
       reads = by_after c.in-Ok.ensures.given (grew_none refl) (λ before after is late. record {
-        refused = change_refused done.result done.ensures.refused;
+        refused = change_refused _ before after done.result done.ensures.refused;
         done =
-            done_by done.result (λ v m shows keeps. ok_each done.result (λ files. ok_each done.result (λ held.
+            done_by _ before after _ _ done.result (λ v m shows keeps. ok_each _ done.result (λ files. ok_each _ done.result (λ held.
             done.ensures.files false (at_rest m (Some v.blocks)) (c.in-Ok.ensures.kept v m shows keeps)
             (shown_in_order v m shows) files held))) is.memory;
       });
@@ -89,5 +89,5 @@ pub returns-in-Err-clause-given : goal.returns-in-Err-clause-given
 returns-in-Err-clause-given g c = record {
   opened = c.in-Err.disk;
   reads = by_after c.in-Err.ensures.given (grew_none refl)
-      (λ before after is late. unopened c.in-Err.fault c.from.result c.from.ensures is.exact.refused);
+      (λ before after is late. unopened _ before after c.in-Err.fault c.from.result c.from.ensures is.exact.refused);
 }

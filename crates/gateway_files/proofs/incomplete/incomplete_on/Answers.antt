@@ -33,9 +33,9 @@ returns-in-Ok-clause-given g c =
     let found = c.incomplete_numbers-numbers in record {
       opened = disk_of c.in-Ok.spool;
       reads = by_after c.in-Ok.ensures.given (grew_none refl) (λ before after is late. record {
-        refused = memory_refused found.result found.ensures.refused;
+        refused = memory_refused _ before after found.result found.ensures.refused;
         done =
-            done_by found.result (λ v m shows keeps. ok_if found.result (found.ensures.numbers false
+            done_by _ before after _ _ found.result (λ v m shows keeps. ok_if _ found.result (found.ensures.numbers false
             (at_rest m (Some v.blocks)) (c.in-Ok.ensures.kept v m shows keeps) (shown_in_order v m shows))) is.memory;
       });
     }
@@ -44,5 +44,5 @@ pub returns-in-Err-clause-given : goal.returns-in-Err-clause-given
 returns-in-Err-clause-given g c = record {
   opened = c.in-Err.disk;
   reads = by_after c.in-Err.ensures.given (grew_none refl)
-      (λ before after is late. unopened c.in-Err.fault c.from.result c.from.ensures is.exact.refused);
+      (λ before after is late. unopened _ before after c.in-Err.fault c.from.result c.from.ensures is.exact.refused);
 }
