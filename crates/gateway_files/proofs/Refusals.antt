@@ -64,7 +64,8 @@ module _ (size : ℕ) (before after : ℕ → ℕ) where
   unopened e f same why =
       record { refused = subst (ListRefusedBy size before after) (sym same) (reason e why); done = tt }
 
-  pub change_refused : {T : Type 0} (r : Result T Fault) → IfErr r IsChangeFault → IfErr r (ListRefusedBy size before after)
+  pub change_refused : {T : Type 0} (r : Result T Fault) → IfErr r IsChangeFault
+      → IfErr r (ListRefusedBy size before after)
   change_refused (Ok t) why = tt
   change_refused (Err f) (inl is) = subst (ListRefusedBy size before after) (sym is) tt
   change_refused (Err f) (inr (inl is)) = subst (ListRefusedBy size before after) (sym is) tt

@@ -77,7 +77,7 @@ pub fn delete_on<D: Disk + Drop, W: Write>(
     // A spool's uploads are deleted, unless memory, the disk or the writer refuses it.
     ensures deletes { (n : ℕ) (m : Store) → IsSpool D.Disk disk n m → Changes result.1 }
 
-    // On any disk it answers by what the reads of its opening gave: for the uploads that the view shows which they encode.
+    // On any disk it answers by what the reads of its opening gave: for the uploads of the view that they encode.
     ensures given { OpensOn D.Disk disk (AnswersAs
         (λ m. Appends (W.contents writer.old) (W.contents writer.new) (deletion_lines m numbers.now)
         × IfOk result.1 (λ all. all ≡ all_there m numbers.now)) (D.size disk) result.1) }

@@ -94,7 +94,7 @@ pub fn export_on<D: Disk + Drop, F: Folder, W: Write>(
     // A spool's texts are written, unless memory, the disk, the folder or the writer refuses it.
     ensures exports { (n : ℕ) (m : Store) → IsSpool D.Disk disk n m → Changes result.1 }
 
-    // On any disk it answers by what the reads of its opening gave: for the uploads that the view shows which they encode.
+    // On any disk it answers by what the reads of its opening gave: for the uploads of the view that they encode.
     ensures given { OpensOn D.Disk disk (AnswersAs
         (λ m. (files : Files) → F.holds folder.old files → ExportsAs false (F.holds folder.new) m (jobs_of all m) files)
         (D.size disk) result.1) }

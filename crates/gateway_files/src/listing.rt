@@ -150,7 +150,7 @@ pub fn list_on<D: Disk + Drop, W: Write>(
     // A spool is listed, unless memory, the disk or the writer refuses it.
     ensures listed { (n : ℕ) (m : Store) → IsSpool D.Disk disk n m → Lists result.1 }
 
-    // On any disk it answers by what the reads of its opening gave: for the uploads that the view shows which they encode.
+    // On any disk it answers by what the reads of its opening gave: for the uploads of the view that they encode.
     ensures given { OpensOn D.Disk disk (AnswersAs
         (λ m. Appends (W.contents writer.old) (W.contents writer.new) (lines_of long m)) (D.size disk) result.1) }
 

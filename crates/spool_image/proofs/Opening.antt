@@ -25,7 +25,8 @@ module _ (size : ℕ) (before after : ℕ → ℕ) where
   }
 
   -- it was refused
-  pub refused_exactly : (fault : OpenFault) → RefusedBy size before after fault → AnswersBy size before after (Some fault)
+  pub refused_exactly : (fault : OpenFault) → RefusedBy size before after fault
+      → AnswersBy size before after (Some fault)
   refused_exactly fault reason = record {
     valid = λ opened. absurd (cc);
     refused = reason;

@@ -128,22 +128,26 @@ module _ (size : ℕ) (current : ℕ → ℕ) where
 
   new_is_known : IsAlreadyNew size current → HasOtherVersion size current → ⊥
   new_is_known new other =
-      other.other (known_at size current (overlaid current) new.blocks other.blocks new.says other.says (record { version = Two; said = new.new }))
+      other.other (known_at size current (overlaid current) new.blocks other.blocks new.says other.says
+      (record { version = Two; said = new.new }))
 
   pub upgrade_no_spool : (e : UpgradeError) → UpgradeRefusedFor size current e → IsNoSpool size current
       → Upgrades e (Open NotASpool)
   upgrade_no_spool AlreadyNew new none = absurd (none new.blocks new.says)
-  upgrade_no_spool (Open e) reason none = opens e NotASpool (told_no_spool size current (overlaid current) e (plain_reason e reason) none)
+  upgrade_no_spool (Open e) reason none =
+      opens e NotASpool (told_no_spool size current (overlaid current) e (plain_reason e reason) none)
 
   pub upgrade_version : (e : UpgradeError) → UpgradeRefusedFor size current e → HasOtherVersion size current
       → Upgrades e (Open Version)
   upgrade_version AlreadyNew new other = absurd (new_is_known new other)
-  upgrade_version (Open e) reason other = opens e Version (told_version size current (overlaid current) e (plain_reason e reason) other)
+  upgrade_version (Open e) reason other =
+      opens e Version (told_version size current (overlaid current) e (plain_reason e reason) other)
 
   pub upgrade_damaged : (e : UpgradeError) → UpgradeRefusedFor size current e → IsOldDamaged size current
       → Upgrades e (Open Damaged)
   upgrade_damaged AlreadyNew new damaged = absurd (damaged.1 new)
-  upgrade_damaged (Open e) reason damaged = opens e Damaged (told_damaged size current (overlaid current) e (plain_reason e reason) damaged.0)
+  upgrade_damaged (Open e) reason damaged =
+      opens e Damaged (told_damaged size current (overlaid current) e (plain_reason e reason) damaged.0)
 
   pub upgrade_new : (e : UpgradeError) → UpgradeRefusedFor size current e → IsAlreadyNew size current
       → Upgrades e AlreadyNew

@@ -1,5 +1,6 @@
 -- Calls that only read.
-use Rattle.std.proofs.Common.{◌≡◌, inl, inr, ℕ, ◌≢◌, take, ◌++◌, below_more, Option, None, Result, Ok, Err, IfOk, IsOk, OnErr, OnOk}
+use Rattle.std.proofs.Common.{◌≡◌, inl, inr, ℕ, ◌≢◌, take, ◌++◌, below_more, Option, None, Result, Ok, Err, IfOk}
+use Rattle.std.proofs.Common.{IsOk, OnErr, OnOk}
 use Rattle.std.proofs.Common.{◌+◌, ◌-◌, ◌*◌, ◌<◌, ◌≤◌, List, [], ◌∷◌, length, length-append, get_or, refl, sym, ◌∙◌, ap}
 use Rattle.std.proofs.Common.{subst, arith}
 use Rattle.std.proofs.Math.ListN.{get_or-append, get_or-eq_default}
@@ -15,7 +16,8 @@ use Rattle.spool_journal.specs.Image.{all_pages, byte_of, journal_pages, text_pa
 use Rattle.spool_journal.specs.Phases.{Still}
 use Rattle.spool_journal.proofs.Recovers.{get_span}
 use Rattle.spool_pages.specs.Bytes.{IsPadded}
-use Rattle.spool_pages.specs.View.{SlotRecord, Stands, first_page, state_page, slot_bytes, slot_place, row_bytes, row_place}
+use Rattle.spool_pages.specs.View.{SlotRecord, Stands, first_page, state_page, slot_bytes, slot_place, row_bytes}
+use Rattle.spool_pages.specs.View.{row_place}
 use Rattle.spool_pages.specs.Fits.{FitsSlotOf}
 use Rattle.spool_pages.specs.declared.version.Version.{Version as Known}
 use Rattle.spool_pages.proofs.Says.{all_is}
@@ -46,7 +48,8 @@ module _ {E : Type 0} {old new : List Given} (at : ℕ) (bs : List ℕ) where
   read_gave bytes (Ok done) one_more none_more is = of_one one_more (is refl)
   read_gave bytes (Err e) one_more none_more is = none none_more
 
-  pub read_given : (bytes : ℕ → ℕ) (r : Result (Unit {0}) E) → OnOk r (new ≡ given at bs ∷ old) → ReadsGave bytes old new
+  pub read_given : (bytes : ℕ → ℕ) (r : Result (Unit {0}) E) → OnOk r (new ≡ given at bs ∷ old)
+      → ReadsGave bytes old new
       → OnOk r (span bytes at (length bs) ≡ bs)
   read_given bytes (Ok done) one_more gave = one one_more gave
   read_given bytes (Err e) one_more gave = tt

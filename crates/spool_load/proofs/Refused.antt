@@ -23,7 +23,8 @@ use Rattle.spool_catalog.specs.Shows.{IsValid}
 use Rattle.spool_load.specs.Faults.{TellsNothing, load_fault}
 use Rattle.spool_load.specs.declared.error.LoadError.{LoadError}
 use Rattle.spool_load.specs.declared.error.LoadError.TheVariants as loads
-use Rattle.spool_load.specs.Loaded.{EncodesBy, FoundBy, FoundOn, IsFoundOf, LoadedFrom, OpenedFrom, SaysState, StandsFound}
+use Rattle.spool_load.specs.Loaded.{EncodesBy, FoundBy, FoundOn, IsFoundOf, LoadedFrom, OpenedFrom, SaysState}
+use Rattle.spool_load.specs.Loaded.{StandsFound}
 use Rattle.spool_load.specs.declared.finding.Found.{Found}
 use Rattle.spool_load.specs.Reads.{IsReadAt, SaysBlocks}
 use Rattle.spool_load.proofs.Looks.{read_back, read_stands}

@@ -49,8 +49,8 @@ pub record LoadedFrom (bytes : ℕ → ℕ) (n : ℕ) (kept : Holding) : Type 0 
   pub says : Says bytes view
   pub keeps : KeepsAlone kept view
 
--- What the reads of an opening gave encodes this view: it begins as a spool of as many blocks, its journal is valid, and
--- after the recovery come the view's bytes.
+-- What the reads of an opening gave encodes this view: it begins as a spool of as many blocks, its journal is valid,
+-- and after the recovery come the view's bytes.
 pub record EncodesBy (size : ℕ) (before after : ℕ → ℕ) (v : View) : Type 0 where
   pub begins : SaysBlocks size before v.blocks
   pub journal : HasJournal v.blocks before
@@ -63,8 +63,8 @@ pub record ReadsView (size : ℕ) (before after : ℕ → ℕ) (So : View → Ty
   pub encodes : EncodesBy size before after view
   pub so : So view
 
--- The answers of `find` and of `load` by what the reads gave: what was found or read is what they encode, each error has
--- its reason, and a valid view is found and read, unless memory or the disk refuses.
+-- The answers of `find` and of `load` by what the reads gave: what was found or read is what they encode, each error
+-- has its reason, and a valid view is found and read, unless memory or the disk refuses.
 
 -- So it is on a disk that begins as a spool of n blocks.
 pub record RestoresBy (n : ℕ) (result : Result Found OpenFault) (before after : ℕ → ℕ) : Type 0 where

@@ -1,7 +1,7 @@
 -- A draft whose text has ended: why it isn't put after its upload's, and that it may be.
 use Rattle.std.proofs.lemmas.Grind.{common_steps}
-use Rattle.std.proofs.Common.{Result, Err, IfOk, ◌≡◌, ◌⊎◌, inl, inr, ℕ, ◌≤◌, ◌+◌, ◌-◌, ◌/◌, ◌^◌, Bool, true, false}
-use Rattle.std.proofs.Common.{List, []}
+use Rattle.std.proofs.Common.{Result, Err, IfOk, ◌≡◌, inl, inr, ℕ, ◌≤◌, ◌+◌, ◌-◌, ◌/◌, ◌^◌, Bool, true, false}
+use Rattle.std.proofs.Common.{List}
 use Rattle.std.proofs.Common.{Option, None, Some, length, get_or, set, min, refl, sym, ◌∙◌, ap, subst, arith}
 use Rattle.spool_journal.specs.declared.TheConstants.{PAGE}
 use Rattle.spool_blocks.specs.Blocks.{Held}

@@ -1,8 +1,8 @@
 -- A draft that went on: its blocks and those of the others, the rule of room, and the disk.
 use Rattle.std.proofs.lemmas.Grind.{common_steps}
-use Rattle.std.proofs.Common.{Result, Ok, Err, OnOk, IsErrOf, ◌≡◌, ◌≢◌, ◌⊎◌, inl, inr, ℕ, ◌==◌, if◌then◌else◌, Bool}
+use Rattle.std.proofs.Common.{Result, Ok, Err, OnOk, IsErrOf, ◌≡◌, ◌≢◌, inl, inr, ℕ, ◌==◌, if◌then◌else◌, Bool}
 use Rattle.std.proofs.Common.{true}
-use Rattle.std.proofs.Common.{false, List, [], Option, None, Some, length, get_or, set, refl, sym, ◌∙◌, ap, subst}
+use Rattle.std.proofs.Common.{false, List, Option, None, Some, length, get_or, set, refl, sym, ◌∙◌, ap, subst}
 use Rattle.std.proofs.Common.{arith}
 use Rattle.std.proofs.lemmas.Bool.{cases_eq, cases_Bool}
 use Rattle.std.proofs.lemmas.List.{set-set}

@@ -63,7 +63,8 @@ returns-in-Ok-clause-given g c =
       reads = by_after c.in-Ok.ensures.given (grew_none refl) (λ before after is late. record {
         refused = change_refused _ before after done.result done.ensures.refused;
         done =
-            done_by _ before after _ _ done.result (λ v m shows keeps. let stands = c.in-Ok.ensures.kept v m shows keeps in
+            done_by _ before after _ _ done.result (λ v m shows keeps.
+            let stands = c.in-Ok.ensures.kept v m shows keeps in
             ok_both _ _ done.result (done.ensures.lines false (at_rest m (Some v.blocks)) stands)
             (done.ensures.all false (at_rest m (Some v.blocks)) stands)) is.memory;
       });

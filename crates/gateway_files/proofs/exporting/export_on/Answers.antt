@@ -79,7 +79,8 @@ returns-in-Ok-clause-given g c =
       reads = by_after c.in-Ok.ensures.given (grew_none refl) (λ before after is late. record {
         refused = change_refused _ before after done.result done.ensures.refused;
         done =
-            done_by _ before after _ _ done.result (λ v m shows keeps. ok_each _ done.result (λ files. ok_each _ done.result (λ held.
+            done_by _ before after _ _ done.result (λ v m shows keeps. ok_each _ done.result (λ files.
+            ok_each _ done.result (λ held.
             done.ensures.files false (at_rest m (Some v.blocks)) (c.in-Ok.ensures.kept v m shows keeps)
             (shown_in_order v m shows) files held))) is.memory;
       });

@@ -35,7 +35,8 @@ returns-in-Ok-clause-given g c =
       reads = by_after c.in-Ok.ensures.given (grew_none refl) (λ before after is late. record {
         refused = memory_refused _ before after found.result found.ensures.refused;
         done =
-            done_by _ before after _ _ found.result (λ v m shows keeps. ok_if _ found.result (found.ensures.numbers false
+            done_by _ before after _ _ found.result (λ v m shows keeps. ok_if _ found.result
+            (found.ensures.numbers false
             (at_rest m (Some v.blocks)) (c.in-Ok.ensures.kept v m shows keeps) (shown_in_order v m shows))) is.memory;
       });
     }

@@ -54,7 +54,9 @@ pub returns-in-Err-written-clause-given : goal.returns-in-Err-written-clause-giv
 returns-in-Err-written-clause-given g c = record {
   opened = disk_of c.in-Ok.spool;
   reads = by_after c.in-Ok.ensures.given (grew_none refl) (λ before after is late. record {
-    refused = change_refused _ before after {T = Survey} (Err c.in-Err-written.fault) (write_fault _ c.in-Err-written.ensures.refused);
+    refused =
+        change_refused _ before after {T = Survey} (Err c.in-Err-written.fault)
+        (write_fault _ c.in-Err-written.ensures.refused);
     done = tt;
   });
 }

@@ -124,7 +124,8 @@ returns-then-found-clause-answer g c sure w p s there =
         c.in_ok-set_length.ensures.count finds.same.used is_there
             ∙ head.left_reached k finds stays finds.same.used.accepted finds.same.count,
         rw (← (head.length_stands k finds stays new)) at (c.in_ok-set_length.ensures.answer sure
-            c.taken.new.drafts.items (dropped w c.args.number) p.number left used (head.length_small k finds stays new)),
+            c.taken.new.drafts.items (dropped w c.args.number) p.number left used
+            (head.length_small k finds stays new)),
       ),
     )
 

@@ -1,4 +1,5 @@
-use Rattle.std.proofs.Common.{◌≡◌, inl, inr, ℕ, Result, Ok, Err, IfOk, IfErr, MatchOption, None, Option, Some, sym, subst, ⊎_elim}
+use Rattle.std.proofs.Common.{◌≡◌, inl, inr, ℕ, Result, Ok, Err, IfOk, IfErr, MatchOption, None, Option, Some, sym}
+use Rattle.std.proofs.Common.{subst, ⊎_elim}
 use Rattle.std.proofs.lemmas.Result.{err_from_is_err_and}
 use Rattle.spool_disk.proofs.Firm.{lasts_on, lasts_more}
 use Rattle.spool_journal.specs.Image.{journal_pages, overlaid}
@@ -31,7 +32,8 @@ found_refused size current n (Err e) says refused = found_reason size current (o
 
 pub returns-in-None-clause-said : goal.returns-in-None-clause-said
 returns-in-None-clause-said g c honest v valid is room =
-    none_there _ _ _ c.in-None.is (c.in_ok-layout.ensures.found _ (c.find_layout.ensures.gave honest)) v.blocks (view_says_blocks _ _ v valid is room)
+    none_there _ _ _ c.in-None.is (c.in_ok-layout.ensures.found _ (c.find_layout.ensures.gave honest)) v.blocks
+    (view_says_blocks _ _ v valid is room)
 
 pub returns-in-None-clause-refused : goal.returns-in-None-clause-refused
 returns-in-None-clause-refused g c honest =
@@ -43,7 +45,8 @@ returns-in-Some-clause-said g c honest v valid is room =
     let current : g.D.Disk.current c.find_layout.new.disk ≡ g.D.Disk.current c.args.disk.now = same_function _ _
     keeps.same in
     let layout : c.in-Some.layout ≡ v.blocks =
-    says_one _ _ _ _ (says_there _ _ _ _ c.in-Some.is (c.in_ok-layout.ensures.found _ (c.find_layout.ensures.gave honest)))
+    says_one _ _ _ _
+    (says_there _ _ _ _ c.in-Some.is (c.in_ok-layout.ensures.found _ (c.find_layout.ensures.gave honest)))
     (view_says_blocks _ _ v valid is room) in
     c.restore.ensures.said (c.find_layout.ensures.honest.0 honest) v valid (sym layout)
     (subst (λ (image : ℕ → ℕ). IsViewOf image v) (sym current) is)
@@ -54,7 +57,8 @@ returns-in-Some-clause-lasts g c honest v valid is room =
     let was = g.D.Disk.current c.args.disk.now in
     let current : g.D.Disk.current c.find_layout.new.disk ≡ was = same_function _ _ keeps.same in
     let layout : c.in-Some.layout ≡ v.blocks =
-    says_one _ _ _ _ (says_there _ _ _ _ c.in-Some.is (c.in_ok-layout.ensures.found _ (c.find_layout.ensures.gave honest)))
+    says_one _ _ _ _
+    (says_there _ _ _ _ c.in-Some.is (c.in_ok-layout.ensures.found _ (c.find_layout.ensures.gave honest)))
     (view_says_blocks _ _ v valid is room) in
     let first = lasts_more (c.find_layout.ensures.lasts honest) (λ image here. inl here) in
     let then = lasts_more (c.restore.ensures.lasts (c.find_layout.ensures.honest.0 honest)) (λ image one. ⊎_elim
@@ -67,7 +71,9 @@ returns-in-Some-clause-lasts g c honest v valid is room =
 pub returns-in-Some-clause-unwritten : goal.returns-in-Some-clause-unwritten
 returns-in-Some-clause-unwritten g c honest none =
     let keeps = c.find_layout.ensures.keeps honest in
-    let shut = gate_shut keeps (says_there _ _ _ _ c.in-Some.is (c.in_ok-layout.ensures.found _ (c.find_layout.ensures.gave honest))) none in
+    let shut =
+    gate_shut keeps
+    (says_there _ _ _ _ c.in-Some.is (c.in_ok-layout.ensures.found _ (c.find_layout.ensures.gave honest))) none in
     lasts_on (c.find_layout.ensures.lasts honest)
     (lasts_more (c.restore.ensures.unwritten (c.find_layout.ensures.honest.0 honest) shut)
     (λ image here. keeps_image keeps here))
@@ -75,7 +81,9 @@ returns-in-Some-clause-unwritten g c honest none =
 pub returns-in-Some-clause-same : goal.returns-in-Some-clause-same
 returns-in-Some-clause-same g c honest none fine =
     let keeps = c.find_layout.ensures.keeps honest in
-    let shut = gate_shut keeps (says_there _ _ _ _ c.in-Some.is (c.in_ok-layout.ensures.found _ (c.find_layout.ensures.gave honest))) none in
+    let shut =
+    gate_shut keeps
+    (says_there _ _ _ _ c.in-Some.is (c.in_ok-layout.ensures.found _ (c.find_layout.ensures.gave honest))) none in
     keeps_on keeps (c.restore.ensures.same (c.find_layout.ensures.honest.0 honest) shut fine)
 
 pub returns-in-Some-clause-refused : goal.returns-in-Some-clause-refused

@@ -149,7 +149,8 @@ returns-in_err-load_state-clause-unwritten g c honest shut =
 pub returns-in_err-recover-clause-given : goal.returns-in_err-recover-clause-given
 returns-in_err-recover-clause-given g c =
     let bad =
-    λ (before : ℕ → ℕ) (early : ReadsGave before (g.D.Disk.reads c.args.disk.now) (g.D.Disk.reads c.recover.new.disk)) (e : c.in_err-recover.field-0.0 ≡ recover.Damaged).
+    λ (before : ℕ → ℕ) (early : ReadsGave before (g.D.Disk.reads c.args.disk.now) (g.D.Disk.reads c.recover.new.disk))
+    (e : c.in_err-recover.field-0.0 ≡ recover.Damaged).
     c.recover.ensures.gave_damaged before early (c.in_err-recover.was ∙ err_of _ _ e) in
     let p = err_from_is_err_and c.from_residual.result c.from_residual.ensures.1 in
     by_first c.recover.ensures.reads (λ before after early. rw (p.1, p.2) (record {
