@@ -40,7 +40,8 @@ impl<D: Disk> Gateway<Spool<D>> {
         ensures opened { (n : ℕ) (m : Store) → IsSpool D.Disk disk n m
             → OpensAs result (λ g. GatewayStands ⟦<Spool<D> as Uploads>⟧ g true (beginning m (Some n))) }
 
-        // And whatever the disk, it stands for the uploads that are shown by what its spool keeps.
+        // Whatever the disk, what its spool has in memory is a view, which shows uploads, and it stands for these.
+        ensures view { IfOk result (λ g. (v : View) × (m : Store) × Keeps (store_of g) v × Shows v m) }
         ensures kept { (v : View) (m : Store) → Shows v m
             → IfOk result (λ g. Keeps (store_of g) v
             → GatewayStands ⟦<Spool<D> as Uploads>⟧ g false (beginning m (Some v.blocks))) }

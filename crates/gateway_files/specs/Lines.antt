@@ -7,7 +7,7 @@ use Rattle.enc_model.specs.declared.Encoding.{Encoding}
 use Rattle.enc_model.specs.declared.Mode.{Mode}
 use Rattle.enc_model.specs.declared.Mode.TheVariants.{Html, Fatal}
 use Rattle.upload_rules.specs.Slots.{IsRising}
-use Rattle.upload_rules.specs.Store.{Store, Upload, find, text_of}
+use Rattle.upload_rules.specs.Store.{Store, Upload, find, text_of, accepted_count}
 use Rattle.upload_rules.specs.declared.records.Record.{Record}
 use Rattle.gateway_files.specs.Naming.{given_name, is_clean}
 
@@ -45,7 +45,7 @@ line number accepted declared text_len from to mode metadata =
 -- THE LINE of an upload, with its metadata or without
 abbrev pub upload_line : Bool → IndexSet → ℕ × Upload → List ℕ
 upload_line long x entry =
-    line entry.0 (length entry.1.accepted) entry.1.declared (length (text_of x entry.1)) entry.1.from entry.1.to
+    line entry.0 (accepted_count entry.1) entry.1.declared (length (text_of x entry.1)) entry.1.from entry.1.to
     entry.1.mode (told_of long entry.1.metadata)
 
 -- THE LINES of all uploads, by their numbers

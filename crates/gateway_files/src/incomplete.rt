@@ -8,7 +8,7 @@ ghost use Rattle.spool_load.specs.Refusals.{HasOtherVersion, IsDamaged, IsNoSpoo
 ghost use Rattle.upload_rules.specs.Store.{Store};
 ghost use Rattle.upload_rules.specs.World.{World};
 ghost use Rattle.spool_image.specs.LeftOnly.{AllShow, IsSpool, LeftOrShows};
-ghost use Rattle.spool_image.specs.Opening.{OpensOn};
+ghost use Rattle.spool_image.specs.Opening.{ReadsBy};
 ghost use Rattle.gateway_files.specs.declared.faults.Fault.{Fault};
 ghost use Rattle.gateway_files.specs.Deleting.{doomed_line, incomplete_of, incomplete_record};
 ghost use Rattle.gateway_files.specs.Lines.{IsInOrder};
@@ -67,7 +67,7 @@ pub fn incomplete_on<D: Disk + Drop>(alloc: Global, disk: D) -> (D, Result<Vec<u
     // Each refusal has its reason, and each reason is answered so, unless memory or the disk refuses it. On any disk it
     // answers by what the reads of its opening gave.
     ensures listed { (n : ℕ) (m : Store) → IsSpool D.Disk disk n m → Lists result.1 }
-    ensures given { OpensOn D.Disk disk (AnswersAs
+    ensures given { ReadsBy (D.reads disk) (D.reads result.0) (AnswersAs
         (λ m. IfOk result.1 (λ numbers. numbers.items ≡ incomplete_of m)) (D.size disk) result.1) }
     ensures refused { D.honest disk → IfErr result.1 (ListRefusedFor (D.size disk) (D.current disk)) }
     ensures not_a_spool { D.honest disk → IsNoSpool (D.size disk) (D.current disk)

@@ -10,7 +10,7 @@ ghost use Rattle.spool_load.specs.Refusals.{HasOtherVersion, IsDamaged, IsNoSpoo
 ghost use Rattle.upload_rules.specs.Store.{Store};
 ghost use Rattle.upload_rules.specs.World.{World};
 ghost use Rattle.spool_image.specs.LeftOnly.{AllShow, IsSpool, LeftOrShows};
-ghost use Rattle.spool_image.specs.Opening.{OpensOn};
+ghost use Rattle.spool_image.specs.Opening.{ReadsBy};
 ghost use Rattle.gateway_files.specs.declared.faults.Fault.{Fault};
 ghost use Rattle.gateway_files.specs.Failures.{fault_in};
 ghost use Rattle.gateway_files.specs.Listed.{ListsAs, RefusedList};
@@ -151,7 +151,7 @@ pub fn list_on<D: Disk + Drop, W: Write>(
     ensures listed { (n : ℕ) (m : Store) → IsSpool D.Disk disk n m → Lists result.1 }
 
     // On any disk it answers by what the reads of its opening gave: for the uploads of the view that they encode.
-    ensures given { OpensOn D.Disk disk (AnswersAs
+    ensures given { ReadsBy (D.reads disk) (D.reads result.0) (AnswersAs
         (λ m. Appends (W.contents writer.old) (W.contents writer.new) (lines_of long m)) (D.size disk) result.1) }
 
     // Each refusal has its reason, and each reason is answered so, unless memory or the disk refuses it.

@@ -49,8 +49,8 @@ pub fn open_surveyed<D: Disk>(alloc: Global, disk: D) -> Result<(Spool<D>, Surve
     ensures survey { (v : View) → IfOk result (λ opened. Keeps opened.0 v
         → (opened.1.version ≡ version_number v.version) × (opened.1.blocks ≡ v.blocks)) }
 
-    // On any disk what it has in memory is a view, and it stands for the uploads that this view shows.
-    ensures view { IfOk result (λ opened. (v : View) × Keeps opened.0 v) }
+    // On any disk what it has in memory is a view, which shows uploads, and it stands for these.
+    ensures view { IfOk result (λ opened. (v : View) × (m : Store) × Keeps opened.0 v × Shows v m) }
     ensures kept { (v : View) (m : Store) → Shows v m
         → IfOk result (λ opened. Keeps opened.0 v → SpoolStands opened.0 false (at_rest m (Some v.blocks))) }
 

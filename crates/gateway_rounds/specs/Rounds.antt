@@ -12,7 +12,7 @@ use Rattle.spool_image.specs.declared.error.UpgradeError.TheVariants as upgrades
 use Rattle.spool_catalog.specs.Shows.{ImageShows}
 use Rattle.spool_catalog.specs.declared.error.OpenFault.TheVariants as opens
 use Rattle.upload_rules.specs.Answers.{Among}
-use Rattle.upload_rules.specs.Store.{Store, Upload, upload_of}
+use Rattle.upload_rules.specs.Store.{HasAllBytes, Store, Upload, upload_of}
 use Rattle.tus_session.specs.History.{State, Mark, Marked, beginning, history}
 use Rattle.tus_session.specs.Images.{last_stores}
 use Rattle.gateway_script.specs.Script as script
@@ -158,6 +158,10 @@ IsWork disk n given back before left (Upgrade error) (Run told) = ⊥
 abbrev pub HasTexts : (ℕ → ℕ) → Store → Type 0
 HasTexts image m = (k : ℕ) (u : Upload) → upload_of m k ≡ Some u → HasText image m.indexes k u
 
+-- of each upload of these stores all bytes are there, so that its text is that of all bytes that were accepted
+abbrev pub HaveAllBytes : List Store → Type 0
+HaveAllBytes stores = (m : Store) → Among m stores → HasAllBytes m
+
 -- A round as it was told, from a disk of which each image shows one of some stores to one of which each image shows one
 -- of the next, by way of the disk that came back
 pub record IsRound {D C : Type 0} (disk : Ghosts D) (chosen : C → D → D → Type 0) (n : ℕ) (given after : D)
@@ -172,6 +176,7 @@ pub record IsRound {D C : Type 0} (disk : Ghosts D) (chosen : C → D → D → 
   pub texts : (image : ℕ → ℕ) (m : Store) → ImageShows n image m
       → IsImage (disk.current after) (disk.unsynced after) image
       → HasTexts image m
+  pub bytes : HaveAllBytes before → HaveAllBytes next
 
 -- ALL ROUNDS
 

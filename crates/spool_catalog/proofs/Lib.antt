@@ -1,5 +1,6 @@
 pub mod Valid
 pub mod Told
+pub mod Every
 pub mod Answered
 pub mod NewRecords
 pub mod Upgraded

@@ -1,8 +1,9 @@
 -- What a record tells of an upload, and its state.
-use Rattle.std.proofs.lemmas.Grind.{common_steps}
 use Rattle.std.proofs.Common.{◌≡◌, ℕ, ◌==◌, Bool, true, false, if◌then◌else◌, List, [], ◌∷◌, Option, length, refl, sym}
-use Rattle.std.proofs.Common.{◌∙◌, ap, subst, arith}
+use Rattle.std.proofs.Common.{◌∙◌, ap, subst, arith, ◌+◌, ◌≤◌, ◌++◌, Some, None, length-append}
 use Rattle.std.proofs.lemmas.List.{append-nil}
+use Rattle.std.proofs.lemmas.Bool.{both_ways}
+use Rattle.std.proofs.lemmas.Bool.Decides.{nat_tests}
 use Rattle.enc_model.specs.declared.Encoding.{Encoding}
 use Rattle.enc_model.specs.declared.Encoding.TheVariants.{Utf8, Utf16Be, Utf16Le, ShiftJis, EucJp, Iso2022Jp, Ibm866}
 use Rattle.enc_model.specs.declared.Encoding.TheVariants.{Iso8859X2, Iso8859X5, Iso8859X15, Koi8R, Macintosh}
@@ -14,14 +15,15 @@ use Rattle.enc_model.specs.declared.Mode.TheVariants.{Html, Fatal}
 use Rattle.enc_model.specs.Encode.{Tables}
 use Rattle.enc_model.specs.Indexes.{IndexSet, tables}
 use Rattle.enc_model.specs.Decode.{Held, Reading, decoded, decoding, decoding_start, sniffed, undecided}
-use Rattle.enc_model.specs.Transcode.{phase_of}
+use Rattle.enc_model.specs.Transcode.{Phase, Before, During, Over, phase_of, fed}
 use Rattle.enc_stream.specs.StateBytes.{state_bytes, encoding_number, mode_number}
 use Rattle.enc_stream.proofs.Bytes.{from_there, to_there, mode_there}
-use Rattle.upload_rules.specs.Lengths.{is_length}
-use Rattle.upload_rules.specs.Store.{Upload, is_complete}
-use Rattle.upload_rules.specs.States.{transcoder_with, state_with}
+use Rattle.upload_rules.specs.Lengths.{is_length, known_or, longest}
+use Rattle.upload_rules.specs.Store.{Upload, is_complete, accepted_count}
+use Rattle.upload_rules.specs.States.{phase_from, transcoder_with, state_with}
 use Rattle.upload_rules.specs.Records.{Keeps}
 use Rattle.upload_rules.specs.declared.records.Record.{Record}
+use Rattle.upload_rules.proofs.TextGrows.{phase_more}
 use Rattle.spool_pages.specs.View.{SlotRecord}
 use Rattle.spool_catalog.specs.Records.{said_of, IsUnpacked}
 use Rattle.spool_catalog.specs.Shows.{FitsPhase, HasState, IsRecordOf}
@@ -40,18 +42,76 @@ phase_fits t e (b ∷ bytes) declared more = go (undecided (b ∷ bytes))
     go true = (refl, more)
     go false = (omega arith, more)
 
-module _ (x : IndexSet) (r : SlotRecord) (shown : List ℕ) (u : Upload) (is : IsRecordOf x r shown u) where
-  at_phase : (done : Bool) → is_complete u ≡ done → FitsPhase (transcoder_with x u [] done).phase (length u.accepted)
-      u.declared
-  at_phase true e = e
-  at_phase false e =
-      subst (λ (bytes : List ℕ). FitsPhase (phase_of (decoded (tables x) u.from bytes false)) (length u.accepted)
-      u.declared) (sym (append-nil u.accepted)) (phase_fits (tables x) u.from u.accepted u.declared e)
+-- and of a new upload
+pub new_phase : (x : IndexSet) (new : New) → (let u = new_upload new in
+    FitsPhase (transcoder_with x u [] (is_complete u)).phase 0 new.declared)
+new_phase x new = by_end (is_length new.declared 0) refl
+  where
+    by_end : (done : Bool) → is_length new.declared 0 ≡ done
+        → FitsPhase (transcoder_with x (new_upload new) [] done).phase 0 new.declared
+    by_end true e = e
+    by_end false e = phase_fits (tables x) new.from [] new.declared e
 
+-- and it fits on with more bytes
+fed_fits : (t : Tables) (e : Encoding) (p : Phase) (n : ℕ) (known declared : Option ℕ) (bytes : List ℕ)
+    → FitsPhase p n known → is_length known n ≡ false → is_length declared (n + length bytes) ≡ false
+    → FitsPhase (fed t e p bytes).phase (n + length bytes) declared
+unfolding fed
+fed_fits t e (Before held) n known declared bytes fits still more =
+    let long : length (held ++ bytes) ≡ n + length bytes = omega (arith, fits.0, length-append held bytes) in
+    subst (λ (k : ℕ). FitsPhase (phase_of (decoded t e (held ++ bytes) false)) k declared) long
+    (phase_fits t e (held ++ bytes) declared (ap (is_length declared) long ∙ more))
+fed_fits t e (During s) n known declared bytes fits still more = (omega (arith, fits.0), more)
+fed_fits t e Over n known declared bytes fits still more = absurd cc
+
+-- a complete upload takes no more bytes
+complete_on : (known declare : Option ℕ) (n more : ℕ) → is_length known n ≡ true → n + more ≤ longest (known_or known
+    declare) → is_length (known_or known declare) (n + more) ≡ true
+complete_on None declare n more done few = absurd cc
+complete_on (Some k) declare n more done few = grind (arith, nat_tests)
+
+module _ (x : IndexSet) (u : Upload) (declare : Option ℕ) (bytes : List ℕ)
+    (fits : FitsPhase (transcoder_with x u [] (is_complete u)).phase (accepted_count u) u.declared)
+    (few : accepted_count u + length bytes ≤ longest (known_or u.declared declare)) where
+  abbrev more : Upload
+  more = patched u declare bytes
+
+  long : accepted_count more ≡ accepted_count u + length bytes
+  long = omega (arith, length-append u.accepted bytes)
+
+  by_both : (old new : Bool) → is_complete u ≡ old → is_complete more ≡ new
+      → FitsPhase (transcoder_with x more [] new).phase (accepted_count more) (known_or u.declared declare)
+  by_both old true e f = f
+  by_both true false e f = absurd (both_ways _ f
+      (ap (is_length (known_or u.declared declare)) long ∙ complete_on u.declared declare (accepted_count u)
+      (length bytes) e few))
+  by_both false false e f =
+      let from = phase_from (tables x) u.origin u.from in
+      let here : FitsPhase (from u.accepted) (accepted_count u) u.declared =
+      subst (λ (b : List ℕ). FitsPhase (from b) (accepted_count u) u.declared) (append-nil u.accepted)
+      (subst (λ (b : Bool). FitsPhase (transcoder_with x u [] b).phase (accepted_count u) u.declared) e fits) in
+      let all : (fed (tables x) u.from (from u.accepted) bytes).phase ≡ from ((u.accepted ++ bytes) ++ []) =
+      sym (phase_more (tables x) u.from u.to u.mode u.origin u.accepted bytes)
+      ∙ ap from (sym (append-nil (u.accepted ++ bytes))) in
+      subst (λ (p : Phase). FitsPhase p (accepted_count more) (known_or u.declared declare)) all
+      (subst (λ (k : ℕ). FitsPhase (fed (tables x) u.from (from u.accepted) bytes).phase k
+      (known_or u.declared declare)) (sym long) (fed_fits (tables x) u.from (from u.accepted) (accepted_count u) u.declared
+      (known_or u.declared declare) bytes here e (ap (is_length (known_or u.declared declare)) (sym long) ∙ f)))
+
+  -- the phase of an upload with more bytes fits
+  pub patched_phase : FitsPhase (transcoder_with x more [] (is_complete more)).phase (accepted_count more) more.declared
+  patched_phase = by_both (is_complete u) (is_complete more) refl refl
+
+module _ (x : IndexSet) (r : SlotRecord) (shown : List ℕ) (u : Upload) (is : IsRecordOf x r shown u) where
   -- a record that tells of an upload has a state
   pub told_state : HasState r
   unfolding state_with
-  told_state = grind (arith, common_steps, at_phase)
+  told_state = record {
+    transcoder = transcoder_with x u [] (is_complete u);
+    valid = is.valid;
+    is = is.state;
+    phase = rw (is.accepted, is.declared) is.phase;
+  }
 
 -- STATES SAY THEIR ENCODINGS
 

@@ -88,8 +88,6 @@ impl Kept {
             → indexes ≡ v.indexes → slots.items ≡ v.slots → blocks.rows ≡ v.rows
             → blocks.reserved ≡ replicate v.blocks false
             → MatchResult result (λ kept. KeepsAlone kept v) (λ e. e ≡ CheckError.NoMemory) }
-        ensures view { IfOk result (λ kept. blocks.reserved ≡ replicate layout false
-            → (v : View) × KeepsAlone kept v) }
     {
         let order = order_of(alloc, &slots)?;
         let lists = lists_of(alloc, &blocks, &slots)?;

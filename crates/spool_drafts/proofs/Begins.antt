@@ -49,8 +49,8 @@ module _ (x : IndexSet) (u : Upload) (n count : ℕ) (declare : Option ℕ) wher
   no_longer : (patch_text x first false).fault ≡ None → length (patch_text x first false).bytes ≤ length (text_of x u)
   no_longer none = elim (cases_Bool (is_complete u)) [
     | inl whole ↦
-        let both = text_after (tables x) u.from u.to u.mode (u.accepted ++ []) [] true
-        (ap (λ r. r.fault) (sym first_text) ∙ none) in
+        let both = text_after (tables x) u.from u.to u.mode u.origin (u.accepted ++ [])
+        (ap (λ r. r.fault) (sym first_text) ∙ none) [] true in
         let at = ap (λ (b : List ℕ). length (text_with x (record u { accepted = [] }) b true).bytes)
         (append-nil (u.accepted ++ [])) in
         omega (

@@ -4,7 +4,7 @@ use Rattle.std.proofs.Common.{arith, ap, inl, inr, ◌∙◌}
 use Rattle.std.proofs.lemmas.Bool.{cases_eq, ne_eqb}
 use Rattle.spool_journal.specs.declared.TheConstants.{PAGE}
 use Rattle.upload_rules.specs.Lengths.{is_length, known_or, longest}
-use Rattle.upload_rules.specs.Store.{Upload, is_complete}
+use Rattle.upload_rules.specs.Store.{Upload, is_complete, accepted_count}
 use Rattle.upload_rules.specs.Room.{need_of}
 use Rattle.spool_texts.specs.Drafts.{Draft, len_of}
 use Rattle.spool_drafts.specs.Progress.{HoldsLen}
@@ -29,10 +29,10 @@ module _ (len n k : ℕ) (old : Draft) (holds : HoldsLen len old n) where
 
 -- an upload that has room for one byte more isn't complete
 pub is_open : (u : Upload) (declare : Option ℕ) (count : ℕ) → 0 < count
-    → length u.accepted + count ≤ longest (known_or u.declared declare) → is_complete u ≡ false
+    → accepted_count u + count ≤ longest (known_or u.declared declare) → is_complete u ≡ false
 is_open u declare count some fits = by_length u.declared fits
   where
-    by_length : (known : Option ℕ) → length u.accepted + count ≤ longest (known_or known declare)
-        → is_length known (length u.accepted) ≡ false
+    by_length : (known : Option ℕ) → accepted_count u + count ≤ longest (known_or known declare)
+        → is_length known (accepted_count u) ≡ false
     by_length None fits = refl
-    by_length (Some n) fits = ne_eqb (length u.accepted) n (λ e. omega (arith, e, some, fits))
+    by_length (Some n) fits = ne_eqb (accepted_count u) n (λ e. omega (arith, e, some, fits))

@@ -40,7 +40,7 @@ unfolding text_of
 in_prefix x u bytes done still none =
     let at : u.accepted ++ [] ≡ u.accepted = append-nil u.accepted in
     let first : (text_with x u [] false).fault ≡ None = value_before x u [] bytes done none in
-    let both = text_after (tables x) u.from u.to u.mode (u.accepted ++ []) bytes done first in
+    let both = text_after (tables x) u.from u.to u.mode u.origin (u.accepted ++ []) first bytes done in
     let same : (u.accepted ++ []) ++ bytes ≡ u.accepted ++ bytes = ap (λ (b : List ℕ). b ++ bytes) at in
     let grown = ap length (ap (λ (b : List ℕ). (text_with x (record u { accepted = [] }) b done).bytes) (sym same)
     ∙ both.1) in

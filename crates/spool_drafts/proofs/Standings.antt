@@ -2,7 +2,7 @@
 use Rattle.std.proofs.Common.{◌≡◌, ℕ, Bool, false, List, [], ◌++◌, None, Some, Ok, Err, IsErrOf, Result, refl, sym, ◌∙◌}
 use Rattle.std.proofs.Common.{ap, subst, append_assoc, append-nil, Vec, Global}
 use Rattle.enc_model.specs.Indexes.{IndexSet, tables}
-use Rattle.enc_model.specs.Transcode.{IsAt, added}
+use Rattle.enc_model.specs.Transcode.{added}
 use Rattle.enc_stream.specs.Standing.{Standing, stepped_on}
 use Rattle.enc_stream.specs.StateBytes.{IsValid, state_bytes}
 use Rattle.upload_rules.specs.declared.errors.UploadError.{UploadError}
@@ -10,7 +10,7 @@ use Rattle.upload_rules.specs.declared.errors.UploadError.TheVariants.{Stop, Ref
 use Rattle.common.specs.declared.stop.Stop.TheVariants.{NoMemory, DiskFault}
 use Rattle.upload_rules.specs.declared.errors.UploadRefusal.{UploadRefusal}
 use Rattle.upload_rules.specs.declared.errors.UploadRefusal.TheVariants as refusals
-use Rattle.upload_rules.specs.States.{transcoder_over, state_with}
+use Rattle.upload_rules.specs.States.{phase_from, transcoder_from, state_with}
 use Rattle.upload_rules.specs.Store.{Upload, text_with, is_complete}
 use Rattle.upload_rules.specs.Texts.{IsEnded, IsReading, IsRest}
 use Rattle.upload_rules.specs.World.{is_there}
@@ -41,7 +41,9 @@ module _ (x : IndexSet) (u : Upload) (bytes : List ℕ) where
     from = here.from;
     to = here.to;
     mode = here.mode;
-    at = subst (IsAt (tables x) t.transcoder) (sym at_nil) here.at;
+    phase = here.phase ∙ ap (phase_from (tables x) u.origin u.from) (sym at_nil);
+    shift = here.shift ∙ ap (λ r. r.state) (sym (same_text false));
+    encodable = ap (λ r. r.fault) (same_text false) ∙ here.encodable;
   }
 
   assoc : (piece : List ℕ) → (u.accepted ++ bytes) ++ piece ≡ u.accepted ++ (bytes ++ piece)
@@ -66,7 +68,9 @@ module _ (x : IndexSet) (u : Upload) (bytes : List ℕ) where
               from = both.0.from;
               to = both.0.to;
               mode = both.0.mode;
-              at = subst (IsAt (tables x) next.transcoder) (assoc piece) both.0.at;
+              phase = both.0.phase ∙ ap (phase_from (tables x) u.origin u.from) (assoc piece);
+              shift = both.0.shift ∙ ap (λ r. r.state) (longer_text piece false);
+              encodable = ap (λ r. r.fault) (sym (longer_text piece false)) ∙ both.0.encodable;
             };
         adds = ap (λ r. r.bytes ++ text) (sym (same_text false)) ∙ both.1 ∙ ap (λ r. r.bytes) (longer_text piece false);
       }
@@ -76,9 +80,10 @@ module _ (x : IndexSet) (u : Upload) (bytes : List ℕ) where
       → IsEnded x (after u bytes) [] done result → FinishesAs x u bytes done result
   unfolding state_with
   finishes done (Ok parts) only ended = record {
-    state_is = ended.state_is ∙ ap (λ (b : List ℕ). state_bytes (transcoder_over (tables x) u.from u.to u.mode b done))
-        at_nil;
-    valid = subst (λ (b : List ℕ). IsValid (transcoder_over (tables x) u.from u.to u.mode b done)) at_nil ended.valid;
+    state_is = ended.state_is
+        ∙ ap (λ (b : List ℕ). state_bytes (transcoder_from (tables x) u.origin u.from u.to u.mode b done)) at_nil;
+    valid = subst (λ (b : List ℕ). IsValid (transcoder_from (tables x) u.origin u.from u.to u.mode b done)) at_nil
+        ended.valid;
     encodable = ap (λ r. r.fault) (sym (same_text done)) ∙ ended.encodable;
     adds = ap (λ r. r.bytes ++ parts.1.items) (sym (same_text false)) ∙ ended.rest ∙ ap (λ r. r.bytes) (same_text done);
   }

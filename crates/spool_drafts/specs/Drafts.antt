@@ -16,7 +16,7 @@ use Rattle.upload_rules.specs.declared.errors.UploadRefusal.TheVariants as refus
 use Rattle.upload_rules.specs.Lengths.{is_too_large, known_or, longest}
 use Rattle.upload_rules.specs.Room.{blocks_of, wants, need}
 use Rattle.upload_rules.specs.States.{SameEncodings, state_with, transcoder_with}
-use Rattle.upload_rules.specs.Store.{Upload, text_of}
+use Rattle.upload_rules.specs.Store.{Upload, text_of, accepted_count}
 use Rattle.upload_rules.specs.World.{Patch, is_there, patch_text}
 use Rattle.spool_drafts.specs.Effect.{RunsShort}
 use Rattle.spool_drafts.specs.Progress.{StandsAt, GoesOn, IsGrowing, IsStored, HasBytes, blocks_in, tail_in}
@@ -94,12 +94,12 @@ open_text x p done = drop (PAGE * (length (text_of x p.began) / PAGE)) (patch_te
 -- The draft represents the patch, whatever the disk has.
 pub record Holds (x : IndexSet) (p : Patch) (d : SpoolDraft) : Type 0 where
   pub number : number_of d ≡ p.number
-  pub offset : offset_of d ≡ length p.began.accepted
+  pub offset : offset_of d ≡ accepted_count p.began
   pub came : came_of d ≡ length p.body
   pub held : length p.body ≤ p.count
   pub declare : declare_of d ≡ p.declare
   pub small : is_too_large p.declare ≡ false
-  pub within : length p.began.accepted + p.count ≤ longest (known_or p.began.declared p.declare)
+  pub within : accepted_count p.began + p.count ≤ longest (known_or p.began.declared p.declare)
   pub fits : longest (known_or p.began.declared p.declare) < 2 ^ 64
   pub committed : committed_len_of d ≡ length (text_of x p.began)
   pub stands : StandsAt x p.began p.body (transcoder_of d)

@@ -1,7 +1,7 @@
 -- The text of an upload in an image.
 use Rattle.std.specs.Prelude.{◌≡◌, ℕ, [], None, Some, length}
 use Rattle.enc_model.specs.Indexes.{IndexSet}
-use Rattle.upload_rules.specs.Store.{Upload, is_complete, text_of, text_with}
+use Rattle.upload_rules.specs.Store.{Upload, is_complete, text_of, text_with, accepted_count}
 use Rattle.spool_pages.specs.View.{SlotRecord, View, slot_at, IsViewOf}
 
 -- A slot of the image has the upload's number and its text: the encoding of the decoding of its accepted bytes, without
@@ -13,6 +13,6 @@ pub record HasText (image : ℕ → ℕ) (x : IndexSet) (k : ℕ) (u : Upload) :
   pub used : SlotRecord
   pub there : slot_at view slot ≡ Some used
   pub number : used.number ≡ k
-  pub accepted : used.accepted ≡ length u.accepted
+  pub accepted : used.accepted ≡ accepted_count u
   pub text : view.texts slot ≡ text_of x u
   pub encodable : (text_with x u [] (is_complete u)).fault ≡ None

@@ -117,8 +117,8 @@ impl<D: Disk> Spool<D> {
         ensures stands { (n : ℕ) (m : Store) → IsSpool D.Disk disk n m
             → IfOk result (λ s. SpoolStands s true (at_rest m (Some n))) }
 
-        // On any disk what it has in memory is a view, and it stands for the uploads that this view shows.
-        ensures view { IfOk result (λ s. (v : View) × Keeps s v) }
+        // On any disk what it has in memory is a view, which shows uploads, and it stands for these.
+        ensures view { IfOk result (λ s. (v : View) × (m : Store) × Keeps s v × Shows v m) }
         ensures kept { (v : View) (m : Store) → Shows v m
             → IfOk result (λ s. Keeps s v → SpoolStands s false (at_rest m (Some v.blocks))) }
     {

@@ -10,7 +10,8 @@ use Rattle.spool_journal.specs.Image.{journal_pages, text_page}
 use Rattle.spool_texts.specs.Drafts.{bytes_with}
 use Rattle.spool_texts.specs.TextOn.{text_on}
 use Rattle.upload_rules.specs.Lengths.{is_length, is_too_large, known_or, longest}
-use Rattle.upload_rules.specs.Store.{Upload, Store, upload_of, is_complete, text_of, text_with, patched}
+use Rattle.upload_rules.specs.Store.{Upload, Store, upload_of, accepted_count, is_complete, text_of, text_with}
+use Rattle.upload_rules.specs.Store.{patched}
 use Rattle.upload_rules.specs.States.{state_of, transcoder_with}
 use Rattle.spool_pages.specs.View.{SlotRecord}
 use Rattle.spool_catalog.specs.Holding.{Holding, IsUsedBy}
@@ -39,8 +40,8 @@ full_bytes len = len - len % PAGE
 pub record IsExtension (sure : Type 0) (x : IndexSet) (u : Upload) (declare : Option ℕ) (bytes added : List ℕ)
     (longer : Longer) (more : List ℕ) (current : ℕ → ℕ) (first : ℕ) : Type 0 where
   pub declared : longer.declared ≡ known_or u.declared declare
-  pub accepted : longer.accepted ≡ length (u.accepted ++ bytes)
-  pub few : length (u.accepted ++ bytes) ≤ longest (known_or u.declared declare)
+  pub accepted : longer.accepted ≡ accepted_count u + length bytes
+  pub few : accepted_count u + length bytes ≤ longest (known_or u.declared declare)
   pub small : is_too_large declare ≡ false
   pub state : longer.state ≡ state_of x (patched u declare bytes)
   pub valid : IsValid (transcoder_with x (patched u declare bytes) [] (is_complete (patched u declare bytes)))

@@ -190,46 +190,46 @@ if_ok_both (Err e) more p q = tt
 
 -- SLOTS AND ROWS
 
-pub stand_push : (bytes : ℕ → ℕ) (n : ℕ) (version : Known) (slots : List (Option SlotRecord)) (kept : Option SlotRecord)
-    (new : List (Option SlotRecord)) → StandSlots bytes n version slots → new ≡ slots ++ kept ∷ []
-    → Stands bytes (slot_place n (length slots)) 2048 (slot_bytes version kept) → FitsSlotOf kept
-    → StandSlots bytes n version new
-stand_push bytes n version slots kept new was is stands fits = record {
-  each = λ s lt. elim (cases_lt s (length slots)) [
-    | inl below ↦ subst (λ (o : Option SlotRecord). Stands bytes (slot_place n s) 2048 (slot_bytes version o))
-        (sym (before s below)) (was.each s below)
+-- one more at the end of a list
+module _ (slots : List (Option SlotRecord)) (kept : Option SlotRecord) (new : List (Option SlotRecord))
+    (is : new ≡ slots ++ kept ∷ []) where
+  one_more : length new ≡ length slots + 1
+  one_more = ap length is ∙ length-append slots (kept ∷ [])
+
+  before : (s : ℕ) → s < length slots → get_or new s None ≡ get_or slots s None
+  before s below =
+      ap (λ (xs : List (Option SlotRecord)). get_or xs s None) is ∙ get_or-append slots (kept ∷ []) None s below
+
+  at_end : get_or new (length slots) None ≡ kept
+  at_end =
+      let zero : length slots + 0 ≡ length slots = omega arith in
+      let there : get_or (slots ++ kept ∷ []) (length slots + 0) None ≡ kept =
+      get_or-append-add slots (kept ∷ []) 0 None in
+      ap (λ (xs : List (Option SlotRecord)). get_or xs (length slots) None) is ∙ subst
+      (λ (k : ℕ). get_or (slots ++ kept ∷ []) k None ≡ kept) zero there
+
+  -- each before and the new one
+  each_with : {P : ℕ → Option SlotRecord → Type 0} → ((s : ℕ) → s < length slots → P s (get_or slots s None))
+      → P (length slots) kept → (s : ℕ) → s < length new → P s (get_or new s None)
+  each_with {P} old put s lt = elim (cases_lt s (length slots)) [
+    | inl below ↦ subst (P s) (sym (before s below)) (old s below)
     | inr over ↦
         let here : length slots ≡ s = omega (arith, over, lt, one_more) in
-        let P : ℕ → Type 0 = λ k. Stands bytes (slot_place n k) 2048 (slot_bytes version (get_or new k None)) in
-        subst P here (subst (λ (o : Option SlotRecord).
-        Stands bytes (slot_place n (length slots)) 2048 (slot_bytes version o))
-        (sym at_end) stands)
-  ];
-  fit = λ s. elim (cases_lt s (length slots)) [
-    | inl below ↦ subst FitsSlotOf (sym (before s below)) (was.fit s)
-    | inr over ↦ elim (cases_lt s (length slots + 1)) [
-      | inl at ↦
-          let here : length slots ≡ s = omega (arith, over, at) in
-          subst (λ (k : ℕ). FitsSlotOf (get_or new k None)) here (subst FitsSlotOf (sym at_end) fits)
-      | inr past ↦ subst FitsSlotOf (sym (get_or-eq_default new None (omega (arith, past, one_more)))) tt
-    ]
-  ];
-}
-  where
-    one_more : length new ≡ length slots + 1
-    one_more = ap length is ∙ length-append slots (kept ∷ [])
+        subst (λ (k : ℕ). P k (get_or new k None)) here (subst (P (length slots)) (sym at_end) put)
+  ]
 
-    before : (s : ℕ) → s < length slots → get_or new s None ≡ get_or slots s None
-    before s below =
-        ap (λ (xs : List (Option SlotRecord)). get_or xs s None) is ∙ get_or-append slots (kept ∷ []) None s below
+  pub stand_push : (bytes : ℕ → ℕ) (n : ℕ) (version : Known) → StandSlots bytes n version slots
+      → Stands bytes (slot_place n (length slots)) 2048 (slot_bytes version kept) → StandSlots bytes n version new
+  stand_push bytes n version was stands = record {
+    each = each_with {P = λ s o. Stands bytes (slot_place n s) 2048 (slot_bytes version o)} was.each stands;
+  }
 
-    at_end : get_or new (length slots) None ≡ kept
-    at_end =
-        let zero : length slots + 0 ≡ length slots = omega arith in
-        let there : get_or (slots ++ kept ∷ []) (length slots + 0) None ≡ kept =
-        get_or-append-add slots (kept ∷ []) 0 None in
-        ap (λ (xs : List (Option SlotRecord)). get_or xs (length slots) None) is ∙ subst
-        (λ (k : ℕ). get_or (slots ++ kept ∷ []) k None ≡ kept) zero there
+  pub fit_push : ((s : ℕ) → FitsSlotOf (get_or slots s None)) → FitsSlotOf kept
+      → (s : ℕ) → FitsSlotOf (get_or new s None)
+  fit_push was fits s = elim (cases_lt s (length new)) [
+    | inl below ↦ each_with {P = λ s o. FitsSlotOf o} (λ s lt. was s) fits s below
+    | inr past ↦ subst FitsSlotOf (sym (get_or-eq_default new None past)) tt
+  ]
 
 module _ (old new : List (Option (ℕ × ℕ))) (at : ℕ) (row : Option (ℕ × ℕ)) (put : get_or new at None ≡ row)
     (others : (b : ℕ) → b ≢ at → get_or new b None ≡ get_or old b None) where

@@ -17,7 +17,9 @@ use Rattle.spool_pages.specs.declared.version.Version.{Version}
 use Rattle.spool_catalog.proofs.Valid.{said_area, said_slot, said_row, slots_fit, rows_fit}
 use Rattle.spool_catalog.specs.Records.{FitsKept}
 use Rattle.spool_catalog.specs.Holding.{AreDistinct}
-use Rattle.spool_catalog.specs.Shows.{IsValid, IsValidRecord, IsOwned}
+use Rattle.spool_catalog.specs.Shows.{IsValid, IsValidRecord, IsOwned, Shows}
+use Rattle.spool_catalog.proofs.Every.{each_shows}
+use Rattle.upload_rules.specs.Store.{Store}
 use Rattle.spool_catalog.specs.Checks.{RecordsPass, RowPasses, RowsPass}
 use Rattle.spool_catalog.specs.Holding.{Holding}
 use Rattle.spool_catalog.specs.Kept.{KeepsAlone}
@@ -86,7 +88,7 @@ module _ (bytes : ℕ → ℕ) (n : ℕ) (version : Version) (next : ℕ) (x : I
     texts = λ s. shown_at s (get_or slots s None);
   }
 
-  pub read_says : StandFields bytes n x → Stands bytes (state_place n) PAGE (state_page version next)
+  read_says : StandFields bytes n x → Stands bytes (state_place n) PAGE (state_page version next)
       → StandSlots bytes n version slots → length slots ≡ SLOTS
       → StandRows bytes n (ROWS * (journal_pages n - 257)) rows
       → Says bytes view_read
@@ -99,68 +101,64 @@ module _ (bytes : ℕ → ℕ) (n : ℕ) (version : Version) (next : ℕ) (x : I
     texts = λ s r e. ap (shown_at s) e;
   }
 
-  slot_fits : StandSlots bytes n version slots → (s : ℕ) (r : SlotRecord) → get_or slots s None ≡ Some r
-      → FitsSlotOf (Some r)
-  slot_fits stand s r e = subst FitsSlotOf e (stand.fit s)
+  module _ (x_valid : IsIndexSet x) (fits : (s : ℕ) → FitsSlotOf (get_or slots s None)) (least : LEAST_BLOCKS ≤ n)
+      (most : n ≤ MOST_BLOCKS) (long : length slots ≡ SLOTS) (wide : length rows ≡ n) (are : RecordsPass next slots)
+      (owned : RowsPass slots rows) (fit : (b : ℕ) → FitsRow (get_or rows b None)) (distinct : AreDistinct slots)
+      (lists : (s : ℕ) (r : SlotRecord) → get_or slots s None ≡ Some r → OwnsOneEach rows s (blocks_of r.text_len))
+    where
+      record_valid : (s : ℕ) (r : SlotRecord) → get_or slots s None ≡ Some r → IsValidRecord next r
+      record_valid s r e =
+          let fit = subst FitsSlotOf e (fits s) in
+          let is = are.records s r e in
+          record {
+            some = fit.0.some;
+            below = is.below;
+            accepted = is.accepted;
+            declared = is.declared;
+            text_fits = fit.0.text_len;
+            state_size = fit.0.state;
+            state = is.state;
+            metadata_size = fit.0.metadata;
+            printable = fit.1;
+          }
 
-  record_valid : StandSlots bytes n version slots → RecordsPass next slots → (s : ℕ) (r : SlotRecord)
-      → get_or slots s None ≡ Some r → IsValidRecord next r
-  record_valid stand are s r e =
-      let fits = slot_fits stand s r e in
-      let is = are.records s r e in
-      record {
-        some = fits.0.some;
-        below = is.below;
-        accepted = is.accepted;
-        declared = is.declared;
-        text_fits = fits.0.text_len;
-        state_size = fits.0.state;
-        state = is.state;
-        metadata_size = fits.0.metadata;
-        printable = fits.1;
+      read_valid : IsValid view_read
+      read_valid = record {
+        least = least;
+        most = most;
+        next_least = are.least;
+        next_most = are.most;
+        indexes = x_valid;
+        slot_count = long;
+        row_count = wide;
+        records = record_valid;
+        distinct = distinct;
+        owners = λ b slot ordinal owns.
+            let is : RowPasses slots slot ordinal = owned b slot ordinal owns in
+            let fits : FitsRow (Some (slot, ordinal)) = subst FitsRow owns (fit b) in
+            record { used = is.used; there = is.there; fits = fits.1 };
+        lists = lists;
       }
 
-  pub read_valid : LEAST_BLOCKS ≤ n → n ≤ MOST_BLOCKS → StandFields bytes n x
-      → StandSlots bytes n version slots → length slots ≡ SLOTS
-      → length rows ≡ n
-      → RecordsPass next slots → RowsPass slots rows → ((b : ℕ) → FitsRow (get_or rows b None)) → AreDistinct slots
-      → ((s : ℕ) (r : SlotRecord) → get_or slots s None ≡ Some r → OwnsOneEach rows s (blocks_of r.text_len))
-      → IsValid view_read
-  read_valid least most fields stand long wide are owned fit distinct lists = record {
-    least = least;
-    most = most;
-    next_least = are.least;
-    next_most = are.most;
-    indexes = fields.area.valid;
-    slot_count = long;
-    row_count = wide;
-    records = record_valid stand are;
-    distinct = distinct;
-    owners = λ b slot ordinal owns.
-        let is : RowPasses slots slot ordinal = owned b slot ordinal owns in
-        let fits : FitsRow (Some (slot, ordinal)) = subst FitsRow owns (fit b) in
-        record { used = is.used; there = is.there; fits = fits.1 };
-    lists = lists;
-  }
+      -- it is kept, and it shows uploads
+      module _ (reserved : List Bool) (h : Holding) (none : reserved ≡ replicate n false)
+          (kept : (v : View) → IsValid v → v.blocks ≡ n → version ≡ v.version → next ≡ v.next → x ≡ v.indexes
+          → slots ≡ v.slots → rows ≡ v.rows → reserved ≡ replicate v.blocks false → KeepsAlone h v) where
+        read_kept : KeepsAlone h view_read
+        read_kept = kept view_read read_valid refl refl refl refl refl refl none
 
-  -- and so it is kept
-  pub read_loaded : (reserved : List Bool) (h : Holding) → LEAST_BLOCKS ≤ n → n ≤ MOST_BLOCKS
-      → StandFields bytes n x → Stands bytes (state_place n) PAGE (state_page version next)
-      → StandSlots bytes n version slots → length slots ≡ SLOTS
-      → length rows ≡ n → StandRows bytes n (ROWS * (journal_pages n - 257)) rows → RecordsPass next slots
-      → RowsPass slots rows → ((b : ℕ) → FitsRow (get_or rows b None))
-      → reserved ≡ replicate n false → AreDistinct slots
-      → ((s : ℕ) (q : SlotRecord) → get_or slots s None ≡ Some q → OwnsOneEach rows s (blocks_of q.text_len))
-      → ((v : View) → IsValid v → v.blocks ≡ n → version ≡ v.version → next ≡ v.next → x ≡ v.indexes → slots ≡ v.slots
-      → rows ≡ v.rows
-      → reserved ≡ replicate v.blocks false → KeepsAlone h v)
-      → LoadedFrom bytes n h
-  read_loaded reserved h least most fields state stand long wide there are owned fit none distinct lists kept =
-      let valid = read_valid least most fields stand long wide are owned fit distinct lists in
-      record {
-        view = view_read;
-        valid = valid;
-        blocks = refl;
-        says = read_says fields state stand long there;
-        keeps = kept view_read valid refl refl refl refl refl refl none;
-      }
+        pub read_shows : (v : View) × (m : Store) × KeepsAlone h v × Shows v m
+        read_shows =
+            let shows = each_shows h view_read read_kept.0 read_valid bytes (text_page n) (λ s r e. ap (shown_at s) e) in
+            (view_read, shows.0, read_kept, shows.1)
+
+        pub read_loaded : StandFields bytes n x → Stands bytes (state_place n) PAGE (state_page version next)
+            → StandSlots bytes n version slots → StandRows bytes n (ROWS * (journal_pages n - 257)) rows
+            → LoadedFrom bytes n h
+        read_loaded fields state stand there = record {
+          view = view_read;
+          valid = read_valid;
+          blocks = refl;
+          says = read_says fields state stand long there;
+          keeps = read_kept;
+        }

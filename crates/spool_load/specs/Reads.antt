@@ -9,8 +9,6 @@ use Rattle.spool_journal.specs.Image.{all_pages}
 use Rattle.spool_journal.specs.Phases.{Still}
 use Rattle.enc_model.specs.Indexes.{IndexSet}
 use Rattle.enc_index.specs.Area.{area_byte}
-use Rattle.enc_index.specs.Sets.{IsIndexSet}
-use Rattle.spool_pages.specs.Fits.{FitsSlotOf}
 use Rattle.spool_pages.specs.View.{SlotRecord, Stands, first_page, slot_bytes, row_bytes}
 use Rattle.spool_pages.specs.View.{index_place, slot_place, row_place}
 use Rattle.spool_pages.specs.declared.version.Version.{Version}
@@ -63,7 +61,6 @@ pub record IsFreeFrom {A : Type 0} (start : ℕ) (list : List (Option A)) : Type
 
 -- The index area is that of the set.
 pub record StandsArea (bytes : ℕ → ℕ) (n : ℕ) (x : IndexSet) : Type 0 where
-  pub valid : IsIndexSet x
   pub each : (i : ℕ) → i < 90112 → bytes (index_place n + i) ≡ area_byte x i
 
 -- Page 0 is that of a spool, and the index area is that of the set.
@@ -75,7 +72,6 @@ pub record StandFields (bytes : ℕ → ℕ) (n : ℕ) (x : IndexSet) : Type 0 w
 pub record StandSlots (bytes : ℕ → ℕ) (n : ℕ) (version : Version) (slots : List (Option SlotRecord)) : Type 0 where
   pub each : (s : ℕ) → s < length slots → Stands bytes (slot_place n s) 2048
       (slot_bytes version (get_or slots s None))
-  pub fit : (s : ℕ) → FitsSlotOf (get_or slots s None)
 
 -- The blocks below `end` have these rows, with zeros after the last one.
 pub record StandRows (bytes : ℕ → ℕ) (n end : ℕ) (rows : List (Option (ℕ × ℕ))) : Type 0 where

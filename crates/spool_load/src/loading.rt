@@ -10,7 +10,9 @@ ghost use Rattle.spool_load.specs.Faults.{Loads};
 ghost use Rattle.spool_load.specs.Loaded.{IsFoundOf, LoadedFrom, StandsFound};
 ghost use Rattle.spool_load.specs.Reads.{OnlyReads, StandFields, StandRows};
 ghost use Rattle.spool_catalog.specs.Kept.{KeepsAlone};
-ghost use Rattle.spool_catalog.specs.Shows.{IsValid};
+ghost use Rattle.spool_catalog.specs.Shows.{IsValid, Shows};
+ghost use Rattle.enc_index.specs.Sets.{IsIndexSet};
+ghost use Rattle.upload_rules.specs.Store.{Store};
 ghost use Rattle.spool_pages.specs.Fits.{FitsRow};
 ghost use Rattle.spool_pages.specs.View.{View, Says};
 
@@ -35,6 +37,7 @@ fn load_fields<D: Disk>(alloc: Global, disk: &mut D, layout: &Layout) -> Result<
     ensures said { (bytes : ℕ → ℕ) → ReadsGave bytes (D.reads disk.old) (D.reads disk.new)
         → (v : View) → IsValid v → v.blocks ≡ layout.now → Says bytes v
         → Loads result (λ indexes. indexes ≡ v.indexes) }
+    ensures set { IfOk result IsIndexSet }
     ensures valid { (bytes : ℕ → ℕ) → ReadsGave bytes (D.reads disk.old) (D.reads disk.new)
         → IfOk result (StandFields bytes layout.now) }
 {
@@ -90,8 +93,8 @@ pub fn read<D: Disk>(alloc: Global, disk: &mut D, found: Found) -> Result<Kept, 
     ensures said { (bytes : ℕ → ℕ) → ReadsGave bytes (D.reads disk.old) (D.reads disk.new)
         → (v : View) → IsValid v → IsFoundOf v found → Says bytes v → Loads result (λ kept. KeepsAlone kept v) }
 
-    // On any disk what is then in memory is a view.
-    ensures view { IfOk result (λ kept. (v : View) × KeepsAlone kept v) }
+    // On any disk what is then in memory is a view, and shows uploads.
+    ensures view { IfOk result (λ kept. (v : View) × (m : Store) × KeepsAlone kept v × Shows v m) }
 
     // What is read is valid, and is what the bytes encode.
     ensures valid { (bytes : ℕ → ℕ) → ReadsGave bytes (D.reads disk.old) (D.reads disk.new)

@@ -8,12 +8,13 @@ ghost use Rattle.spool_journal.specs.Image.{journal_pages, all_pages, overlaid};
 ghost use Rattle.spool_journal.specs.Phases.{Settled, ReadsAs};
 ghost use Rattle.spool_catalog.specs.Kept.{KeepsAlone};
 ghost use Rattle.spool_catalog.specs.Loads.{LoadsAs};
-ghost use Rattle.spool_catalog.specs.Shows.{IsValid};
+ghost use Rattle.spool_catalog.specs.Shows.{IsValid, Shows};
 ghost use Rattle.spool_load.specs.Loaded.{LoadsBy, OpenedFrom};
 ghost use Rattle.spool_load.specs.ReadBy.{ReadsBy};
 ghost use Rattle.spool_load.specs.Recovered.{LeavesRead, OfView, ReadsSame, Recovered, Unwritten};
 ghost use Rattle.spool_load.specs.Refusals.{RefusedFor};
 ghost use Rattle.spool_pages.specs.View.{View, IsViewOf};
+ghost use Rattle.upload_rules.specs.Store.{Store};
 
 use crate::finding::find;
 use crate::loading::read;
@@ -39,8 +40,8 @@ pub fn load<D: Disk>(alloc: Global, disk: &mut D) -> Result<Kept, OpenFault>
     ensures said { D.honest disk.old → OfView (D.size disk.old) (D.current disk.old)
         (λ v. LoadsAs result (λ kept. KeepsAlone kept v)) }
 
-    // On any disk what is then in memory is a view.
-    ensures view { IfOk result (λ kept. (v : View) × KeepsAlone kept v) }
+    // On any disk what is then in memory is a view, and shows uploads.
+    ensures view { IfOk result (λ kept. (v : View) × (m : Store) × KeepsAlone kept v × Shows v m) }
 
     // What is in memory is what a read gives, and it is valid. Each error has its reason.
     ensures valid { D.honest disk.old → IfOk result (OpenedFrom (D.size disk.old) (D.current disk.old)) }

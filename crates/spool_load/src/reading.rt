@@ -104,6 +104,7 @@ pub(crate) fn load_indexes<D: Disk>(
         → (x : Indexes) → IsIndexSet x
         → ((i : ℕ) → i < 90112 → bytes (index_place layout.now + i) ≡ area_byte x i)
         → Loads result (λ set. set ≡ x) }
+    ensures set { IfOk result IsIndexSet }
     ensures valid { (bytes : ℕ → ℕ) → ReadsGave bytes (D.reads disk.old) (D.reads disk.new)
         → IfOk result (StandsArea bytes layout.now) }
 {

@@ -89,6 +89,8 @@ fn push_slot<D: Disk>(
     ensures valid { (bytes : ℕ → ℕ) → ReadsGave bytes (D.reads disk.old) (D.reads disk.new)
         → length slots.old.items ≡ slot → StandSlots bytes layout.now version slots.old.items
         → OnOk result (StandSlots bytes layout.now version slots.new.items) }
+    ensures fits { ((s : ℕ) → FitsSlotOf (get_or slots.old.items s None))
+        → OnOk result ((s : ℕ) → FitsSlotOf (get_or slots.new.items s None)) }
 {
     let kept = load_slot(alloc, disk, layout, version, slot)?;
     match slots.push(kept) {
@@ -115,6 +117,7 @@ pub(crate) fn load_slots<D: Disk>(
         → Loads result (λ slots. slots.items ≡ said) }
     ensures valid { (bytes : ℕ → ℕ) → ReadsGave bytes (D.reads disk.old) (D.reads disk.new)
         → IfOk result (λ slots. StandSlots bytes layout.now version slots.items) }
+    ensures fits { IfOk result (λ slots. (s : ℕ) → FitsSlotOf (get_or slots.items s None)) }
 {
     let mut slots = Vec::new(alloc);
     for slot in 0..SLOTS {

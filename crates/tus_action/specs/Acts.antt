@@ -8,7 +8,7 @@ use Rattle.tus_request.specs.Requests.{Verdict, Asks, Refuses}
 use Rattle.tus_request.specs.Replies.{reply_options, reply_created, reply_head, reply_patched, reply_deleted}
 use Rattle.tus_request.specs.Replies.{reply_text, reply_continue, reply_refused}
 use Rattle.upload_rules.specs.declared.errors.UploadRefusal.{UploadRefusal}
-use Rattle.upload_rules.specs.Store.{New, Upload, upload_of, text_of}
+use Rattle.upload_rules.specs.Store.{New, Upload, upload_of, text_of, accepted_count}
 use Rattle.upload_rules.specs.World.{Patch, World, free_number, reached}
 use Rattle.upload_rules.specs.Calls.{create_refusal, created, terminate_refusal, terminated, begin_refusal, begun}
 use Rattle.upload_rules.specs.Calls.{longer, appended, commit_refusal, spent}
@@ -63,7 +63,7 @@ delete w r number (Some f) = refused_at w (fault_of f) r r.closes
 -- The result of a HEAD.
 abbrev pub head : World → Request → Option Upload → Acted
 head w r None = refused_at w NoSuch r r.closes
-head w r (Some u) = replied w (reply_head (length u.accepted) u.declared u.metadata r.bare r.closes) r.closes
+head w r (Some u) = replied w (reply_head (accepted_count u) u.declared u.metadata r.bare r.closes) r.closes
 
 -- The text is pending unless no bytes are left.
 abbrev pub pending_of : ℕ → List ℕ → Bool → Option Giving

@@ -7,11 +7,12 @@ use Rattle.std.proofs.lemmas.Bool.{cases_eq}
 use Rattle.std.proofs.lemmas.Bool.Decides.{nat_tests}
 use Rattle.upload_rules.specs.Lengths.{known_or}
 use Rattle.upload_rules.specs.Store.{New, Upload, Store, find, upload_of, with_length, patched, new_upload}
-use Rattle.upload_rules.specs.Store.{created_store, deleted_store, patched_at, patched_store}
+use Rattle.upload_rules.specs.Store.{created_store, deleted_store, patched_at, patched_store, accepted_count}
 use Rattle.upload_rules.proofs.Finds.{find_replaced_same, find_replaced_other}
 use Rattle.upload_rules.proofs.Deleted.{none_in_others, find_in_others}
 use Rattle.tus_session.specs.History.{State, Event, Mark, Marked, Served, OutOfMemory, Failed, step, history}
 use Rattle.tus_laws.specs.Patches.{Changed, Nothing, Made, Declared, Put, DeclaredAndPut, Deleted, IsAbove}
+use Rattle.upload_rules.specs.Store.{HasAllBytes}
 use Rattle.tus_session.proofs.Growth.{patched_nothing, patched_twice}
 use Rattle.tus_session.proofs.Unmade.{memory_same, fault_same}
 use Rattle.tus_laws.proofs.Bodies.{none_if}
@@ -36,13 +37,19 @@ record WasThere (m : Store) (n : ℕ) (v : Upload) : Type 0 where
 record Keeps (m m' : Store) : Type 0 where
   next : m.next ≤ m'.next
   above : IsAbove m → IsAbove m'
+  known : HasAllBytes m → HasAllBytes m'
   uploads : (n : ℕ) (v : Upload) → n < m.next → upload_of m' n ≡ Some v → WasThere m n v
 
 same_there : (m : Store) (n : ℕ) (v : Upload) → upload_of m n ≡ Some v → WasThere m n v
 same_there m n v there = record { upload = v; there = there; declare = None; more = []; is = patched_nothing v }
 
 itself_keeps : (m : Store) → Keeps m m
-itself_keeps m = record { next = omega arith; above = λ h. h; uploads = λ n v lt there. same_there m n v there }
+itself_keeps m = record {
+  next = omega arith;
+  above = λ h. h;
+  known = λ h. h;
+  uploads = λ n v lt there. same_there m n v there;
+}
 
 keeps_both : (a b c : Store) → Keeps a b → Keeps b c → Keeps a c
 keeps_both a b c first second =
@@ -51,6 +58,7 @@ keeps_both a b c first second =
     record {
       next = omega arith;
       above = λ h. second.above (first.above h);
+      known = λ h. second.known (first.known h);
       uploads = λ n v lt found.
           let y = second.uploads n v (omega arith) found in
           let x = first.uploads n y.upload lt y.there in
@@ -65,7 +73,7 @@ keeps_both a b c first second =
     }
 
 found_made : (n m : ℕ) (u new : Upload) (uploads : List (ℕ × Upload)) → find n (uploads ++ (m, new) ∷ []) ≡ Some u
-    → (find n uploads ≡ Some u) ⊎ (m ≡ n)
+    → (find n uploads ≡ Some u) ⊎ ((m ≡ n) × (u ≡ new))
 found_made n m u new [] found = grind (arith, nat_tests)
 found_made n m u new (x ∷ xs) found = let ih = found_made n m u new xs in grind (arith, nat_tests, ih)
 
@@ -74,9 +82,13 @@ made_keeps m new = record {
   next = omega arith;
   above = λ above n u found.
       let made = found_made n m.next u (new_upload new) m.uploads found in grind (arith, above);
+  known = λ known n u found. elim (found_made n m.next u (new_upload new) m.uploads found) [
+    | inl old ↦ known n u old
+    | inr is ↦ ap (λ (v : Upload). v.origin) is.1
+  ];
   uploads = λ n v lt found. elim (found_made n m.next v (new_upload new) m.uploads found) [
     | inl old ↦ same_there m n v old
-    | inr is ↦ absurd (omega (arith, lt, is))
+    | inr is ↦ absurd (omega (arith, lt, is.0))
   ];
 }
 
@@ -94,6 +106,13 @@ put_keeps_at m number declare body None none = itself_keeps m
 put_keeps_at m number declare body (Some u) there = record {
   next = omega arith;
   above = λ above n v found. grind (arith, above, find_replaced_other);
+  known = λ known n v found. elim (cases_eq number n) [
+    | inl is ↦
+        let put = find_replaced_same number u (patched u declare body) m.uploads there in
+        let here = ap (upload_of (patched_at m number declare body (Some u))) is ∙ found in
+        ap (λ (w : Upload). w.origin) (same_Some v (patched u declare body) (sym here ∙ put)) ∙ known number u there
+    | inr ne ↦ known n v (sym (find_replaced_other number n (patched u declare body) m.uploads ne) ∙ found)
+  ];
   uploads = λ n v lt found. elim (cases_eq number n) [
     | inl is ↦
         let put = find_replaced_same number u (patched u declare body) m.uploads there in
@@ -117,6 +136,7 @@ deleted_keeps : (m : Store) (gone : ℕ) → Keeps m (deleted_store m gone)
 deleted_keeps m gone = record {
   next = omega arith;
   above = λ above n v found. above n v (found_deleted m gone n v found);
+  known = λ known n v found. known n v (found_deleted m gone n v found);
   uploads = λ n v lt found. same_there m n v (found_deleted m gone n v found);
 }
 
@@ -160,6 +180,13 @@ always_above start [] above = above
 always_above start (e ∷ past) above =
     (event_keeps (history start past) e.0 e.1).above (always_above start past above)
 
+-- the bytes of each upload stay all that came
+pub always_known : (start : State) (past : List Marked) → HasAllBytes start.world.store
+    → HasAllBytes (store_at start past)
+always_known start [] known = known
+always_known start (e ∷ past) known =
+    (event_keeps (history start past) e.0 e.1).known (always_known start past known)
+
 pub next_grows : (start : State) (past later : List Marked)
     → (store_at start past).next ≤ (store_at start (later ++ past)).next
 next_grows start past later = (later_keeps start past later).next
@@ -182,10 +209,12 @@ none_more xs (y ∷ ys) e =
 -- the same upload and the same count mean the same accepted bytes
 pub later_same : (start : State) (past later : List Marked) → IsAbove start.world.store → (n : ℕ) (u v : Upload)
     → upload_of (store_at start past) n ≡ Some u → upload_of (store_at start (later ++ past)) n ≡ Some v
-    → length u.accepted ≡ length v.accepted → (declare : Option ℕ) × (v ≡ with_length u declare)
+    → accepted_count u ≡ accepted_count v → (declare : Option ℕ) × (v ≡ with_length u declare)
 later_same start past later above n u v there there' count =
     let grown = later_grows start past later above n u v there there' in
-    let none : grown.1 ≡ [] = none_more u.accepted grown.1 (count ∙ ap (λ x. length x.accepted) grown.2) in (
+    let all : accepted_count u ≡ accepted_count (patched u grown.0 grown.1) =
+    count ∙ ap (λ x. accepted_count x) grown.2 in
+    let none : grown.1 ≡ [] = none_more u.accepted grown.1 (omega (arith, all)) in (
       grown.0,
       grown.2
           ∙ (ap (patched u grown.0) none

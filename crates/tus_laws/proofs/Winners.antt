@@ -4,7 +4,7 @@ use Rattle.std.proofs.Common.{Some, None, sym, ◌∙◌, ap, arith}
 use Rattle.std.proofs.lemmas.Option.{none-some}
 use Rattle.std.proofs.lemmas.List.{length-append}
 use Rattle.upload_rules.specs.declared.errors.UploadRefusal.TheVariants.{NoSuch, Offset}
-use Rattle.upload_rules.specs.Store.{Upload, Store, upload_of, patched, patched_store}
+use Rattle.upload_rules.specs.Store.{Upload, Store, upload_of, patched, patched_store, accepted_count, origin_count}
 use Rattle.upload_rules.specs.Calls.{is_empty}
 use Rattle.upload_rules.proofs.Refusals.{no_such_upload, other_offset}
 use Rattle.tus_session.specs.History.{State, Event, Marked, Served, history}
@@ -47,7 +47,7 @@ module _ (start : State) (past between : List Marked) (e f : Event) (x : DonePat
       ∙ put_there m x.patch.number x.patch.declare x.patch.body end.up end.there
 
   some_bytes : (bytes : List ℕ) → is_empty bytes ≡ false → (more : List ℕ)
-      → length ((end.up.accepted ++ bytes) ++ more) ≡ length end.up.accepted → ⊥
+      → origin_count end.up.origin + length ((end.up.accepted ++ bytes) ++ more) ≡ accepted_count end.up → ⊥
   some_bytes bytes some more count = grind (arith, length-append {A = ℕ})
 
   -- and at the second it has no fewer bytes, if it is there
@@ -57,8 +57,8 @@ module _ (start : State) (past between : List Marked) (e f : Event) (x : DonePat
       ap (λ s. upload_of s x.patch.number) (sym (done_uploads (history start (between ++ (e, Served) ∷ past)) f y))
       ∙ (ap (upload_of y.world.store) same.number ∙ there) in
       let grown = later_grows start ((e, Served) ∷ past) between above x.patch.number put u after there' in
-      let count_is : length u.accepted ≡ length (patched put grown.0 grown.1).accepted =
-      ap (λ v. length v.accepted) grown.2 in
+      let count_is : accepted_count u ≡ accepted_count (patched put grown.0 grown.1) =
+      ap (λ v. accepted_count v) grown.2 in
       other_offset y.world y.draft y.patch u there
       (λ count. some_bytes x.patch.body body grown.1 (sym count_is ∙ (count ∙ (sym same.offset ∙ sym end.count))))
 

@@ -9,6 +9,7 @@
 use Rattle.std.specs.Prelude.{◌≡◌, ◌<◌, ◌≤◌, ◌+◌, ◌++◌, ℕ, false, List, length, take, Option, Some, None}
 use Rattle.upload_rules.specs.declared.errors.UploadRefusal.{UploadRefusal}
 use Rattle.upload_rules.specs.Store.{New, Upload, Store, find, replaced, upload_of, created_store, deleted_store}
+use Rattle.upload_rules.specs.Store.{accepted_count}
 use Rattle.upload_rules.specs.World.{Patch, World}
 use Rattle.upload_rules.specs.Calls.{is_empty, commit_refusal}
 use Rattle.tus_request.specs.Requests.{Request, Asks}
@@ -74,7 +75,7 @@ HasBody x = is_empty x.patch.body ≡ false
 -- Both began at one offset of one upload.
 pub record SamePlace {st st' : State} {e e' : Event} (x : DonePatch st e) (y : DonePatch st' e') : Type 0 where
   pub number : x.patch.number ≡ y.patch.number
-  pub offset : length x.patch.began.accepted ≡ length y.patch.began.accepted
+  pub offset : accepted_count x.patch.began ≡ accepted_count y.patch.began
 
 -- `declare`: an upload gets its length.
 abbrev pub declared_at : Store → ℕ → ℕ → Option Upload → Store
@@ -104,7 +105,7 @@ pub record Declares {st : State} {e : Event} (x : DonePatch st e) (total : ℕ) 
   pub there : upload_of st.world.store x.patch.number ≡ Some upload
   pub unknown : upload.declared ≡ None
   pub declared : x.patch.declare ≡ Some total
-  pub enough : length upload.accepted + length x.patch.body ≤ total
+  pub enough : accepted_count upload + length x.patch.body ≤ total
 
 -- The effect of a served event on the uploads: none; a new upload; an accepted PATCH gives its upload a length, bytes,
 -- or both together; or one existing upload is deleted.

@@ -3,7 +3,9 @@
 ghost use Rattle.std.specs.Prelude.{◌≡◌, ◌≤◌, ◌++◌, ◌∷◌, ℕ, List, Option, Some, None, length, slice_get};
 ghost use Rattle.upload_rules.specs.declared.errors.UploadRefusal.{UploadRefusal};
 ghost use Rattle.upload_rules.specs.declared.errors.UploadRefusal.TheVariants.{NoSuch, Offset};
-ghost use Rattle.upload_rules.specs.Store.{Upload, Store, find, upload_of, with_length, patched};
+ghost use Rattle.upload_rules.specs.Store.{Upload, Store, find, upload_of, with_length, patched, accepted_count};
+ghost use Rattle.upload_rules.specs.Store.{HasAllBytes, no_uploads};
+ghost use Rattle.enc_model.specs.Indexes.{IndexSet};
 ghost use Rattle.upload_rules.specs.World.{World};
 ghost use Rattle.upload_rules.specs.Calls.{first_patch};
 ghost use Rattle.tus_request.specs.Requests.{Request, Patch, Asks};
@@ -23,7 +25,7 @@ pub fn one_winner()
     ensures begins { (w : World) (r : Request) (number offset d : ℕ) (declare : Option ℕ)
         → r.action ≡ Patch number offset declare
         → (acted w (Asks r)).draft ≡ Some d
-        → (u : Upload) × (upload_of w.store number ≡ Some u) × (length u.accepted ≡ offset)
+        → (u : Upload) × (upload_of w.store number ≡ Some u) × (accepted_count u ≡ offset)
         × (find d (acted w (Asks r)).world.patches ≡ Some (first_patch number r.length declare u)) }
     ensures one { (start : State) (past between : List Marked) (e f : Event) (x : DonePatch (history start past) e)
         (y : DonePatch (history start (between ++ (e, Served) ∷ past)) f) → IsAbove start.world.store → SamePlace x y
@@ -56,12 +58,19 @@ pub fn same_offset()
         → (declare : Option ℕ) × (more : List ℕ) × (v ≡ patched u declare more) }
     ensures same { (start : State) (past later : List Marked) → IsAbove start.world.store → (n : ℕ) (u v : Upload)
         → upload_of (history start past).world.store n ≡ Some u
-        → upload_of (history start (later ++ past)).world.store n ≡ Some v → length u.accepted ≡ length v.accepted
+        → upload_of (history start (later ++ past)).world.store n ≡ Some v → accepted_count u ≡ accepted_count v
         → (declare : Option ℕ) × (v ≡ with_length u declare) }
     ensures gone { (start : State) (past between later : List Marked) → IsAbove start.world.store → (n : ℕ) (u : Upload)
         → upload_of (history start past).world.store n ≡ Some u
         → upload_of (history start (between ++ past)).world.store n ≡ None
         → upload_of (history start (later ++ (between ++ past))).world.store n ≡ None }
+{}
+
+/// A history over uploads that have all their bytes, such as none at all, leaves each with all bytes that it accepted.
+pub fn all_bytes()
+    ensures none { (x : IndexSet) → HasAllBytes (no_uploads x) }
+    ensures kept { (start : State) (past : List Marked) → HasAllBytes start.world.store
+        → HasAllBytes (history start past).world.store }
 {}
 
 /// A number is never used again: the next number is above those of all uploads and never decreases.

@@ -3,7 +3,7 @@ use Rattle.std.proofs.Common.{◌≡◌, ℕ, ◌+◌, ◌==◌, Bool, true, fal
 use Rattle.std.proofs.Common.{Err, refl, sym, ◌∙◌, ap, arith, append-nil, if◌then◌else◌}
 use Rattle.std.proofs.lemmas.Bool.Decides.{nat_tests}
 use Rattle.std.proofs.lemmas.List.{length-append}
-use Rattle.upload_rules.specs.Store.{find, without, replaced}
+use Rattle.upload_rules.specs.Store.{find, without, replaced, accepted_count}
 use Rattle.upload_rules.specs.World.{Patch, World, reached}
 use Rattle.upload_rules.specs.Calls.{longer, appended_at, dropped, commit_refusal, commit_outcome, committed_store}
 use Rattle.upload_rules.specs.Calls.{spent, outcome}
@@ -76,7 +76,7 @@ spent_store w d p (Some f) = refl
 
 -- the offset after the whole body
 pub reached_fed : (w : World) (d : ℕ) (p : Patch) (piece : List ℕ) (n : ℕ) → length p.body + length piece ≡ p.count
-    → n ≡ length p.began.accepted + p.count
+    → n ≡ accepted_count p.began + p.count
     → n ≡ reached (fed_patch w d p piece)
 reached_fed w d p piece n all e =
     rw (fed_began w d p piece, fed_body w d p piece) (simp length-append (omega arith))

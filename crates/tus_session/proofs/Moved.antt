@@ -9,7 +9,7 @@ use Rattle.std.proofs.lemmas.Option.{same_Some}
 use Rattle.upload_rules.specs.Lengths.{is_length, known_or, is_new, differ, longest}
 use Rattle.upload_rules.specs.Store.{New, Upload, Store, upload_of, text_of, text_with, patched, find}
 use Rattle.upload_rules.specs.Store.{without, is_complete, new_upload, created_store, deleted_store, patched_at}
-use Rattle.upload_rules.specs.Store.{patched_store}
+use Rattle.upload_rules.specs.Store.{patched_store, accepted_count}
 use Rattle.upload_rules.specs.World.{Patch, World, is_there, least_from, free_number, reached, length_then, completes}
 use Rattle.upload_rules.specs.World.{patch_text}
 use Rattle.upload_rules.specs.Room.{is_short}
@@ -318,23 +318,23 @@ has_value w d p moves none =
 pub record Fitting (p : Patch) (o : Option Upload) : Type 0 where
   pub up : Upload
   pub there : o ≡ Some up
-  pub count : length up.accepted ≡ length p.began.accepted
+  pub count : accepted_count up ≡ accepted_count p.began
   pub room : reached p ≤ longest (known_or up.declared p.declare)
 
-fitting_case : (p : Patch) (u : Upload) (b : Bool) → (length u.accepted == length p.began.accepted) ≡ b
+fitting_case : (p : Patch) (u : Upload) (b : Bool) → (accepted_count u == accepted_count p.began) ≡ b
     → (if b then length_refusal u.declared p.declare (reached p) else Some Offset) ≡ None
     → Fitting p (Some u)
 fitting_case p u true same e = record {
   up = u;
   there = refl;
-  count = eqb-true (length u.accepted) (length p.began.accepted) same;
+  count = eqb-true (accepted_count u) (accepted_count p.began) same;
   room = has_room u.declared p.declare (reached p) e;
 }
 fitting_case p u false same e = absurd (cc)
 
 fitting : (p : Patch) (o : Option Upload) → upload_refusal p o ≡ None → Fitting p o
 fitting p None e = absurd (cc)
-fitting p (Some u) e = fitting_case p u (length u.accepted == length p.began.accepted) refl e
+fitting p (Some u) e = fitting_case p u (accepted_count u == accepted_count p.began) refl e
 
 -- the upload of a patch that isn't refused
 pub accepted_at : (w : World) (d : ℕ) (p : Patch) → commit_refusal w d p ≡ None
@@ -358,7 +358,7 @@ module _ (w : World) (d : ℕ) (p : Patch) (grown : GrewFrom p (upload_of w.stor
   -- where the patch brings something, the upload isn't complete
   unfinished_case : (known : Option ℕ) → u.declared ≡ known → (b : Bool) → is_new known p.declare ≡ b
       → (if b then false else is_empty p.body) ≡ false
-      → is_length known (length u.accepted) ≡ false
+      → is_length known (accepted_count u) ≡ false
   unfinished_case None e b new busy = refl
   unfinished_case (Some n) e true new busy = absurd (known_before p.declare new)
     where
@@ -367,7 +367,7 @@ module _ (w : World) (d : ℕ) (p : Patch) (grown : GrewFrom p (upload_of w.stor
       known_before (Some k) new = cc
   unfinished_case (Some n) e false new busy =
       let room : reached p ≤ n = rw e at fit.room in
-      ne_eqb (length u.accepted) n (omega (arith, room, fit.count, not_empty p.body busy))
+      ne_eqb (accepted_count u) n (omega (arith, room, fit.count, not_empty p.body busy))
 
   unfinished : is_idle m p ≡ false → is_complete u ≡ false
   unfinished busy =
@@ -378,9 +378,9 @@ module _ (w : World) (d : ℕ) (p : Patch) (grown : GrewFrom p (upload_of w.stor
       → (text_with m.indexes u p.body done).fault ≡ None
   value_here done value =
       let grew : GrewFrom p (Some u) = rw fit.there at grown in
-      let l : length (p.began.accepted ++ grew.1) ≡ length p.began.accepted =
-      sym (ap (λ x. length x.accepted) grew.2) ∙ fit.count in
-      let none = nil_from_length grew.1 (omega (arith, simp length-append at l)) in
+      let l : accepted_count (patched p.began grew.0 grew.1) ≡ accepted_count p.began =
+      sym (ap (λ x. accepted_count x) grew.2) ∙ fit.count in
+      let none = nil_from_length grew.1 (omega (arith, l, length-append p.began.accepted grew.1)) in
       rw (grew.2, none, append-nil p.began.accepted) value
 
   completes_is : is_complete (patched u p.declare p.body) ≡ completes m p

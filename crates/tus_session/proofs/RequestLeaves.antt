@@ -3,7 +3,7 @@ use Rattle.std.proofs.Common.{ℕ, ◌+◌, ◌≤◌, ◌≡◌, ◌==◌, Bool
 use Rattle.std.proofs.Common.{drop, refl, ap, if◌then◌else◌}
 use Rattle.std.proofs.lemmas.Bool.{eqb-true}
 use Rattle.tus_request.specs.Requests.{Request, Action, Options, Create, Head, Get, Delete, Asks, Patch as Patches}
-use Rattle.upload_rules.specs.Store.{New, Upload, upload_of, find, text_of}
+use Rattle.upload_rules.specs.Store.{New, Upload, upload_of, find, text_of, accepted_count}
 use Rattle.upload_rules.specs.World.{World, free_number}
 use Rattle.upload_rules.specs.Calls.{create_refusal, terminate_refusal, begin_refusal, begin_refusal_at, begun_at}
 use Rattle.upload_rules.specs.Calls.{first_patch, or_else, refuse_if, length_refusal}
@@ -27,7 +27,7 @@ pub record Opened (w : World) (r : Request) (a : Acted) : Type 0 where
   pub there : upload_of w.store number ≡ Some up
   pub world_is : a.world ≡ record w { patches = (d, first_patch number r.length declare up) ∷ w.patches }
   pub free : find d w.patches ≡ None
-  pub length_is : length up.accepted ≡ offset
+  pub length_is : accepted_count up ≡ offset
   pub fits : offset + r.length ≤ longest (known_or up.declared declare)
   pub no_text : a.text ≡ []
   pub idle : a.pending ≡ None
@@ -42,10 +42,10 @@ pub data Leaves (w : World) (r : Request) (a : Acted) : Type 0 where
 pub record Begins (offset count : ℕ) (declare : Option ℕ) (o : Option Upload) : Type 0 where
   pub up : Upload
   pub there : o ≡ Some up
-  pub length_is : length up.accepted ≡ offset
+  pub length_is : accepted_count up ≡ offset
   pub fits : offset + count ≤ longest (known_or up.declared declare)
 
-begins_case : (offset count : ℕ) (declare : Option ℕ) (u : Upload) (b : Bool) → (length u.accepted == offset) ≡ b
+begins_case : (offset count : ℕ) (declare : Option ℕ) (u : Upload) (b : Bool) → (accepted_count u == offset) ≡ b
     → (if b
     then or_else (refuse_if (is_too_large declare) TooLarge) (length_refusal u.declared declare (offset + count))
     else Some Offset) ≡ None
@@ -54,7 +54,7 @@ begins_case offset count declare u true same e =
     record {
       up = u;
       there = refl;
-      length_is = eqb-true (length u.accepted) offset same;
+      length_is = eqb-true (accepted_count u) offset same;
       fits = has_room u.declared declare (offset + count) (or_else_second (refuse_if (is_too_large declare) TooLarge)
           (length_refusal u.declared declare (offset + count)) e);
     }
@@ -63,7 +63,7 @@ begins_case offset count declare u false same e = absurd (cc)
 begins : (offset count : ℕ) (declare : Option ℕ) (o : Option Upload) → begin_refusal_at offset count declare o ≡ None
     → Begins offset count declare o
 begins offset count declare None e = absurd (cc)
-begins offset count declare (Some u) e = begins_case offset count declare u (length u.accepted == offset) refl e
+begins offset count declare (Some u) e = begins_case offset count declare u (accepted_count u == offset) refl e
 
 module _ (w : World) (r : Request) where
   posted : (new : New) (o : Option UploadRefusal) → Leaves w r (post w r new o)

@@ -3,7 +3,7 @@ use Rattle.std.specs.Prelude.{◌≡◌, ◌+◌, ◌≤◌, ◌<◌, ◌-◌, �
 use Rattle.tus_request.specs.Requests.{Request, Asks, body_length}
 use Rattle.tus_request.specs.Buffers.{bytes_of}
 use Rattle.upload_rules.specs.Lengths.{known_or, longest}
-use Rattle.upload_rules.specs.Store.{upload_of, find}
+use Rattle.upload_rules.specs.Store.{upload_of, find, accepted_count}
 use Rattle.upload_rules.specs.Grown.{GrewFrom}
 use Rattle.upload_rules.specs.World.{Patch, World}
 use Rattle.upload_rules.specs.Apart.{IsApart}
@@ -30,8 +30,8 @@ pub record PatchesAs {U B : Type 0} (u : Ghosts U B) (w : World) (b : OpenPatch 
   pub asks : asked.verdict ≡ Asks r
   pub count : p.count ≡ r.length
   pub body : p.body ≡ asked.body
-  pub reached : b.reached ≡ length p.began.accepted + p.count
-  pub fits : length p.began.accepted + p.count ≤ longest (known_or p.began.declared p.declare)
+  pub reached : b.reached ≡ accepted_count p.began + p.count
+  pub fits : accepted_count p.began + p.count ≤ longest (known_or p.began.declared p.declare)
   pub below : p.number < w.store.next
   pub grown : GrewFrom p (upload_of w.store p.number)
   pub bare : b.bare ≡ r.bare

@@ -1,7 +1,7 @@
 //! Request bodies: a PATCH's goes on or ends; any other is dropped.
 ghost use Rattle.std.specs.Prelude.{◌≡◌, ◌+◌, ◌-◌, ◌<◌, ◌≤◌, ◌^◌, false, length, Bool, true};
 ghost use Rattle.std.specs.Prelude.{take, min, Some, IsErrOf};
-ghost use Rattle.upload_rules.specs.Store.{find};
+ghost use Rattle.upload_rules.specs.Store.{find, accepted_count};
 ghost use Rattle.upload_rules.specs.World.{World, Patch};
 ghost use Rattle.upload_rules.specs.Calls.{dropped};
 ghost use Rattle.upload_rules.specs.Answers.{Counts, Limits};
@@ -88,7 +88,7 @@ fn last_of<U: Uploads>(
     requires { before + length bytes.now < 2 ^ 64 }
     ensures answer { (sure : Bool) (w : World) (p : Patch) (r : Request) → U.stands store.old sure w
         → find (U.number_of patch.draft) w.patches ≡ Some p → U.holds patch.draft p
-        → length p.body + length bytes.now ≡ p.count → patch.reached ≡ length p.began.accepted + p.count
+        → length p.body + length bytes.now ≡ p.count → patch.reached ≡ accepted_count p.began + p.count
         → patch.bare ≡ r.bare → patch.closes ≡ r.closes
         → Replies U.Uploads sure store.new result out.old.items out.new.items head (before + length bytes.now)
         (ended_by w (U.number_of patch.draft) p bytes.now r) (dropped w (U.number_of patch.draft)) }
@@ -143,7 +143,7 @@ pub(crate) fn body_of<U: Uploads>(
     ensures rest { left ≤ length bytes.now → (sure : Bool) (w : World) (p : Patch) (r : Request)
         → U.stands store.old sure w
         → find (U.number_of patch.draft) w.patches ≡ Some p → U.holds patch.draft p
-        → length p.body + left ≡ p.count → patch.reached ≡ length p.began.accepted + p.count → patch.bare ≡ r.bare
+        → length p.body + left ≡ p.count → patch.reached ≡ accepted_count p.began + p.count → patch.bare ≡ r.bare
         → patch.closes ≡ r.closes
         → Replies U.Uploads sure store.new result out.old.items out.new.items head (before + left)
         (ended_by w (U.number_of patch.draft) p (take left bytes.now) r) (dropped w (U.number_of patch.draft)) }

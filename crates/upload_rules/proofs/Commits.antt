@@ -2,7 +2,6 @@
 use Rattle.std.proofs.Common.{◌≡◌, ℕ, ◌+◌, ◌<◌, ◌≤◌, ◌^◌, Bool, true, false, List, [], ◌++◌, length, Option, Result, Ok}
 use Rattle.std.proofs.Common.{Err, OnErr, refl, sym, ◌∙◌, ap, arith, append-nil, length-append}
 use Rattle.enc_model.specs.Indexes.{IndexSet}
-use Rattle.enc_model.specs.Decode.{text}
 use Rattle.enc_stream.specs.StateBytes.{state_bytes}
 use Rattle.upload_rules.specs.declared.errors.UploadError.{UploadError}
 use Rattle.upload_rules.specs.declared.errors.UploadError.TheVariants.{Stop, Refused}
@@ -13,7 +12,7 @@ use Rattle.upload_rules.specs.declared.appends.OpenAppend.{OpenAppend}
 use Rattle.upload_rules.specs.declared.new_text.NewText.{NewText}
 use Rattle.upload_rules.specs.declared.new_text.NewText.TheVariants.{Growing, Unencodable, Complete}
 use Rattle.upload_rules.specs.Lengths.{is_length, known_or}
-use Rattle.upload_rules.specs.Store.{Upload, text_of, text_with, with_length, patched, is_complete}
+use Rattle.upload_rules.specs.Store.{Upload, text_of, text_with, with_length, patched, is_complete, accepted_count}
 use Rattle.upload_rules.specs.World.{Patch, is_there, reached, patch_text}
 use Rattle.upload_rules.specs.States.{transcoder_with, state_with, state_of}
 use Rattle.upload_rules.specs.Texts.{HoldsText, IsWhole, IsEnded}
@@ -31,8 +30,11 @@ text_of_is x u = refl
 -- the upload with what a patch brings is complete where that completes it
 pub complete_patched : (u : Upload) (declare : Option ℕ) (bytes : List ℕ) →
     is_complete (patched u declare bytes) ≡ is_length (known_or u.declared declare)
-    (length u.accepted + length bytes)
-complete_patched u declare bytes = ap (is_length (known_or u.declared declare)) (length-append u.accepted bytes)
+    (accepted_count u + length bytes)
+complete_patched u declare bytes =
+    let long : accepted_count (patched u declare bytes) ≡ accepted_count u + length bytes =
+    omega (arith, length-append u.accepted bytes) in
+    ap (is_length (known_or u.declared declare)) long
 
 -- its text, where transcoding stands after it, and the state
 pub whole_patched : (x : IndexSet) (u : Upload) (declare : Option ℕ) (bytes : List ℕ)
@@ -62,8 +64,8 @@ holds_with_length x u declare bytes (Growing t text) holds = assumption
 holds_with_length x u declare bytes Unencodable holds = holds
 holds_with_length x u declare bytes Complete holds = still u.declared holds
   where
-    still : (known : Option ℕ) → is_length known (length u.accepted) ≡ true
-        → is_length (known_or known declare) (length u.accepted) ≡ true
+    still : (known : Option ℕ) → is_length known (accepted_count u) ≡ true
+        → is_length (known_or known declare) (accepted_count u) ≡ true
     still known is = grind arith
 
 module _ (x : IndexSet) (next : ℕ) (p : Patch) (o : OpenAppend) (stands : AppendStands x next p o) where

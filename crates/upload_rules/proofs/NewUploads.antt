@@ -4,7 +4,8 @@ use Rattle.enc_model.specs.declared.Encoding.{Encoding}
 use Rattle.enc_model.specs.declared.Encoding.TheVariants as encodings
 use Rattle.enc_model.specs.declared.Mode.{Mode}
 use Rattle.enc_model.specs.Indexes.{IndexSet, tables}
-use Rattle.enc_model.specs.Encode.{Tables, InAscii, Encoder, coded, coded_within}
+use Rattle.enc_model.specs.Encode.{Tables, InAscii, Encoder, coded, coded_within, encode, encoder}
+use Rattle.enc_model.specs.Encode.{ended_coded}
 use Rattle.enc_model.specs.Index.{Index}
 use Rattle.enc_model.specs.Stream.{steps, steps_within}
 use Rattle.enc_model.specs.Utf8.{utf8}
@@ -16,7 +17,6 @@ use Rattle.enc_stream.specs.Standing.{Standing, start, finished}
 use Rattle.upload_rules.specs.Lengths.{is_length}
 use Rattle.upload_rules.specs.States.{transcoder_with}
 use Rattle.upload_rules.specs.Store.{New, new_upload, text_of, text_with, is_complete}
-use Rattle.upload_rules.proofs.TextGrows.{text_open, text_done}
 
 single_ended : (index : Index) → (steps (single index) true SingleState []).text ≡ []
 unfolding steps steps_within single
@@ -45,6 +45,16 @@ nothing_coded : (f : Encoder) (mode : Mode) → coded f mode InAscii [] ≡ reco
 }
 unfolding coded coded_within
 nothing_coded f mode = refl
+
+text_open : (t : Tables) (from to : Encoding) (mode : Mode) → text t from to mode [] false ≡ coded (encoder t to) mode
+    InAscii (decode t from [] false)
+unfolding text encode
+text_open t from to mode = refl
+
+text_done : (t : Tables) (from to : Encoding) (mode : Mode) → text t from to mode [] true ≡ ended_coded
+    (coded (encoder t to) mode InAscii (decode t from [] true))
+unfolding text encode
+text_done t from to mode = refl
 
 -- the text of no bytes, complete or not
 text_of_nothing : (t : Tables) (from to : Encoding) (mode : Mode) (done : Bool) → text t from to mode [] done ≡ record {

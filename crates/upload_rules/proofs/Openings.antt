@@ -8,7 +8,7 @@ use Rattle.upload_rules.specs.declared.slot.Slot.{Slot}
 use Rattle.upload_rules.specs.declared.table.Table.{Table}
 use Rattle.upload_rules.specs.declared.errors.UploadRefusal.{UploadRefusal}
 use Rattle.upload_rules.specs.Lengths.{known_or, longest}
-use Rattle.upload_rules.specs.Store.{Upload, upload_of, text_with, is_complete}
+use Rattle.upload_rules.specs.Store.{Upload, upload_of, text_with, is_complete, accepted_count}
 use Rattle.upload_rules.specs.States.{transcoder_with}
 use Rattle.upload_rules.specs.Records.{Tells}
 use Rattle.upload_rules.specs.World.{World}
@@ -45,7 +45,7 @@ module _ (t : Table) (w : World) (stands : TableStands t w) where
       }))
   opens n offset count declare None s text there held at within fits rules holds = absurd held
   opens n offset count declare (Some u) s text there held at within fits rules holds =
-      let here : length u.accepted ≡ offset = sym held.tells.accepted ∙ at in
+      let here : accepted_count u ≡ offset = sym held.tells.accepted ∙ at in
       let longest_is = ap (λ d. longest (known_or d declare)) held.tells.declared in (
         rules w.store.indexes n u held.tells,
         record {

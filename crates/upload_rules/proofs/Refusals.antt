@@ -16,7 +16,7 @@ use Rattle.upload_rules.specs.declared.slot.Slot.{Slot}
 use Rattle.upload_rules.specs.declared.table.Table.{Table}
 use Rattle.upload_rules.specs.Lengths.{is_length, known_or, is_new, longest}
 use Rattle.upload_rules.specs.Store.{Upload, Store, find, upload_of, with_length, patched, replaced, without}
-use Rattle.upload_rules.specs.Store.{patched_at, text_with, is_complete}
+use Rattle.upload_rules.specs.Store.{patched_at, text_with, is_complete, accepted_count}
 use Rattle.upload_rules.specs.World.{Patch, World, is_there, reached, length_then, completes, patch_text}
 use Rattle.upload_rules.specs.Room.{is_short}
 use Rattle.upload_rules.specs.Calls.{committed_store, length_refusal, commit_refusal, text_refusal, declares_at, longer}
@@ -59,17 +59,17 @@ unfolding commit_refusal
 no_such_upload w d p none = rw none refl
 
 pub other_offset : (w : World) (d : ℕ) (p : Patch) (u : Upload) → upload_of w.store p.number ≡ Some u
-    → (length u.accepted ≡ length p.began.accepted → ⊥)
+    → (accepted_count u ≡ accepted_count p.began → ⊥)
     → commit_refusal w d p ≡ Some refusals.Offset
 unfolding commit_refusal
-other_offset w d p u there other = rw (there, ne_eqb (length u.accepted) (length p.began.accepted) other) refl
+other_offset w d p u there other = rw (there, ne_eqb (accepted_count u) (accepted_count p.began) other) refl
 
 -- where the offset is the upload's, its length decides, and then the text
 same_offset : (w : World) (d : ℕ) (p : Patch) (u : Upload) → upload_of w.store p.number ≡ Some u
-    → length u.accepted ≡ length p.began.accepted
+    → accepted_count u ≡ accepted_count p.began
     → commit_refusal w d p ≡ or_else (length_refusal u.declared p.declare (reached p)) (text_refusal w d p)
 unfolding commit_refusal
-same_offset w d p u there same = rw (there, eq-eqb (length u.accepted) (length p.began.accepted) same) refl
+same_offset w d p u there same = rw (there, eq-eqb (accepted_count u) (accepted_count p.began) same) refl
 
 -- WHAT A PATCH BRINGS
 
@@ -105,7 +105,7 @@ module _ (m : Store) (p : Patch) (u : Upload) (there : upload_of m p.number ≡ 
 
     -- the accepted bytes aren't all: the length allows more
     pub open_still : reached p ≤ longest (known_or u.declared p.declare)
-        → length u.accepted ≡ length p.began.accepted → is_complete u ≡ false
+        → accepted_count u ≡ accepted_count p.began → is_complete u ≡ false
     open_still within same = grind (arith, nat_tests)
 
 no_code : (w : World) (d : ℕ) (p : Patch) → text_stays w.store p ≡ false → is_there
@@ -201,7 +201,7 @@ module _ (t : Table) (w : World) (stands : TableStands t w) (d : ℕ) (p : Patch
           there_is : upload_of w.store p.number ≡ Some u
           there_is = upload.1
 
-          as_long : length u.accepted ≡ length p.began.accepted
+          as_long : accepted_count u ≡ accepted_count p.began
           as_long = sym upload.2.tells.accepted ∙ same ∙ (append_is o is).offset
 
           -- so it is the upload of the head moment, but for a length

@@ -6,7 +6,7 @@ use Rattle.upload_rules.specs.declared.errors.UploadError.TheVariants.{Stop, Ref
 use Rattle.common.specs.declared.stop.Stop.TheVariants.{NoMemory}
 use Rattle.upload_rules.specs.declared.errors.UploadRefusal.TheVariants as refusals
 use Rattle.upload_rules.specs.Lengths.{known_or, longest}
-use Rattle.upload_rules.specs.Store.{Upload, patched}
+use Rattle.upload_rules.specs.Store.{Upload, patched, accepted_count}
 use Rattle.upload_rules.specs.World.{Patch, is_there, reached, patch_text}
 use Rattle.upload_rules.specs.Slots.{SlotStands}
 use Rattle.upload_rules.specs.Texts.{HoldsText}
@@ -16,11 +16,11 @@ use Rattle.upload_rules.specs.declared.appends.OpenAppend.{OpenAppend}
 -- The append stands for the patch, whose upload is below the next number.
 pub record AppendStands (x : IndexSet) (next : ℕ) (p : Patch) (o : OpenAppend) : Type 0 where
   pub number : o.number ≡ p.number
-  pub offset : o.offset ≡ length p.began.accepted
+  pub offset : o.offset ≡ accepted_count p.began
   pub came : o.came ≡ length p.body
   pub held : length p.body ≤ p.count
   pub declare : o.declare ≡ p.declare
-  pub within : length p.began.accepted + p.count ≤ longest (known_or p.began.declared p.declare)
+  pub within : accepted_count p.began + p.count ≤ longest (known_or p.began.declared p.declare)
   pub fits : longest (known_or p.began.declared p.declare) < 2 ^ 64
   pub below : p.number < next
   pub roomy : p.short ≡ false

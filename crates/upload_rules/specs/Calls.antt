@@ -7,7 +7,7 @@ use Rattle.upload_rules.specs.declared.errors.UploadRefusal.TheVariants.{TooLarg
 use Rattle.upload_rules.specs.declared.errors.UploadRefusal.TheVariants.{LengthSet}
 use Rattle.upload_rules.specs.declared.errors.UploadRefusal.TheVariants.{Unencodable, Full}
 use Rattle.upload_rules.specs.Store.{New, Upload, Store, find, replaced, without, upload_of, created_store}
-use Rattle.upload_rules.specs.Store.{deleted_store, patched_store}
+use Rattle.upload_rules.specs.Store.{deleted_store, patched_store, accepted_count}
 use Rattle.upload_rules.specs.Lengths.{known_or, is_new, differ, is_too_large, longest}
 use Rattle.upload_rules.specs.World.{Patch, World, is_there, free_number, reached, completes, patch_text}
 use Rattle.upload_rules.specs.Reading.{no_such}
@@ -58,7 +58,7 @@ terminated w number = record w { store = deleted_store w.store number }
 abbrev pub begin_refusal_at : ℕ → ℕ → Option ℕ → Option Upload → Option UploadRefusal
 begin_refusal_at offset count declare None = Some NoSuch
 begin_refusal_at offset count declare (Some u) =
-    if length u.accepted == offset
+    if accepted_count u == offset
     then or_else (refuse_if (is_too_large declare) TooLarge) (length_refusal u.declared declare (offset + count))
     else Some Offset
 
@@ -138,7 +138,7 @@ text_refusal w d p =
 abbrev pub upload_refusal : Patch → Option Upload → Option UploadRefusal
 upload_refusal p None = Some NoSuch
 upload_refusal p (Some u) =
-    if length u.accepted == length p.began.accepted
+    if accepted_count u == accepted_count p.began
     then length_refusal u.declared p.declare (reached p)
     else Some Offset
 

@@ -5,14 +5,14 @@ use Rattle.enc_model.specs.Indexes.{IndexSet, offers}
 use Rattle.enc_model.specs.declared.Encoding.TheVariants.{Utf16Be, Utf16Le}
 use Rattle.upload_rules.specs.declared.records.Record.{Record}
 use Rattle.enc_stream.specs.StateBytes.{IsValid}
-use Rattle.upload_rules.specs.Store.{New, Upload, text_of, text_with, is_complete}
+use Rattle.upload_rules.specs.Store.{New, Upload, text_of, text_with, is_complete, accepted_count}
 use Rattle.upload_rules.specs.States.{state_of, transcoder_with}
 
 -- The record represents the upload.
 pub record Tells (x : IndexSet) (number : ℕ) (r : Record) (u : Upload) : Type 0 where
   pub number_is : r.number ≡ number
   pub declared : r.declared ≡ u.declared
-  pub accepted : r.accepted ≡ length u.accepted
+  pub accepted : r.accepted ≡ accepted_count u
   pub text_len : r.text_len ≡ length (text_of x u)
   pub from : r.from ≡ u.from
   pub to : r.to ≡ u.to

@@ -1,29 +1,40 @@
 -- The state of transcoding over an upload's bytes, and its state bytes.
-use Rattle.std.specs.Prelude.{◌≡◌, ℕ, Bool, true, false, List, [], ◌++◌}
+use Rattle.std.specs.Prelude.{◌≡◌, ℕ, Bool, true, false, List, [], ◌++◌, Option, Some, None}
 use Rattle.enc_model.specs.declared.Encoding.{Encoding}
 use Rattle.enc_model.specs.declared.Mode.{Mode}
 use Rattle.enc_model.specs.Encode.{Tables, InAscii}
 use Rattle.enc_model.specs.Indexes.{IndexSet, tables}
-use Rattle.enc_model.specs.Decode.{decoded, text}
-use Rattle.enc_model.specs.Transcode.{Transcoder, Over, phase_of}
+use Rattle.enc_model.specs.Decode.{decoded}
+use Rattle.enc_model.specs.Transcode.{Transcoder, Phase, Over, phase_of, fed}
 use Rattle.enc_stream.specs.StateBytes.{IsValid, state_bytes}
-use Rattle.upload_rules.specs.Store.{Upload, is_complete}
+use Rattle.upload_rules.specs.Store.{Origin, Upload, is_complete, text_from}
+
+-- The phase after these bytes, which come after an origin if there is one.
+abbrev pub phase_from : Tables → Option Origin → Encoding → List ℕ → Phase
+phase_from t None from bytes = phase_of (decoded t from bytes false)
+phase_from t (Some p) from bytes = (fed t from p.phase bytes).phase
 
 -- The transcoder after these bytes. `true` means that the bytes end there.
-abbrev pub transcoder_over : Tables → Encoding → Encoding → Mode → List ℕ → Bool → Transcoder
-transcoder_over t from to mode b false =
+abbrev pub transcoder_from : Tables → Option Origin → Encoding → Encoding → Mode → List ℕ → Bool → Transcoder
+transcoder_from t origin from to mode bytes false =
     record {
       from = from;
       to = to;
       mode = mode;
-      phase = phase_of (decoded t from b false);
-      shift = (text t from to mode b false).state;
+      phase = phase_from t origin from bytes;
+      shift = (text_from t origin from to mode bytes false).state;
     }
-transcoder_over t from to mode b true = record { from = from; to = to; mode = mode; phase = Over; shift = InAscii }
+transcoder_from t origin from to mode bytes true = record {
+  from = from;
+  to = to;
+  mode = mode;
+  phase = Over;
+  shift = InAscii;
+}
 
 -- The transcoder after the accepted bytes and these.
 abbrev pub transcoder_with : IndexSet → Upload → List ℕ → Bool → Transcoder
-transcoder_with x u bytes done = transcoder_over (tables x) u.from u.to u.mode (u.accepted ++ bytes) done
+transcoder_with x u bytes done = transcoder_from (tables x) u.origin u.from u.to u.mode (u.accepted ++ bytes) done
 
 -- Its state bytes.
 unfoldable pub state_with : IndexSet → Upload → List ℕ → Bool → List ℕ

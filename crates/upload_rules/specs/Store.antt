@@ -1,10 +1,12 @@
 -- The model of uploads and their texts.
-use Rattle.std.specs.Prelude.{ℕ, ◌+◌, Bool, List, [], ◌∷◌, ◌++◌, length, ◌==◌, if◌then◌else◌, Option, Some, None}
+use Rattle.std.specs.Prelude.{ℕ, ◌≡◌, ◌+◌, Bool, true, false, List, [], ◌∷◌, ◌++◌, length, ◌==◌, if◌then◌else◌, Option}
+use Rattle.std.specs.Prelude.{Some, None}
 use Rattle.enc_model.specs.declared.Encoding.{Encoding}
 use Rattle.enc_model.specs.declared.Mode.{Mode}
-use Rattle.enc_model.specs.Encode.{Coded}
+use Rattle.enc_model.specs.Encode.{Tables, Shift, Coded, led_by, coded, encoder, ended_coded}
 use Rattle.enc_model.specs.Indexes.{IndexSet, tables}
 use Rattle.enc_model.specs.Decode.{text}
+use Rattle.enc_model.specs.Transcode.{Phase, fed, fed_end}
 use Rattle.upload_rules.specs.Lengths.{is_length, known_or}
 
 -- The fields of a new upload.
@@ -15,13 +17,22 @@ pub record New : Type 0 where
   pub mode : Mode
   pub metadata : List ℕ
 
--- An upload. Its length may be unknown.
+-- The origin of an upload of which an opening found only the result of the bytes until then: their count, their text,
+-- and the states of decoding and encoding after them.
+pub record Origin : Type 0 where
+  pub count : ℕ
+  pub text : List ℕ
+  pub phase : Phase
+  pub shift : Shift
+
+-- An upload, with all bytes that were accepted, or those since its origin. Its length may be unknown.
 pub record Upload : Type 0 where
   pub from : Encoding
   pub to : Encoding
   pub mode : Mode
   pub declared : Option ℕ
   pub metadata : List ℕ
+  pub origin : Option Origin
   pub accepted : List ℕ
 
 -- The uploads by ascending numbers, the next number, and the index set.
@@ -43,6 +54,10 @@ find n (entry ∷ entries) = if entry.0 == n then Some entry.1 else find n entri
 abbrev pub upload_of : Store → ℕ → Option Upload
 upload_of m n = find n m.uploads
 
+-- Of each upload all bytes are there: none has an origin.
+abbrev pub HasAllBytes : Store → Type 0
+HasAllBytes m = (n : ℕ) (u : Upload) → upload_of m n ≡ Some u → u.origin ≡ None
+
 -- The list with another value at a number that it has.
 abbrev pub replaced : {A : Type 0} → ℕ → A → List (ℕ × A) → List (ℕ × A)
 replaced n x [] = []
@@ -58,9 +73,18 @@ abbrev pub others : {A : Type 0} → ℕ → List (ℕ × A) → List (ℕ × A)
 others n [] = []
 others n (entry ∷ entries) = if entry.0 == n then others n entries else entry ∷ others n entries
 
+-- The count of an origin's bytes.
+abbrev pub origin_count : Option Origin → ℕ
+origin_count None = 0
+origin_count (Some p) = p.count
+
+-- How many bytes were accepted.
+abbrev pub accepted_count : Upload → ℕ
+accepted_count u = origin_count u.origin + length u.accepted
+
 -- The upload is complete: as many bytes were accepted as declared.
 abbrev pub is_complete : Upload → Bool
-is_complete u = is_length u.declared (length u.accepted)
+is_complete u = is_length u.declared (accepted_count u)
 
 -- The upload with the length that a patch declares, if none was known.
 abbrev pub with_length : Upload → Option ℕ → Upload
@@ -70,9 +94,25 @@ with_length u declare = record u { declared = known_or u.declared declare }
 abbrev pub patched : Upload → Option ℕ → List ℕ → Upload
 patched u declare bytes = record (with_length u declare) { accepted = u.accepted ++ bytes }
 
+-- The code points of bytes after an origin, and of the end if it is there.
+abbrev pub decoded_since : Tables → Encoding → Origin → List ℕ → Bool → List ℕ
+decoded_since t from p bytes false = (fed t from p.phase bytes).text
+decoded_since t from p bytes true = let r = fed t from p.phase bytes in r.text ++ fed_end t from r.phase
+
+-- The text of an origin and of bytes after it.
+abbrev pub text_since : Tables → Encoding → Encoding → Mode → Origin → List ℕ → Bool → Coded
+text_since t from to mode p bytes done =
+    let r = coded (encoder t to) mode p.shift (decoded_since t from p bytes done) in
+    led_by p.text (if done then ended_coded r else r)
+
+-- The text of bytes: the encoding of their decoding, after an origin if there is one.
+abbrev pub text_from : Tables → Option Origin → Encoding → Encoding → Mode → List ℕ → Bool → Coded
+text_from t None from to mode bytes done = text t from to mode bytes done
+text_from t (Some p) from to mode bytes done = text_since t from to mode p bytes done
+
 -- The text of the accepted bytes and these, which may be the last: its bytes, and the first unmappable code point.
 abbrev pub text_with : IndexSet → Upload → List ℕ → Bool → Coded
-text_with x u bytes done = text (tables x) u.from u.to u.mode (u.accepted ++ bytes) done
+text_with x u bytes done = text_from (tables x) u.origin u.from u.to u.mode (u.accepted ++ bytes) done
 
 -- The text of an upload.
 unfoldable pub text_of : IndexSet → Upload → List ℕ
@@ -88,6 +128,7 @@ new_upload new = record {
   mode = new.mode;
   declared = new.declared;
   metadata = new.metadata;
+  origin = None;
   accepted = [];
 }
 

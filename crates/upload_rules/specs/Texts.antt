@@ -2,11 +2,10 @@
 use Rattle.std.specs.Prelude.{◌≡◌, ℕ, Bool, true, false, List, [], ◌++◌, None, Result, Ok, Err, Vec}
 use Rattle.std.specs.declared.alloc.Global.{Global}
 use Rattle.enc_model.specs.Indexes.{IndexSet, tables}
-use Rattle.enc_model.specs.Transcode.{IsAt}
 use Rattle.enc_stream.specs.Standing.{Standing}
 use Rattle.enc_stream.specs.StateBytes.{IsValid}
 use Rattle.upload_rules.specs.Store.{Upload, text_with, is_complete}
-use Rattle.upload_rules.specs.States.{IsStateLike, transcoder_with, state_with}
+use Rattle.upload_rules.specs.States.{IsStateLike, phase_from, transcoder_with, state_with}
 use Rattle.upload_rules.specs.World.{is_there}
 use Rattle.upload_rules.specs.declared.errors.UploadError.{UploadError}
 use Rattle.upload_rules.specs.declared.errors.UploadError.TheVariants.{Stop, Refused}
@@ -21,7 +20,9 @@ pub record IsReading (x : IndexSet) (u : Upload) (bytes : List ℕ) (t : Standin
   pub from : t.transcoder.from ≡ u.from
   pub to : t.transcoder.to ≡ u.to
   pub mode : t.transcoder.mode ≡ u.mode
-  pub at : IsAt (tables x) t.transcoder (u.accepted ++ bytes)
+  pub phase : t.transcoder.phase ≡ phase_from (tables x) u.origin u.from (u.accepted ++ bytes)
+  pub shift : t.transcoder.shift ≡ (text_with x u bytes false).state
+  pub encodable : (text_with x u bytes false).fault ≡ None
 
 -- Appended to the text of the accepted bytes, these give the text with the further bytes.
 abbrev pub IsRest : IndexSet → Upload → List ℕ → Bool → List ℕ → Type 0

@@ -4,7 +4,7 @@ use Rattle.std.specs.Prelude.{None}
 use Rattle.enc_model.specs.Encode.{Coded}
 use Rattle.enc_model.specs.Indexes.{IndexSet}
 use Rattle.upload_rules.specs.Lengths.{is_length, known_or}
-use Rattle.upload_rules.specs.Store.{Upload, Store, find, upload_of, text_with}
+use Rattle.upload_rules.specs.Store.{Upload, Store, find, upload_of, text_with, accepted_count}
 
 -- An open patch: its upload's number, the upload at the head moment, the length of the body, the length that it
 -- declares, the body so far, and whether it is short of room.
@@ -42,7 +42,7 @@ free_number w = least_from (length w.patches) 0 w.patches
 
 -- The offset after the patch's body.
 abbrev pub reached : Patch → ℕ
-reached p = length p.began.accepted + length p.body
+reached p = accepted_count p.began + length p.body
 
 -- The upload's length once the patch is done. Another patch may have declared it meanwhile.
 abbrev pub length_then : Patch → Option Upload → Option ℕ

@@ -3,7 +3,7 @@
 ghost use Rattle.std.specs.Prelude.{◌≡◌, ◌++◌, ◌+◌, ℕ, List, [], Bool, false, length, Option, Some, None};
 ghost use Rattle.enc_model.specs.Indexes.{IndexSet};
 ghost use Rattle.upload_rules.specs.Store.{Upload, find, upload_of, text_of, text_with, with_length, patched};
-ghost use Rattle.upload_rules.specs.Store.{is_complete};
+ghost use Rattle.upload_rules.specs.Store.{is_complete, accepted_count};
 ghost use Rattle.upload_rules.specs.World.{World, Patch};
 ghost use Rattle.upload_rules.specs.Grown.{IsGrown};
 
@@ -12,7 +12,7 @@ ghost use Rattle.upload_rules.specs.Grown.{IsGrown};
 pub fn same_offset()
     ensures { (w : World) (d : ℕ) (p : Patch) (u : Upload) → IsGrown w → find d w.patches ≡ Some p
         → upload_of w.store p.number ≡ Some u
-        → length u.accepted ≡ length p.began.accepted
+        → accepted_count u ≡ accepted_count p.began
         → (declare : Option ℕ) × (u ≡ with_length p.began declare) }
 {}
 

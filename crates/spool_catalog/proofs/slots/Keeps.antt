@@ -1,26 +1,22 @@
 -- What is kept says what a valid view says.
 use Rattle.std.proofs.lemmas.Grind.{common_steps}
 use Rattle.std.proofs.Common.{◌≡◌, ℕ, List, [], Option, None, Some, false, get_or, replicate, sym, subst}
-use Rattle.std.proofs.Common.{arith, length, refl}
+use Rattle.std.proofs.Common.{arith, length}
 use Rattle.common.specs.declared.limits.TheConstants.{SLOTS}
-use Rattle.spool_blocks.specs.Chains.{OwnsOneEach}
 use Rattle.spool_pages.specs.View.{SlotRecord, View, slot_at}
 use Rattle.spool_pages.specs.Fits.{FitsRow}
 use Rattle.spool_catalog.specs.Holding.{Holding, AreBelow, AreListsTo, FitsTogether, HasBlocks, Orders}
 use Rattle.spool_catalog.specs.Kept.{KeepsView, KeepsAlone}
 use Rattle.spool_catalog.specs.Shows.{IsValid}
-use Rattle.upload_rules.specs.Room.{blocks_of}
 
-module _ (h : Holding) (v : View) (fits : FitsTogether h) (count : length v.slots ≡ SLOTS)
-    (lists : (s : ℕ) (r : SlotRecord) → slot_at v s ≡ Some r → OwnsOneEach v.rows s (blocks_of r.text_len))
-    (blocks : v.blocks ≡ h.layout)
+module _ (h : Holding) (v : View) (fits : FitsTogether h) (valid : IsValid v) (blocks : v.blocks ≡ h.layout)
     (version : h.version ≡ v.version) (next : h.next ≡ v.next) (indexes : h.indexes ≡ v.indexes)
     (slots : h.slots ≡ v.slots) (rows : h.blocks.rows ≡ v.rows) where
   has : (s : ℕ) (r : SlotRecord) → slot_at v s ≡ Some r → HasBlocks h.blocks.rows s r.text_len (get_or h.lists s [])
   has s r e = search (arith, common_steps)
 
-  keeps_by : KeepsView h v
-  keeps_by = record {
+  pub keeps_said : KeepsView h v
+  keeps_said = record {
     blocks = sym blocks;
     version = version;
     next = next;
@@ -28,16 +24,9 @@ module _ (h : Holding) (v : View) (fits : FitsTogether h) (count : length v.slot
     slots = slots;
     rows = rows;
     ordered = subst (λ (xs : List (Option SlotRecord)). Orders xs h.order SLOTS) slots fits.ordered;
-    listed = λ s r e. record { owned = λ i lt. rw rows at ((has s r e).owned i lt); once = (lists s r e).once };
+    listed = λ s r e. record { owned = λ i lt. rw rows at ((has s r e).owned i lt); once = (valid.lists s r e).once };
     sizes = λ s r e. (has s r e).size;
   }
-
--- what is kept says what a valid view says
-module _ (h : Holding) (v : View) (fits : FitsTogether h) (valid : IsValid v) (blocks : v.blocks ≡ h.layout)
-    (version : h.version ≡ v.version) (next : h.next ≡ v.next) (indexes : h.indexes ≡ v.indexes)
-    (slots : h.slots ≡ v.slots) (rows : h.blocks.rows ≡ v.rows) where
-  pub keeps_said : KeepsView h v
-  keeps_said = keeps_by h v fits valid.slot_count valid.lists blocks version next indexes slots rows
 
   pub keeps_view : h.blocks.reserved ≡ replicate v.blocks false → KeepsAlone h v
   keeps_view reserved = (keeps_said, reserved)
@@ -48,19 +37,3 @@ pub fits_with : (h : Holding) (first second : List (Option SlotRecord)) → firs
     → ((b : ℕ) → FitsRow (get_or h.blocks.rows b None)) → AreBelow h.next h.slots → Orders first h.order SLOTS
     → AreListsTo h.blocks.rows second h.lists SLOTS → FitsTogether h
 fits_with h first second same same' slots lists rows fit below orders listed = search (arith, common_steps)
-
--- what is kept is what a view says, whatever was read
-pub keeps_itself : (h : Holding) → FitsTogether h
-    → ((s : ℕ) (r : SlotRecord) → get_or h.slots s None ≡ Some r → OwnsOneEach h.blocks.rows s (blocks_of r.text_len))
-    → h.blocks.reserved ≡ replicate h.layout false → (v : View) × KeepsAlone h v
-keeps_itself h fits whole reserved =
-    let v : View = record {
-      blocks = h.layout;
-      version = h.version;
-      next = h.next;
-      indexes = h.indexes;
-      slots = h.slots;
-      rows = h.blocks.rows;
-      texts = λ s. [];
-    } in
-    (v, (keeps_by h v fits fits.slot_count whole refl refl refl refl refl refl, reserved))

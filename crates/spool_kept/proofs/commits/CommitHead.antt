@@ -12,7 +12,7 @@ use Rattle.upload_rules.specs.Calls.{commit_refusal, committed, committed_store,
 use Rattle.upload_rules.specs.Calls.{is_empty, is_idle, length_refusal, text_stays, upload_refusal}
 use Rattle.upload_rules.specs.Drafts.{draft_at}
 use Rattle.upload_rules.specs.Lengths.{is_length, is_new, is_too_large, known_or, longest}
-use Rattle.upload_rules.specs.Store.{Upload, Store, find, is_complete, patched_store, upload_of}
+use Rattle.upload_rules.specs.Store.{Upload, Store, find, is_complete, patched_store, upload_of, accepted_count}
 use Rattle.upload_rules.specs.World.{Patch, World, completes, reached}
 use Rattle.upload_rules.specs.declared.errors.UploadError.{UploadError}
 use Rattle.common.specs.declared.stop.Stop.{Stop as WhyStopped}
@@ -112,7 +112,7 @@ module _ {D : Type 0} {sure : Bool} {disk : Ghosts D} {d : D} {h : Holding} {dra
     there : upload_of w.store p.number ≡ Some is.upload
     there = upload_there same.used is.upload same.number is.there
 
-    as_long : length is.upload.accepted ≡ length p.began.accepted
+    as_long : accepted_count is.upload ≡ accepted_count p.began
     as_long = sym is.tells.accepted ∙ same.count ∙ held.offset
 
     -- the length is refused by what is known of it in the record as by what is known of the upload

@@ -8,7 +8,7 @@ use Rattle.upload_rules.specs.Answers.{IsLate}
 use Rattle.upload_rules.specs.Calls.{commit_refusal, committed, committed_store, declares, dropped, is_idle}
 use Rattle.upload_rules.specs.Calls.{length_refusal, or_else, refuse_if, text_refusal, text_stays, upload_refusal}
 use Rattle.upload_rules.specs.Room.{is_short}
-use Rattle.upload_rules.specs.Store.{Upload, Store, patched_store, upload_of}
+use Rattle.upload_rules.specs.Store.{Upload, Store, patched_store, upload_of, accepted_count}
 use Rattle.upload_rules.specs.World.{Patch, World, completes, is_there, patch_text, reached}
 
 refusal_is : (w : World) (d : ℕ) (p : Patch) → commit_refusal w d p ≡ or_else
@@ -17,9 +17,9 @@ unfolding commit_refusal
 refusal_is w d p = refl
 
 -- where the upload has as many bytes as at the head moment, its length decides
-pub by_length : (p : Patch) (u : Upload) → length u.accepted ≡ length p.began.accepted
+pub by_length : (p : Patch) (u : Upload) → accepted_count u ≡ accepted_count p.began
     → upload_refusal p (Some u) ≡ length_refusal u.declared p.declare (reached p)
-by_length p u same = rw (eq-eqb (length u.accepted) (length p.began.accepted) same) refl
+by_length p u same = rw (eq-eqb (accepted_count u) (accepted_count p.began) same) refl
 
 -- a length is refused so
 pub length_refused : (known declare : Option ℕ) (end : ℕ) (e : UploadRefusal)
@@ -27,7 +27,7 @@ pub length_refused : (known declare : Option ℕ) (end : ℕ) (e : UploadRefusal
 length_refused known declare end e is = search (arith, common_steps)
 
 pub refused_by_length : (w : World) (d : ℕ) (p : Patch) (u : Upload) (e : UploadRefusal)
-    → upload_of w.store p.number ≡ Some u → length u.accepted ≡ length p.began.accepted
+    → upload_of w.store p.number ≡ Some u → accepted_count u ≡ accepted_count p.began
     → length_refusal u.declared p.declare (reached p) ≡ Some e → commit_refusal w d p ≡ Some e
 refused_by_length w d p u e there same refused = cc (refusal_is w d p, by_length p u same)
 

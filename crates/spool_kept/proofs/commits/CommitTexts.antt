@@ -86,8 +86,8 @@ module _ (x : IndexSet) (p : Patch) (since : Option ℕ) (o : SpoolDraft) (end :
       let same_len : length (text_of x u) ≡ t = ap length same_text in
       record {
         declared = declared;
-        accepted = accepted ∙ sym (length-append p.began.accepted p.body);
-        few = omega (arith, length-append p.began.accepted p.body, within);
+        accepted = accepted;
+        few = within;
         small = small;
         state = cc (state_patched x u p.declare p.body);
         valid = subst IsValid (sym (cc (transcoder_patched x u p.declare p.body))) whole.valid;

@@ -9,7 +9,7 @@ use Rattle.spool_journal.specs.Image.{text_page}
 use Rattle.spool_pages.specs.View.{SlotRecord}
 use Rattle.upload_rules.specs.Lengths.{is_length, is_too_large, known_or}
 use Rattle.upload_rules.specs.States.{state_with, transcoder_with}
-use Rattle.upload_rules.specs.Store.{Store, Upload, find, is_complete, patched, text_of, upload_of}
+use Rattle.upload_rules.specs.Store.{Store, Upload, find, is_complete, patched, text_of, upload_of, accepted_count}
 use Rattle.upload_rules.proofs.Commits.{state_patched, text_of_is, text_patched, transcoder_patched}
 use Rattle.spool_kept.specs.Committing.{MayDeclare}
 use Rattle.spool_kept.specs.Extending.{IsExtension, IsPending, OnlyDeclares}
@@ -67,7 +67,7 @@ module _ {D : Type 0} {sure : Bool} {disk : Ghosts D} {d : D} {h : Holding} {m :
   unknown_of v is = ap (λ (w : Upload). w.declared) (one_value is there) ∙ unknown
 
   open_before : is_complete told.upload ≡ false
-  open_before = ap (λ (k : Option ℕ). is_length k (length told.upload.accepted)) unknown
+  open_before = ap (λ (k : Option ℕ). is_length k (accepted_count told.upload)) unknown
 
   open_still : is_complete (patched told.upload declared []) ≡ false
   open_still = search (arith, common_steps)
@@ -83,7 +83,7 @@ module _ {D : Type 0} {sure : Bool} {disk : Ghosts D} {d : D} {h : Holding} {m :
   unfolding state_with
   extension current = record {
     declared = sym known_is;
-    accepted = told.tells.accepted ∙ ap length (sym (append-nil told.upload.accepted));
+    accepted = omega (arith, told.tells.accepted);
     few = search (arith, common_steps);
     small = small;
     state = told.tells.state ∙ ap (state_with m.indexes told.upload []) (sym alike)

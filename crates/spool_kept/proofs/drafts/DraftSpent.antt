@@ -18,7 +18,7 @@ use Rattle.upload_rules.specs.Drafts.{draft_at}
 use Rattle.upload_rules.specs.Grown.{GrewFrom, IsGrown}
 use Rattle.upload_rules.specs.Lengths.{is_length}
 use Rattle.upload_rules.specs.Store.{Store, Upload, find, is_complete, patched, replaced, upload_of, with_length}
-use Rattle.upload_rules.specs.Store.{without}
+use Rattle.upload_rules.specs.Store.{without, accepted_count}
 use Rattle.upload_rules.specs.World.{Patch, World}
 use Rattle.upload_rules.proofs.Finds.{find_replaced_other, find_replaced_same, find_without_other, find_without_same}
 use Rattle.upload_rules.proofs.Patches.{apart_without}
@@ -130,11 +130,11 @@ module _ (w : World) (grown : IsGrown w) (n : ℕ) (u : Upload) (upload : upload
       → IsStillOpen w.store r
   other_number r other still = grind (arith, common_steps, find_replaced_other)
 
-  longer_by : {v : Upload} → patched u declare body ≡ v → length u.accepted + length body ≡ length v.accepted
-  longer_by is = sym (length-append u.accepted body) ∙ ap (λ (z : Upload). length z.accepted) is
+  longer_by : {v : Upload} → patched u declare body ≡ v → accepted_count u + length body ≡ accepted_count v
+  longer_by is = omega (arith, length-append u.accepted body, ap (λ (z : Upload). accepted_count z) is)
 
-  shorter : (r : Patch) → GrewFrom r (Some u) → length r.began.accepted ≤ length u.accepted
-  shorter r grew = omega (arith, ap (λ (v : Upload). length v.accepted) grew.2, length-append r.began.accepted grew.1)
+  shorter : (r : Patch) → GrewFrom r (Some u) → accepted_count r.began ≤ accepted_count u
+  shorter r grew = omega (arith, ap (λ (v : Upload). accepted_count v) grew.2, length-append r.began.accepted grew.1)
 
   -- nothing can be put after an upload that got longer or complete any more
   pub other_upload : (0 < length body) ⊎ (is_complete (patched u declare body) ≡ true) → (e : ℕ) (r : Patch)
@@ -152,11 +152,11 @@ module _ (w : World) (grown : IsGrown w) (n : ℕ) (u : Upload) (upload : upload
     | inl same ↦
         let is = same_number r same still in
         let there = subst (λ (k : ℕ). find k w.store.uploads ≡ Some u) same upload in
-        let same_length : length u.accepted ≡ length r.began.accepted = omega (arith, longer_by is, ap length none) in
+        let same_length : accepted_count u ≡ accepted_count r.began = omega (arith, longer_by is, ap length none) in
         let was = same_upload w e r u grown found there same_length in (
           was.0,
           there ∙ ap (λ (v : Upload). Some v) was.1,
-          rw was.1 at (ap (λ (k : Option ℕ). is_length k (length u.accepted)) unknown),
+          rw was.1 at (ap (λ (k : Option ℕ). is_length k (accepted_count u)) unknown),
         )
     | inr other ↦ other_number r other still
   ]

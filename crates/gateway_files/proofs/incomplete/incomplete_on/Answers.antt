@@ -1,9 +1,8 @@
-use Rattle.std.proofs.Common.{Some, false, refl, subst, sym, true}
+use Rattle.std.proofs.Common.{ap, Some, false, refl, subst, sym, true}
 use Rattle.spool_disk.proofs.Gave.{grew_none}
 use Rattle.spool_load.proofs.ReadBys.{by_after}
 use Rattle.spool_disk.specs.Views.{Lasts}
 use Rattle.spool_image.specs.LeftOnly.{AllShow, LeftOrShows}
-use Rattle.spool_image.specs.Spool.{disk_of}
 use Rattle.upload_rules.specs.World.{at_rest}
 use Rattle.gateway_files.proofs.InOrder.{in_order, shown_in_order}
 use Rattle.gateway_files.proofs.Refusals.{done_by, is_damaged, memory_refused, ok_if, other_version, unopened}
@@ -30,20 +29,17 @@ returns-in-Err-clause-damaged g c honest is = is_damaged _ _ c.from.ensures (c.i
 
 pub returns-in-Ok-clause-given : goal.returns-in-Ok-clause-given
 returns-in-Ok-clause-given g c =
-    let found = c.incomplete_numbers-numbers in record {
-      opened = disk_of c.in-Ok.spool;
-      reads = by_after c.in-Ok.ensures.given (grew_none refl) (λ before after is late. record {
-        refused = memory_refused _ before after found.result found.ensures.refused;
-        done =
-            done_by _ before after _ _ found.result (λ v m shows keeps. ok_if _ found.result
-            (found.ensures.numbers false
-            (at_rest m (Some v.blocks)) (c.in-Ok.ensures.kept v m shows keeps) (shown_in_order v m shows))) is.memory;
-      });
-    }
+    let found = c.incomplete_numbers-numbers in
+    by_after c.in-Ok.ensures.given (grew_none (ap g.D.Disk.reads c.into_disk.ensures.same))
+    (λ before after is late. record {
+      refused = memory_refused _ before after found.result found.ensures.refused;
+      done =
+          done_by _ before after _ _ found.result (λ v m shows keeps. ok_if _ found.result
+          (found.ensures.numbers false
+          (at_rest m (Some v.blocks)) (c.in-Ok.ensures.kept v m shows keeps) (shown_in_order v m shows))) is.memory;
+    })
 
 pub returns-in-Err-clause-given : goal.returns-in-Err-clause-given
-returns-in-Err-clause-given g c = record {
-  opened = c.in-Err.disk;
-  reads = by_after c.in-Err.ensures.given (grew_none refl)
-      (λ before after is late. unopened _ before after c.in-Err.fault c.from.result c.from.ensures is.exact.refused);
-}
+returns-in-Err-clause-given g c =
+    by_after c.in-Err.ensures.given (grew_none refl)
+    (λ before after is late. unopened _ before after c.in-Err.fault c.from.result c.from.ensures is.exact.refused)

@@ -1,9 +1,9 @@
-use Rattle.std.proofs.Common.{Err, Some, false, refl, subst, sym, true}
+use Rattle.std.proofs.Common.{ap, Err, Some, false, refl, subst, sym, true}
 use Rattle.spool_disk.specs.Views.{Lasts}
 use Rattle.spool_disk.proofs.Gave.{grew_none}
 use Rattle.spool_load.proofs.ReadBys.{by_after}
 use Rattle.spool_image.specs.LeftOnly.{AllShow, LeftOrShows}
-use Rattle.spool_image.specs.Spool.{SpoolStands, disk_of}
+use Rattle.spool_image.specs.Spool.{SpoolStands}
 use Rattle.spool_image.proofs.Opening.{view_more}
 use Rattle.upload_rules.specs.World.{at_rest}
 use Rattle.gateway_files.specs.declared.surveying.Survey.{Survey}
@@ -40,30 +40,26 @@ pub returns-in-Err-clause-damaged : goal.returns-in-Err-clause-damaged
 returns-in-Err-clause-damaged g c honest is = is_damaged _ _ c.from.ensures (c.in-Err.ensures.damaged honest is)
 
 pub returns-in-Ok-written-clause-given : goal.returns-in-Ok-written-clause-given
-returns-in-Ok-written-clause-given g c = record {
-  opened = disk_of c.in-Ok.spool;
-  reads = by_after c.in-Ok.ensures.given (grew_none refl) (λ before after is late. record {
-    refused = tt;
-    done =
-        view_more (λ v keeps m shows. c.in-Ok-written.ensures.lines false (at_rest m (Some v.blocks))
-        (c.in-Ok.ensures.kept v m shows keeps) (shown_in_order v m shows)) is.memory;
-  });
-}
+returns-in-Ok-written-clause-given g c =
+    by_after c.in-Ok.ensures.given (grew_none (ap g.D.Disk.reads c.into_disk-disk.ensures.same))
+    (λ before after is late. record {
+      refused = tt;
+      done =
+          view_more (λ v keeps m shows. c.in-Ok-written.ensures.lines false (at_rest m (Some v.blocks))
+          (c.in-Ok.ensures.kept v m shows keeps) (shown_in_order v m shows)) is.memory;
+    })
 
 pub returns-in-Err-written-clause-given : goal.returns-in-Err-written-clause-given
-returns-in-Err-written-clause-given g c = record {
-  opened = disk_of c.in-Ok.spool;
-  reads = by_after c.in-Ok.ensures.given (grew_none refl) (λ before after is late. record {
-    refused =
-        change_refused _ before after {T = Survey} (Err c.in-Err-written.fault)
-        (write_fault _ c.in-Err-written.ensures.refused);
-    done = tt;
-  });
-}
+returns-in-Err-written-clause-given g c =
+    by_after c.in-Ok.ensures.given (grew_none (ap g.D.Disk.reads c.into_disk-disk.ensures.same))
+    (λ before after is late. record {
+      refused =
+          change_refused _ before after {T = Survey} (Err c.in-Err-written.fault)
+          (write_fault _ c.in-Err-written.ensures.refused);
+      done = tt;
+    })
 
 pub returns-in-Err-clause-given : goal.returns-in-Err-clause-given
-returns-in-Err-clause-given g c = record {
-  opened = c.in-Err.disk;
-  reads = by_after c.in-Err.ensures.given (grew_none refl)
-      (λ before after is late. unopened _ before after c.in-Err.fault c.from.result c.from.ensures is.exact.refused);
-}
+returns-in-Err-clause-given g c =
+    by_after c.in-Err.ensures.given (grew_none refl)
+    (λ before after is late. unopened _ before after c.in-Err.fault c.from.result c.from.ensures is.exact.refused)

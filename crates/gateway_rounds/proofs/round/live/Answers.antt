@@ -1,5 +1,6 @@
 use Rattle.std.proofs.Common.{refl}
 use Rattle.spool_image.proofs.Crashed.{text_shown}
+use Rattle.gateway_rounds.proofs.Bytes.{round_left}
 use Rattle.gateway_rounds.proofs.round.live.Goals as goal
 
 pub returns : goal.returns
@@ -16,5 +17,7 @@ returns g c n before all =
         end = ended.2;
         shows = ended.1;
         texts = λ image m shows is k u there. text_shown n image m k u shows there;
+        bytes = round_left g.D.Disk g.D.CrashDisk.chosen n c.args.disk c.work_on-back.result _ _ worked.0 ended.0 _ _ _
+            worked.2 ended.2;
       },
     )

@@ -3,7 +3,7 @@ use Rattle.std.proofs.lemmas.Bool.{false≢true}
 use Rattle.spool_disk.proofs.Firm.{counts_on}
 use Rattle.spool_pages.specs.View.{SlotRecord}
 use Rattle.spool_catalog.specs.Checks.{RecordsPass}
-use Rattle.spool_load.proofs.ValidViews.{slots_said, valid_passes, read_loaded}
+use Rattle.spool_load.proofs.ValidViews.{slots_said, valid_passes, read_loaded, read_shows}
 use Rattle.spool_load.proofs.Faults.{check_sound, check_told}
 use Rattle.spool_load.proofs.Looks.{gave_each, gave_rest, reads_none, reads_on, ok_no_fault}
 use Rattle.spool_journal.proofs.Steps.{no_failure}
@@ -117,12 +117,11 @@ returns-clause-valid g c bytes gave found =
     subst (λ (xs : List (Option SlotRecord)). RecordsPass c.args.found.next xs) looked
     (c.are_valid.ensures.0 (search rules)) in
     read_loaded bytes c.args.found.layout c.args.found.version c.args.found.next c.in_ok-indexes.indexes
-    c.in_ok-slots.slots.items
-    c.in_ok-blocks.blocks.rows c.in_ok-blocks.blocks.reserved c.in_ok-kept.kept
-    (search rules) (search rules) fields state slots c.in_ok-slots.ensures.long c.in_ok-blocks.ensures.long rows are
-    (search rules)
-    c.in_ok-blocks.ensures.fits c.in_ok-blocks.ensures.reserved
-    c.in_ok-kept.ensures.distinct c.in_ok-kept.ensures.whole c.in_ok-kept.ensures.said
+    c.in_ok-slots.slots.items c.in_ok-blocks.blocks.rows c.in_ok-indexes.ensures.set c.in_ok-slots.ensures.fits
+    (search rules) (search rules) c.in_ok-slots.ensures.long c.in_ok-blocks.ensures.long are (search rules)
+    c.in_ok-blocks.ensures.fits c.in_ok-kept.ensures.distinct c.in_ok-kept.ensures.whole
+    c.in_ok-blocks.blocks.reserved c.in_ok-kept.kept c.in_ok-blocks.ensures.reserved c.in_ok-kept.ensures.said
+    fields state slots rows
 
 pub returns-in_err-kept-clause-counts : goal.returns-in_err-kept-clause-counts
 returns-in_err-kept-clause-counts g c =
@@ -133,7 +132,16 @@ returns-in_err-kept-clause-counts g c =
     search rules
 
 pub returns-clause-view : goal.returns-clause-view
-returns-clause-view g c = c.in_ok-kept.ensures.view c.in_ok-blocks.ensures.reserved
+returns-clause-view g c =
+    let looked : c.deref.result.now ≡ c.in_ok-slots.slots.items = search rules in
+    let are =
+    subst (λ (xs : List (Option SlotRecord)). RecordsPass c.args.found.next xs) looked
+    (c.are_valid.ensures.0 (search rules)) in
+    read_shows (λ p. 0) c.args.found.layout c.args.found.version c.args.found.next c.in_ok-indexes.indexes
+    c.in_ok-slots.slots.items c.in_ok-blocks.blocks.rows c.in_ok-indexes.ensures.set c.in_ok-slots.ensures.fits
+    (search rules) (search rules) c.in_ok-slots.ensures.long c.in_ok-blocks.ensures.long are (search rules)
+    c.in_ok-blocks.ensures.fits c.in_ok-kept.ensures.distinct c.in_ok-kept.ensures.whole
+    c.in_ok-blocks.blocks.reserved c.in_ok-kept.kept c.in_ok-blocks.ensures.reserved c.in_ok-kept.ensures.said
 
 pub returns-then-not-found-clause-reads : goal.returns-then-not-found-clause-reads
 returns-then-not-found-clause-reads g c = reads_none c.args.disk.now

@@ -11,7 +11,6 @@ returns-in-Ok-clause-valid g c bytes gave =
     let written = c.in-Ok.ensures.written in
     let same : area ≡ c.deref.result.now = search rules in
     record {
-      valid = c.in-Ok.ensures.valid;
       each = λ i lt.
           let inside : length area ≡ 90112 = ap length same ∙ written.long in
           sym (read.each i (omega (arith, inside, lt))) ∙ ap (λ (xs : List ℕ). get_or xs i 0) same ∙ written.bytes i lt;

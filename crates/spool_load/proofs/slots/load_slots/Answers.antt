@@ -28,6 +28,7 @@ loop-slot-preserved g c =
       valid =
           λ bytes gave. c.in_ok-push_slot.ensures.valid bytes (gave_rest inv.reads c.push_slot.ensures.reads gave)
           inv.long (inv.valid bytes (gave_first inv.reads c.push_slot.ensures.reads gave));
+      fits = c.in_ok-push_slot.ensures.fits inv.fits;
     }
 
 pub returns-clause-said : goal.returns-clause-said
@@ -49,8 +50,8 @@ loop-slot-init g c =
       };
       valid = λ bytes gave. record {
         each = λ s below. absurd (omega (arith, below, empty));
-        fit = λ s. search rules;
       };
+      fits = λ s. search rules;
     }
 
 pub returns-in_err-push_slot-clause-reads : goal.returns-in_err-push_slot-clause-reads

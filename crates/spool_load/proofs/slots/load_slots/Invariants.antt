@@ -2,6 +2,7 @@ use Rattle.std.proofs.Common.{◌≡◌, ◌<◌, ℕ, List, Option, None, lengt
 use Rattle.common.specs.declared.limits.TheConstants.{SLOTS}
 use Rattle.spool_disk.specs.Given.{ReadsGave}
 use Rattle.spool_catalog.specs.Records.{FitsKept}
+use Rattle.spool_pages.specs.Fits.{FitsSlotOf}
 use Rattle.spool_load.specs.Reads.{OnlyReads, IsPrefixOf, StandSlots}
 use Rattle.spool_pages.specs.View.{SlotRecord, Stands, slot_bytes, slot_place}
 use Rattle.spool_load.proofs.slots.load_slots.Given as goal
@@ -17,4 +18,5 @@ invariant-loop-slot g l = record {
       → IsPrefixOf said l.slots.items;
   valid : (bytes : ℕ → ℕ) → ReadsGave bytes (g.D.Disk.reads l.fn.disk) (g.D.Disk.reads l.disk)
       → StandSlots bytes l.layout l.version l.slots.items;
+  fits : (s : ℕ) → FitsSlotOf (get_or l.slots.items s None);
 }

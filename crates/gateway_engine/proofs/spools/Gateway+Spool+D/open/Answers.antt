@@ -20,6 +20,11 @@ returns-in-Ok-clause-kept g c v m shows keeps =
     c.in-Ok.ensures.ok false m (Some v.blocks) (c.in_ok-spool.ensures.kept v m shows
     (subst (λ s. Keeps s v) c.in-Ok.ensures.same keeps))
 
+pub returns-in-Ok-clause-view : goal.returns-in-Ok-clause-view
+returns-in-Ok-clause-view g c =
+    let at = c.in_ok-spool.ensures.view in
+    (at.0, at.1.0, subst (λ s. Keeps s at.0) (sym c.in-Ok.ensures.same) at.1.1.0, at.1.1.1)
+
 pub returns-in-Ok-clause-shows : goal.returns-in-Ok-clause-shows
 returns-in-Ok-clause-shows g c n m is =
     subst (λ s. AllShow g.D.Disk (disk_of s) n m) (sym c.in-Ok.ensures.same) (c.in_ok-spool.ensures.shows n m is)

@@ -2,7 +2,7 @@ use Rattle.std.proofs.Common.{rules, ◌≡◌, ◌<◌, ◌∙◌, Option, None
 use Rattle.common.specs.declared.limits.TheConstants.{SLOTS}
 use Rattle.spool_pages.specs.View.{SlotRecord}
 use Rattle.spool_catalog.specs.Holding.{OwnsText}
-use Rattle.spool_catalog.proofs.slots.Keeps.{fits_with, keeps_itself, keeps_view}
+use Rattle.spool_catalog.proofs.slots.Keeps.{fits_with, keeps_view}
 use Rattle.spool_catalog.proofs.Valid.{slots_distinct, in_use}
 use Rattle.spool_catalog.proofs.numbers.Ordered.{orders_distinct}
 use Rattle.spool_catalog.proofs.kept.Kept.of.Goals as goal
@@ -35,12 +35,3 @@ returns-clause-whole c s r here =
     let there : get_or c.deref-2.result.now s None ≡ Some r =
     ap (λ (xs : List (Option SlotRecord)). get_or xs s None) same ∙ here in
     subst (λ (o : Option SlotRecord). OwnsText c.args.blocks.rows s o) there (c.in_ok-lists.ensures.whole s lt)
-
-pub returns-clause-view : goal.returns-clause-view
-returns-clause-view c reserved =
-    let first : c.deref.result.now ≡ c.args.slots.items = search rules in
-    let second : c.deref-2.result.now ≡ c.args.slots.items = search rules in
-    keeps_itself _
-    (fits_with _ c.deref.result.now c.deref-2.result.now first second c.requires.slots c.in_ok-lists.ensures.long
-    c.requires.rows c.requires.fits c.requires.below c.in_ok-order.ensures.orders c.in_ok-lists.ensures.lists)
-    (returns-clause-whole c) reserved
