@@ -93,10 +93,11 @@ module _ (x : IndexSet) (u : Upload) (declare : Option ℕ) (bytes : List ℕ)
       let all : (fed (tables x) u.from (from u.accepted) bytes).phase ≡ from ((u.accepted ++ bytes) ++ []) =
       sym (phase_more (tables x) u.from u.to u.mode u.origin u.accepted bytes)
       ∙ ap from (sym (append-nil (u.accepted ++ bytes))) in
-      subst (λ (p : Phase). FitsPhase p (accepted_count more) (known_or u.declared declare)) all
-      (subst (λ (k : ℕ). FitsPhase (fed (tables x) u.from (from u.accepted) bytes).phase k
-      (known_or u.declared declare)) (sym long) (fed_fits (tables x) u.from (from u.accepted) (accepted_count u) u.declared
-      (known_or u.declared declare) bytes here e (ap (is_length (known_or u.declared declare)) (sym long) ∙ f)))
+      let declared = known_or u.declared declare in
+      let still = ap (is_length declared) (sym long) ∙ f in
+      subst (λ (p : Phase). FitsPhase p (accepted_count more) declared) all
+      (subst (λ (k : ℕ). FitsPhase (fed (tables x) u.from (from u.accepted) bytes).phase k declared) (sym long)
+      (fed_fits (tables x) u.from (from u.accepted) (accepted_count u) u.declared declared bytes here e still))
 
   -- the phase of an upload with more bytes fits
   pub patched_phase : FitsPhase (transcoder_with x more [] (is_complete more)).phase (accepted_count more) more.declared
