@@ -12,8 +12,8 @@ use Rattle.upload_rules.specs.declared.records.Record.{Record}
 use Rattle.upload_rules.proofs.NewUploads.{new_text}
 use Rattle.spool_catalog.specs.TakenIn.{IsNewRecord}
 use Rattle.spool_catalog.specs.Records.{said_of, FitsMemory}
-use Rattle.spool_catalog.specs.Shows.{IsRecordOf, IsValidRecord}
-use Rattle.spool_catalog.proofs.Told.{new_phase, told_state, with_from, with_to, with_mode}
+use Rattle.spool_catalog.specs.Shows.{FitsAfter, IsRecordOf, IsValidRecord}
+use Rattle.spool_catalog.proofs.Told.{told_state, with_from, with_to, with_mode}
 use Rattle.std.proofs.Common.{inl, inr, Option, None, Some}
 use Rattle.std.proofs.lemmas.Bool.{cases_lt, both_ways, lt-ltb}
 use Rattle.common.specs.declared.limits.TheConstants.{MOST_LENGTH}
@@ -42,7 +42,7 @@ module _ (x : IndexSet) (n : ℕ) (r : Record) (new : New) (keeps : Keeps x n r 
   tells_new : IsRecordOf x (said_of r) [] (new_upload new)
   tells_new =
       let text = sym (new_text x new) in
-      let phase = new_phase x new in
+      let phase : FitsAfter x (new_upload new) None = tt in
       assumption (text, phase, keeps, keeps.tells)
 
   no_text : r.text_len ≡ 0

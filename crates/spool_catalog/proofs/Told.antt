@@ -19,14 +19,14 @@ use Rattle.enc_model.specs.Transcode.{Phase, Before, During, Over, phase_of, fed
 use Rattle.enc_stream.specs.StateBytes.{state_bytes, encoding_number, mode_number}
 use Rattle.enc_stream.proofs.Bytes.{from_there, to_there, mode_there}
 use Rattle.upload_rules.specs.Lengths.{is_length, known_or, longest}
-use Rattle.upload_rules.specs.Store.{Upload, is_complete, accepted_count}
-use Rattle.upload_rules.specs.States.{phase_from, transcoder_with, state_with}
+use Rattle.upload_rules.specs.Store.{Origin, Upload, accepted_count, is_complete, origin_count, patched}
+use Rattle.upload_rules.specs.States.{phase_from, transcoder_from, transcoder_with, state_with}
 use Rattle.upload_rules.specs.Records.{Keeps}
 use Rattle.upload_rules.specs.declared.records.Record.{Record}
 use Rattle.upload_rules.proofs.TextGrows.{phase_more}
 use Rattle.spool_pages.specs.View.{SlotRecord}
 use Rattle.spool_catalog.specs.Records.{said_of, IsUnpacked}
-use Rattle.spool_catalog.specs.Shows.{FitsPhase, HasState, IsRecordOf}
+use Rattle.spool_catalog.specs.Shows.{FitsAfter, FitsPhase, HasState, IsRecordOf}
 
 -- THE PHASE FITS THE COUNTS
 
@@ -41,16 +41,6 @@ phase_fits t e (b ∷ bytes) declared more = go (undecided (b ∷ bytes))
         (decoding t false (decoding_start s.0) s.1))) (length (b ∷ bytes)) declared
     go true = (refl, more)
     go false = (omega arith, more)
-
--- and of a new upload
-pub new_phase : (x : IndexSet) (new : New) → (let u = new_upload new in
-    FitsPhase (transcoder_with x u [] (is_complete u)).phase 0 new.declared)
-new_phase x new = by_end (is_length new.declared 0) refl
-  where
-    by_end : (done : Bool) → is_length new.declared 0 ≡ done
-        → FitsPhase (transcoder_with x (new_upload new) [] done).phase 0 new.declared
-    by_end true e = e
-    by_end false e = phase_fits (tables x) new.from [] new.declared e
 
 -- and it fits on with more bytes
 fed_fits : (t : Tables) (e : Encoding) (p : Phase) (n : ℕ) (known declared : Option ℕ) (bytes : List ℕ)
@@ -99,9 +89,43 @@ module _ (x : IndexSet) (u : Upload) (declare : Option ℕ) (bytes : List ℕ)
       (subst (λ (k : ℕ). FitsPhase (fed (tables x) u.from (from u.accepted) bytes).phase k declared) (sym long)
       (fed_fits (tables x) u.from (from u.accepted) (accepted_count u) u.declared declared bytes here e still))
 
-  -- the phase of an upload with more bytes fits
-  pub patched_phase : FitsPhase (transcoder_with x more [] (is_complete more)).phase (accepted_count more) more.declared
-  patched_phase = by_both (is_complete u) (is_complete more) refl refl
+  patched_fits : FitsPhase (transcoder_with x more [] (is_complete more)).phase (accepted_count more) more.declared
+  patched_fits = by_both (is_complete u) (is_complete more) refl refl
+
+-- the phase of an upload fits its counts
+module _ (x : IndexSet) (u : Upload) where
+  abbrev Fits : Option Origin → Bool → Type 0
+  Fits o done = FitsPhase (transcoder_from (tables x) o u.from u.to u.mode (u.accepted ++ []) done).phase
+      (origin_count o + length u.accepted) u.declared
+
+  no_origin : (done : Bool) → is_length u.declared (length u.accepted) ≡ done
+      → FitsPhase (transcoder_from (tables x) None u.from u.to u.mode (u.accepted ++ []) done).phase (length u.accepted)
+      u.declared
+  no_origin true e = e
+  no_origin false e =
+      subst (λ (bytes : List ℕ). FitsPhase (phase_of (decoded (tables x) u.from bytes false)) (length u.accepted)
+      u.declared) (sym (append-nil u.accepted)) (phase_fits (tables x) u.from u.accepted u.declared e)
+
+  by_origin : (o : Option Origin) → u.origin ≡ o → FitsAfter x u o → Fits u.origin (is_complete u)
+  by_origin None is fits =
+      let none : length u.accepted ≡ origin_count None + length u.accepted = omega arith in
+      subst (λ (o : Option Origin). Fits o (is_length u.declared (origin_count o + length u.accepted))) (sym is)
+      (subst (λ (n : ℕ). FitsPhase (transcoder_from (tables x) None u.from u.to u.mode (u.accepted ++ [])
+      (is_length u.declared n)).phase n u.declared) none (no_origin (is_length u.declared (length u.accepted)) refl))
+  by_origin (Some o) is fits = fits
+
+  all_fit : FitsAfter x u u.origin → Fits u.origin (is_complete u)
+  all_fit = by_origin u.origin refl
+
+-- and so does that of an upload with more bytes
+pub patched_after : (x : IndexSet) (u : Upload) (declare : Option ℕ) (bytes : List ℕ)
+    → accepted_count u + length bytes ≤ longest (known_or u.declared declare) → FitsAfter x u u.origin
+    → FitsAfter x (patched u declare bytes) u.origin
+patched_after x u declare bytes few fits = with_origin u.origin
+  where
+    with_origin : (o : Option Origin) → FitsAfter x (patched u declare bytes) o
+    with_origin None = tt
+    with_origin (Some o) = patched_fits x u declare bytes (all_fit x u fits) few
 
 module _ (x : IndexSet) (r : SlotRecord) (shown : List ℕ) (u : Upload) (is : IsRecordOf x r shown u) where
   -- a record that tells of an upload has a state
@@ -111,7 +135,7 @@ module _ (x : IndexSet) (r : SlotRecord) (shown : List ℕ) (u : Upload) (is : I
     transcoder = transcoder_with x u [] (is_complete u);
     valid = is.valid;
     is = is.state;
-    phase = rw (is.accepted, is.declared) is.phase;
+    phase = rw (is.accepted, is.declared) (all_fit x u is.phase);
   }
 
 -- STATES SAY THEIR ENCODINGS

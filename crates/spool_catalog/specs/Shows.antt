@@ -7,7 +7,7 @@ use Rattle.enc_index.specs.Sets.{IsIndexSet}
 use Rattle.enc_stream.specs.StateBytes.{IsValid as IsValidState, state_bytes}
 use Rattle.spool_blocks.specs.Chains.{Owns, OwnsOneEach}
 use Rattle.upload_rules.specs.Lengths.{is_length, longest}
-use Rattle.upload_rules.specs.Store.{Upload, Store, find, is_complete, text_with, text_of, accepted_count}
+use Rattle.upload_rules.specs.Store.{Origin, Upload, Store, find, is_complete, text_with, text_of, accepted_count}
 use Rattle.upload_rules.specs.Room.{blocks_of}
 use Rattle.upload_rules.specs.States.{state_of, transcoder_with}
 use Rattle.upload_rules.specs.Slots.{IsRising}
@@ -62,6 +62,11 @@ pub record IsValid (v : View) : Type 0 where
 
 -- THE UPLOADS
 
+-- After an origin the phase fits the counts. That of an upload with all its bytes always does.
+abbrev pub FitsAfter : IndexSet → Upload → Option Origin → Type 0
+FitsAfter x u None = Unit {0}
+FitsAfter x u (Some o) = FitsPhase (transcoder_with x u [] (is_complete u)).phase (accepted_count u) u.declared
+
 -- a record and a text tell of an upload
 pub record IsRecordOf (x : IndexSet) (r : SlotRecord) (shown : List ℕ) (u : Upload) : Type 0 where
   pub declared : r.declared ≡ u.declared
@@ -71,7 +76,7 @@ pub record IsRecordOf (x : IndexSet) (r : SlotRecord) (shown : List ℕ) (u : Up
   pub text : shown ≡ text_of x u
   pub encodable : (text_with x u [] (is_complete u)).fault ≡ None
   pub valid : IsValidState (transcoder_with x u [] (is_complete u))
-  pub phase : FitsPhase (transcoder_with x u [] (is_complete u)).phase (accepted_count u) u.declared
+  pub phase : FitsAfter x u u.origin
   pub state : r.state ≡ state_of x u
 
 -- the upload that a record tells of

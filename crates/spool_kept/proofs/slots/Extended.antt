@@ -40,7 +40,7 @@ use Rattle.spool_kept.proofs.slots.SlotChange.{HasRows, IsChange, changed_shows,
 use Rattle.spool_catalog.proofs.slots.SlotFits.{same_others}
 use Rattle.spool_kept.proofs.slots.SlotChange.{told_upload}
 use Rattle.spool_catalog.proofs.NewRecords.{small_is, state_length}
-use Rattle.spool_catalog.proofs.Told.{patched_phase, told_state}
+use Rattle.spool_catalog.proofs.Told.{patched_after, told_state}
 use Rattle.spool_catalog.proofs.Valid.{in_use}
 use Rattle.spool_blocks.specs.Chains.{OwnsOneEach}
 
@@ -136,7 +136,7 @@ module _ {D : Type 0} {sure : Bool} {disk : Ghosts D} {d : D} {h new : Holding} 
 
   tells : IsRecordOf m.indexes now text upload
   tells =
-      let phase = patched_phase m.indexes append.upload declare bytes told.phase append.extension.few in
+      let phase = patched_after m.indexes append.upload declare bytes append.extension.few told.phase in
       grind (arith, common_steps, told, phase, length-append append.upload.accepted bytes)
 
   record_valid : IsValidRecord before.next now
