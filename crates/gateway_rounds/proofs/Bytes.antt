@@ -45,14 +45,20 @@ module _ (st : State) (has : HasAllBytes st.world.store) where
     left_by : (fault : Option RunFault) → HaveAllBytes (left_by_run fault st past before)
     left_by None = all_events
     left_by (Some (Script (scripts.Stop DiskFault))) = last_have past
-    left_by (Some (Script fault)) = all_events
+    left_by (Some (Script (scripts.Stop NoMemory))) = all_events
+    left_by (Some (Script (scripts.Script line))) = all_events
+    left_by (Some (Script scripts.Io)) = all_events
     left_by (Some (Open fault)) = have
 
 upgrade_left : (told : Option UpgradeError) (m : Store) (before : List Store) → HasAllBytes m → HaveAllBytes before
     → HaveAllBytes (left_by_upgrade told m before)
 upgrade_left None m before has have = one_has m has
 upgrade_left (Some (upgrades.Open (opens.Stop DiskFault))) m before has have = have
-upgrade_left (Some told) m before has have = one_has m has
+upgrade_left (Some (upgrades.Open (opens.Stop NoMemory))) m before has have = one_has m has
+upgrade_left (Some (upgrades.Open opens.NotASpool)) m before has have = one_has m has
+upgrade_left (Some (upgrades.Open opens.Version)) m before has have = one_has m has
+upgrade_left (Some (upgrades.Open opens.Damaged)) m before has have = one_has m has
+upgrade_left (Some upgrades.AlreadyNew) m before has have = one_has m has
 
 work_left : {D : Type 0} (disk : Ghosts D) (n : ℕ) (given back : D) (before left : List Store) (work told : Work)
     → IsWork disk n given back before left work told → HaveAllBytes before → HaveAllBytes left

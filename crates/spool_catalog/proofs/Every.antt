@@ -1,7 +1,7 @@
 -- Each valid view shows uploads: those that go on from what its slots have.
 use Rattle.std.proofs.Common.{◌≡◌, ℕ, zero, suc, ◌+◌, ◌*◌, ◌/◌, ◌<◌, ◌≤◌, ◌==◌, Bool, true, false, List, [], ◌∷◌, ◌++◌}
 use Rattle.std.proofs.Common.{Option, Some, None, length, map, get_or, take, slice_index, refl, sym, ◌∙◌, ap, subst, arith}
-use Rattle.std.proofs.Common.{append-nil, length-append, length-take}
+use Rattle.std.proofs.Common.{append-nil, inl, inr, length-append, length-take}
 use Rattle.std.proofs.lemmas.Bool.{cases_eq, eq-eqb, ne_eqb}
 use Rattle.std.proofs.lemmas.Option.{same_Some}
 use Rattle.common.specs.declared.limits.TheConstants.{SLOTS}
@@ -239,6 +239,7 @@ module _ (h : Holding) (v : View) (keeps : KeepsView h v) (valid : IsValid v) (i
     TellsBy s (Some r) u = IsRecordOf v.indexes r (v.texts s) u
 
     told_by : (s : ℕ) (o : Option SlotRecord) (e : slot_at v s ≡ o) → TellsBy s o (upload_by s o e)
+  unfolding upload_by
     told_by s None e = tt
     told_by s (Some r) e = found_told v.indexes r (v.texts s) (valid.records s r e).state (sizes s r e)
 
