@@ -239,7 +239,7 @@ module _ (h : Holding) (v : View) (keeps : KeepsView h v) (valid : IsValid v) (i
     TellsBy s (Some r) u = IsRecordOf v.indexes r (v.texts s) u
 
     told_by : (s : ℕ) (o : Option SlotRecord) (e : slot_at v s ≡ o) → TellsBy s o (upload_by s o e)
-  unfolding upload_by
+    unfolding upload_by
     told_by s None e = tt
     told_by s (Some r) e = found_told v.indexes r (v.texts s) (valid.records s r e).state (sizes s r e)
 
