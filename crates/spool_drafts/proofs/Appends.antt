@@ -11,7 +11,6 @@ use Rattle.spool_texts.specs.Drafts.{Draft, len_of}
 use Rattle.upload_rules.specs.Room.{need_of, wants, need}
 use Rattle.upload_rules.specs.Store.{is_complete}
 use Rattle.upload_rules.specs.World.{Patch, is_there, patch_text}
-use Rattle.upload_rules.proofs.Transcoders.{without_fault}
 use Rattle.spool_drafts.specs.Drafts.{Holds, IsLonger, open_text, with_piece, shortened, transcoder_of}
 use Rattle.spool_drafts.specs.Effect.{RunsShort}
 use Rattle.spool_drafts.specs.Progress.{StandsAt, Reads, HoldsLen, IsStored, IsGrowing, blocks_in, transcoder_in}
@@ -94,7 +93,7 @@ module _ {x : IndexSet} {p : Patch} {d : SpoolDraft} (held : Holds x p d) {piece
 
     encodable_after : (patch_text x longer false).fault ≡ None
     encodable_after = ap (λ r. r.fault) (patch_text_is x longer false)
-        ∙ without_fault x p.began (p.body ++ piece) t reads_on.stands
+        ∙ reads_on.stands.encodable
 
     pub open_longer : open_text x longer false ≡ open_text x p false ++ added
     open_longer = open_grows x p piece added false false
