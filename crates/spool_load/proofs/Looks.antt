@@ -209,9 +209,9 @@ module _ (slots : List (Option SlotRecord)) (kept : Option SlotRecord) (new : Li
       (λ (k : ℕ). get_or (slots ++ kept ∷ []) k None ≡ kept) zero there
 
   -- each before and the new one
-  each_with : {P : ℕ → Option SlotRecord → Type 0} → ((s : ℕ) → s < length slots → P s (get_or slots s None))
+  each_with : (P : ℕ → Option SlotRecord → Type 0) → ((s : ℕ) → s < length slots → P s (get_or slots s None))
       → P (length slots) kept → (s : ℕ) → s < length new → P s (get_or new s None)
-  each_with {P} old put s lt = elim (cases_lt s (length slots)) [
+  each_with P old put s lt = elim (cases_lt s (length slots)) [
     | inl below ↦ subst (P s) (sym (before s below)) (old s below)
     | inr over ↦
         let here : length slots ≡ s = omega (arith, over, lt, one_more) in
@@ -221,13 +221,13 @@ module _ (slots : List (Option SlotRecord)) (kept : Option SlotRecord) (new : Li
   pub stand_push : (bytes : ℕ → ℕ) (n : ℕ) (version : Known) → StandSlots bytes n version slots
       → Stands bytes (slot_place n (length slots)) 2048 (slot_bytes version kept) → StandSlots bytes n version new
   stand_push bytes n version was stands = record {
-    each = each_with {P = λ s o. Stands bytes (slot_place n s) 2048 (slot_bytes version o)} was.each stands;
+    each = each_with (λ s o. Stands bytes (slot_place n s) 2048 (slot_bytes version o)) was.each stands;
   }
 
   pub fit_push : ((s : ℕ) → FitsSlotOf (get_or slots s None)) → FitsSlotOf kept
       → (s : ℕ) → FitsSlotOf (get_or new s None)
   fit_push was fits s = elim (cases_lt s (length new)) [
-    | inl below ↦ each_with {P = λ s o. FitsSlotOf o} (λ s lt. was s) fits s below
+    | inl below ↦ each_with (λ s o. FitsSlotOf o) (λ s lt. was s) fits s below
     | inr past ↦ subst FitsSlotOf (sym (get_or-eq_default new None past)) tt
   ]
 

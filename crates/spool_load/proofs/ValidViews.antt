@@ -149,8 +149,8 @@ module _ (bytes : ℕ → ℕ) (n : ℕ) (version : Version) (next : ℕ) (x : I
 
         pub read_shows : (v : View) × (m : Store) × KeepsAlone h v × Shows v m
         read_shows =
-            let texts = λ s r e. ap (shown_at s) e in
-            let shows = each_shows h view_read read_kept.0 read_valid bytes (text_page n) texts in
+            let shows = each_shows h view_read read_kept.0 read_valid bytes (text_page n)
+            (λ s r e. ap (shown_at s) e) in
             (view_read, shows.0, read_kept, shows.1)
 
         pub read_loaded : StandFields bytes n x → Stands bytes (state_place n) PAGE (state_page version next)
