@@ -1,5 +1,5 @@
 -- Of two PATCHes that began at one offset of one upload at most one is accepted.
-use Rattle.std.proofs.Common.{◌≡◌, ℕ, false, List, ◌∷◌, ◌++◌, length}
+use Rattle.std.proofs.Common.{◌≡◌, ◌+◌, ℕ, false, List, ◌∷◌, ◌++◌, length}
 use Rattle.std.proofs.Common.{Some, None, sym, ◌∙◌, ap, arith}
 use Rattle.std.proofs.lemmas.Option.{none-some}
 use Rattle.std.proofs.lemmas.List.{length-append}
