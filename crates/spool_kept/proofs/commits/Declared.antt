@@ -7,7 +7,7 @@ use Rattle.enc_stream.specs.StateBytes.{IsValid}
 use Rattle.spool_disk.specs.declared.disk.Disk.{Ghosts}
 use Rattle.spool_journal.specs.Image.{text_page}
 use Rattle.spool_pages.specs.View.{SlotRecord}
-use Rattle.upload_rules.specs.Lengths.{is_length, is_too_large, known_or}
+use Rattle.upload_rules.specs.Lengths.{is_length, is_too_large, known_or, longest}
 use Rattle.upload_rules.specs.States.{state_with, transcoder_with}
 use Rattle.upload_rules.specs.Store.{Store, Upload, find, is_complete, patched, text_of, upload_of, accepted_count}
 use Rattle.upload_rules.proofs.Commits.{state_patched, text_of_is, text_patched, transcoder_patched}
@@ -84,7 +84,7 @@ module _ {D : Type 0} {sure : Bool} {disk : Ghosts D} {d : D} {h : Holding} {m :
   extension current = record {
     declared = sym known_is;
     accepted = omega (arith, told.tells.accepted);
-    few = search (arith, common_steps);
+    few = omega (arith, told.tells.accepted, may.within, ap longest known_is);
     small = small;
     state = told.tells.state ∙ ap (state_with m.indexes told.upload []) (sym alike)
         ∙ sym (state_patched m.indexes told.upload declared []);
