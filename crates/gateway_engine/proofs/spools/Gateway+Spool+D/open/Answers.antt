@@ -23,7 +23,7 @@ returns-in-Ok-clause-kept g c v m shows keeps =
 pub returns-in-Ok-clause-view : goal.returns-in-Ok-clause-view
 returns-in-Ok-clause-view g c =
     let at = c.in_ok-spool.ensures.view in
-    (at.0, at.1.0, subst (λ s. Keeps s at.0) (sym c.in-Ok.ensures.same) at.1.1.0, at.1.1.1)
+    (at.0, at.1, subst (λ s. Keeps s at.0) (sym c.in-Ok.ensures.same) at.2, at.3)
 
 pub returns-in-Ok-clause-shows : goal.returns-in-Ok-clause-shows
 returns-in-Ok-clause-shows g c n m is =
